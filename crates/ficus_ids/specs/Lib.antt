@@ -1,0 +1,11 @@
+pub mod Id
+pub mod IdLaws
+pub mod Rising
+pub mod RisingLaws
+pub mod Kind
+pub mod Marks
+pub mod MarksLaws
+pub mod Members
+pub mod MembersLaws
+pub mod Name
+pub mod Refusal

@@ -1,0 +1,236 @@
+-- Laws of lists whose items have identifiers, for the proofs of this crate and of those above it.
+use Rattle.std.specs.Prelude.{◌≡◌, ◌≢◌, ◌⊎◌, ◌↔◌, ℕ, ◌+◌, ◌-◌, ◌<◌, ◌≤◌, List, [], ◌∷◌, ◌++◌, length, take, drop, insert, get_or, Option, Some, None, Result, Ok, Err, IfOk, IfErr, IfSome, slice_get, Contains, false, refl}
+use Rattle.std.specs.List.{HoldsAt}
+use Rattle.std.specs.List.Sorted.{IsBinarySearchResult, IsNonDecreasingBy, IsSearchInRange}
+use Rattle.std.specs.Ordering.{is_lt, is_gt, ordering_index}
+use Rattle.std.specs.declared.cmp.Ordering.{Ordering}
+use Rattle.std.specs.declared.cmp.Ordering.TheVariants.{Less, Equal, Greater}
+use Rattle.std.proofs.Common.{zero, suc, arith, ap, sym, ◌∙◌, subst, inl, inr}
+use Rattle.std.proofs.lemmas.Bool.{cases_order, cases_lt}
+use Rattle.std.proofs.lemmas.List.{take-append-drop}
+use Rattle.std.proofs.lemmas.List.Edits.{length-insert, get_or-insert_below, get_or-insert_at, get_or-insert_above}
+use Rattle.std.proofs.lemmas.List.Elements.{Contains-get_or, Contains-append_left, Contains-append_right, Contains-append_cases}
+use Rattle.std.proofs.lemmas.Option.{get_or_from_slice_get, slice_get-get_or}
+use Rattle.std.proofs.lemmas.List.Sorted.{searchable_from_sorted}
+use Rattle.ficus_ids.specs.declared.id.Id.{Id}
+use Rattle.ficus_ids.specs.Id.{id_cmp}
+use Rattle.ficus_ids.specs.IdLaws.{id_cmp_total, id_cmp-Equal, not_below_itself, id_cmp-flip, id_cmp-flip_back, same_id_or_not}
+use Rattle.ficus_ids.specs.Rising.{IsRisingBy, HoldsBy, HoldsUnderBy, IsPlaceBy}
+
+-- membership, an item at a time
+pub here : {X : Type 0} (x : X) (xs : List X) → Contains (x ∷ xs) x
+here x xs = (0, omega arith, refl)
+
+pub there : {X : Type 0} (x y : X) (xs : List X) → Contains xs y → Contains (x ∷ xs) y
+there x y xs inside = (suc inside.0, omega arith, inside.2)
+
+pub here_or_there : {X : Type 0} (x y : X) (xs : List X) → Contains (x ∷ xs) y → (y ≡ x) ⊎ Contains xs y
+here_or_there x y xs (zero, within, is) = inl (sym is)
+here_or_there x y xs (suc k, within, is) = inr (k, omega arith, is)
+
+pub not_inside_none : {X : Type 0} (x : X) → Contains [] x → ⊥
+not_inside_none x inside = omega arith
+
+inside_parts : {X : Type 0} (xs : List X) (index : ℕ) (x : X) → Contains xs x → Contains (take index xs) x ⊎ Contains (drop index xs) x
+inside_parts xs index x inside = Contains-append_cases (take index xs) (drop index xs) x (subst (λ l. Contains l x) (sym (take-append-drop index xs)) inside)
+
+from_insert : {X : Type 0} (xs : List X) (index : ℕ) (y x : X) → Contains (insert xs index y) x → Contains xs x ⊎ (x ≡ y)
+from_insert xs index y x inside =
+    let whole : (z : _) → Contains (take index xs ++ drop index xs) z → Contains xs z = λ z. subst (λ l. Contains l z) (take-append-drop index xs) in
+    elim (Contains-append_cases (take index xs) (y ∷ drop index xs) x inside) [
+      | inl before ↦ inl (whole x (Contains-append_left (take index xs) (drop index xs) x before))
+      | inr from ↦ elim (here_or_there y x (drop index xs) from) [
+        | inl is ↦ inr is
+        | inr behind ↦ inl (whole x (Contains-append_right (take index xs) (drop index xs) x behind))
+      ]
+    ]
+
+into_insert : {X : Type 0} (xs : List X) (index : ℕ) (y x : X) → Contains xs x ⊎ (x ≡ y) → Contains (insert xs index y) x
+into_insert xs index y x (inl inside) =
+    elim (inside_parts xs index x inside) [
+      | inl before ↦ Contains-append_left (take index xs) (y ∷ drop index xs) x before
+      | inr behind ↦ Contains-append_right (take index xs) (y ∷ drop index xs) x (there y x (drop index xs) behind)
+    ]
+into_insert xs index y x (inr is) =
+    subst (Contains (insert xs index y)) (sym is) (Contains-append_right (take index xs) (y ∷ drop index xs) y (here y (drop index xs)))
+
+-- an insert adds one item and keeps all others
+pub Contains-insert : {X : Type 0} (xs : List X) (index : ℕ) (y x : X) → Contains (insert xs index y) x ↔ (Contains xs x ⊎ (x ≡ y))
+Contains-insert xs index y x = (from_insert xs index y x, into_insert xs index y x)
+
+item_at : {X : Type 0} (xs : List X) (i : ℕ) → i < length xs → (x : X) × (get_or xs i x ≡ x)
+item_at [] i within = absurd (omega arith)
+item_at (x ∷ xs) zero within = (x, refl)
+item_at (x ∷ xs) (suc i) within = item_at xs i (omega arith)
+
+module _ {X : Type 0} (id_of : X → Id) where
+  -- the first item is below all others, and the others rise
+  pub first_below : (x : X) (xs : List X) → IsRisingBy id_of (x ∷ xs) → (y : X) → Contains xs y → id_cmp (id_of x) (id_of y) ≡ Less
+  first_below x xs rising y (k, within, is) = subst (λ z. id_cmp (id_of x) (id_of z) ≡ Less) is (rising.each 0 (suc k) y (omega arith) (omega arith))
+
+  pub rest_rises : (x : X) (xs : List X) → IsRisingBy id_of (x ∷ xs) → IsRisingBy id_of xs
+  rest_rises x xs rising = record { each = λ i j d before within. rising.each (suc i) (suc j) d (omega arith) (omega arith) }
+
+  not_first_and_later : (x : X) (xs : List X) (a b : X) → IsRisingBy id_of (x ∷ xs) → a ≡ x → Contains xs b → id_of a ≡ id_of b → ⊥
+  not_first_and_later x xs a b rising first later same =
+      let below : id_cmp (id_of x) (id_of b) ≡ Less = first_below x xs rising b later in
+      let one : id_of x ≡ id_of b = sym (ap id_of first) ∙ same in
+      not_below_itself (id_of b) (subst (λ id. id_cmp id (id_of b) ≡ Less) one below)
+
+  -- two items with one identifier are one
+  pub one_item : (xs : List X) (a b : X) → IsRisingBy id_of xs → Contains xs a → Contains xs b → id_of a ≡ id_of b → a ≡ b
+  one_item [] a b rising has_a has_b same = absurd (not_inside_none a has_a)
+  one_item (x ∷ xs) a b rising has_a has_b same =
+      elim (here_or_there x a xs has_a) [
+        | inl a_first ↦ elim (here_or_there x b xs has_b) [
+          | inl b_first ↦ a_first ∙ sym b_first
+          | inr b_later ↦ absurd (not_first_and_later x xs a b rising a_first b_later same)
+        ]
+        | inr a_later ↦ elim (here_or_there x b xs has_b) [
+          | inl b_first ↦ absurd (not_first_and_later x xs b a rising b_first a_later (sym same))
+          | inr b_later ↦ one_item xs a b (rest_rises x xs rising) a_later b_later same
+        ]
+      ]
+
+  same_first : (x y : X) (xs ys : List X) → IsRisingBy id_of (x ∷ xs) → IsRisingBy id_of (y ∷ ys) → ((z : X) → Contains (x ∷ xs) z ↔ Contains (y ∷ ys) z) → x ≡ y
+  same_first x y xs ys rising_xs rising_ys same =
+      elim (here_or_there y x ys ((same x).0 (here x xs))) [
+        | inl is ↦ is
+        | inr x_later ↦ elim (here_or_there x y xs ((same y).1 (here y ys))) [
+          | inl is ↦ sym is
+          | inr y_later ↦ absurd (not_below_itself (id_of x) (id_cmp_total.trans (id_of x) (id_of y) (id_of x)
+              (first_below x xs rising_xs y y_later) (first_below y ys rising_ys x x_later)))
+        ]
+      ]
+
+  same_rest : (x y : X) (xs ys : List X) → IsRisingBy id_of (x ∷ xs) → x ≡ y → ((z : X) → Contains (x ∷ xs) z → Contains (y ∷ ys) z) → (z : X) → Contains xs z → Contains ys z
+  same_rest x y xs ys rising first into z inside =
+      elim (here_or_there y z ys (into z (there x z xs inside))) [
+        | inl is ↦ absurd (not_first_and_later x xs z z rising (is ∙ sym first) inside refl)
+        | inr later ↦ later
+      ]
+
+  -- two rising lists with the same items are the same list
+  pub same_items : (xs ys : List X) → IsRisingBy id_of xs → IsRisingBy id_of ys → ((x : X) → Contains xs x ↔ Contains ys x) → xs ≡ ys
+  same_items [] [] rising_xs rising_ys same = refl
+  same_items [] (y ∷ ys) rising_xs rising_ys same = absurd (not_inside_none y ((same y).1 (here y ys)))
+  same_items (x ∷ xs) [] rising_xs rising_ys same = absurd (not_inside_none x ((same x).0 (here x xs)))
+  same_items (x ∷ xs) (y ∷ ys) rising_xs rising_ys same =
+      let first : x ≡ y = same_first x y xs ys rising_xs rising_ys same in
+      let rest : xs ≡ ys = same_items xs ys (rest_rises x xs rising_xs) (rest_rises y ys rising_ys) (λ z. (
+        same_rest x y xs ys rising_xs first (λ w. (same w).0) z,
+        same_rest y x ys xs rising_ys (sym first) (λ w. (same w).1) z,
+      )) in
+      cc
+
+  insert_past : (xs : List X) (index : ℕ) (y d : X) → index ≤ length xs → (k : ℕ) → index < k → get_or (insert xs index y) k d ≡ get_or xs (k - 1) d
+  insert_past xs index y d fits k past =
+      let back : k - 1 + 1 ≡ k = omega arith in
+      subst (λ n. get_or (insert xs index y) n d ≡ get_or xs (k - 1) d) back (get_or-insert_above xs index y d (k - 1) (omega arith) fits)
+
+  rise_at : (xs : List X) (y : X) (index : ℕ) → IsRisingBy id_of xs → IsPlaceBy id_of xs (id_of y) index → (i j : ℕ) (d : X) → i < j → j < length xs + 1 → id_cmp (id_of (get_or (insert xs index y) i d)) (id_of (get_or (insert xs index y) j d)) ≡ Less
+  rise_at xs y index rising place i j d before within =
+      let fits = place.within in
+      let place_i = cases_order i index in
+      let place_j = cases_order j index in
+      grind (arith, get_or-insert_below xs index y d, get_or-insert_at xs index y d fits, insert_past xs index y d fits, rising.each i j d, rising.each i (j - 1) d, rising.each (i - 1) (j - 1) d, place.above i d, place.below (j - 1) d)
+
+  -- a list with one more item at its place still rises
+  pub IsRisingBy-insert : (xs : List X) (y : X) (index : ℕ) → IsRisingBy id_of xs → IsPlaceBy id_of xs (id_of y) index → IsRisingBy id_of (insert xs index y)
+  IsRisingBy-insert xs y index rising place =
+      record { each = λ i j d before within. rise_at xs y index rising place i j d before (omega (arith, length-insert xs index y place.within)) }
+
+  -- what a binary search finds, and where there is no such item
+  pub found_by_search : (xs : List X) (id : Id) (answer : Result ℕ ℕ) → IsSearchInRange answer (length xs) → IsBinarySearchResult (λ x. id_cmp (id_of x) id) xs answer → IfOk answer (λ index. (index < length xs) × HoldsAt (λ x. id_of x ≡ id) xs index)
+  found_by_search xs id (Ok index) within found = (within, λ d. id_cmp-Equal (id_of (get_or xs index d)) id (found d))
+  found_by_search xs id (Err index) within found = tt
+
+  answers_rise : (xs : List X) (id : Id) → IsRisingBy id_of xs → IsNonDecreasingBy (λ x. ordering_index (id_cmp (id_of x) id)) xs
+  answers_rise xs id rising =
+      searchable_from_sorted id_cmp_total id_of xs id (λ k d _ more.
+      ap is_lt (id_cmp-flip (id_of (get_or xs k d)) (id_of (get_or xs (k + 1) d)) (rising.each k (k + 1) d (omega arith) more)))
+
+  pub place_by_search : (xs : List X) (id : Id) (answer : Result ℕ ℕ) → IsRisingBy id_of xs → IsSearchInRange answer (length xs) → IsBinarySearchResult (λ x. id_cmp (id_of x) id) xs answer → IfErr answer (IsPlaceBy id_of xs id)
+  place_by_search xs id (Ok index) rising within found = tt
+  place_by_search xs id (Err index) rising within found =
+      let parts = found (answers_rise xs id rising) in
+      record {
+        within = within;
+        above = parts.0;
+        below = λ k d from to. id_cmp-flip_back (id_of (get_or xs k d)) id (parts.1 k d from to);
+      }
+
+  -- where no item has the identifier, either answer of the search is its place
+  pub place_by_either : (xs : List X) (id : Id) (answer : Result ℕ ℕ) (index : ℕ) → (HoldsBy id_of xs id → ⊥) → IfOk answer (λ i. (i < length xs) × HoldsAt (λ x. id_of x ≡ id) xs i) → IfErr answer (IsPlaceBy id_of xs id) → (answer ≡ Ok index) ⊎ (answer ≡ Err index) → IsPlaceBy id_of xs id index
+  place_by_either xs id (Ok i) index none found place is =
+      let item = item_at xs i found.0 in
+      absurd (none (record { item = item.0; inside = (i, found.0, item.1); has_id = ap id_of (sym item.1) ∙ found.1 item.0 }))
+  place_by_either xs id (Err i) index none found place (inl is) = cc
+  place_by_either xs id (Err i) index none found place (inr is) = let same : i ≡ index = cc in subst (IsPlaceBy id_of xs id) same place
+
+  last_below : (xs : List X) (id : Id) (d : X) → 0 < length xs → (HoldsBy id_of xs id → ⊥) → (order : Ordering) → id_cmp (id_of (get_or xs (length xs - 1) d)) id ≡ order → is_gt order ≡ false → id_cmp (id_of (get_or xs (length xs - 1) d)) id ≡ Less
+  last_below xs id d some none Less is not_above = is
+  last_below xs id d some none Equal is not_above =
+      let last : X = get_or xs (length xs - 1) d in
+      absurd (none (record { item = last; inside = Contains-get_or xs (length xs - 1) d (omega arith); has_id = id_cmp-Equal (id_of last) id is }))
+  last_below xs id d some none Greater is not_above = cc
+
+  place_at_end : (xs : List X) (id : Id) → IsRisingBy id_of xs → (HoldsBy id_of xs id → ⊥) → ((d : X) → 0 < length xs → is_gt (id_cmp (id_of (get_or xs (length xs - 1) d)) id) ≡ false) → IsPlaceBy id_of xs id (length xs)
+  place_at_end xs id rising none not_above =
+      let at_last : (d : X) → 0 < length xs → id_cmp (id_of (get_or xs (length xs - 1) d)) id ≡ Less =
+      λ d some. last_below xs id d some none _ refl (not_above d some) in
+      record {
+        within = omega arith;
+        above = λ k d _ within. elim (cases_order k (length xs - 1)) [
+          | inl is ↦ rw is (at_last d (omega arith))
+          | inr (inl before) ↦ id_cmp_total.trans (id_of (get_or xs k d)) (id_of (get_or xs (length xs - 1) d)) id (rising.each k (length xs - 1) d before (omega arith)) (at_last d (omega arith))
+          | inr (inr behind) ↦ absurd (omega arith)
+        ];
+        below = λ k d from to. absurd (omega arith);
+      }
+
+  -- an identifier that no item has and that isn't below the last one has its place at the end
+  pub place_behind_last : (xs : List X) (id : Id) (end : ℕ) (last : Option X) → IsRisingBy id_of xs → (HoldsBy id_of xs id → ⊥) → end ≡ length xs → slice_get xs (length xs - 1) ≡ last → IfSome last (λ x. is_gt (id_cmp (id_of x) id) ≡ false) → IsPlaceBy id_of xs id end
+  place_behind_last xs id end None rising none is_end is_last not_above =
+      let empty : length xs ≡ 0 = elim (cases_lt 0 (length xs)) [
+        | inl some ↦ cc (is_last, slice_get-get_or xs (length xs - 1) (item_at xs 0 some).0 (omega arith))
+        | inr none_left ↦ omega arith
+      ] in
+      rw is_end (place_at_end xs id rising none (λ d some. absurd (omega arith)))
+  place_behind_last xs id end (Some x) rising none is_end is_last not_above =
+      rw is_end (place_at_end xs id rising none (λ d some. rw (get_or_from_slice_get xs (length xs - 1) x d is_last) not_above))
+
+  -- nothing in the list has an identifier that has its place there
+  pub none_at_place : (xs : List X) (id : Id) (index : ℕ) → IsPlaceBy id_of xs id index → HoldsBy id_of xs id → ⊥
+  none_at_place xs id index place held =
+      let k = held.inside.0 in
+      let is : id_of (get_or xs k held.item) ≡ id = ap id_of held.inside.2 ∙ held.has_id in
+      elim (cases_lt k index) [
+        | inl before ↦ not_below_itself id (subst (λ z. id_cmp z id ≡ Less) is (place.above k held.item (omega arith) before))
+        | inr from ↦ not_below_itself id (subst (λ z. id_cmp id z ≡ Less) is (place.below k held.item from held.inside.1))
+      ]
+
+  held_with : (x : X) (xs : List X) (id : Id) → id_of x ≢ id → (found : Option X) × HoldsUnderBy id_of xs id found → (found : Option X) × HoldsUnderBy id_of (x ∷ xs) id found
+  held_with x xs id other (None, none) = (
+    None,
+    λ held. elim (here_or_there x held.item xs held.inside) [
+      | inl is ↦ other (sym (ap id_of is) ∙ held.has_id)
+      | inr later ↦ none (record { item = held.item; inside = later; has_id = held.has_id })
+    ],
+  )
+  held_with x xs id other (Some y, held) = (Some y, (there x y xs held.0, held.1))
+
+  -- something or nothing stands under each identifier, and only one of them
+  pub held_or_not : (xs : List X) (id : Id) → (found : Option X) × HoldsUnderBy id_of xs id found
+  held_or_not [] id = (None, λ held. not_inside_none held.item held.inside)
+  held_or_not (x ∷ xs) id =
+      elim (same_id_or_not (id_of x) id) [
+        | inl has_id ↦ (Some x, (here x xs, has_id))
+        | inr other ↦ held_with x xs id other (held_or_not xs id)
+      ]
+
+  pub one_held : (xs : List X) (id : Id) (a b : Option X) → IsRisingBy id_of xs → HoldsUnderBy id_of xs id a → HoldsUnderBy id_of xs id b → a ≡ b
+  one_held xs id None None rising held_a held_b = refl
+  one_held xs id None (Some b) rising held_a held_b = absurd (held_a (record { item = b; inside = held_b.0; has_id = held_b.1 }))
+  one_held xs id (Some a) None rising held_a held_b = absurd (held_b (record { item = a; inside = held_a.0; has_id = held_a.1 }))
+  one_held xs id (Some a) (Some b) rising held_a held_b = ap Some (one_item xs a b rising held_a.0 held_b.0 (held_a.1 ∙ sym held_b.1))
