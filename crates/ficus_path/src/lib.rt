@@ -1,0 +1,21 @@
+//! Paths, and how names and paths are spelled.
+#![tactic(auto)]
+
+mod byte;
+mod cut;
+mod id;
+mod name;
+mod part;
+mod path;
+mod reading;
+mod writing;
+
+pub use byte::{append_byte, read_byte};
+pub use id::read_id;
+pub use name::{one_name, write_name};
+pub use path::{Base, PART_LIMIT, Part, Path, PathFault};
+pub use reading::{one_path, read_path};
+pub use writing::write_path;
+
+#[cfg(test)]
+mod tests;
