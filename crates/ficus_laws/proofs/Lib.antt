@@ -1,0 +1,14 @@
+pub mod Positions
+pub mod Updates
+pub mod Seen
+pub mod Knowledge
+pub mod Shown
+pub mod OneMore
+pub mod AfterUpdate
+pub mod Lawful
+pub mod Issued
+pub mod Accept
+pub mod Pull
+pub mod Example
+pub mod Places
+pub mod OpenAsk

@@ -1,0 +1,4 @@
+pub mod Known
+pub mod Updates
+pub mod Laws
+pub mod Accepts

@@ -1,0 +1,72 @@
+-- What a set of known positions of a history shows: entries, the objects that they name, and what is alive.
+-- `U` says which positions are known; what stands there says the history.
+use Rattle.std.specs.Prelude.{◌≡◌, ◌⊎◌, ℕ, List, [], Option, Some, Contains}
+use Rattle.ficus_ids.specs.declared.id.Id.{Id}
+use Rattle.ficus_ids.specs.declared.kind.Kind.{Kind}
+use Rattle.ficus_ids.specs.declared.kind.Kind.TheVariants.{Dir}
+use Rattle.ficus_ids.specs.declared.id.TheConstants.{ROOT}
+use Rattle.ficus_model.specs.declared.event.Event.{Event}
+use Rattle.ficus_model.specs.declared.event.Op.{Op}
+use Rattle.ficus_model.specs.declared.event.Op.TheVariants.{Make}
+use Rattle.ficus_model.specs.Events.{IsUpdate}
+
+-- an entry of a directory: its identifier, the directory, the name, and the object that it names
+pub record Entry : Type 0 where
+  pub id : Id
+  pub dir : Id
+  pub name : List ℕ
+  pub target : Id
+
+-- the entry that the update with this number enters, if it enters one
+abbrev pub entered_by : Id → Op → Option Entry
+entered_by number (Make dir name kind) = Some (record { id = number; dir = dir; name = name; target = number })
+
+-- the entries that an update removes
+abbrev pub removed_by : Op → List Id
+removed_by (Make dir name kind) = []
+
+-- a known update enters this entry
+pub record IsEntered (H : List Event) (U : ℕ → Type 0) (entry : Entry) : Type 0 where
+  pub position : ℕ
+  pub op : Op
+  pub known : U position
+  pub update : IsUpdate H position entry.id op
+  pub enters : entered_by entry.id op ≡ Some entry
+
+-- a known update removes this entry
+pub record IsRemoved (H : List Event) (U : ℕ → Type 0) (entry : Id) : Type 0 where
+  pub position : ℕ
+  pub number : Id
+  pub op : Op
+  pub known : U position
+  pub update : IsUpdate H position number op
+  pub removes : Contains (removed_by op) entry
+
+-- entered, and not removed
+pub record IsLive (H : List Event) (U : ℕ → Type 0) (entry : Entry) : Type 0 where
+  pub entered : IsEntered H U entry
+  pub not_removed : IsRemoved H U entry.id → ⊥
+
+-- a live entry of the directory has the name and leads to the object
+pub record IsBound (H : List Event) (U : ℕ → Type 0) (dir : Id) (name : List ℕ) (target : Id) : Type 0 where
+  pub entry : Entry
+  pub live : IsLive H U entry
+  pub in_dir : entry.dir ≡ dir
+  pub named : entry.name ≡ name
+  pub leads : entry.target ≡ target
+
+-- a live entry of the directory has the name
+abbrev pub IsTaken : List Event → (ℕ → Type 0) → Id → List ℕ → Type 0
+IsTaken H U dir name = (target : Id) × IsBound H U dir name target
+
+-- a known update makes this object, of this kind
+pub record IsMade (H : List Event) (U : ℕ → Type 0) (object : Id) (kind : Kind) : Type 0 where
+  pub position : ℕ
+  pub dir : Id
+  pub name : List ℕ
+  pub known : U position
+  pub update : IsUpdate H position object (Make dir name kind)
+
+-- the root, or an object that was made as a directory
+abbrev pub IsDirectory : List Event → (ℕ → Type 0) → Id → Type 0
+IsDirectory H U object = (object ≡ ROOT) ⊎ IsMade H U object Dir

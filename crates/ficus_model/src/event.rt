@@ -1,0 +1,27 @@
+use ficus_ids::{Id, Kind, Name};
+
+/// One atomic action of one replica. A history is a list of events; a position is a place in it, from 0.
+/// Reconciliation is pairwise and one-sided, as in Ficus (Guy, Popek and Page 1993).
+#[derive(Debug, Drop)]
+pub enum Event {
+    /// Replica `by` changes what it holds. Its k-th update over its life is numbered `by.k`, from 1.
+    Update { by: u8, op: Op },
+    /// Replica `by` asks `to` for its state.
+    Ask { by: u8, to: u8 },
+    /// Replica `by` serves its state in answer to the ask at a position.
+    Serve { by: u8, ask: u32 },
+    /// Replica `by` takes the state that was served at a position.
+    Accept { by: u8, serve: u32 },
+    /// Replica `by` gives up what it knows to be seen as removed by all.
+    Collect { by: u8 },
+    /// Replica `by` starts anew. Its open ask is gone.
+    Restart { by: u8 },
+}
+
+/// What an update does.
+#[derive(Debug, Drop)]
+pub enum Op {
+    /// Makes an object of a kind and enters it in a directory under a name. The entry and the object have
+    /// the update's number as their identifier.
+    Make { dir: Id, name: Name, kind: Kind },
+}
