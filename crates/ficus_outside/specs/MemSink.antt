@@ -1,0 +1,8 @@
+-- A sink in memory.
+use Rattle.std.specs.Prelude.{ℕ, List}
+use Rattle.ficus_outside.specs.Calls.{Tally}
+
+-- the bytes that were put, and the calls
+pub record SinkState : Type 0 where
+  pub written : List ℕ
+  pub calls : Tally
