@@ -1,0 +1,25 @@
+-- Lists of directory entries.
+use Rattle.std.specs.Prelude.{◌≡◌, ◌⊎◌, ◌↔◌, ℕ, List, Option, Contains}
+use Rattle.ficus_ids.specs.declared.id.Id.{Id}
+use Rattle.ficus_ids.specs.Rising.{IsRisingBy, HoldsBy, HoldsUnderBy, IsPlaceBy}
+use Rattle.ficus_entry.specs.declared.entry.Entry.{Entry}
+
+-- the identifiers rise strictly
+abbrev pub IsRising : List Entry → Type 0
+IsRising entries = IsRisingBy (λ entry. entry.id) entries
+
+-- some entry of the list has the identifier
+abbrev pub Holds : List Entry → Id → Type 0
+Holds entries id = HoldsBy (λ entry. entry.id) entries id
+
+-- what the list holds under the identifier: an entry, or nothing
+abbrev pub HoldsUnder : List Entry → Id → Option Entry → Type 0
+HoldsUnder entries id found = HoldsUnderBy (λ entry. entry.id) entries id found
+
+-- a new entry with the identifier goes in front of the entry at this index
+abbrev pub IsPlace : List Entry → Id → ℕ → Type 0
+IsPlace entries id index = IsPlaceBy (λ entry. entry.id) entries id index
+
+-- the new list holds the old entries and this one
+abbrev pub AddsEntry : List Entry → List Entry → Entry → Type 0
+AddsEntry old new entry = (other : Entry) → Contains new other ↔ (Contains old other ⊎ (other ≡ entry))

@@ -1,0 +1,12 @@
+//! Directory entries: a list by identifier, in which a removed entry stays, marked as removed.
+#![tactic(auto)]
+
+mod entries;
+mod entry;
+mod laws;
+#[cfg(test)]
+mod tests;
+
+pub use entries::Entries;
+pub use entry::{Entry, State};
+pub use laws::{one_entry, same_entries};

@@ -1,0 +1,47 @@
+use Rattle.std.proofs.Common.{◌≡◌, inl, inr, sym, ap, ◌∙◌, option_copied, arith}
+use Rattle.std.specs.Int.{from_bool}
+use Rattle.ficus_recon_dir.specs.Table.{MergesEntry}
+use Rattle.ficus_recon_dir.proofs.Steps.{Step, step, taken, taken-copied, IsMerged-more, is_new}
+use Rattle.ficus_recon_dir.proofs.merge.merge_entries.Goals as goal
+use Rattle.ficus_recon_dir.proofs.merge.merge_entries.Goals.{After-lowest-next, After-from, After-from-in-loop-mine_done, In_ok-merge_entry, then-mine_done-len, else-mine_done-len+then-theirs_done-len}
+
+the_step : (c : After-lowest-next) → Step c.args.mine.now c.args.theirs.now c.loop-mine_done.mine_done c.loop-mine_done.theirs_done (option_copied c.lowest-next.result.mine) (option_copied c.lowest-next.result.theirs)
+the_step c =
+    let so_far = c.loop-mine_done.invariant in
+    step c.args.mine.now c.args.theirs.now c.loop-mine_done.mine_done c.loop-mine_done.theirs_done (option_copied c.entry_at-my_next.result) (option_copied c.entry_at-their_next.result) (option_copied c.lowest-next.result.mine) (option_copied c.lowest-next.result.theirs)
+    c.entry_at-my_next.ensures.rising c.entry_at-their_next.ensures.rising so_far.mine_below so_far.theirs_below so_far.mine_within so_far.theirs_within
+    (sym c.entry_at-my_next.ensures.value) (sym c.entry_at-their_next.ensures.value) c.lowest-next.ensures
+    (elim c.if-mine_done-len.branch [ then-mine_done-len w ↦ inl (omega arith) | else-mine_done-len+then-theirs_done-len w ↦ inr (omega arith) ])
+
+the_row : (c : In_ok-merge_entry) → MergesEntry c.args.me c.args.members (option_copied c.lowest-next.result.mine) (option_copied c.lowest-next.result.theirs) c.in_ok-merge_entry.field-0
+the_row c = rw (← c.new-taker.ensures.number, ← c.new-taker.ensures.members) c.in_ok-merge_entry.ensures
+
+pub add-requires : goal.add-requires
+add-requires c = λ after is. is_new c.args.me c.args.members c.args.mine.now c.args.theirs.now c.loop-mine_done.merged c.loop-mine_done.mine_done c.loop-mine_done.theirs_done _ _ after c.loop-mine_done.invariant (the_step (goal.at.add-requires c).After-lowest-next) (rw is at (the_row c))
+
+my_taken : (c : After-from) → c.from.result ≡ taken (option_copied c.lowest-next.result.mine)
+my_taken c = c.from.ensures ∙ ap from_bool c.is_some.ensures ∙ sym (taken-copied c.lowest-next.result.mine)
+
+their_taken : (c : After-from-in-loop-mine_done) → c.from-in-loop-mine_done.result ≡ taken (option_copied c.lowest-next.result.theirs)
+their_taken c = c.from-in-loop-mine_done.ensures ∙ ap from_bool c.is_some-in-loop-mine_done.ensures ∙ sym (taken-copied c.lowest-next.result.theirs)
+
+pub overflow_add-mine_done : goal.overflow_add-mine_done
+overflow_add-mine_done c = let within = (the_step (goal.at.overflow_add-mine_done c).After-lowest-next).mine_within in omega (arith, my_taken c, c.entry_at-my_next.ensures.countable)
+
+pub overflow_add-theirs_done : goal.overflow_add-theirs_done
+overflow_add-theirs_done c = let within = (the_step (goal.at.overflow_add-theirs_done c).After-lowest-next).theirs_within in omega (arith, their_taken c, c.entry_at-their_next.ensures.countable)
+
+pub loop-mine_done-smaller : goal.loop-mine_done-smaller
+loop-mine_done-smaller c =
+    let here = the_step (goal.at.loop-mine_done-smaller c).After-lowest-next in
+    let mine_within = here.mine_within in
+    let theirs_within = here.theirs_within in
+    let goes_on = here.goes_on in
+    omega (arith, my_taken (goal.at.loop-mine_done-smaller c).After-from, their_taken c)
+
+pub loop-mine_done-preserved : goal.loop-mine_done-preserved
+loop-mine_done-preserved c =
+    rw (my_taken (goal.at.loop-mine_done-preserved c).After-from, their_taken c)
+    (IsMerged-more c.args.me c.args.members c.args.mine.now c.args.theirs.now c.loop-mine_done.merged c.add.new.entries c.loop-mine_done.mine_done c.loop-mine_done.theirs_done _ _ c.in_ok-merge_entry.field-0
+    c.loop-mine_done.invariant (the_step (goal.at.loop-mine_done-preserved c).After-lowest-next) (the_row (goal.at.loop-mine_done-preserved c).In_ok-merge_entry)
+    c.in_ok-add.ensures.added (c.in_ok-add.ensures.rising c.loop-mine_done.invariant.rising))

@@ -1,0 +1,11 @@
+//! The merge of two replicas' directory entries: the merge table, entry by entry.
+#![tactic(auto)]
+
+mod laws;
+mod merge;
+mod table;
+#[cfg(test)]
+mod tests;
+
+pub use laws::one_merge;
+pub use merge::merge_entries;

@@ -1,0 +1,120 @@
+ghost use Rattle.std.specs.Prelude.{◌≡◌, Some, IfOk};
+ghost use Rattle.std.specs.Option.{option_copied};
+ghost use Rattle.ficus_ids.specs.Marks.{has};
+ghost use Rattle.ficus_ids.specs.Members.{IsCount, IsMember};
+ghost use Rattle.ficus_recon_dir.specs.Table.{everyone as everyone_of, StandFor, IsDead, Merges, MergesEntry};
+
+use ficus_entry::State::{Dead, Live};
+use ficus_entry::{Entry, State};
+use ficus_ids::{Marks, Members, Memory};
+
+/// The replica that takes a peer's state.
+#[derive(Clone, Copy)]
+pub(crate) struct Taker {
+    number: u8,
+    members: Members,
+    everyone: Marks,
+    ghost valid: { IsCount members },
+    ghost member: { IsMember members number },
+    ghost all: { StandFor everyone (everyone_of members) },
+}
+
+impl Taker {
+    pub(crate) fn new(number: u8, members: Members) -> Taker
+        requires { IsMember members number }
+        ensures number { result.number ≡ number }
+        ensures members { result.members ≡ members }
+    {
+        Taker {
+            number,
+            members,
+            everyone: everyone(members),
+        }
+    }
+
+    /// What stands at the taker afterwards, by what stood there and what stands at the peer.
+    pub(crate) fn merge_entry(
+        self,
+        mine: Option<&Entry>,
+        theirs: Option<&Entry>,
+    ) -> Result<Option<Entry>, Memory>
+        ensures { IfOk result (MergesEntry self.number self.members
+            (option_copied mine.entry) (option_copied theirs.entry)) }
+    {
+        let my_state = mine.map(|entry| entry.state);
+        let their_state = theirs.map(|entry| entry.state);
+        let state = self.merge(my_state.as_ref(), their_state.as_ref());
+        match (mine.or(theirs), state) {
+            (Some(entry), Some(state)) => {
+                let mut merged = entry.copy()?;
+                merged.state = state;
+                Ok(Some(merged))
+            }
+            _ => Ok(None),
+        }
+    }
+
+    // The merge table, a row an arm.
+    fn merge(self, mine: Option<&State>, theirs: Option<&State>) -> Option<State>
+        ensures { Merges self.number self.members
+            (option_copied mine.entry) (option_copied theirs.entry) result }
+    {
+        match (mine, theirs) {
+            (None, None) => None,
+            (None, Some(Live)) => Some(Live),
+            (None, Some(Dead { one, two })) => {
+                if one.has(self.number) {
+                    None
+                } else {
+                    Some(self.dead(one.with(self.number), *two))
+                }
+            }
+            (Some(Live), None) => Some(Live),
+            (Some(Live), Some(Live)) => Some(Live),
+            (Some(Live), Some(Dead { one, two })) => Some(self.dead(one.with(self.number), *two)),
+            (Some(Dead { one, two }), Some(Live)) => Some(self.dead(*one, *two)),
+            (
+                Some(Dead { one, two }),
+                Some(
+                    Dead {
+                        one: peers_one,
+                        two: peers_two,
+                    },
+                ),
+            ) => { Some(self.dead(one.union(*peers_one), two.union(*peers_two))) }
+            (Some(Dead { one, two }), None) => {
+                if one.is_full(self.members) {
+                    Some(self.dead(*one, self.everyone))
+                } else {
+                    Some(self.dead(*one, *two))
+                }
+            }
+        }
+    }
+
+    // Dead with these sets. Where all know of the removal, the taker now knows that all do.
+    fn dead(self, one: Marks, two: Marks) -> State
+        ensures { IsDead self.number self.members (has one) (has two) (Some result) }
+    {
+        if one.is_full(self.members) {
+            Dead {
+                one,
+                two: two.with(self.number),
+            }
+        } else {
+            Dead { one, two }
+        }
+    }
+}
+
+// The set of all members.
+fn everyone(members: Members) -> Marks
+    ensures all { StandFor result (everyone_of members) }
+    ensures valid { IsCount members }
+{
+    let mut everyone = Marks::empty();
+    for member in 1..=members.count() {
+        everyone = everyone.with(member);
+    }
+    everyone
+}
