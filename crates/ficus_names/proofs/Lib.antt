@@ -1,0 +1,7 @@
+mod ByDirectory
+mod Found
+mod Known
+mod Listed
+mod Neighbours
+mod Order
+mod Sorts

@@ -1,0 +1,6 @@
+mod Followed
+mod Gained
+mod Known
+mod Ranges
+mod Taken
+mod Tracked

@@ -1,0 +1,4 @@
+pub mod Found
+pub mod Leads
+pub mod Link
+pub mod ReachedLaws

@@ -1,0 +1,11 @@
+//! Which objects are reached along the live entries of a list.
+#![tactic(auto)]
+
+mod found;
+mod link;
+mod search;
+
+pub use search::reached;
+
+#[cfg(test)]
+mod tests;

@@ -1,0 +1,55 @@
+ghost use Rattle.std.specs.Prelude.{◌≡◌, ◌↔◌, Contains, IfOk, IsTrue};
+ghost use Rattle.ficus_entry.specs.declared.entry.State.TheVariants.{Live};
+ghost use Rattle.ficus_ids.specs.declared.id.Id.{Id as IdValue};
+ghost use Rattle.ficus_reach.specs.Leads.{LeadsIn};
+ghost use Rattle.ficus_reach.specs.Link.{Links, IsSortedByDir};
+ghost use Rattle.ficus_reach.specs.declared.link.Link.{Link as LinkValue};
+
+use ficus_entry::{Entries, Entry, State};
+use ficus_ids::{Id, Memory};
+use std::alloc::Global;
+
+/// A way from a directory to an object that an entry in it names.
+#[derive(Clone, Copy, Debug)]
+pub struct Link {
+    pub dir: Id,
+    pub target: Id,
+}
+
+/// The links of the live entries, by directory.
+pub fn links_of(alloc: Global, entries: &Entries) -> Result<Vec<Link>, Memory>
+    ensures links { IfOk result (λ links. (dir object : IdValue) →
+        Links links.items dir object ↔ LeadsIn entries.now dir object) }
+    ensures sorted { IfOk result (λ links. IsSortedByDir links.items) }
+{
+    let mut links = Vec::new(alloc);
+    for index in 0..entries.len() {
+        let entry = entries.at(index);
+        if is_live(entry) {
+            links.push(Link {
+                dir: entry.dir,
+                target: entry.target,
+            })?;
+        }
+    }
+    links.sort_unstable_by_key(|link| link.dir);
+    Ok(links)
+}
+
+fn is_live(entry: &Entry) -> bool
+    ensures { IsTrue result ↔ (entry.now.state ≡ Live) }
+{
+    matches!(entry.state, State::Live)
+}
+
+/// The links out of the directory.
+pub fn links_from(links: &[Link], dir: Id) -> &[Link]
+    requires { IsSortedByDir links.now }
+    ensures { (link : LinkValue) →
+        Contains result.now link ↔ (Contains links.now link × (link.dir ≡ dir)) }
+{
+    let start = links.partition_point(|link| link.dir < dir);
+    let rest = &links[start..];
+    let end = rest.partition_point(|link| link.dir <= dir);
+    &rest[..end]
+}
