@@ -1,0 +1,30 @@
+-- What an image asks of what a replica saves.
+use Rattle.std.specs.Prelude.{◌≡◌, ℕ, ◌+◌, ◌^◌, ◌<◌, ◌≤◌, All}
+use Rattle.ficus_ids.specs.Members.{IsCount, IsMember}
+use Rattle.ficus_ids.specs.declared.id.Id.{Id}
+use Rattle.ficus_entry.specs.declared.entry.Entry.{Entry}
+use Rattle.ficus_codec.specs.declared.saved.Saved.{Saved}
+use Rattle.ficus_codec.specs.Tables.{FitsTables}
+
+-- an identifier of this replica's own is of an update that it has made
+abbrev pub IsOfPast : ℕ → ℕ → Id → Type 0
+IsOfPast me next id = id.replica ≡ me → id.number < next
+
+-- each identifier in the entry that is of this replica is of an update that it has made
+pub record HasOwnPast (me next : ℕ) (entry : Entry) : Type 0 where
+  pub id : IsOfPast me next entry.id
+  pub dir : IsOfPast me next entry.dir
+  pub target : IsOfPast me next entry.target
+
+pub record FitsImage (saved : Saved) : Type 0 where
+  pub members : IsCount saved.members
+  pub me : IsMember saved.members saved.me
+  pub ids_at_least : 1 ≤ saved.ids
+  pub ids_at_most : saved.ids ≤ 100000
+  pub bytes : saved.bytes ≤ 4194304
+  pub next_at_least : 1 ≤ saved.next
+  pub next_at_most : saved.next ≤ saved.ids + 1
+  pub used : saved.used ≤ saved.bytes
+  pub generation : saved.generation < 2 ^ 63
+  pub tables : All (FitsTables saved.members) saved.entries
+  pub past : All (HasOwnPast saved.me saved.next) saved.entries

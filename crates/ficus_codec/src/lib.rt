@@ -1,0 +1,6 @@
+//! What a replica saves, and what an image asks of it.
+#![tactic(auto)]
+
+mod saved;
+
+pub use saved::Saved;

@@ -1,0 +1,23 @@
+use ficus_entry::Entries;
+use ficus_ids::Members;
+
+/// What a replica saves: all that outlives a restart.
+#[derive(Debug, Drop)]
+pub struct Saved {
+    /// The replica's own number.
+    pub me: u8,
+    /// How many replicas the volume has.
+    pub members: Members,
+    /// The most updates that one replica makes over its life, from 1 to 100,000.
+    pub ids: u32,
+    /// The most bytes that one replica writes over its life, at most 4,194,304.
+    pub bytes: u32,
+    /// The number of its next update, from 1.
+    pub next: u32,
+    /// How many bytes it has written.
+    pub used: u32,
+    /// How often what it saves has changed.
+    pub generation: u64,
+    /// The entries that it holds.
+    pub entries: Entries,
+}

@@ -1,0 +1,17 @@
+pub mod Shown
+pub mod OpenAsks
+pub mod Saves
+pub mod AnswersStand
+pub mod MakesStand
+pub mod EventsStand
+pub mod Merged
+pub mod AsksStand
+pub mod AcceptsStand
+pub mod GivesStand
+pub mod PullsStand
+pub mod Walks
+pub mod Listings
+pub mod Trees
+pub mod Makes
+pub mod MergeFits
+pub mod Reconciles

@@ -1,0 +1,59 @@
+-- What it means that a replica stands for a history.
+use Rattle.std.specs.Prelude.{◌≡◌, ◌↔◌, ℕ, ◌+◌, List, Bool, false, ◌==◌, Option, Some, None, Contains, count_by}
+use Rattle.ficus_ids.specs.declared.id.Id.{Id}
+use Rattle.ficus_ids.specs.declared.kind.Kind.{Kind}
+use Rattle.ficus_ids.specs.declared.kind.Kind.TheVariants.{Dir}
+use Rattle.ficus_model.specs.declared.event.Event.{Event}
+use Rattle.ficus_model.specs.declared.event.Event.TheVariants.{Update, Ask, Serve, Accept, Collect, Restart}
+use Rattle.ficus_model.specs.Events.{count_of, through}
+use Rattle.ficus_model.specs.Known.{Knows}
+use Rattle.ficus_model.specs.Lawful.{Volume, IsOpenAsk}
+use Rattle.ficus_model.specs.Live.{IsLive, IsMade}
+use Rattle.ficus_entry.specs.declared.entry.Entry.{Entry}
+use Rattle.ficus_entry.specs.declared.entry.State.{State}
+use Rattle.ficus_entry.specs.declared.entry.State.TheVariants.{Live, Dead}
+use Rattle.ficus_codec.specs.declared.saved.Saved.{Saved}
+use Rattle.ficus_replica.specs.declared.replica.Asked.{Asked}
+use Rattle.ficus_replica.specs.declared.replica.Replica.{Replica}
+
+-- an event of the replica after which it saves
+abbrev pub is_saved : ℕ → Event → Bool
+is_saved replica (Update by op) = by == replica
+is_saved replica (Ask by to) = by == replica
+is_saved replica (Accept by serve) = by == replica
+is_saved replica (Collect by) = by == replica
+is_saved replica (Serve by ask) = false
+is_saved replica (Restart by) = false
+
+-- how often the replica has saved
+abbrev pub generation_of : ℕ → List Event → ℕ
+generation_of replica H = count_by (is_saved replica) H
+
+-- The entry, as the replica holds it: a live one is alive in what it knows. No operation removes entries yet, so
+-- none is held as removed.
+abbrev pub IsHeldAs : List Event → ℕ → Entry → State → Type 0
+IsHeldAs H replica entry Live = IsLive H (Knows H replica) (record { id = entry.id; dir = entry.dir; name = entry.name; target = entry.target })
+IsHeldAs H replica entry (Dead one two) = ⊥
+
+-- what the replica saves after the history
+pub record IsSavedOf (volume : Volume) (H : List Event) (replica : ℕ) (saved : Saved) : Type 0 where
+  pub me : saved.me ≡ replica
+  pub members : saved.members ≡ volume.members
+  pub ids : saved.ids ≡ volume.ids
+  pub bytes : saved.bytes ≡ volume.bytes
+  pub next : saved.next ≡ count_of replica H + 1
+  pub used : saved.used ≡ 0
+  pub generation : saved.generation ≡ generation_of replica H
+  pub entries : (entry : Entry) → Contains saved.entries entry ↔ IsHeldAs H replica entry entry.state
+  -- no file is kept yet
+  pub directories : (object : Id) (kind : Kind) → IsMade H (Knows H replica) object kind → kind ≡ Dir
+
+-- the ask that the replica waits for an answer to
+abbrev pub IsOpenAskOf : List Event → ℕ → Option Asked → Type 0
+IsOpenAskOf H replica None = (position to : ℕ) → IsOpenAsk H position replica to → ⊥
+IsOpenAskOf H replica (Some asked) = (position : ℕ) × IsOpenAsk H position replica asked.to × (asked.number ≡ generation_of replica (through position H))
+
+-- the replica stands for the history
+pub record StandsFor (volume : Volume) (H : List Event) (number : ℕ) (replica : Replica) : Type 0 where
+  pub saved : IsSavedOf volume H number replica.saved
+  pub ask : IsOpenAskOf H number replica.ask

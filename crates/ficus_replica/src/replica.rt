@@ -1,0 +1,66 @@
+ghost use Rattle.std.specs.Prelude.{◌≡◌, ◌≤◌, [], None};
+
+use ficus_codec::Saved;
+use ficus_entry::Entries;
+use ficus_ids::Members;
+use ficus_model::Op;
+use std::alloc::Global;
+
+/// An ask that waits for its answer.
+#[derive(Clone, Copy, Debug, PartialEq, Eq)]
+pub struct Asked {
+    /// The replica that was asked.
+    pub to: u8,
+    /// The generation with which the ask was saved.
+    pub number: u64,
+}
+
+/// One replica: what it saves, and its open ask, which doesn't outlive a restart.
+#[derive(Debug, Drop)]
+pub struct Replica {
+    pub saved: Saved,
+    pub ask: Option<Asked>,
+}
+
+/// An update that may take place: the replica after it, and what it does.
+#[derive(Debug, Drop)]
+pub struct Next {
+    pub replica: Replica,
+    pub op: Op,
+}
+
+impl Replica {
+    ghost use Rattle.ficus_ids.specs.Members.{IsMember};
+    ghost use Rattle.ficus_codec.specs.Saved.{FitsImage};
+
+    /// A replica that has heard of nothing. Takes no memory.
+    pub fn fresh(alloc: Global, me: u8, members: Members, ids: u32, bytes: u32) -> Replica
+        requires me { IsMember members me }
+        requires ids_at_least { 1 ≤ ids }
+        requires ids_at_most { ids ≤ 100000 }
+        requires bytes { bytes ≤ 4194304 }
+        ensures saved { result.saved ≡ record { me = me; members = members; ids = ids; bytes = bytes; next = 1; used = 0; generation = 0; entries = [] } }
+        ensures ask { result.ask ≡ None }
+        ensures fits { FitsImage result.saved }
+    {
+        let _count = members.count();
+        Replica::open(Saved {
+            me,
+            members,
+            ids,
+            bytes,
+            next: 1,
+            used: 0,
+            generation: 0,
+            entries: Entries::new(alloc),
+        })
+    }
+
+    /// A replica as it was saved. Opening is a restart, so there is no open ask. Takes no memory.
+    pub fn open(saved: Saved) -> Replica
+        ensures saved { result.saved ≡ saved }
+        ensures ask { result.ask ≡ None }
+    {
+        Replica { saved, ask: None }
+    }
+}
