@@ -1,0 +1,5 @@
+pub mod Cuts
+pub mod Lines
+pub mod Numbers
+pub mod ScriptLaws
+pub mod Scripts

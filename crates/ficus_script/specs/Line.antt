@@ -1,0 +1,35 @@
+-- What reading a line comes to.
+use Rattle.std.specs.Prelude.{◌≡◌, ℕ, List, [], ◌∷◌, ◌++◌, map, filter, All, Result, Ok, Err}
+use Rattle.ficus_path.specs.declared.path.PathFault.{PathFault}
+use Rattle.ficus_path.specs.declared.path.PathFault.TheVariants as path_fault
+use Rattle.ficus_script.specs.declared.command.Command.{Command}
+use Rattle.ficus_script.specs.declared.line.LineFault.{LineFault}
+use Rattle.ficus_script.specs.declared.line.LineFault.TheVariants.{NotCommand, Memory}
+use Rattle.ficus_script.specs.Command.{IsCommand, command_text}
+use Rattle.ficus_script.specs.declared.fault.ScriptFault.{ScriptFault}
+use Rattle.ficus_script.specs.declared.fault.ScriptFault.TheVariants as script_fault
+use Rattle.ficus_script.specs.Script.{is_kept, IsCommandLine, IsLine}
+
+-- what a fault of a path in the line makes of the line
+abbrev pub fault_of : PathFault → LineFault
+fault_of path_fault.NotPath = NotCommand
+fault_of path_fault.Memory = Memory
+
+-- what the line's fault makes of the script
+abbrev pub fault_at : LineFault → ℕ → ScriptFault
+fault_at NotCommand line = script_fault.BadLine line
+fault_at Memory line = script_fault.Memory
+
+-- the command that the line spells, `NotCommand` where it spells none, or memory was refused
+abbrev pub IsReadingOf : List ℕ → Result Command LineFault → Type 0
+IsReadingOf line (Ok command) = IsCommand command × (line ≡ command_text command)
+IsReadingOf line (Err NotCommand) = IsCommandLine line → ⊥
+IsReadingOf line (Err Memory) = Unit {0}
+
+-- the line may stand in a script, and the command that it spells, if it isn't passed over, comes behind the old ones
+pub record Takes (line : List ℕ) (old new : List Command) : Type 0 where
+  pub more : List Command
+  pub added : new ≡ old ++ more
+  pub each : All IsCommand more
+  pub spelled : filter is_kept (line ∷ []) ≡ map command_text more
+  pub good : IsLine line

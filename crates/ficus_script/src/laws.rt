@@ -1,0 +1,21 @@
+ghost use Rattle.std.specs.Prelude.{◌≡◌, ℕ, List};
+ghost use Rattle.ficus_script.specs.declared.command.Command.{Command};
+ghost use Rattle.ficus_script.specs.Script.{IsScript, IsFirstBadLine};
+
+/// The law that no two lists of commands are one script's. It does nothing when it runs.
+pub fn one_script()
+    ensures { (bytes : List ℕ) (commands others : List Command) →
+        IsScript bytes commands → IsScript bytes others → commands ≡ others }
+{}
+
+/// The law that bytes with a first bad line are the script of no commands. It does nothing when it runs.
+pub fn no_bad_line()
+    ensures { (bytes : List ℕ) (commands : List Command) (line : ℕ) →
+        IsScript bytes commands → IsFirstBadLine bytes line → ⊥ }
+{}
+
+/// The law that bytes have one first bad line at most. It does nothing when it runs.
+pub fn one_bad_line()
+    ensures { (bytes : List ℕ) (line other : ℕ) →
+        IsFirstBadLine bytes line → IsFirstBadLine bytes other → line ≡ other }
+{}

@@ -1,0 +1,22 @@
+//! Scripts and answers as bytes: which commands the lines of a script spell, and how answers are written.
+#![tactic(auto)]
+
+mod answer;
+mod command;
+mod cut;
+mod fault;
+mod laws;
+mod line;
+mod replica;
+mod script;
+mod writing;
+
+pub use answer::Answer;
+pub use command::Command;
+pub use fault::ScriptFault;
+pub use laws::{no_bad_line, one_bad_line, one_script};
+pub use script::read_script;
+pub use writing::answer_text;
+
+#[cfg(test)]
+mod tests;

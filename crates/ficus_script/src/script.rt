@@ -1,0 +1,55 @@
+ghost use Rattle.std.specs.Prelude.{◌≡◌, ◌<◌, ℕ, [], ◌∷◌, length, Err, IfOk, OnOk, IfSome, IfNone, IsErrOf};
+ghost use Rattle.ficus_script.specs.Line.{Takes, fault_at};
+ghost use Rattle.ficus_script.specs.Script.{is_passed_over, lines_of, IsLine, IsScript, IsFirstBadLine};
+
+use crate::cut::cut_at;
+use crate::line::{LineFault, read_command};
+use crate::{Command, ScriptFault};
+use std::alloc::Global;
+
+/// The commands that the script's lines spell, in order. `BadLine` comes exactly where a line is neither passed over
+/// nor a command, and names the first such line.
+pub fn read_script(alloc: Global, bytes: &[u8]) -> Result<Vec<Command>, ScriptFault>
+    ensures script { IfOk result (λ commands. IsScript bytes.now commands.items) }
+    ensures bad_line { (line : ℕ) → result ≡ Err (ScriptFault.BadLine line) → IsFirstBadLine bytes.now line }
+{
+    let mut commands = Vec::new(alloc);
+    let mut number = 0;
+    let mut rest = bytes;
+    while let Some((line, others)) = first_line(rest) {
+        number += 1;
+        take_line(alloc, &mut commands, line).map_err(|fault| fault.at(number))?;
+        rest = others;
+    }
+    Ok(commands)
+}
+
+// The first line, without the byte that ends it, and what stands behind it.
+fn first_line(bytes: &[u8]) -> Option<(&[u8], &[u8])>
+    ensures lines { IfSome result (λ cut. lines_of bytes.now ≡ cut.0.now ∷ lines_of cut.1.now) }
+    ensures shorter { IfSome result (λ cut. length cut.1.now < length bytes.now) }
+    ensures none { IfNone result (bytes.now ≡ []) }
+{
+    if bytes.is_empty() {
+        return None;
+    }
+    let (line, rest) = cut_at(bytes, b'\n');
+    Some((line, rest.unwrap_or(&[])))
+}
+
+// Adds the command of the line, where it isn't passed over.
+fn take_line(alloc: Global, commands: &mut Vec<Command>, line: &[u8]) -> Result<(), LineFault>
+    ensures taken { OnOk result (Takes line.now commands.old.items commands.new.items) }
+    ensures not_command { IsErrOf result LineFault.NotCommand → IsLine line.now → ⊥ }
+{
+    if !is_passed_over(line) {
+        commands.push(read_command(alloc, line)?)?;
+    }
+    Ok(())
+}
+
+fn is_passed_over(line: &[u8]) -> bool
+    ensures { result ≡ is_passed_over line.now }
+{
+    matches!(line, [] | [b'#', ..])
+}
