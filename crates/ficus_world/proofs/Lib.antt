@@ -1,0 +1,9 @@
+pub mod Runs
+pub mod Replaced
+pub mod LastPart
+pub mod MovesStand
+pub mod SoundWorlds
+pub mod Refusals
+pub mod Starts
+pub mod RisingLists
+pub mod Agreement

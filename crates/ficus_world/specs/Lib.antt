@@ -1,0 +1,4 @@
+pub mod World
+pub mod Run
+pub mod Moves
+pub mod Start

@@ -1,0 +1,13 @@
+//! A world of replicas: one command after the other, each an atomic event of one replica.
+#![tactic(auto)]
+
+mod fresh;
+mod laws;
+mod record;
+mod step;
+#[cfg(test)]
+mod tests;
+mod world;
+
+pub use laws::{runs_are_lawful, same_updates_answer_same};
+pub use world::World;
