@@ -1,0 +1,3 @@
+mod Lines
+mod Serves
+mod Endings

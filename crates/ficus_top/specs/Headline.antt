@@ -1,0 +1,51 @@
+-- What the program promises of one run.
+use Rattle.std.specs.Prelude.{◌≡◌, ◌⊎◌, ℕ, ◌≤◌, List, length}
+use Rattle.ficus_model.specs.declared.event.Event.{Event}
+use Rattle.ficus_outside.specs.Faults.{Rose}
+use Rattle.ficus_script.specs.declared.command.Command.{Command}
+use Rattle.ficus_script.specs.declared.answer.Answer.{Answer}
+use Rattle.ficus_script.specs.Script.{IsScript}
+use Rattle.ficus_world.specs.Run.{Run}
+use Rattle.ficus_world.specs.Start.{default_volume, start}
+use Rattle.ficus_top.specs.Serving.{Serves, ServesFront}
+use Rattle.ficus_top.specs.Words.{AreWords}
+
+-- The commands, over a fresh volume with so many members, are answered with these answers, and leave this
+-- history.
+abbrev pub Replay : ℕ → List Command → List Answer → List Event → Type 0
+Replay members commands answers H = Run (default_volume members) (start members) commands answers H
+
+-- what was put are the texts of the answers to the script's commands, in order, and nothing else
+pub record Answers (members : ℕ) (script old new : List ℕ) : Type 0 where
+  pub commands : List Command
+  pub read : IsScript script commands
+  pub after : List Event
+  pub serves : Serves (default_volume members) (start members) commands after old new
+
+-- what was put is a front of the texts of the answers to some first commands of the script
+pub record AnswersFront (members : ℕ) (script old new : List ℕ) : Type 0 where
+  pub commands : List Command
+  pub read : IsScript script commands
+  pub serves : ServesFront (default_volume members) (start members) commands old new
+
+-- the code is one of those that the program ends with
+abbrev pub IsCode : ℕ → Type 0
+IsCode code = (code ≡ 0) ⊎ (code ≡ 1) ⊎ (code ≡ 2) ⊎ (code ≡ 3) ⊎ (code ≡ 4) ⊎ (code ≡ 5) ⊎ (code ≡ 8)
+
+-- the code of a run in which nothing was done
+abbrev pub IsIdleCode : ℕ → Type 0
+IsIdleCode code = (code ≡ 1) ⊎ (code ≡ 2) ⊎ (code ≡ 4) ⊎ (code ≡ 8)
+
+-- the most bytes of a script
+abbrev pub script_limit : ℕ
+script_limit = 1048576
+
+-- the words are those of a run, the source has a script's number of bytes at most, and its count of faults didn't rise
+pub record IsRead (words : List (List ℕ)) (members : ℕ) (script : List ℕ) (before after : ℕ) : Type 0 where
+  pub words_are : AreWords words members
+  pub within : length script ≤ script_limit
+  pub no_fault : Rose before after → ⊥
+
+-- a code that stands for the first bad line, by its number, or want of memory
+abbrev pub IsBadLineCode : ℕ → ℕ → ℕ → Type 0
+IsBadLineCode n code line = ((code ≡ 2) × (line ≡ n)) ⊎ (code ≡ 3)

@@ -1,0 +1,16 @@
+//! The program as one call: it reads the words and the script, and answers each command.
+#![tactic(auto)]
+
+mod fault;
+mod put;
+mod read;
+mod replay;
+mod serving;
+mod status;
+#[cfg(test)]
+mod tests;
+mod words;
+
+pub use replay::ficus;
+pub use serving::serve;
+pub use status::{Status, status_text};

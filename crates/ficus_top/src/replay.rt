@@ -1,0 +1,131 @@
+ghost use Rattle.std.specs.Prelude.{◌≡◌, ◌≢◌, ◌⊎◌, ◌↔◌, ◌+◌, ◌<◌, ◌≤◌, ℕ, List, [], length, All, OnOk, OnErr, IfErr, IsErrOf};
+ghost use Rattle.ficus_ids.specs.Members.{IsCount};
+ghost use Rattle.ficus_model.specs.Lawful.{IsLawful};
+ghost use Rattle.ficus_model.specs.declared.event.Event.{Event};
+ghost use Rattle.ficus_outside.specs.Faults.{Rose};
+ghost use Rattle.ficus_script.specs.Command.{IsCommand};
+ghost use Rattle.ficus_script.specs.Script.{IsScript, IsFirstBadLine};
+ghost use Rattle.ficus_script.specs.declared.answer.Answer.{Answer as AnswerValue};
+ghost use Rattle.ficus_script.specs.declared.command.Command.{Command as CommandValue};
+ghost use Rattle.ficus_top.specs.Ending.{Takes, IsAnswering, IsIdle};
+ghost use Rattle.ficus_top.specs.Headline.{Answers, AnswersFront, Replay, IsCode, IsIdleCode, IsRead, IsBadLineCode, script_limit};
+ghost use Rattle.ficus_top.specs.Outside.{GivesCount};
+ghost use Rattle.ficus_top.specs.Serving.{Serves, ServesFront};
+ghost use Rattle.ficus_top.specs.Words.{texts, AreWords, AreNoWords};
+ghost use Rattle.ficus_world.specs.Start.{default_volume, start};
+
+use crate::fault::{AnsweringFault, Fault, ReadingFault};
+use crate::read::read_commands;
+use crate::serving::answer_all;
+use crate::status::Status;
+use crate::words::read_words;
+use ficus_ids::Members;
+use ficus_outside::{Sink, Source};
+use ficus_script::Command;
+use ficus_world::World;
+use std::alloc::Global;
+
+/// Runs the program: reads the words, then the whole script from the source, and then answers each command on
+/// the sink, over a fresh volume in memory.
+///
+/// The codes, in the order in which they are tested: 1, the words aren't those of a mode; 4, the source failed;
+/// 8, it gave more bytes than a script has; 2, a line is no command, and the first such line is named; then 0,
+/// or 5, where the sink failed. Code 3, want of memory, may come at any time. After 1, 2, 4 and 8 nothing was
+/// put.
+pub fn ficus<S: Source, K: Sink>(
+    alloc: Global,
+    words: &Vec<String>,
+    input: &mut S,
+    output: &mut K,
+) -> Status
+    // Code 1 comes exactly where the words aren't those of a mode.
+    ensures usage { (result.code ≡ 1) ↔ AreNoWords (texts words.now.items) }
+
+    // Code 8 comes exactly where the source gave a byte more than a script may have.
+    ensures too_long { S.tells → (result.code ≡ 8) ↔ GivesCount (S.left input.old) 1048577 (S.left input.new) }
+
+    // Code 2 names the first line that may stand in no script, and comes wherever there is one.
+    ensures bad_line { S.tells → result.code ≡ 2 → IsFirstBadLine (S.left input.old) result.line }
+    ensures bad_line_comes { S.tells → (members line : ℕ)
+        → IsRead (texts words.now.items) members (S.left input.old) (S.faults input.old) (S.faults input.new)
+        → IsFirstBadLine (S.left input.old) line → IsBadLineCode line result.code result.line }
+
+    // Codes 4 and 5 come only where the source or the sink has failed in this call.
+    ensures read_fault { result.code ≡ 4 → Rose (S.faults input.old) (S.faults input.new) }
+    ensures write_fault { result.code ≡ 5 → Rose (K.faults output.old) (K.faults output.new) }
+
+    // With code 0, what was put are the texts of the answers to the script's commands, and the source is empty.
+    ensures answers { S.tells → K.tells → result.code ≡ 0 → (members : ℕ) → AreWords (texts words.now.items) members
+        → Answers members (S.left input.old) (K.written output.old) (K.written output.new) × (S.left input.new ≡ []) }
+
+    // With codes 3 and 5, what was put is a front of them; with code 3 maybe before the script was read.
+    ensures prefix { S.tells → K.tells → (members : ℕ) → AreWords (texts words.now.items) members
+        → (result.code ≡ 5 → AnswersFront members (S.left input.old) (K.written output.old) (K.written output.new))
+        × (result.code ≡ 3 → (K.written output.new ≡ K.written output.old)
+        ⊎ AnswersFront members (S.left input.old) (K.written output.old) (K.written output.new)) }
+
+    // The history that the answers leave is lawful.
+    ensures lawful { (members : ℕ) (commands : List CommandValue) (answers : List AnswerValue) (H : List Event)
+        → Replay members commands answers H → IsLawful (default_volume members) H }
+
+    // Valid words and a script are answered, unless memory is wanted or the outside failed in this call.
+    ensures complete { S.tells → (members : ℕ) (commands : List CommandValue)
+        → IsRead (texts words.now.items) members (S.left input.old) (S.faults input.old) (S.faults input.new)
+        → IsScript (S.left input.old) commands → (Rose (K.faults output.old) (K.faults output.new) → ⊥)
+        → (result.code ≡ 0) ⊎ (result.code ≡ 3) }
+
+    // No other code comes, and nothing is put before the commands.
+    ensures codes { IsCode result.code }
+    ensures idle { K.tells → IsIdleCode result.code → K.written output.new ≡ K.written output.old }
+    ensures numbers { (result.code ≢ 2 → result.line ≡ 0) × (result.replica ≡ 0) }
+    ensures counted { (S.faults input.old ≤ S.faults input.new) × (K.faults output.old ≤ K.faults output.new) }
+{
+    Status::of(run(alloc, words, input, output))
+}
+
+// Reads the words and the script, and answers the commands over a fresh volume.
+fn run<S: Source, K: Sink>(
+    alloc: Global,
+    words: &Vec<String>,
+    input: &mut S,
+    output: &mut K,
+) -> Result<(), Fault>
+    ensures usage { IsErrOf result Fault.Usage ↔ AreNoWords (texts words.now.items) }
+    ensures takes { S.tells → Takes (S.left input.old) (S.left input.new) result }
+    ensures answers { S.tells → K.tells → OnOk result ((members : ℕ) → AreWords (texts words.now.items) members
+        → Answers members (S.left input.old) (K.written output.old) (K.written output.new)) }
+    ensures prefix { S.tells → K.tells → IfErr result (λ fault. IsAnswering fault → (members : ℕ) → AreWords (texts words.now.items) members
+        → AnswersFront members (S.left input.old) (K.written output.old) (K.written output.new)) }
+    ensures idle { K.tells → IfErr result (λ fault. IsIdle fault → K.written output.new ≡ K.written output.old) }
+    ensures read_fault { IsErrOf result (Fault.Reading ReadingFault.Source) → Rose (S.faults input.old) (S.faults input.new) }
+    ensures write_fault { IsErrOf result (Fault.Answering AnsweringFault.Sink) → Rose (K.faults output.old) (K.faults output.new) }
+    ensures counted { (S.faults input.old ≤ S.faults input.new) × (K.faults output.old ≤ K.faults output.new) }
+{
+    let Some(members) = read_words(words.as_slice()) else {
+        return Err(Fault::Usage);
+    };
+    let commands = read_commands(alloc, input)?;
+    answer_commands(alloc, members, &commands, output)?;
+    Ok(())
+}
+
+// Answers the commands over a fresh volume.
+fn answer_commands<K: Sink>(
+    alloc: Global,
+    members: Members,
+    commands: &[Command],
+    output: &mut K,
+) -> Result<(), AnsweringFault>
+    requires members { IsCount members }
+    requires commands { All IsCommand commands.now }
+    requires count { length commands.now ≤ script_limit }
+    ensures answers { K.tells → OnOk result ((after : List Event)
+        × Serves (default_volume members) (start members) commands.now after (K.written output.old) (K.written output.new)) }
+    ensures prefix { K.tells → OnErr result
+        (ServesFront (default_volume members) (start members) commands.now (K.written output.old) (K.written output.new)) }
+    ensures failed { IsErrOf result AnsweringFault.Sink → Rose (K.faults output.old) (K.faults output.new) }
+    ensures counted { K.faults output.old ≤ K.faults output.new }
+{
+    let mut world = World::fresh(alloc, members)?;
+    answer_all(alloc, &mut world, commands, output)
+}

@@ -1,0 +1,97 @@
+ghost use Rattle.std.specs.Prelude.{◌≡◌, ◌⊎◌, ◌+◌, ◌<◌, ◌≤◌, ◌∷◌, [], ◌++◌, List, length, All, OnOk, OnErr, IsErrOf};
+ghost use Rattle.ficus_model.specs.Lawful.{Volume};
+ghost use Rattle.ficus_model.specs.declared.event.Event.{Event};
+ghost use Rattle.ficus_outside.specs.Faults.{Rose};
+ghost use Rattle.ficus_script.specs.Answer.{answer_text_of};
+ghost use Rattle.ficus_script.specs.Command.{IsCommand};
+ghost use Rattle.ficus_top.specs.Outside.{PutsFront};
+ghost use Rattle.ficus_top.specs.Serving.{ServesFront, ServesWorld};
+ghost use Rattle.ficus_world.specs.World.{WorldStandsFor};
+
+use crate::fault::{AnsweringFault, Fault};
+use crate::put::put_all;
+use crate::status::Status;
+use ficus_outside::Sink;
+use ficus_script::{Answer, Command, answer_text};
+use ficus_world::World;
+use std::alloc::Global;
+
+/// Answers the commands in order: each answer's text is put after its command was carried out, and before the
+/// next one. Ends with code 0; 3, where memory is refused; or 5, where the sink fails.
+pub fn serve<K: Sink>(
+    alloc: Global,
+    world: &mut World,
+    commands: &[Command],
+    output: &mut K,
+) -> Status
+    requires commands { All IsCommand commands.now }
+    requires count { length commands.now ≤ 1048576 }
+    requires room { length world.old.history.events < 4000000000 }
+    ensures codes { (result.code ≡ 0) ⊎ (result.code ≡ 3) ⊎ (result.code ≡ 5) }
+    ensures answers { K.tells → result.code ≡ 0 → (volume : Volume) (H : List Event) → WorldStandsFor volume H world.old
+        → ServesWorld volume H commands.now world.new (K.written output.old) (K.written output.new) }
+    ensures prefix { K.tells → (result.code ≡ 3) ⊎ (result.code ≡ 5) → (volume : Volume) (H : List Event) → WorldStandsFor volume H world.old
+        → ServesFront volume H commands.now (K.written output.old) (K.written output.new) }
+    ensures write_fault { result.code ≡ 5 → Rose (K.faults output.old) (K.faults output.new) }
+    ensures numbers { (result.line ≡ 0) × (result.replica ≡ 0) }
+    ensures counted { K.faults output.old ≤ K.faults output.new }
+{
+    let answered = answer_all(alloc, world, commands, output);
+    Status::of(answered.map_err(Fault::Answering))
+}
+
+/// Carries out each command and puts its answer.
+pub(crate) fn answer_all<K: Sink>(
+    alloc: Global,
+    world: &mut World,
+    commands: &[Command],
+    output: &mut K,
+) -> Result<(), AnsweringFault>
+    requires commands { All IsCommand commands.now }
+    requires count { length commands.now ≤ 1048576 }
+    requires room { length world.old.history.events < 4000000000 }
+    ensures answers { K.tells → OnOk result ((volume : Volume) (H : List Event) → WorldStandsFor volume H world.old
+        → ServesWorld volume H commands.now world.new (K.written output.old) (K.written output.new)) }
+    ensures prefix { K.tells → OnErr result ((volume : Volume) (H : List Event) → WorldStandsFor volume H world.old
+        → ServesFront volume H commands.now (K.written output.old) (K.written output.new)) }
+    ensures failed { IsErrOf result AnsweringFault.Sink → Rose (K.faults output.old) (K.faults output.new) }
+    ensures counted { K.faults output.old ≤ K.faults output.new }
+{
+    for command in commands {
+        answer_one(alloc, world, command, output)?;
+    }
+    Ok(())
+}
+
+// Carries out one command and puts its answer.
+fn answer_one<K: Sink>(
+    alloc: Global,
+    world: &mut World,
+    command: &Command,
+    output: &mut K,
+) -> Result<(), AnsweringFault>
+    requires command { IsCommand command.now }
+    requires room { length world.old.history.events < 4294967280 }
+    ensures answer { K.tells → OnOk result ((volume : Volume) (H : List Event) → WorldStandsFor volume H world.old
+        → ServesWorld volume H (command.now ∷ []) world.new (K.written output.old) (K.written output.new)) }
+    ensures front { K.tells → OnErr result ((volume : Volume) (H : List Event) → WorldStandsFor volume H world.old
+        → ServesFront volume H (command.now ∷ []) (K.written output.old) (K.written output.new)) }
+    ensures failed { IsErrOf result AnsweringFault.Sink → Rose (K.faults output.old) (K.faults output.new) }
+    ensures counted { K.faults output.old ≤ K.faults output.new }
+    ensures grows { length world.new.history.events ≤ length world.old.history.events + 3 }
+{
+    let answer = world.step(alloc, command)?;
+    put_answer(alloc, &answer, output)
+}
+
+// Puts the text of the answer.
+fn put_answer<K: Sink>(alloc: Global, answer: &Answer, output: &mut K) -> Result<(), AnsweringFault>
+    ensures put { K.tells → OnOk result (K.written output.new ≡ K.written output.old ++ answer_text_of answer.now) }
+    ensures front { K.tells → OnErr result (PutsFront (K.written output.old) (answer_text_of answer.now) (K.written output.new)) }
+    ensures failed { IsErrOf result AnsweringFault.Sink → Rose (K.faults output.old) (K.faults output.new) }
+    ensures counted { K.faults output.old ≤ K.faults output.new }
+{
+    let text = answer_text(alloc, answer)?;
+    put_all(output, &text)?;
+    Ok(())
+}

@@ -1,0 +1,253 @@
+use crate::{Status, ficus, serve, status_text};
+use ficus_ids::Members;
+use ficus_outside::{MemSink, MemSource};
+use ficus_script::read_script;
+use ficus_world::World;
+use std::alloc::Global;
+use std::test::Fail;
+
+const TWO_MEMBERS: &str = "ficus replay --members 2";
+
+// Scripts of two members with their answers: an indented line is a line of an answer.
+const ROWS: [&str; 5] = [
+    // An empty script.
+    "",
+    // A name is taken once.
+    "1 mkdir /a
+    ok 1.1
+1 mkdir /a
+    no exists
+",
+    // There is no replica 3.
+    "3 mkdir /a
+    no member
+",
+    // What two replicas hear of each other.
+    "1 mkdir /a
+    ok 1.1
+2 mkdir /a
+    ok 2.1
+2 mkdir /b
+    ok 2.2
+pull 1 2
+    ok
+1 ls /
+    ok 3
+    a#1.1 1.1 dir
+    a#2.1 2.1 dir
+    b 2.2 dir
+2 ls /
+    ok 2
+    a 2.1 dir
+    b 2.2 dir
+1 mkdir /a
+    no exists
+pull 1 1
+    no member
+",
+    // Paths and walks.
+    r"1 mkdir /a
+    ok 1.1
+1 mkdir /a/b
+    ok 1.2
+2 mkdir /a
+    ok 2.1
+2 mkdir /a/my\x20notes
+    ok 2.2
+pull 1 2
+    ok
+1 ls /a
+    no ambiguous
+1 ls /a#2.1
+    ok 1
+    my\x20notes 2.2 dir
+1 mkdir /a#1.1/b
+    no exists
+1 mkdir /x/y
+    no noentry
+1 tree
+    ok 4
+    0.0 a#1.1 1.1 dir
+    0.0 a#2.1 2.1 dir
+    1.1 b 1.2 dir
+    2.1 my\x20notes 2.2 dir
+",
+];
+
+// What a run over a source and a sink in memory came to.
+#[derive(Drop)]
+struct Ran {
+    status: Status,
+    written: Vec<u8>,
+}
+
+fn run(
+    alloc: Global,
+    words: &str,
+    script: &[u8],
+    source_fails: &[u32],
+    sink_fails: &[u32],
+) -> Result<Ran, Fail> {
+    let mut owned = Vec::new(alloc);
+    for word in words.split(' ') {
+        owned.push(String::from_str(alloc, word)?)?;
+    }
+    let mut input = MemSource::new(script.to_vec(alloc)?, source_fails.to_vec(alloc)?);
+    let mut output = MemSink::new(alloc, sink_fails.to_vec(alloc)?)?;
+    let status = ficus(alloc, &owned, &mut input, &mut output);
+    Ok(Ran {
+        status,
+        written: output.written().to_vec(alloc)?,
+    })
+}
+
+fn ended(code: u8, line: u32) -> Status {
+    Status {
+        code,
+        line,
+        replica: 0,
+    }
+}
+
+// The script of a row, and what it puts.
+fn parts(alloc: Global, row: &str) -> Result<(String, String), Fail> {
+    let mut script = String::new(alloc);
+    let mut answers = String::new(alloc);
+    for line in row.lines() {
+        if let Some(answer) = line.strip_prefix("    ") {
+            answers.push_str(answer)?;
+            answers.push('\n')?;
+        } else {
+            script.push_str(line)?;
+            script.push('\n')?;
+        }
+    }
+    Ok((script, answers))
+}
+
+#[test]
+fn scripts_are_answered(rt: HostRuntime) -> Result<(), Fail> {
+    for row in ROWS {
+        let (script, answers) = parts(rt.alloc(), row)?;
+        let ran = run(rt.alloc(), TWO_MEMBERS, script.as_bytes(), &[], &[])?;
+        assert_eq!(rt; ran.status, ended(0, 0), "{row}");
+        assert_eq!(rt; ran.written.as_slice(), answers.as_bytes(), "{row}");
+    }
+    Ok(())
+}
+
+#[test]
+fn a_last_line_needs_no_end_and_a_name_has_64_bytes_at_most(rt: HostRuntime) -> Result<(), Fail> {
+    let name = vec![in rt.alloc(); b'n'; 64]?;
+    let mut script = b"1 mkdir /".to_vec(rt.alloc())?;
+    script.extend_from_slice(&name)?;
+    let ran = run(rt.alloc(), TWO_MEMBERS, &script, &[], &[])?;
+    assert_eq!(rt; ran.status, ended(0, 0));
+    assert_eq!(rt; ran.written.as_slice(), b"ok 1.1\n".as_slice());
+    script.push(b'n')?;
+    let ran = run(rt.alloc(), TWO_MEMBERS, &script, &[], &[])?;
+    assert_eq!(rt; ran.status, ended(2, 1));
+    Ok(())
+}
+
+#[test]
+fn the_first_bad_line_is_named_and_nothing_is_put(rt: HostRuntime) -> Result<(), Fail> {
+    for (script, line) in [
+        ("1 mkdir /a\n1 mkdir /b\n1 frob /a\n", 3),
+        ("1 mkdir /a\n1 frob /a", 2),
+        ("1 mkdir /a#b\n", 1),
+        ("1 mkdir /a#1.1\n", 1),
+        ("# a note\n\n1 mkdir /a\n1 ls\n1 frob /a\n", 4),
+    ] {
+        let ran = run(rt.alloc(), TWO_MEMBERS, script.as_bytes(), &[], &[])?;
+        assert_eq!(rt; ran.status, ended(2, line), "{script:?}");
+        assert_eq!(rt; ran.written.as_slice(), b"".as_slice(), "{script:?}");
+    }
+    Ok(())
+}
+
+#[test]
+fn words_of_no_mode_are_refused(rt: HostRuntime) -> Result<(), Fail> {
+    for words in [
+        "",
+        "ficus",
+        "ficus run",
+        "ficus replay --members",
+        "ficus replay --members 1",
+        "ficus replay --members 9",
+        "ficus replay --members 258",
+        "ficus replay --members 02",
+        "ficus replay --members 2 3",
+        "ficus replay --member 2",
+        "ficus --members 2 replay",
+    ] {
+        let ran = run(rt.alloc(), words, b"1 mkdir /a\n", &[], &[])?;
+        assert_eq!(rt; ran.status, ended(1, 0), "{words:?}");
+        assert_eq!(rt; ran.written.as_slice(), b"".as_slice(), "{words:?}");
+    }
+    Ok(())
+}
+
+#[test]
+fn a_script_has_a_mebibyte_at_most(rt: HostRuntime) -> Result<(), Fail> {
+    let mut script = vec![in rt.alloc(); b'\n'; 1_048_576]?;
+    let ran = run(rt.alloc(), TWO_MEMBERS, &script, &[], &[])?;
+    assert_eq!(rt; ran.status, ended(0, 0));
+    script.push(b'\n')?;
+    let ran = run(rt.alloc(), TWO_MEMBERS, &script, &[], &[])?;
+    assert_eq!(rt; ran.status, ended(8, 0));
+    Ok(())
+}
+
+#[test]
+fn a_source_or_a_sink_fails_at_each_call_in_turn(rt: HostRuntime) -> Result<(), Fail> {
+    let script = b"1 mkdir /a\n1 mkdir /a\n";
+    for call in [1, 2] {
+        let ran = run(rt.alloc(), TWO_MEMBERS, script, &[call], &[])?;
+        assert_eq!(rt; ran.status, ended(4, 0), "at call {call}");
+        assert_eq!(rt; ran.written.as_slice(), b"".as_slice(), "at call {call}");
+    }
+    for (call, before) in [(1, ""), (2, "ok 1.1\n")] {
+        let ran = run(rt.alloc(), TWO_MEMBERS, script, &[], &[call])?;
+        assert_eq!(rt; ran.status, ended(5, 0), "at call {call}");
+        assert_eq!(rt; ran.written.as_slice(), before.as_bytes(), "at call {call}");
+    }
+    Ok(())
+}
+
+#[test]
+fn a_world_goes_on_from_where_it_was_left(rt: HostRuntime) -> Result<(), Fail> {
+    let members = Members::new(2).ok_or("two members")?;
+    let mut world = World::fresh(rt.alloc(), members)?;
+    let mut output = MemSink::new(rt.alloc(), Vec::new(rt.alloc()))?;
+    for script in ["1 mkdir /a\n", "1 mkdir /a\n1 mkdir /b\n"] {
+        let commands = read_script(rt.alloc(), script.as_bytes())?;
+        assert!(rt; commands.len() <= 2);
+        assert!(rt; world.history().len() < 100);
+        let status = serve(rt.alloc(), &mut world, &commands, &mut output);
+        assert_eq!(rt; status, ended(0, 0), "{script:?}");
+    }
+    assert_eq!(rt; output.written(), b"ok 1.1\nno exists\nok 1.2\n".as_slice());
+    Ok(())
+}
+
+#[test]
+fn statuses_have_their_texts(rt: HostRuntime) -> Result<(), Fail> {
+    for (code, text) in [
+        (0, ""),
+        (1, "ficus: usage\n"),
+        (2, "ficus: bad line 1048577\n"),
+        (3, "ficus: memory\n"),
+        (4, "ficus: read fault\n"),
+        (5, "ficus: write fault\n"),
+        (8, "ficus: script too long\n"),
+        (10, "ficus: no words\n"),
+    ] {
+        let status = ended(code, 1_048_577);
+        assert_eq!(rt;
+            status_text(rt.alloc(), &status)?.as_slice(),
+            text.as_bytes()
+        );
+    }
+    Ok(())
+}
