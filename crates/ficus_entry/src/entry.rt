@@ -1,4 +1,4 @@
-ghost use Rattle.std.specs.Prelude.{◌≡◌, Ok};
+ghost use Rattle.std.specs.Prelude.{◌≡◌, ◌↔◌, Ok, IsTrue};
 
 use ficus_ids::{Id, Marks, Memory, Name};
 
@@ -31,6 +31,13 @@ pub struct Entry {
 }
 
 impl Entry {
+    /// Whether it isn't removed.
+    pub fn is_live(&self) -> bool
+        ensures { IsTrue result ↔ (self.now.state ≡ State.Live) }
+    {
+        matches!(self.state, State::Live)
+    }
+
     /// The same entry once more. `Memory` never comes.
     pub fn copy(&self) -> Result<Entry, Memory>
         ensures { result ≡ Ok self.now }

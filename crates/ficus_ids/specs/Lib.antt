@@ -1,5 +1,6 @@
 pub mod Id
 pub mod IdLaws
+pub mod ListLaws
 pub mod Rising
 pub mod RisingLaws
 pub mod Kind

@@ -15,21 +15,8 @@ use Rattle.std.proofs.lemmas.List.Sorted.{searchable_from_sorted}
 use Rattle.ficus_ids.specs.declared.id.Id.{Id}
 use Rattle.ficus_ids.specs.Id.{id_cmp}
 use Rattle.ficus_ids.specs.IdLaws.{id_cmp_total, id_cmp-Equal, not_below_itself, id_cmp-flip, id_cmp-flip_back, same_id_or_not}
+use Rattle.ficus_ids.specs.ListLaws.{here, there, here_or_there, not_inside_none, first_below, rest_rises, same_rising}
 use Rattle.ficus_ids.specs.Rising.{IsRisingBy, HoldsBy, HoldsUnderBy, IsPlaceBy}
-
--- membership, an item at a time
-pub here : {X : Type 0} (x : X) (xs : List X) → Contains (x ∷ xs) x
-here x xs = (0, omega arith, refl)
-
-pub there : {X : Type 0} (x y : X) (xs : List X) → Contains xs y → Contains (x ∷ xs) y
-there x y xs inside = (suc inside.0, omega arith, inside.2)
-
-pub here_or_there : {X : Type 0} (x y : X) (xs : List X) → Contains (x ∷ xs) y → (y ≡ x) ⊎ Contains xs y
-here_or_there x y xs (zero, within, is) = inl (sym is)
-here_or_there x y xs (suc k, within, is) = inr (k, omega arith, is)
-
-pub not_inside_none : {X : Type 0} (x : X) → Contains [] x → ⊥
-not_inside_none x inside = omega arith
 
 inside_parts : {X : Type 0} (xs : List X) (index : ℕ) (x : X) → Contains xs x → Contains (take index xs) x ⊎ Contains (drop index xs) x
 inside_parts xs index x inside = Contains-append_cases (take index xs) (drop index xs) x (subst (λ l. Contains l x) (sym (take-append-drop index xs)) inside)
@@ -64,16 +51,12 @@ item_at (x ∷ xs) zero within = (x, refl)
 item_at (x ∷ xs) (suc i) within = item_at xs i (omega arith)
 
 module _ {X : Type 0} (id_of : X → Id) where
-  -- the first item is below all others, and the others rise
-  pub first_below : (x : X) (xs : List X) → IsRisingBy id_of (x ∷ xs) → (y : X) → Contains xs y → id_cmp (id_of x) (id_of y) ≡ Less
-  first_below x xs rising y (k, within, is) = subst (λ z. id_cmp (id_of x) (id_of z) ≡ Less) is (rising.each 0 (suc k) y (omega arith) (omega arith))
-
-  pub rest_rises : (x : X) (xs : List X) → IsRisingBy id_of (x ∷ xs) → IsRisingBy id_of xs
-  rest_rises x xs rising = record { each = λ i j d before within. rising.each (suc i) (suc j) d (omega arith) (omega arith) }
+  abbrev Below : X → X → Type 0
+  Below a b = id_cmp (id_of a) (id_of b) ≡ Less
 
   not_first_and_later : (x : X) (xs : List X) (a b : X) → IsRisingBy id_of (x ∷ xs) → a ≡ x → Contains xs b → id_of a ≡ id_of b → ⊥
   not_first_and_later x xs a b rising first later same =
-      let below : id_cmp (id_of x) (id_of b) ≡ Less = first_below x xs rising b later in
+      let below : id_cmp (id_of x) (id_of b) ≡ Less = first_below Below x xs b rising.each later in
       let one : id_of x ≡ id_of b = sym (ap id_of first) ∙ same in
       not_below_itself (id_of b) (subst (λ id. id_cmp id (id_of b) ≡ Less) one below)
 
@@ -88,40 +71,14 @@ module _ {X : Type 0} (id_of : X → Id) where
         ]
         | inr a_later ↦ elim (here_or_there x b xs has_b) [
           | inl b_first ↦ absurd (not_first_and_later x xs b a rising b_first a_later (sym same))
-          | inr b_later ↦ one_item xs a b (rest_rises x xs rising) a_later b_later same
+          | inr b_later ↦ one_item xs a b (record { each = rest_rises Below x xs rising.each }) a_later b_later same
         ]
-      ]
-
-  same_first : (x y : X) (xs ys : List X) → IsRisingBy id_of (x ∷ xs) → IsRisingBy id_of (y ∷ ys) → ((z : X) → Contains (x ∷ xs) z ↔ Contains (y ∷ ys) z) → x ≡ y
-  same_first x y xs ys rising_xs rising_ys same =
-      elim (here_or_there y x ys ((same x).0 (here x xs))) [
-        | inl is ↦ is
-        | inr x_later ↦ elim (here_or_there x y xs ((same y).1 (here y ys))) [
-          | inl is ↦ sym is
-          | inr y_later ↦ absurd (not_below_itself (id_of x) (id_cmp_total.trans (id_of x) (id_of y) (id_of x)
-              (first_below x xs rising_xs y y_later) (first_below y ys rising_ys x x_later)))
-        ]
-      ]
-
-  same_rest : (x y : X) (xs ys : List X) → IsRisingBy id_of (x ∷ xs) → x ≡ y → ((z : X) → Contains (x ∷ xs) z → Contains (y ∷ ys) z) → (z : X) → Contains xs z → Contains ys z
-  same_rest x y xs ys rising first into z inside =
-      elim (here_or_there y z ys (into z (there x z xs inside))) [
-        | inl is ↦ absurd (not_first_and_later x xs z z rising (is ∙ sym first) inside refl)
-        | inr later ↦ later
       ]
 
   -- two rising lists with the same items are the same list
   pub same_items : (xs ys : List X) → IsRisingBy id_of xs → IsRisingBy id_of ys → ((x : X) → Contains xs x ↔ Contains ys x) → xs ≡ ys
-  same_items [] [] rising_xs rising_ys same = refl
-  same_items [] (y ∷ ys) rising_xs rising_ys same = absurd (not_inside_none y ((same y).1 (here y ys)))
-  same_items (x ∷ xs) [] rising_xs rising_ys same = absurd (not_inside_none x ((same x).0 (here x xs)))
-  same_items (x ∷ xs) (y ∷ ys) rising_xs rising_ys same =
-      let first : x ≡ y = same_first x y xs ys rising_xs rising_ys same in
-      let rest : xs ≡ ys = same_items xs ys (rest_rises x xs rising_xs) (rest_rises y ys rising_ys) (λ z. (
-        same_rest x y xs ys rising_xs first (λ w. (same w).0) z,
-        same_rest y x ys xs rising_ys (sym first) (λ w. (same w).1) z,
-      )) in
-      cc
+  same_items xs ys rising_xs rising_ys same =
+      same_rising Below (λ x. not_below_itself (id_of x)) (λ x y z. id_cmp_total.trans (id_of x) (id_of y) (id_of z)) xs ys rising_xs.each rising_ys.each (λ z. (same z).0) (λ z. (same z).1)
 
   insert_past : (xs : List X) (index : ℕ) (y d : X) → index ≤ length xs → (k : ℕ) → index < k → get_or (insert xs index y) k d ≡ get_or xs (k - 1) d
   insert_past xs index y d fits k past =

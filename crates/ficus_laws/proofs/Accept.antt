@@ -21,11 +21,11 @@ use Rattle.ficus_laws.proofs.OneMore.{within_more, same_accept, same_seen}
 -- what was served is served after the ask that it answers
 pub ask_before_serve : (volume : Volume) (H : List Event) {served replica : ℕ} → IsLawful volume H → (answer : AnswersOpenAsk H served replica) → answer.ask < served
 ask_before_serve volume H {served} lawful answer =
-    (at_from_before served (lawful served (Serve answer.server answer.ask) answer.served).2).0
+    (at_from_before served (lawful.each served (Serve answer.server answer.ask) answer.served).asked).0
 
 -- nobody asks itself
 pub server_differs : (volume : Volume) (H : List Event) {served replica : ℕ} → IsLawful volume H → (answer : AnswersOpenAsk H served replica) → replica ≢ answer.server
-server_differs volume H {replica = replica} lawful answer = (lawful answer.ask (Ask replica answer.server) answer.open_ask.ask).2
+server_differs volume H {replica = replica} lawful answer = (lawful.each answer.ask (Ask replica answer.server) answer.open_ask.ask).differ
 
 -- Where the answer at a position may be taken, each event of the server that the replica has heard of is earlier:
 -- the replica got it through an Accept, none came after the ask, and the ask was served later.

@@ -42,7 +42,7 @@ second = record { at_least = omega arith; at_most = omega arith }
 
 start_lawful : IsLawful small_volume start
 unfolding start made
-start_lawful = lawful_more small_volume [] (Update 2 made) (lawful_none small_volume) (second, omega arith, place)
+start_lawful = lawful_more small_volume [] (Update 2 made) (lawful_none small_volume) (record { member = second; left = omega arith; allowed = place })
 
 entry_lives : IsLive start (Knows start 2) small_entry
 unfolding start made

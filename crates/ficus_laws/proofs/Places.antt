@@ -44,8 +44,8 @@ pub entered_in_directory : (volume : Volume) (H : List Event) {replica : ℕ} {e
 entered_in_directory volume H {entry = entry} lawful e =
     let by = entry.id.replica in
     let earlier = before e.position H in
-    let may = lawful e.position (Update by e.op) e.update.at in
-    let place = entered_place earlier (Knows earlier by) entry.id e.op entry may.2 e.enters in
+    let may = lawful.each e.position (Update by e.op) e.update.at in
+    let place = entered_place earlier (Knows earlier by) entry.id e.op entry may.allowed e.enters in
     directory_within (within_past (of_at e.update.at) e.known) place.directory
 
 target_made : (H : List Event) (U : ℕ → Type 0) (number : Id) (op : Op) (entry : Entry) → HasUpdate H U number op → entered_by number op ≡ Some entry → (kind : Kind) × IsMade H U entry.target kind

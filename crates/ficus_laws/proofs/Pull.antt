@@ -55,13 +55,13 @@ module _ (H : List Event) (replica server : ℕ) where
 
   -- each of the three may come
   pub ask_may_come : (volume : Volume) → IsMember volume.members replica → IsMember volume.members server → replica ≢ server → MayCome volume H (Ask replica server)
-  ask_may_come volume member other differs = (member, other, differs)
+  ask_may_come volume member other differs = record { member = member; other = other; differ = differs }
 
   pub serve_may_come : (volume : Volume) → IsMember volume.members server → MayCome volume (asked H replica server) (Serve server (length H))
-  serve_may_come volume member = (member, replica, at_end H (Ask replica server))
+  serve_may_come volume member = record { member = member; asker = replica; asked = at_end H (Ask replica server) }
 
   pub accept_may_come : (volume : Volume) → IsMember volume.members replica → MayCome volume (answered H replica server) (Accept replica (length H + 1))
-  accept_may_come volume member = (member, answers)
+  accept_may_come volume member = record { member = member; answer = answers }
 
   pub lawful_pulled : (volume : Volume) → IsMember volume.members replica → IsMember volume.members server → replica ≢ server → IsLawful volume H → IsLawful volume (pulled H replica server)
   lawful_pulled volume member other differs lawful =

@@ -49,15 +49,38 @@ pub record AnswersOpenAsk (H : List Event) (serve replica : ℕ) : Type 0 where
   pub served : IsAt H serve (Serve server ask)
   pub open_ask : IsOpenAsk H ask replica server
 
+-- an update of a member that has updates left, and that may be done by what the member knows
+pub record MayUpdate (volume : Volume) (H : List Event) (by : ℕ) (op : Op) : Type 0 where
+  pub member : IsMember volume.members by
+  pub left : count_of by H < volume.ids
+  pub allowed : IsAllowed H (Knows H by) op
+
+-- one member asks another
+pub record MayAsk (volume : Volume) (by to : ℕ) : Type 0 where
+  pub member : IsMember volume.members by
+  pub other : IsMember volume.members to
+  pub differ : by ≢ to
+
+-- a member serves an ask that was sent to it
+pub record MayServe (volume : Volume) (H : List Event) (by ask : ℕ) : Type 0 where
+  pub member : IsMember volume.members by
+  pub asker : ℕ
+  pub asked : IsAt H ask (Ask asker by)
+
+-- a member takes what was served in answer to its open ask
+pub record MayAccept (volume : Volume) (H : List Event) (by serve : ℕ) : Type 0 where
+  pub member : IsMember volume.members by
+  pub answer : AnswersOpenAsk H serve by
+
 -- the event may come after the history
 abbrev pub MayCome : Volume → List Event → Event → Type 0
-MayCome volume H (Update by op) = IsMember volume.members by × (count_of by H < volume.ids) × IsAllowed H (Knows H by) op
-MayCome volume H (Ask by to) = IsMember volume.members by × IsMember volume.members to × (by ≢ to)
-MayCome volume H (Serve by ask) = IsMember volume.members by × (asker : ℕ) × IsAt H ask (Ask asker by)
-MayCome volume H (Accept by serve) = IsMember volume.members by × AnswersOpenAsk H serve by
+MayCome volume H (Update by op) = MayUpdate volume H by op
+MayCome volume H (Ask by to) = MayAsk volume by to
+MayCome volume H (Serve by ask) = MayServe volume H by ask
+MayCome volume H (Accept by serve) = MayAccept volume H by serve
 MayCome volume H (Collect by) = IsMember volume.members by
 MayCome volume H (Restart by) = IsMember volume.members by
 
 -- each event may come after those before it
-abbrev pub IsLawful : Volume → List Event → Type 0
-IsLawful volume H = (position : ℕ) (event : Event) → IsAt H position event → MayCome volume (before position H) event
+pub record IsLawful (volume : Volume) (H : List Event) : Type 0 where
+  pub each : (position : ℕ) (event : Event) → IsAt H position event → MayCome volume (before position H) event

@@ -1,15 +1,14 @@
 -- Laws of listings, for the proofs of this crate and of those above it.
-use Rattle.std.specs.Prelude.{◌≡◌, ◌↔◌, ℕ, Bool, List, [], ◌∷◌, AllPairs, Contains}
+use Rattle.std.specs.Prelude.{◌≡◌, ◌↔◌, ℕ, Bool, List, Contains}
 use Rattle.std.specs.Cmp.{IsTotalOrder, both_ways}
-use Rattle.std.specs.declared.cmp.Ordering.{Ordering}
 use Rattle.std.specs.declared.cmp.Ordering.TheVariants.{Less}
-use Rattle.std.proofs.Common.{suc, arith, refl, sym, ap, ◌∙◌, subst, inl, inr}
+use Rattle.std.proofs.Common.{subst}
 use Rattle.std.proofs.lemmas.Cmp.{then_total, on_total, nat_list_cmp_total, tied_itself}
 use Rattle.std.proofs.lemmas.List.Elements.{All-weaker, All-contains}
 use Rattle.ficus_ids.specs.declared.id.Id.{Id}
 use Rattle.ficus_model.specs.ShownNames.{HasOther, IsShownAs}
 use Rattle.ficus_ids.specs.IdLaws.{id_cmp_total}
-use Rattle.ficus_ids.specs.RisingLaws.{here, there, here_or_there, not_inside_none}
+use Rattle.ficus_ids.specs.ListLaws.{same_rising}
 use Rattle.ficus_names.specs.Listing.{shown_cmp, IsListing}
 use Rattle.ficus_names.specs.declared.listing.ShownName.{ShownName}
 
@@ -37,53 +36,9 @@ module _ {binds others : List ℕ → Id → Type 0} (same : (name : List ℕ) (
     rising = listing.rising;
   }
 
-module _ {X : Type 0} (cmp : X → X → Ordering) (order : IsTotalOrder cmp) where
-  abbrev Rises : List X → Type 0
-  Rises xs = AllPairs (λ a b. cmp a b ≡ Less) xs
-
-  rises_tail : (x : X) (xs : List X) → Rises (x ∷ xs) → Rises xs
-  rises_tail x xs rises one other d before within = rises (suc one) (suc other) d (omega arith) (omega arith)
-
-  first_below : (x : X) (xs : List X) (y : X) → Rises (x ∷ xs) → Contains xs y → cmp x y ≡ Less
-  first_below x xs y rises inside =
-      ap (cmp x) (sym inside.2) ∙ rises 0 (suc inside.0) y (omega arith) (omega (arith, inside.1))
-
-  not_below_itself : (x : X) → cmp x x ≡ Less → ⊥
-  not_below_itself x below = cc (below, tied_itself order x)
-
-  same_first : (x : X) (xs : List X) (y : X) (ys : List X) → Rises (x ∷ xs) → Rises (y ∷ ys) → Contains (y ∷ ys) x → Contains (x ∷ xs) y → x ≡ y
-  same_first x xs y ys rises rises_too inside inside_too =
-      elim (here_or_there y x ys inside) [
-        | inl same ↦ same
-        | inr later ↦
-            elim (here_or_there x y xs inside_too) [
-              | inl same ↦ sym same
-              | inr later_too ↦ absurd (not_below_itself x (order.trans x y x (first_below x xs y rises later_too) (first_below y ys x rises_too later)))
-            ]
-      ]
-
-  rest_inside : (x : X) (xs ys : List X) (z : X) → Rises (x ∷ xs) → Contains xs z → Contains (x ∷ ys) z → Contains ys z
-  rest_inside x xs ys z rises inside inside_too =
-      elim (here_or_there x z ys inside_too) [
-        | inl same ↦ absurd (not_below_itself x (ap (cmp x) (sym same) ∙ first_below x xs z rises inside))
-        | inr later ↦ later
-      ]
-
-  -- lists that rise strictly and have the same items are the same
-  same_rising : (xs ys : List X) → Rises xs → Rises ys → ((z : X) → Contains xs z → Contains ys z) → ((z : X) → Contains ys z → Contains xs z) → xs ≡ ys
-  same_rising [] [] rises rises_too into back = refl
-  same_rising [] (y ∷ ys) rises rises_too into back = absurd (not_inside_none y (back y (here y ys)))
-  same_rising (x ∷ xs) [] rises rises_too into back = absurd (not_inside_none x (into x (here x xs)))
-  same_rising (x ∷ xs) (y ∷ ys) rises rises_too into back =
-      let first : x ≡ y = same_first x xs y ys rises rises_too (into x (here x xs)) (back y (here y ys)) in
-      let rises_here : Rises (x ∷ ys) = subst (λ z. Rises (z ∷ ys)) (sym first) rises_too in
-      let rest = same_rising xs ys (rises_tail x xs rises) (rises_tail y ys rises_too)
-      (λ z inside. rest_inside x xs ys z rises inside (subst (λ w. Contains (w ∷ ys) z) (sym first) (into z (there x z xs inside))))
-      (λ z inside. rest_inside x ys xs z rises_here inside (back z (there y z ys inside))) in
-      ap (λ z. z ∷ xs) first ∙ ap (λ zs. y ∷ zs) rest
-
 module _ {binds : List ℕ → Id → Type 0} where
-  one_suffix : {name other_name : List ℕ} {target other_target : Id} (suffixed other_suffixed : Bool) → IsShownAs binds name target suffixed → IsShownAs binds other_name other_target other_suffixed → other_name ≡ name → other_target ≡ target → other_suffixed ≡ suffixed
+  -- a name and an object are shown in one way
+  pub one_suffix : {name other_name : List ℕ} {target other_target : Id} (suffixed other_suffixed : Bool) → IsShownAs binds name target suffixed → IsShownAs binds other_name other_target other_suffixed → other_name ≡ name → other_target ≡ target → other_suffixed ≡ suffixed
   one_suffix {name} {other_name} {target} {other_target} suffixed other_suffixed shown other same_name same_target =
       let there : IsShownAs binds name other_target other_suffixed = subst (λ n. IsShownAs binds n other_target other_suffixed) same_name other in
       let here : IsShownAs binds name target other_suffixed = subst (λ t. IsShownAs binds name t other_suffixed) same_target there in
@@ -104,5 +59,5 @@ module _ {binds : List ℕ → Id → Type 0} where
 pub same_listing : {binds others : List ℕ → Id → Type 0} → ((name : List ℕ) (target : Id) → binds name target ↔ others name target) → (items other_items : List ShownName) → IsListing binds items → IsListing others other_items → items ≡ other_items
 same_listing same items other_items listing listing_too =
     let along = IsListing-along same listing in
-    same_rising shown_cmp shown_cmp_total items other_items listing.rising listing_too.rising
+    same_rising (λ a b. shown_cmp a b ≡ Less) (λ item below. cc (below, tied_itself shown_cmp_total item)) shown_cmp_total.trans items other_items listing.rising listing_too.rising
     (item_inside items other_items along listing_too) (item_inside other_items items listing_too along)

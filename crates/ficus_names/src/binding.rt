@@ -7,7 +7,7 @@ ghost use Rattle.ficus_names.specs.declared.binding.Binding.{Binding as Bound};
 ghost use Rattle.ficus_entry.specs.declared.entry.State.TheVariants.{Live};
 ghost use Rattle.ficus_ids.specs.declared.id.Id.{Id as IdValue};
 
-use ficus_entry::{Entries, Entry, State};
+use ficus_entry::{Entries, Entry};
 use ficus_ids::{Id, Memory, Name};
 use std::alloc::Global;
 
@@ -41,7 +41,7 @@ pub fn bindings_in(alloc: Global, entries: &Entries, dir: Id) -> Result<Vec<Bind
 pub fn is_live_in(entry: &Entry, dir: Id) -> bool
     ensures { IsTrue result ↔ ((entry.now.state ≡ Live) × (entry.now.dir ≡ dir)) }
 {
-    matches!(entry.state, State::Live) && entry.dir == dir
+    entry.is_live() && entry.dir == dir
 }
 
 /// The same bindings in order, each of them once.

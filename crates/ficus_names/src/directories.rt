@@ -1,5 +1,4 @@
-ghost use Rattle.std.specs.Prelude.{◌≡◌, ◌≢◌, ◌↔◌, ◌∷◌, ◌++◌, [], ℕ, List, IfOk, IsTrue, OnOk};
-ghost use Rattle.ficus_entry.specs.declared.entry.State.TheVariants.{Live};
+ghost use Rattle.std.specs.Prelude.{◌≡◌, ◌≢◌, ◌↔◌, ◌∷◌, ◌++◌, [], ℕ, List, IfOk, OnOk};
 ghost use Rattle.ficus_names.specs.Binding.{Binds};
 ghost use Rattle.ficus_names.specs.Binds.{BindsIn};
 ghost use Rattle.ficus_names.specs.Listing.{IsListing};
@@ -7,7 +6,7 @@ ghost use Rattle.ficus_ids.specs.declared.id.Id.{Id as IdValue};
 
 use crate::binding::{Binding, sorted};
 use crate::listing::{ShownName, listed};
-use ficus_entry::{Entries, Entry, State};
+use ficus_entry::Entries;
 use ficus_ids::{Id, Memory};
 use std::alloc::Global;
 use std::collections::BTreeMap;
@@ -32,7 +31,7 @@ impl Directories {
         };
         for index in 0..entries.len() {
             let entry = entries.at(index);
-            if is_live(entry) {
+            if entry.is_live() {
                 directories.add(
                     alloc,
                     entry.dir,
@@ -88,10 +87,4 @@ fn copied(alloc: Global, bindings: &[Binding]) -> Result<Vec<Binding>, Memory>
         })?;
     }
     Ok(copies)
-}
-
-fn is_live(entry: &Entry) -> bool
-    ensures { IsTrue result ↔ (entry.now.state ≡ Live) }
-{
-    matches!(entry.state, State::Live)
 }

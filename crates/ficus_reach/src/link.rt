@@ -1,11 +1,10 @@
-ghost use Rattle.std.specs.Prelude.{◌≡◌, ◌↔◌, Contains, IfOk, IsTrue};
-ghost use Rattle.ficus_entry.specs.declared.entry.State.TheVariants.{Live};
+ghost use Rattle.std.specs.Prelude.{◌≡◌, ◌↔◌, Contains, IfOk};
 ghost use Rattle.ficus_ids.specs.declared.id.Id.{Id as IdValue};
 ghost use Rattle.ficus_reach.specs.Leads.{LeadsIn};
 ghost use Rattle.ficus_reach.specs.Link.{Links, IsSortedByDir};
 ghost use Rattle.ficus_reach.specs.declared.link.Link.{Link as LinkValue};
 
-use ficus_entry::{Entries, Entry, State};
+use ficus_entry::Entries;
 use ficus_ids::{Id, Memory};
 use std::alloc::Global;
 
@@ -25,7 +24,7 @@ pub fn links_of(alloc: Global, entries: &Entries) -> Result<Vec<Link>, Memory>
     let mut links = Vec::new(alloc);
     for index in 0..entries.len() {
         let entry = entries.at(index);
-        if is_live(entry) {
+        if entry.is_live() {
             links.push(Link {
                 dir: entry.dir,
                 target: entry.target,
@@ -34,12 +33,6 @@ pub fn links_of(alloc: Global, entries: &Entries) -> Result<Vec<Link>, Memory>
     }
     links.sort_unstable_by_key(|link| link.dir);
     Ok(links)
-}
-
-fn is_live(entry: &Entry) -> bool
-    ensures { IsTrue result ↔ (entry.now.state ≡ Live) }
-{
-    matches!(entry.state, State::Live)
 }
 
 /// The links out of the directory.

@@ -9,7 +9,7 @@ use Rattle.std.specs.Ordering.{MatchOrdering}
 use Rattle.ficus_ids.specs.declared.id.Id.{Id}
 use Rattle.ficus_ids.specs.Id.{id_cmp}
 use Rattle.ficus_ids.specs.IdLaws.{id_cmp_total, id_cmp-Equal, id_cmp-flip_back, not_below_itself}
-use Rattle.ficus_ids.specs.RisingLaws.{not_inside_none}
+use Rattle.ficus_ids.specs.ListLaws.{not_inside_none}
 use Rattle.ficus_entry.specs.Entry.{IsRising, Holds, HoldsUnder}
 use Rattle.ficus_entry.specs.declared.entry.Entry.{Entry}
 use Rattle.ficus_recon_dir.specs.Merge.{MergesEntries, AddsIfAny, AreLowest}

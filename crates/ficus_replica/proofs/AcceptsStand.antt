@@ -6,13 +6,13 @@ use Rattle.std.proofs.lemmas.List.Sums.{sum_by-take-le}
 use Rattle.ficus_ids.specs.declared.id.Id.{Id}
 use Rattle.ficus_ids.specs.declared.kind.Kind.{Kind}
 use Rattle.ficus_ids.specs.declared.kind.Kind.TheVariants.{Dir}
-use Rattle.ficus_ids.specs.RisingLaws.{not_inside_none}
+use Rattle.ficus_ids.specs.ListLaws.{not_inside_none}
 use Rattle.ficus_model.specs.declared.event.Event.{Event}
 use Rattle.ficus_model.specs.declared.event.Event.TheVariants.{Accept}
 use Rattle.ficus_model.specs.declared.event.Op.{Op}
 use Rattle.ficus_model.specs.declared.event.Op.TheVariants.{Make}
 use Rattle.ficus_model.specs.Events.{IsOf, is_update_of, through, count_of}
-use Rattle.ficus_model.specs.Known.{HasSeen, Knows}
+use Rattle.ficus_model.specs.Known.{Knows}
 use Rattle.ficus_model.specs.Live.{Entry as ModelEntry, removed_by, IsEntered, IsRemoved, IsMade, IsDirectory}
 use Rattle.ficus_model.specs.Lawful.{Volume, IsLawful}
 use Rattle.ficus_entry.specs.declared.entry.Entry.{Entry}
@@ -20,15 +20,13 @@ use Rattle.ficus_entry.specs.declared.entry.State.{State}
 use Rattle.ficus_entry.specs.declared.entry.State.TheVariants.{Live, Dead}
 use Rattle.ficus_codec.specs.Saved.{IsOfPast, HasOwnPast}
 use Rattle.ficus_recon_dir.specs.Merge.{MergesEntries}
-use Rattle.ficus_laws.specs.Updates.{IsIssued, Joined}
+use Rattle.ficus_laws.specs.Updates.{IsIssued}
 use Rattle.ficus_laws.proofs.Positions.{of_at}
 use Rattle.ficus_laws.proofs.Updates.{count_no_update}
-use Rattle.ficus_laws.proofs.Shown.{made_within}
-use Rattle.ficus_laws.proofs.OneMore.{same_accept, same_seen}
 use Rattle.ficus_laws.proofs.Lawful.{lawful_before}
 use Rattle.ficus_laws.proofs.Issued.{entered_issued, entered_once, made_issued}
 use Rattle.ficus_laws.proofs.Places.{entered_in_directory, entered_target}
-use Rattle.ficus_laws.proofs.Accept.{accept_live, live_accept}
+use Rattle.ficus_laws.proofs.Accept.{accept_live, live_accept, accept_made}
 use Rattle.ficus_replica.specs.declared.replica.Replica.{Replica}
 use Rattle.ficus_replica.specs.SavedOf.{IsHeldAs, StandsFor}
 use Rattle.ficus_replica.specs.Gives.{FitsPast, Accepted}
@@ -91,16 +89,6 @@ module _ (H : List Event) (r serve server : ℕ) (by_server : IsOf H serve serve
       go (inr his) = inr (record { entered = his; not_removed = not_removed })
   held_after entry (Dead one two) held = absurd held
 
-  made_at_either : (object : Id) (kind : Kind) → IsMade after (Knows after r) object kind → IsMade H (Knows H r) object kind ⊎ IsMade (through serve H) (Knows (through serve H) server) object kind
-  made_at_either object kind made = go joined.known
-    where
-      joined : IsMade H (Joined (Knows H r) (HasSeen H serve)) object kind
-      joined = made_within (same_accept H r serve).back made
-
-      go : Knows H r joined.position ⊎ HasSeen H serve joined.position → IsMade H (Knows H r) object kind ⊎ IsMade (through serve H) (Knows (through serve H) server) object kind
-      go (inl own) = inl (record { position = joined.position; dir = joined.dir; name = joined.name; known = own; update = joined.update })
-      go (inr his) = inr (made_within (same_seen H serve server by_server).there (record { position = joined.position; dir = joined.dir; name = joined.name; known = his; update = joined.update }))
-
   -- entries of both with one identifier are one
   one_at_both : (mine theirs : List Entry) → AreHeldBy H r mine → AreHeldBy (through serve H) server theirs → AreOne mine theirs
   one_at_both mine theirs own his = record {
@@ -126,7 +114,7 @@ module _ (H : List Event) (r serve server : ℕ) (by_server : IsOf H serve serve
       out (inr at_server) = inr ((his entry).1 at_server)
 
 -- What is taken of what was served: the new replica stands for the history with the Accept.
-pub accepted_stands : (volume : Volume) (H : List Event) (r from number : ℕ) (tables : List Entry) (serve : ℕ) (old new : Replica) → StandsFor volume H r old → IsServed volume H r from number tables serve → Accepted old from number tables new → StandsFor volume (H ++ Accept r serve ∷ []) r new
+pub accepted_stands : (volume : Volume) (H : List Event) (r from number : ℕ) (tables : List Entry) (serve : ℕ) (old new : Replica) → StandsFor volume H r old → IsServed H r from number tables serve → Accepted old from number tables new → StandsFor volume (H ++ Accept r serve ∷ []) r new
 accepted_stands volume H r from number tables serve old new stands served accepted =
     let accept = Accept r serve in
     let was = stands.saved in
@@ -143,7 +131,7 @@ accepted_stands volume H r from number tables serve old new stands served accept
     merges = subst (λ me. MergesEntries me old.saved.members old.saved.entries tables new.saved.entries) stands.saved.me accepted.merged
 
     directories : (object : Id) (kind : Kind) → IsMade (H ++ Accept r serve ∷ []) (Knows (H ++ Accept r serve ∷ []) r) object kind → kind ≡ Dir
-    directories object kind made = go (made_at_either H r serve from by_server object kind made)
+    directories object kind made = go (accept_made H r serve from by_server made)
       where
         go : IsMade H (Knows H r) object kind ⊎ IsMade (through serve H) (Knows (through serve H) from) object kind → kind ≡ Dir
         go (inl own) = stands.saved.directories object kind own
@@ -172,7 +160,7 @@ module _ (volume : Volume) (H : List Event) (r serve : ℕ) (me next : ℕ) (me_
       }
 
 -- what is served names no update of the replica that it hasn't made
-pub served_fits : (volume : Volume) (H : List Event) (r from number : ℕ) (tables : List Entry) (serve : ℕ) (old : Replica) → IsLawful volume H → StandsFor volume H r old → IsServed volume H r from number tables serve → FitsPast old tables
+pub served_fits : (volume : Volume) (H : List Event) (r from number : ℕ) (tables : List Entry) (serve : ℕ) (old : Replica) → IsLawful volume H → StandsFor volume H r old → IsServed H r from number tables serve → FitsPast old tables
 served_fits volume H r from number tables serve old lawful stands served =
     All-weaker (Contains tables) (HasOwnPast old.saved.me old.saved.next)
     (λ entry inside. entry_past volume H r serve old.saved.me old.saved.next stands.saved.me stands.saved.next from entry lawful ((served.entries entry).0 inside))

@@ -1,10 +1,10 @@
 -- A replica stands for a history from its start on, also after each event that leaves alone what it saves.
-use Rattle.std.proofs.Common.{◌≡◌, ◌≢◌, ℕ, ◌≤◌, List, [], ◌∷◌, ◌++◌, None, cond, refl, sym, ◌∙◌, subst, inl, inr, ◌⊎◌, arith}
-use Rattle.std.specs.Prelude.{All, map}
+use Rattle.std.proofs.Common.{◌≡◌, ◌≢◌, ℕ, ◌+◌, ◌≤◌, List, [], ◌∷◌, ◌++◌, Option, Some, None, cond, refl, sym, ap, ◌∙◌, subst, inl, inr, ◌⊎◌, arith}
+use Rattle.std.specs.Prelude.{Bool, false, All, map, count_by}
 use Rattle.std.proofs.lemmas.List.Elements.{All-map, All-weaker}
 use Rattle.std.proofs.lemmas.List.Sums.{sum_by-le}
 use Rattle.std.proofs.lemmas.Option.{get_or_from_slice_get}
-use Rattle.ficus_ids.specs.RisingLaws.{not_inside_none}
+use Rattle.ficus_ids.specs.ListLaws.{not_inside_none}
 use Rattle.ficus_model.specs.declared.event.Event.{Event}
 use Rattle.ficus_model.specs.declared.event.Event.TheVariants.{Update, Ask, Serve, Accept, Collect, Restart}
 use Rattle.ficus_model.specs.Events.{IsAt, actor, is_update_of, count_of}
@@ -12,11 +12,13 @@ use Rattle.ficus_model.specs.Lawful.{Volume, ClosesAsk}
 use Rattle.ficus_entry.specs.declared.entry.Entry.{Entry}
 use Rattle.ficus_entry.specs.declared.entry.State.{State}
 use Rattle.ficus_entry.specs.declared.entry.State.TheVariants.{Live, Dead}
+use Rattle.ficus_codec.specs.declared.saved.Saved.{Saved}
 use Rattle.ficus_laws.proofs.Positions.{at_within}
 use Rattle.ficus_laws.proofs.Updates.{count_of_other, count_no_update}
 use Rattle.ficus_laws.proofs.OneMore.{same_of_other, same_quiet}
+use Rattle.ficus_replica.specs.declared.replica.Asked.{Asked}
 use Rattle.ficus_replica.specs.declared.replica.Replica.{Replica}
-use Rattle.ficus_replica.specs.SavedOf.{is_saved, generation_of, IsHeldAs, StandsFor}
+use Rattle.ficus_replica.specs.SavedOf.{is_saved, generation_of, IsHeldAs, IsSavedOf, IsOpenAskOf, StandsFor}
 use Rattle.ficus_replica.proofs.OpenAsks.{open_kept, open_none}
 use Rattle.ficus_replica.proofs.Saves.{saved_of_other, saved_kept}
 
@@ -57,12 +59,12 @@ quiet_stands volume H r replica event stands (inl other) = record {
 }
 quiet_stands volume H r replica event stands (inr serve) = serve_stands volume H r replica event stands serve
 
--- after a restart its open ask is gone
-pub restart_stands : (volume : Volume) (H : List Event) (r : ℕ) (old new : Replica) → StandsFor volume H r old → new.saved ≡ old.saved → new.ask ≡ None → StandsFor volume (H ++ Restart r ∷ []) r new
-restart_stands volume H r old new stands same none =
+-- what is saved is kept by a restart, and there is no open ask after it
+pub restart_stands : (volume : Volume) (H : List Event) (r : ℕ) (saved : Saved) (new : Replica) → IsSavedOf volume H r saved → new.saved ≡ saved → new.ask ≡ None → StandsFor volume (H ++ Restart r ∷ []) r new
+restart_stands volume H r saved new was same none =
     let event = Restart r in
     record {
-      saved = rw same (saved_kept event (same_quiet H event r tt) (count_no_update r H event refl) refl stands.saved);
+      saved = rw same (saved_kept event (same_quiet H event r tt) (count_no_update r H event refl) refl was);
       ask = rw none (open_none H r event refl (λ to is. cc));
     }
 
@@ -74,17 +76,29 @@ IsRestart (Serve by ask) = ⊥
 IsRestart (Accept by serve) = ⊥
 IsRestart (Collect by) = ⊥
 
--- the replica has done nothing yet
-pub record IsFresh (volume : Volume) (r : ℕ) (replica : Replica) : Type 0 where
-  pub me : replica.saved.me ≡ r
-  pub members : replica.saved.members ≡ volume.members
-  pub ids : replica.saved.ids ≡ volume.ids
-  pub bytes : replica.saved.bytes ≡ volume.bytes
-  pub next : replica.saved.next ≡ 1
-  pub used : replica.saved.used ≡ 0
-  pub generation : replica.saved.generation ≡ 0
-  pub entries : replica.saved.entries ≡ []
-  pub ask : replica.ask ≡ None
+nothing_at : {position : ℕ} {event : Event} → IsAt [] position event → ⊥
+nothing_at a = omega (arith, at_within a)
+
+-- a replica that has heard of nothing stands for the history without events
+pub fresh_stands : (volume : Volume) (r : ℕ) (replica : Replica) → replica.saved ≡ record { me = r; members = volume.members; ids = volume.ids; bytes = volume.bytes; next = 1; used = 0; generation = 0; entries = [] } → replica.ask ≡ None → StandsFor volume [] r replica
+fresh_stands volume r replica saved none = record {
+  saved = rw saved (record {
+    me = refl;
+    members = refl;
+    ids = refl;
+    bytes = refl;
+    next = refl;
+    used = refl;
+    generation = refl;
+    entries = λ entry. (λ inside. absurd (not_inside_none entry inside), λ held. absurd (nothing_held entry entry.state held));
+    directories = λ object kind made. absurd (nothing_at made.update.at);
+  });
+  ask = rw none (λ position to open_ask. nothing_at open_ask.ask);
+}
+  where
+    nothing_held : (entry : Entry) (state : State) → IsHeldAs [] r entry state → ⊥
+    nothing_held entry Live held = nothing_at held.entered.update.at
+    nothing_held entry (Dead one two) held = held
 
 pub restarts_alone : (replicas : List ℕ) → All IsRestart (map (λ by. Restart by) replicas)
 restarts_alone replicas = All-map IsRestart (λ by. Restart by) replicas (λ k d within. tt)
@@ -92,46 +106,51 @@ restarts_alone replicas = All-map IsRestart (λ by. Restart by) replicas (λ k d
 restart_at : {H : List Event} {position : ℕ} {event : Event} → All IsRestart H → IsAt H position event → IsRestart event
 restart_at {H} {position} {event} restarts a = subst IsRestart (get_or_from_slice_get H position event event a.is) (restarts position event (at_within a))
 
-no_update : (r : ℕ) (event : Event) → IsRestart event → cond (is_update_of r event) 1 0 ≤ 0
-no_update r (Restart by) is = omega arith
-no_update r (Update by op) is = absurd is
-no_update r (Ask by to) is = absurd is
-no_update r (Serve by ask) is = absurd is
-no_update r (Accept by serve) is = absurd is
-no_update r (Collect by) is = absurd is
-
-no_save : (r : ℕ) (event : Event) → IsRestart event → cond (is_saved r event) 1 0 ≤ 0
-no_save r (Restart by) is = omega arith
-no_save r (Update by op) is = absurd is
-no_save r (Ask by to) is = absurd is
-no_save r (Serve by ask) is = absurd is
-no_save r (Accept by serve) is = absurd is
-no_save r (Collect by) is = absurd is
+-- a test that no restart passes
+not_counted : (test : Event → Bool) (event : Event) → ((by : ℕ) → test (Restart by) ≡ false) → IsRestart event → cond (test event) 1 0 ≤ 0
+not_counted test (Restart by) fails is = rw (fails by) (omega arith)
+not_counted test (Update by op) fails is = absurd is
+not_counted test (Ask by to) fails is = absurd is
+not_counted test (Serve by ask) fails is = absurd is
+not_counted test (Accept by serve) fails is = absurd is
+not_counted test (Collect by) fails is = absurd is
 
 module _ (H : List Event) (r : ℕ) (restarts : All IsRestart H) where
+  none_counted : (test : Event → Bool) → ((by : ℕ) → test (Restart by) ≡ false) → count_by test H ≡ 0
+  none_counted test fails = omega (arith, sum_by-le (λ x. cond (test x) 1 0) 0 H (All-weaker IsRestart (λ x. cond (test x) 1 0 ≤ 0) (λ event is. not_counted test event fails is) H restarts))
+
   count_fresh : count_of r H ≡ 0
-  count_fresh = omega (arith, sum_by-le (λ x. cond (is_update_of r x) 1 0) 0 H (All-weaker IsRestart (λ x. cond (is_update_of r x) 1 0 ≤ 0) (no_update r) H restarts))
+  count_fresh = none_counted (is_update_of r) (λ by. refl)
 
   generation_fresh : generation_of r H ≡ 0
-  generation_fresh = omega (arith, sum_by-le (λ x. cond (is_saved r x) 1 0) 0 H (All-weaker IsRestart (λ x. cond (is_saved r x) 1 0 ≤ 0) (no_save r) H restarts))
+  generation_fresh = none_counted (is_saved r) (λ by. refl)
 
   none_held : (entry : Entry) (state : State) → IsHeldAs H r entry state → ⊥
   none_held entry Live held = restart_at restarts held.entered.update.at
   none_held entry (Dead one two) held = held
 
--- a replica that has done nothing stands for a history in which replicas have started and done nothing else
-pub fresh_stands : (volume : Volume) (H : List Event) (r : ℕ) (replica : Replica) → All IsRestart H → IsFresh volume r replica → StandsFor volume H r replica
-fresh_stands volume H r replica restarts fresh = record {
-  saved = record {
-    me = fresh.me;
-    members = fresh.members;
-    ids = fresh.ids;
-    bytes = fresh.bytes;
-    next = omega (arith, fresh.next, count_fresh H r restarts);
-    used = fresh.used;
-    generation = fresh.generation ∙ sym (generation_fresh H r restarts);
-    entries = λ entry. (λ inside. absurd (not_inside_none entry (rw fresh.entries at inside)), λ held. absurd (none_held H r restarts entry entry.state held));
-    directories = λ object kind made. absurd (restart_at restarts made.update.at);
-  };
-  ask = rw fresh.ask (λ position to open_ask. restart_at restarts open_ask.ask);
-}
+no_ask : (H : List Event) (r : ℕ) (ask : Option Asked) → All IsRestart H → IsOpenAskOf [] r ask → IsOpenAskOf H r ask
+no_ask H r None restarts none = λ position to open_ask. restart_at restarts open_ask.ask
+no_ask H r (Some asked) restarts waits = absurd (nothing_at waits.1.ask)
+
+-- it stands then for each history in which replicas have started and done nothing else
+pub restarted_stands : (volume : Volume) (H : List Event) (r : ℕ) (replica : Replica) → All IsRestart H → StandsFor volume [] r replica → StandsFor volume H r replica
+restarted_stands volume H r replica restarts stands =
+    let was = stands.saved in
+    record {
+      saved = record {
+        me = was.me;
+        members = was.members;
+        ids = was.ids;
+        bytes = was.bytes;
+        next = was.next ∙ ap (λ count. count + 1) (sym (count_fresh H r restarts));
+        used = was.used;
+        generation = was.generation ∙ sym (generation_fresh H r restarts);
+        entries = λ entry. (λ inside. absurd (none_held [] r none_restarts entry entry.state ((was.entries entry).0 inside)), λ held. absurd (none_held H r restarts entry entry.state held));
+        directories = λ object kind made. absurd (restart_at restarts made.update.at);
+      };
+      ask = no_ask H r replica.ask restarts stands.ask;
+    }
+  where
+    none_restarts : All IsRestart []
+    none_restarts k d within = absurd (omega arith)

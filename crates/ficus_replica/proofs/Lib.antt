@@ -15,3 +15,4 @@ pub mod Trees
 pub mod Makes
 pub mod MergeFits
 pub mod Reconciles
+pub mod SavedFits

@@ -10,7 +10,7 @@ use Rattle.std.proofs.lemmas.List.{get_or-map, length-map, length-append, get_or
 use Rattle.std.proofs.lemmas.List.Elements.{All-contains, Contains-append_cases, Contains-append_left, Contains-append_right, Contains-get_or}
 use Rattle.ficus_ids.specs.Id.{id_cmp}
 use Rattle.ficus_ids.specs.IdLaws.{id_cmp-self}
-use Rattle.ficus_ids.specs.RisingLaws.{here, there, here_or_there, not_inside_none}
+use Rattle.ficus_ids.specs.ListLaws.{here, there, here_or_there, not_inside_none}
 use Rattle.ficus_ids.specs.declared.id.Id.{Id}
 use Rattle.ficus_ids.specs.declared.refusal.Refusal.{Refusal}
 use Rattle.ficus_ids.specs.declared.refusal.Refusal.TheVariants.{Memory}

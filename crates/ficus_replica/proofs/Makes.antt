@@ -31,6 +31,7 @@ use Rattle.ficus_replica.specs.Walk.{WalkAnswer}
 use Rattle.ficus_replica.specs.Walk.WalkAnswer.{Arrives, Step}
 use Rattle.ficus_replica.specs.Walk.DirectoryAnswer.{Arrives as EndsIn}
 use Rattle.ficus_replica.proofs.GivesStand.{make_gives_stands}
+use Rattle.ficus_replica.proofs.SavedFits.{saved_fits}
 use Rattle.ficus_replica.proofs.Shown.{found_bound}
 
 -- the answer to a refusal, whichever it is
@@ -137,19 +138,10 @@ module _ (old : Replica) (fits : FitsImage old.saved) where
   pub makes_fits : {path : Path} {place : Place} (new : Replica) → MakeAnswer (BindsIn old.saved.entries) HeldDirectory (IsSpent old) path (Ok place) → old.saved.generation < 2 ^ 63 - 1 → old.saved.next ≤ old.saved.ids → IsName place.name → IsAdded old.saved.entries (made_entry old place) new.saved.entries → HasSaved old new 1 new.saved.entries old.ask → FitsImage new.saved
   makes_fits {place = place} new answer generation left name added saved =
       let holds = place_holds answer in
-      record {
-        members = rw saved.members fits.members;
-        me = rw (saved.members, saved.me) fits.me;
-        ids_at_least = rw saved.ids fits.ids_at_least;
-        ids_at_most = rw saved.ids fits.ids_at_most;
-        bytes = rw saved.bytes fits.bytes;
-        next_at_least = omega (arith, saved.next);
-        next_at_most = omega (arith, saved.next, saved.ids);
-        used = rw (saved.used, saved.bytes) fits.used;
-        generation = omega (arith, saved.generation);
-        tables = rw saved.members (all_added (FitsTables old.saved.members) (made_entry old place) new.saved.entries fits.tables (made_fits left name holds) added);
-        past = rw (saved.me, saved.next) (all_added (HasOwnPast old.saved.me (old.saved.next + 1)) (made_entry old place) new.saved.entries (All-weaker (HasOwnPast old.saved.me old.saved.next) (HasOwnPast old.saved.me (old.saved.next + 1)) kept_past old.saved.entries fits.past) (made_past holds) added);
-      }
+      let all_fit = all_added (FitsTables old.saved.members) (made_entry old place) new.saved.entries fits.tables (made_fits left name holds) added in
+      let kept = All-weaker (HasOwnPast old.saved.me old.saved.next) (HasOwnPast old.saved.me (old.saved.next + 1)) kept_past old.saved.entries fits.past in
+      let all_past = all_added (HasOwnPast old.saved.me (old.saved.next + 1)) (made_entry old place) new.saved.entries kept (made_past holds) added in
+      saved_fits saved fits generation (omega arith) all_fit (rw saved.next all_past)
 
 -- what is given over the entries is given over each history for which the replica stands
 pub make_stands : (old : Replica) (path : Path) (kind : Kind) (result : Result Next Refusal) → kind ≡ Dir → FitsImage old.saved → MakeGives old path kind result → (volume : Volume) (H : List Event) → IsLawful volume H → StandsFor volume H old.saved.me old → MakeStands volume H old.saved.me path kind result

@@ -12,7 +12,7 @@ use Rattle.ficus_model.specs.declared.event.Op.TheVariants.{Make}
 use Rattle.ficus_model.specs.Events.{count_of}
 use Rattle.ficus_model.specs.Known.{Knows}
 use Rattle.ficus_model.specs.Live.{Entry as ModelEntry, IsLive, IsMade}
-use Rattle.ficus_model.specs.Lawful.{Volume, HasPlace, MayCome, IsLawful}
+use Rattle.ficus_model.specs.Lawful.{Volume, HasPlace, IsLawful}
 use Rattle.ficus_path.specs.declared.path.Path.{Path}
 use Rattle.ficus_entry.specs.declared.entry.Entry.{Entry}
 use Rattle.ficus_entry.specs.declared.entry.State.{State}
@@ -27,7 +27,7 @@ use Rattle.ficus_replica.specs.AnswerOf.{Place}
 use Rattle.ficus_replica.specs.AnswerOf.MakeAnswer.{Makes}
 use Rattle.ficus_replica.specs.Gives.{made_entry, IsAdded, HasSaved, Made}
 use Rattle.ficus_replica.specs.SavedOf.{IsHeldAs, IsSavedOf, StandsFor}
-use Rattle.ficus_replica.specs.Stands.{MakeAnswerAfter, MadeAfter}
+use Rattle.ficus_replica.specs.Stands.{MakeAnswerAfter, StandsAfter, MadeAfter}
 use Rattle.ficus_replica.proofs.Shown.{directory_is, directory_reached}
 use Rattle.ficus_replica.proofs.OpenAsks.{open_kept}
 use Rattle.ficus_replica.proofs.Saves.{update_is_saved, saves}
@@ -108,6 +108,8 @@ made_stands volume H r old path next lawful member stands made =
       place = place;
       answer = answer;
       op = made.op;
-      lawful = subst (λ (op : Op). MayCome volume H (Update r op)) (sym made.op) (member, fits.1, fits.0);
-      stands = subst (λ (op : Op). StandsFor volume (H ++ Update r op ∷ []) r next.replica) (sym made.op) (next_stands volume H r place lawful old next.replica stands made.added made.saved);
+      after = subst (λ (op : Op). StandsAfter volume H r (Update r op) next.replica) (sym made.op) (record {
+        lawful = record { member = member; left = fits.1; allowed = fits.0 };
+        stands = next_stands volume H r place lawful old next.replica stands made.added made.saved;
+      });
     }

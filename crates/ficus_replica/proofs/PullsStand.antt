@@ -1,14 +1,14 @@
 -- A pull whole, where the puller and its peer stand for a history.
-use Rattle.std.proofs.Common.{◌≡◌, ◌≢◌, ℕ, ◌+◌, List, length, sym, ap, subst, ◌∙◌, inl, inr, arith}
+use Rattle.std.proofs.Common.{◌≡◌, ◌≢◌, ℕ, ◌+◌, List, [], ◌∷◌, length, sym, ap, subst, ◌∙◌, inl, inr, arith}
 use Rattle.ficus_ids.specs.Members.{IsMember}
 use Rattle.ficus_model.specs.declared.event.Event.{Event}
 use Rattle.ficus_model.specs.declared.event.Event.TheVariants.{Ask, Serve, Accept}
 use Rattle.ficus_model.specs.Events.{IsAt, through}
-use Rattle.ficus_model.specs.Lawful.{Volume, MayCome, IsLawful}
+use Rattle.ficus_model.specs.Lawful.{Volume, IsLawful}
 use Rattle.ficus_laws.specs.Accepts.{asked, answered, pulled}
-use Rattle.ficus_laws.proofs.Positions.{at_end}
+use Rattle.ficus_laws.proofs.Positions.{at_more, at_end}
 use Rattle.ficus_laws.proofs.Lawful.{lawful_more}
-use Rattle.ficus_laws.proofs.Pull.{length_asked, ask_may_come, serve_may_come, accept_may_come}
+use Rattle.ficus_laws.proofs.Pull.{length_asked, ask_may_come, serve_may_come}
 use Rattle.ficus_replica.specs.declared.replica.Replica.{Replica}
 use Rattle.ficus_replica.specs.SavedOf.{generation_of, StandsFor}
 use Rattle.ficus_replica.specs.Gives.{AskGives, FitsPast, Accepted}
@@ -19,12 +19,12 @@ use Rattle.ficus_replica.proofs.AsksStand.{asks_stands}
 use Rattle.ficus_replica.proofs.AcceptsStand.{accepted_stands, served_fits}
 
 -- what a replica holds that stands for the events through its Serve is what it served there
-pub standing_serves : (volume : Volume) (H : List Event) (r from number : ℕ) (serve ask : ℕ) (peer : Replica) → StandsFor volume (through serve H) from peer → MayCome volume H (Accept r serve) → IsAt H serve (Serve from ask) → number ≡ generation_of r (through ask H) → IsServed volume H r from number peer.saved.entries serve
-standing_serves volume H r from number serve ask peer stands may_come served number_is = record {
-  may_come = may_come;
+pub standing_serves : (volume : Volume) (H : List Event) (r from number : ℕ) (serve ask : ℕ) (peer : Replica) → StandsFor volume (through serve H) from peer → IsAt H ask (Ask r from) → IsAt H serve (Serve from ask) → number ≡ generation_of r (through ask H) → IsServed H r from number peer.saved.entries serve
+standing_serves volume H r from number serve ask peer stands asked_at served number_is = record {
   ask = ask;
+  asked = asked_at;
   served = served;
-  asked = number_is;
+  numbered = number_is;
   entries = stands.saved.entries;
   directories = stands.saved.directories;
 }
@@ -59,12 +59,12 @@ module _ (volume : Volume) (H : List Event) (r s : ℕ) (puller peer now : Repli
   through_serve : through (length H + 1) (answered H r s) ≡ answered H r s
   through_serve = ap (λ position. through position (answered H r s)) (sym (length_asked H r s)) ∙ through_end (asked H r s) (Serve s (length H))
 
-  pub peer_serves : IsServed volume (answered H r s) r s now.saved.generation peer.saved.entries (length H + 1)
+  pub peer_serves : IsServed (answered H r s) r s now.saved.generation peer.saved.entries (length H + 1)
   peer_serves =
       let number : now.saved.generation ≡ generation_of r (asked H r s) = (asks_stands volume H r s puller now stands asks).saved.generation in
       standing_serves volume (answered H r s) r s now.saved.generation (length H + 1) (length H) peer
       (subst (λ K. StandsFor volume K s peer) (sym through_serve) (answered_stands volume H r s s peer differs peer_stands))
-      (accept_may_come H r s volume member)
+      (at_more (Serve s (length H) ∷ []) (at_end H (Ask r s)))
       served_at
       (number ∙ ap (generation_of r) (sym through_ask))
 

@@ -1,14 +1,15 @@
 -- What a replica saves, after one more event.
-use Rattle.std.proofs.Common.{◌≡◌, ◌≢◌, ◌↔◌, ℕ, ◌+◌, List, [], ◌∷◌, ◌++◌, Option, true, false, cond, refl, sym, ap, ◌∙◌, arith, rules}
+use Rattle.std.proofs.Common.{◌≡◌, ◌≢◌, ◌↔◌, ℕ, ◌+◌, ◌<◌, ◌≤◌, List, [], ◌∷◌, ◌++◌, Option, true, false, cond, refl, sym, ap, subst, ◌∙◌, arith, rules}
 use Rattle.std.specs.Prelude.{Contains}
-use Rattle.std.proofs.lemmas.List.Sums.{sum_by_push}
+use Rattle.std.proofs.lemmas.List.{take-take}
+use Rattle.std.proofs.lemmas.List.Sums.{sum_by_push, sum_by-take-le}
 use Rattle.ficus_ids.specs.declared.id.Id.{Id}
 use Rattle.ficus_ids.specs.declared.kind.Kind.{Kind}
 use Rattle.ficus_ids.specs.declared.kind.Kind.TheVariants.{Dir}
 use Rattle.ficus_model.specs.declared.event.Event.{Event}
 use Rattle.ficus_model.specs.declared.event.Event.TheVariants.{Update, Ask, Serve, Accept, Collect, Restart}
 use Rattle.ficus_model.specs.declared.event.Op.{Op}
-use Rattle.ficus_model.specs.Events.{actor, count_of}
+use Rattle.ficus_model.specs.Events.{IsAt, before, through, actor, count_of}
 use Rattle.ficus_model.specs.Known.{Knows}
 use Rattle.ficus_model.specs.Live.{IsMade}
 use Rattle.ficus_model.specs.Lawful.{Volume}
@@ -17,6 +18,7 @@ use Rattle.ficus_entry.specs.declared.entry.State.{State}
 use Rattle.ficus_entry.specs.declared.entry.State.TheVariants.{Live, Dead}
 use Rattle.ficus_codec.specs.declared.saved.Saved.{Saved}
 use Rattle.ficus_laws.specs.Updates.{SameUpdates}
+use Rattle.ficus_laws.proofs.Positions.{through_is}
 use Rattle.ficus_laws.proofs.Shown.{live_same, made_within, same_back}
 use Rattle.ficus_replica.specs.declared.replica.Asked.{Asked}
 use Rattle.ficus_replica.specs.declared.replica.Replica.{Replica}
@@ -48,6 +50,15 @@ generation_saved r H event is = generation_push r H event ∙ ap (λ b. generati
 
 generation_kept : (r : ℕ) (H : List Event) (event : Event) → is_saved r event ≡ false → generation_of r (H ++ event ∷ []) ≡ generation_of r H
 generation_kept r H event n = let p : generation_of r (H ++ event ∷ []) ≡ generation_of r H + 0 = generation_push r H event ∙ ap (λ b. generation_of r H + cond b 1 0) n in omega arith
+
+-- each save has a generation above those of the earlier ones
+pub generation_rises : {event : Event} {position earlier : ℕ} (r : ℕ) (H : List Event) → is_saved r event ≡ true → IsAt H position event → earlier < position → generation_of r (through earlier H) < generation_of r (through position H)
+generation_rises {event} {position} {earlier} r H saved a h =
+    let fewer : generation_of r (before (earlier + 1) (before position H)) ≤ generation_of r (before position H) = sum_by-take-le (λ x. cond (is_saved r x) 1 0) (before position H) (earlier + 1) in
+    let same : before (earlier + 1) (before position H) ≡ through earlier H = take-take (earlier + 1) position H (omega arith) in
+    let last : generation_of r (through position H) ≡ generation_of r (before position H) + 1 = ap (generation_of r) (through_is a) ∙ generation_saved r (before position H) event saved in
+    let le : generation_of r (through earlier H) ≤ generation_of r (before position H) = subst (λ K. generation_of r K ≤ generation_of r (before position H)) same fewer in
+    omega arith
 
 -- where the same updates are known, the same is held
 pub held_same : {H K : List Event} {r : ℕ} (entry : Entry) (state : State) → SameUpdates H (Knows H r) K (Knows K r) → IsHeldAs H r entry state → IsHeldAs K r entry state

@@ -6,7 +6,7 @@ use Rattle.std.proofs.lemmas.List.{take_all, take_more, length-take, get_or-take
 use Rattle.std.proofs.lemmas.List.Elements.{Contains-append_left, Contains-push, Contains-push_cases}
 use Rattle.ficus_ids.specs.Id.{id_cmp}
 use Rattle.ficus_ids.specs.Rising.{IsRisingBy}
-use Rattle.ficus_ids.specs.RisingLaws.{here, here_or_there, not_inside_none}
+use Rattle.ficus_ids.specs.ListLaws.{here, here_or_there, not_inside_none}
 use Rattle.ficus_ids.specs.declared.id.Id.{Id}
 use Rattle.ficus_ids.specs.declared.id.TheConstants.{ROOT}
 use Rattle.ficus_model.specs.Reached.{IsReached}

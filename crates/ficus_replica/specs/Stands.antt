@@ -5,9 +5,9 @@ use Rattle.ficus_ids.specs.declared.id.Id.{Id}
 use Rattle.ficus_ids.specs.declared.kind.Kind.{Kind}
 use Rattle.ficus_ids.specs.declared.kind.Kind.TheVariants.{Dir}
 use Rattle.ficus_ids.specs.declared.refusal.Refusal.{Refusal}
-use Rattle.ficus_ids.specs.declared.refusal.Refusal.TheVariants.{Memory}
+use Rattle.ficus_ids.specs.declared.refusal.Refusal.TheVariants.{Memory, Stale}
 use Rattle.ficus_model.specs.declared.event.Event.{Event}
-use Rattle.ficus_model.specs.declared.event.Event.TheVariants.{Update, Serve, Accept}
+use Rattle.ficus_model.specs.declared.event.Event.TheVariants.{Update, Ask, Serve, Accept}
 use Rattle.ficus_model.specs.declared.event.Op.TheVariants.{Make}
 use Rattle.ficus_model.specs.Events.{IsAt, count_of, through}
 use Rattle.ficus_model.specs.Known.{Knows}
@@ -31,13 +31,17 @@ ListAnswerAfter H r path answer = ListAnswer (IsBound H (Knows H r)) (IsDirector
 abbrev pub TreeAnswerAfter : List Event → ℕ → List Line → Type 0
 TreeAnswerAfter H r lines = TreeAnswer (IsBound H (Knows H r)) (IsMade H (Knows H r)) lines
 
--- the update may come, and the new replica stands for the history with it
+-- the event may come, and the new replica stands for the history with it
+pub record StandsAfter (volume : Volume) (H : List Event) (r : ℕ) (event : Event) (new : Replica) : Type 0 where
+  pub lawful : MayCome volume H event
+  pub stands : StandsFor volume (H ++ event ∷ []) r new
+
+-- what was made, at the place that the history gives it
 pub record MadeAfter (volume : Volume) (H : List Event) (r : ℕ) (path : Path) (kind : Kind) (next : Next) : Type 0 where
   pub place : Place
   pub answer : MakeAnswerAfter volume H r path (Ok place)
   pub op : next.op ≡ Make place.dir place.name kind
-  pub lawful : MayCome volume H (Update r next.op)
-  pub stands : StandsFor volume (H ++ Update r next.op ∷ []) r next.replica
+  pub after : StandsAfter volume H r (Update r next.op) next.replica
 
 abbrev pub MakeStands : Volume → List Event → ℕ → Path → Kind → Result Next Refusal → Type 0
 MakeStands volume H r path kind (Ok next) = MadeAfter volume H r path kind next
@@ -53,18 +57,19 @@ ListStands H r path (Err refusal) = ListAnswerAfter H r path (Err refusal)
 abbrev pub AreHeldBy : List Event → ℕ → List Entry → Type 0
 AreHeldBy H s entries = (entry : Entry) → Contains entries entry ↔ IsHeldAs H s entry entry.state
 
--- what is accepted is what was served at a position that may be accepted, in answer to the ask with this number
-pub record IsServed (volume : Volume) (H : List Event) (r from number : ℕ) (tables : List Entry) (serve : ℕ) : Type 0 where
-  pub may_come : MayCome volume H (Accept r serve)
+-- the entries are those that replica s served at a position, in answer to the ask of replica r with this number
+pub record IsServed (H : List Event) (r s number : ℕ) (tables : List Entry) (serve : ℕ) : Type 0 where
   pub ask : ℕ
-  pub served : IsAt H serve (Serve from ask)
-  pub asked : number ≡ generation_of r (through ask H)
-  pub entries : AreHeldBy (through serve H) from tables
+  pub asked : IsAt H ask (Ask r s)
+  pub served : IsAt H serve (Serve s ask)
+  pub numbered : number ≡ generation_of r (through ask H)
+  pub entries : AreHeldBy (through serve H) s tables
   -- no file is kept yet
-  pub directories : (object : Id) (kind : Kind) → IsMade (through serve H) (Knows (through serve H) from) object kind → kind ≡ Dir
+  pub directories : (object : Id) (kind : Kind) → IsMade (through serve H) (Knows (through serve H) s) object kind → kind ≡ Dir
 
--- what was served is taken, and the new replica stands for the history with the accept
+-- what was served is taken where the history allows it, and is stale where it doesn't
 abbrev pub AcceptStands : Volume → List Event → ℕ → ℕ → Result Replica Refusal → Type 0
-AcceptStands volume H r serve (Ok new) = StandsFor volume (H ++ Accept r serve ∷ []) r new
+AcceptStands volume H r serve (Ok new) = StandsAfter volume H r (Accept r serve) new
+AcceptStands volume H r serve (Err Stale) = MayCome volume H (Accept r serve) → ⊥
 AcceptStands volume H r serve (Err Memory) = Unit {0}
-AcceptStands volume H r serve (Err refusal) = ⊥
+AcceptStands volume H r serve (Err other) = ⊥

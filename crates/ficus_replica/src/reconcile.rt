@@ -1,4 +1,4 @@
-ghost use Rattle.std.specs.Prelude.{◌≡◌, ◌≢◌, ◌∷◌, [], ◌++◌, ◌-◌, ◌^◌, ◌<◌, ℕ, List, All, IfOk, IsTrue, ◌↔◌};
+ghost use Rattle.std.specs.Prelude.{◌≡◌, ◌≢◌, ◌-◌, ◌^◌, ◌<◌, ℕ, List, All, IfOk, IsTrue, ◌↔◌};
 
 use crate::{Asked, Replica};
 use ficus_entry::{Entries, Entry};
@@ -15,7 +15,7 @@ impl Replica {
     ghost use Rattle.ficus_model.specs.declared.event.Event.TheVariants.{Ask};
     ghost use Rattle.ficus_replica.specs.Gives.{AskGives, AcceptGives, FitsPast};
     ghost use Rattle.ficus_replica.specs.SavedOf.{StandsFor};
-    ghost use Rattle.ficus_replica.specs.Stands.{AcceptStands, IsServed};
+    ghost use Rattle.ficus_replica.specs.Stands.{StandsAfter, AcceptStands, IsServed};
 
     /// Asks another member for its state. The answer to an earlier ask is no longer taken.
     pub fn ask(&self, to: u8) -> Result<Replica, Memory>
@@ -26,7 +26,7 @@ impl Replica {
         ensures gives { IfOk result (AskGives self.now to) }
         ensures fits { IfOk result (λ replica. FitsImage replica.saved) }
         ensures stands { (volume : Volume) (H : List Event) → IsLawful volume H → StandsFor volume H self.now.saved.me self.now
-            → IfOk result (StandsFor volume (H ++ Ask self.now.saved.me to ∷ []) self.now.saved.me) }
+            → IfOk result (StandsAfter volume H self.now.saved.me (Ask self.now.saved.me to)) }
     {
         let saved = self.saved_with(self.saved.entries.copy()?);
         let number = saved.generation;
@@ -52,7 +52,7 @@ impl Replica {
         ensures gives { AcceptGives self.now from number entries.now result }
         ensures fits { IfOk result (λ replica. FitsImage replica.saved) }
         ensures stands { (volume : Volume) (H : List Event) (serve : ℕ) → IsLawful volume H → StandsFor volume H self.now.saved.me self.now
-            → IsServed volume H self.now.saved.me from number entries.now serve → AcceptStands volume H self.now.saved.me serve result }
+            → IsServed H self.now.saved.me from number entries.now serve → AcceptStands volume H self.now.saved.me serve result }
     {
         if self.ask != Some(Asked { to: from, number }) {
             return Err(Refusal::Stale);

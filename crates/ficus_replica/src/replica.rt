@@ -1,4 +1,4 @@
-ghost use Rattle.std.specs.Prelude.{◌≡◌, ◌≤◌, [], None};
+ghost use Rattle.std.specs.Prelude.{◌≡◌, ◌≤◌, List, ◌∷◌, [], ◌++◌, None};
 
 use ficus_codec::Saved;
 use ficus_entry::Entries;
@@ -32,6 +32,10 @@ pub struct Next {
 impl Replica {
     ghost use Rattle.ficus_ids.specs.Members.{IsMember};
     ghost use Rattle.ficus_codec.specs.Saved.{FitsImage};
+    ghost use Rattle.ficus_model.specs.Lawful.{Volume};
+    ghost use Rattle.ficus_model.specs.declared.event.Event.{Event};
+    ghost use Rattle.ficus_model.specs.declared.event.Event.TheVariants.{Restart};
+    ghost use Rattle.ficus_replica.specs.SavedOf.{IsSavedOf, StandsFor};
 
     /// A replica that has heard of nothing. Takes no memory.
     pub fn fresh(alloc: Global, me: u8, members: Members, ids: u32, bytes: u32) -> Replica
@@ -42,6 +46,7 @@ impl Replica {
         ensures saved { result.saved ≡ record { me = me; members = members; ids = ids; bytes = bytes; next = 1; used = 0; generation = 0; entries = [] } }
         ensures ask { result.ask ≡ None }
         ensures fits { FitsImage result.saved }
+        ensures stands { StandsFor (record { members = members; ids = ids; bytes = bytes }) [] me result }
     {
         let _count = members.count();
         Replica::open(Saved {
@@ -60,6 +65,8 @@ impl Replica {
     pub fn open(saved: Saved) -> Replica
         ensures saved { result.saved ≡ saved }
         ensures ask { result.ask ≡ None }
+        ensures stands { (volume : Volume) (H : List Event) → IsSavedOf volume H saved.me saved
+            → StandsFor volume (H ++ Restart saved.me ∷ []) saved.me result }
     {
         Replica { saved, ask: None }
     }

@@ -1,4 +1,4 @@
-ghost use Rattle.std.specs.Prelude.{◌≡◌, ◌<◌, ◌≤◌, [], length, take, All, IfOk, OnErr, IfErr, IsErrOf};
+ghost use Rattle.std.specs.Prelude.{◌≡◌, ◌↔◌, ◌+◌, ◌<◌, ◌≤◌, [], length, take, All, IfOk, OnErr, IfErr, IsErrOf, IsTrue};
 ghost use Rattle.ficus_outside.specs.Faults.{Rose};
 ghost use Rattle.ficus_script.specs.Command.{IsCommand};
 ghost use Rattle.ficus_script.specs.Script.{IsScript};
@@ -42,14 +42,28 @@ fn read_bytes<S: Source>(alloc: Global, input: &mut S) -> Result<Vec<u8>, Readin
     ensures failed { IsErrOf result ReadingFault.Source → Rose (S.faults input.old) (S.faults input.new) }
     ensures counted { S.faults input.old ≤ S.faults input.new }
 {
-    // A byte more than a script may have, so that a script that is too long is told from one that fits.
-    let mut bytes = vec![in alloc; 0; SCRIPT_LIMIT + 1].map_err(|_| ReadingFault::Memory)?;
+    let mut bytes = room(alloc)?;
     let count = fill(input, &mut bytes)?;
-    if count > SCRIPT_LIMIT {
+    if !is_within_limit(count) {
         return Err(ReadingFault::TooLong);
     }
     bytes.truncate(count);
     Ok(bytes)
+}
+
+// Room for a byte more than a script may have, so that one that is too long is told from one that fits.
+fn room(alloc: Global) -> Result<Vec<u8>, ReadingFault>
+    ensures room { IfOk result (λ bytes. length bytes.items ≡ script_limit + 1) }
+    ensures memory { IfErr result (λ fault. fault ≡ ReadingFault.Memory) }
+{
+    vec![in alloc; 0; SCRIPT_LIMIT + 1].map_err(|_| ReadingFault::Memory)
+}
+
+// Whether a script may have so many bytes.
+fn is_within_limit(count: usize) -> bool
+    ensures { IsTrue result ↔ (count ≤ script_limit) }
+{
+    count <= SCRIPT_LIMIT
 }
 
 // Takes bytes until the buffer is full or the source ends, and answers how many.

@@ -1,21 +1,21 @@
 -- What shows the same is answered the same.
-use Rattle.std.proofs.Common.{◌≡◌, ◌↔◌, ℕ, List, Bool, Option, Some, None, Result, Ok, Err, refl, sym, ap, subst, ◌∙◌, inl, inr}
+use Rattle.std.proofs.Common.{◌≡◌, ℕ, List, Result, Ok, Err, refl, sym, ap, subst, ◌∙◌, inl, inr}
 use Rattle.std.specs.Prelude.{Contains}
-use Rattle.std.specs.Cmp.{IsTotalOrder, both_ways}
+use Rattle.std.specs.Cmp.{IsTotalOrder}
 use Rattle.std.specs.declared.cmp.Ordering.TheVariants.{Less}
 use Rattle.std.proofs.lemmas.Cmp.{then_total, on_total, tied_itself}
 use Rattle.ficus_ids.specs.declared.id.Id.{Id}
 use Rattle.ficus_ids.specs.declared.kind.Kind.TheVariants.{Dir}
 use Rattle.ficus_ids.specs.declared.refusal.Refusal.{Refusal}
-use Rattle.ficus_ids.specs.declared.refusal.Refusal.TheVariants.{NoEntry, Ambiguous}
 use Rattle.ficus_ids.specs.IdLaws.{id_cmp_total}
+use Rattle.ficus_ids.specs.ListLaws.{same_rising}
 use Rattle.ficus_model.specs.declared.event.Event.{Event}
 use Rattle.ficus_model.specs.Live.{IsBound, IsMade, IsDirectory}
 use Rattle.ficus_model.specs.ShownNames.{IsShownAs}
 use Rattle.ficus_path.specs.declared.path.Part.{Part}
 use Rattle.ficus_path.specs.declared.path.Path.{Path}
-use Rattle.ficus_names.specs.Find.{FindsOnly, FindsTarget, FindAnswer}
-use Rattle.ficus_names.specs.ListingLaws.{shown_cmp_total, IsShownAs-along}
+use Rattle.ficus_names.specs.FindLaws.{same_answer}
+use Rattle.ficus_names.specs.ListingLaws.{shown_cmp_total, IsShownAs-along, one_suffix}
 use Rattle.ficus_names.specs.declared.listing.Line.{Line}
 use Rattle.ficus_laws.specs.Laws.{ShowSame}
 use Rattle.ficus_laws.proofs.Issued.{made_once}
@@ -26,44 +26,6 @@ use Rattle.ficus_replica.specs.Walk.DirectoryAnswer.{Arrives as EndsIn, NoDirect
 use Rattle.ficus_replica.specs.Lines.{line_cmp, AreLines}
 use Rattle.ficus_replica.specs.AnswerOf.{ListAnswer, TreeAnswer}
 use Rattle.ficus_replica.specs.AnswerOf.ListAnswer.{NoDirectory as ListsNone, Lists}
-use Rattle.ficus_world.proofs.RisingLists.{same_lists}
-
--- two ways of saying what the names of one directory lead to, which say the same
-abbrev SaySame : (List ℕ → Id → Type 0) → (List ℕ → Id → Type 0) → Type 0
-SaySame binds bound = (name : List ℕ) (target : Id) → binds name target ↔ bound name target
-
-only_once : {binds bound : List ℕ → Id → Type 0} (name : List ℕ) (answer again : Result Id Refusal) → SaySame binds bound → FindsOnly binds name answer → FindsOnly bound name again → answer ≡ again
-only_once name (Ok object) (Ok other) same found found_too = ap Ok (sym (found.only other ((same name other).1 found_too.bound)))
-only_once name (Ok object) (Err NoEntry) same found none = absurd (none object ((same name object).0 found.bound))
-only_once name (Ok object) (Err Ambiguous) same found several = absurd (several.differ (found.only several.one ((same name several.one).1 several.bound_one) ∙ sym (found.only several.other ((same name several.other).1 several.bound_other))))
-only_once name (Ok object) (Err other) same found impossible = absurd impossible
-only_once name (Err NoEntry) (Ok other) same none found = absurd (none other ((same name other).1 found.bound))
-only_once name (Err NoEntry) (Err NoEntry) same none none_too = refl
-only_once name (Err NoEntry) (Err Ambiguous) same none several = absurd (none several.one ((same name several.one).1 several.bound_one))
-only_once name (Err NoEntry) (Err other) same none impossible = absurd impossible
-only_once name (Err Ambiguous) (Ok other) same several found = absurd (several.differ (found.only several.one ((same name several.one).0 several.bound_one) ∙ sym (found.only several.other ((same name several.other).0 several.bound_other))))
-only_once name (Err Ambiguous) (Err NoEntry) same several none = absurd (none several.one ((same name several.one).0 several.bound_one))
-only_once name (Err Ambiguous) (Err Ambiguous) same several several_too = refl
-only_once name (Err Ambiguous) (Err other) same several impossible = absurd impossible
-only_once name (Err other) again same impossible found = absurd impossible
-
-target_once : {binds bound : List ℕ → Id → Type 0} (name : List ℕ) (target : Id) (answer again : Result Id Refusal) → SaySame binds bound → FindsTarget binds name target answer → FindsTarget bound name target again → answer ≡ again
-target_once name target (Ok object) (Ok other) same found found_too = ap Ok (found.1 ∙ sym found_too.1)
-target_once name target (Ok object) (Err NoEntry) same found none = absurd (none ((same name target).0 found.0))
-target_once name target (Ok object) (Err other) same found impossible = absurd impossible
-target_once name target (Err NoEntry) (Ok other) same none found = absurd (none ((same name target).1 found.0))
-target_once name target (Err NoEntry) (Err NoEntry) same none none_too = refl
-target_once name target (Err NoEntry) (Err other) same none impossible = absurd impossible
-target_once name target (Err other) again same impossible found = absurd impossible
-
-find_once : {binds bound : List ℕ → Id → Type 0} (name : List ℕ) (target : Option Id) (answer again : Result Id Refusal) → SaySame binds bound → FindAnswer binds name target answer → FindAnswer bound name target again → answer ≡ again
-find_once name None answer again same found found_too = only_once name answer again same found found_too
-find_once name (Some target) answer again same found found_too = target_once name target answer again same found found_too
-
--- a name is suffixed or not
-suffixed_once : {binds : List ℕ → Id → Type 0} {name : List ℕ} {target : Id} (suffixed again : Bool) → IsShownAs binds name target suffixed → IsShownAs binds name target again → suffixed ≡ again
-suffixed_once suffixed again shown shown_too =
-    both_ways suffixed again (λ is. shown_too.several.1 (shown.several.0 is)) (λ is. shown.several.1 (shown_too.several.0 is))
 
 line_total : IsTotalOrder line_cmp
 line_total = then_total (on_total (λ (line : Line). line.dir) id_cmp_total) (on_total (λ (line : Line). line.shown) shown_cmp_total)
@@ -92,16 +54,16 @@ module _ {H : List Event} {U V : ℕ → Type 0} (same : ShowSame H U H V) where
   walk_once (NoDirectory none) (Refuses is found) = absurd (none (directory_back is))
   walk_once (NoDirectory none) (Step is found walk) = absurd (none (directory_back is))
   walk_once (Refuses is found) (NoDirectory none) = absurd (none (directory_there is))
-  walk_once {object = object} (Refuses {part = part} {refusal = refusal} is found) (Refuses {refusal = other} is_too found_too) = find_once part.name part.target (Err refusal) (Err other) (same.bound object) found found_too
-  walk_once {object = object} (Refuses {part = part} {refusal = refusal} is found) (Step {next = next} is_too found_too walk) = let e = find_once part.name part.target (Err refusal) (Ok next) (same.bound object) found found_too in cc
+  walk_once {object = object} (Refuses {part = part} {refusal = refusal} is found) (Refuses {refusal = other} is_too found_too) = same_answer (same.bound object) part.name part.target (Err refusal) (Err other) found found_too
+  walk_once {object = object} (Refuses {part = part} {refusal = refusal} is found) (Step {next = next} is_too found_too walk) = let e = same_answer (same.bound object) part.name part.target (Err refusal) (Ok next) found found_too in cc
   walk_once (Step is found walk) (NoDirectory none) = absurd (none (directory_there is))
-  walk_once {object = object} (Step {next = next} {part = part} is found walk) (Refuses {refusal = refusal} is_too found_too) = let e = find_once part.name part.target (Ok next) (Err refusal) (same.bound object) found found_too in cc
+  walk_once {object = object} (Step {next = next} {part = part} is found walk) (Refuses {refusal = refusal} is_too found_too) = let e = same_answer (same.bound object) part.name part.target (Ok next) (Err refusal) found found_too in cc
   walk_once {object = object} (Step {next = next} {part = part} {parts = parts} is found walk) (Step {next = other} {answer = again} is_too found_too walk_too) =
-      let found_once = find_once part.name part.target (Ok next) (Ok other) (same.bound object) found found_too in
+      let found_once = same_answer (same.bound object) part.name part.target (Ok next) (Ok other) found found_too in
       let e : other ≡ next = cc in
       walk_once walk (subst (λ from. WalkAnswer (IsBound H V) (IsDirectory H V) from parts again) e walk_too)
 
-  ends_once : {parts : List Part} {answer again : Result Id Refusal} → DirectoryAnswer (IsBound H U) (IsDirectory H U) parts answer → DirectoryAnswer (IsBound H V) (IsDirectory H V) parts again → answer ≡ again
+  pub ends_once : {parts : List Part} {answer again : Result Id Refusal} → DirectoryAnswer (IsBound H U) (IsDirectory H U) parts answer → DirectoryAnswer (IsBound H V) (IsDirectory H V) parts again → answer ≡ again
   ends_once (EndsIn walk is) (EndsIn walk_too is_too) = walk_once walk walk_too
   ends_once (EndsIn {object = object} walk is) (EndsElsewhere {object = other} walk_too none) =
       let e = walk_once walk walk_too in
@@ -126,14 +88,12 @@ module _ {H : List Event} {U V : ℕ → Type 0} (same : ShowSame H U H V) where
       let found = are_too.all line.dir line.shown.target line.shown.name (there line.dir own.0) shown.bound in
       let his = (are_too.each found.line found.listed).1 in
       let in_dir : IsShownAs (IsBound H V line.dir) found.line.shown.name found.line.shown.target found.line.shown.suffixed = subst (λ dir. IsShownAs (IsBound H V dir) found.line.shown.name found.line.shown.target found.line.shown.suffixed) found.in_dir his.shown in
-      let named : IsShownAs (IsBound H V line.dir) line.shown.name found.line.shown.target found.line.shown.suffixed = subst (λ name. IsShownAs (IsBound H V line.dir) name found.line.shown.target found.line.shown.suffixed) found.named in_dir in
-      let leads : IsShownAs (IsBound H V line.dir) line.shown.name line.shown.target found.line.shown.suffixed = subst (λ target. IsShownAs (IsBound H V line.dir) line.shown.name target found.line.shown.suffixed) found.leads named in
-      let suffixed = suffixed_once line.shown.suffixed found.line.shown.suffixed shown leads in
+      let suffixed = one_suffix line.shown.suffixed found.line.shown.suffixed shown in_dir found.named found.leads in
       let kind = made_once own.1.kind (subst (λ target. IsMade H V target found.line.kind) found.leads his.kind) in
       let conflict = his.conflict ∙ sym own.1.conflict in
       let one : found.line ≡ line = λ i. record {
         dir = found.in_dir i;
-        shown = record { name = found.named i; target = found.leads i; suffixed = (sym suffixed) i };
+        shown = record { name = found.named i; target = found.leads i; suffixed = suffixed i };
         kind = (sym kind) i;
         conflict = conflict i;
       } in
@@ -142,7 +102,7 @@ module _ {H : List Event} {U V : ℕ → Type 0} (same : ShowSame H U H V) where
 module _ {H : List Event} {U V : ℕ → Type 0} (same : ShowSame H U H V) where
   lines_once : {shows more : Id → Type 0} (lines others : List Line) → ((dir : Id) → shows dir → more dir) → ((dir : Id) → more dir → shows dir) → AreLines (IsBound H U) (IsMade H U) shows lines → AreLines (IsBound H V) (IsMade H V) more others → lines ≡ others
   lines_once lines others there back are are_too =
-      same_lists (λ a b. line_cmp a b ≡ Less) (λ line below. cc (below, tied_itself line_total line)) line_total.trans lines others are.ordered are_too.ordered
+      same_rising (λ a b. line_cmp a b ≡ Less) (λ line below. cc (below, tied_itself line_total line)) line_total.trans lines others are.ordered are_too.ordered
       (λ line inside. line_inside same there are are_too line inside)
       (λ line inside. line_inside (show_back same) back are_too are line inside)
 

@@ -5,5 +5,5 @@ pub mod MovesStand
 pub mod SoundWorlds
 pub mod Refusals
 pub mod Starts
-pub mod RisingLists
 pub mod Agreement
+pub mod OneRun

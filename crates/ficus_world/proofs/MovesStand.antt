@@ -98,7 +98,7 @@ module _ (volume : Volume) (H : List Event) (old new : Whole) (stands : WorldSta
           answer = after.answer;
           id_is = makes.id_is ∙ ap (λ (n : ℕ). record { replica = by; number = n }) was.saved.next;
         },
-        updates_stand by makes.next makes.member makes.updates after.lawful after.stands,
+        updates_stand by makes.next makes.member makes.updates after.after.lawful after.after.stands,
       )
 
   make_refused : (by : ℕ) (path : Path) (refusal : Refusal) → Moves old (MkDir by path) (Refused refusal) new → Follows volume H (MkDir by path) new (Refused refusal)
@@ -125,33 +125,33 @@ module _ (volume : Volume) (H : List Event) (old new : Whole) (stands : WorldSta
   tree_refused by refusal moves = ([], (refl, refused by _ (λ r. ⊥) (λ replica r was answer. answer) moves.1), stays_stands moves.0)
 
   pull_stands : (r s : ℕ) → MovesPull old new r s → Follows volume H (Pull r s) new Done
-  pull_stands r s moves = (pull_events r s (length H), (refl, record { first = member; second = peer_member; differ = moves.differ }), now_stands)
+  pull_stands r s moves = (pull_events r s (length H), (refl, record { first = member; second = peer_member; differ = moves.ask.differ }), now_stands)
     where
       member : IsMember volume.members r
-      member = member_of r moves.first
+      member = member_of r moves.ask.first
 
       peer_member : IsMember volume.members s
-      peer_member = member_of s moves.second
+      peer_member = member_of s moves.ask.second
 
-      was : StandsFor volume H r moves.puller
-      was = replica_stands r moves.puller moves.first moves.puller_is
+      was : StandsFor volume H r moves.ask.puller
+      was = replica_stands r moves.ask.puller moves.ask.first moves.ask.puller_is
 
-      peer_was : StandsFor volume H s moves.peer
-      peer_was = replica_stands s moves.peer moves.second moves.peer_is
+      peer_was : StandsFor volume H s moves.ask.peer
+      peer_was = replica_stands s moves.ask.peer moves.ask.second moves.ask.peer_is
 
       each : (q : ℕ) (found : Replica) → IsMember volume.members q → IsReplica new.replicas q found → StandsFor volume (pulled H r s) q found
       each q found q_member is =
           elim (replaced old.replicas r q moves.accepted found member.at_least q_member.at_least (subst (λ replicas. IsReplica replicas q found) moves.replicas is)) [
             | inl (same, swapped) ↦
                 subst (λ n. StandsFor volume (pulled H r s) n found) (sym same)
-                (subst (StandsFor volume (pulled H r s) r) (sym swapped) (pulled_stands volume H r s moves.puller moves.peer moves.asked member moves.differ was peer_was moves.asks moves.accepted moves.accepts))
+                (subst (StandsFor volume (pulled H r s) r) (sym swapped) (pulled_stands volume H r s moves.ask.puller moves.ask.peer moves.ask.asked member moves.ask.differ was peer_was moves.ask.asks moves.accepted moves.accepts))
             | inr (differs, kept) ↦ others_pulled_stand volume H r s q found differs (stands.each q found q_member kept)
           ]
 
       now_stands : WorldStandsFor volume (H ++ pull_events r s (length H)) new
       now_stands = record {
         members = moves.members ∙ stands.members;
-        lawful = subst (IsLawful volume) (pulled_is H r s) (lawful_pulled H r s volume member peer_member moves.differ stands.lawful);
+        lawful = subst (IsLawful volume) (pulled_is H r s) (lawful_pulled H r s volume member peer_member moves.ask.differ stands.lawful);
         stored = subst (λ events. IsLastPart events (H ++ pull_events r s (length H))) (sym moves.events) (part_more old.history.events H stands.stored (pull_events r s (length old.history.events)) (pull_events r s (length H)) (pull_raised old.history.events H stands.stored r s));
         each = λ q found q_member is. subst (λ K. StandsFor volume K q found) (pulled_is H r s) (each q found q_member is);
       }
@@ -159,9 +159,9 @@ module _ (volume : Volume) (H : List Event) (old new : Whole) (stands : WorldSta
   -- what a peer serves is taken
   no_misfit : (r s : ℕ) → MovesPullRefused old new r s → ⊥
   no_misfit r s moves =
-      let was = replica_stands r moves.puller moves.first moves.puller_is in
-      let peer_was = replica_stands s moves.peer moves.second moves.peer_is in
-      moves.misfit (peer_fits volume H r s moves.puller moves.peer moves.asked (member_of r moves.first) moves.differ was peer_was moves.asks stands.lawful (member_of s moves.second))
+      let was = replica_stands r moves.ask.puller moves.ask.first moves.ask.puller_is in
+      let peer_was = replica_stands s moves.ask.peer moves.ask.second moves.ask.peer_is in
+      moves.misfit (peer_fits volume H r s moves.ask.puller moves.ask.peer moves.ask.asked (member_of r moves.ask.first) moves.ask.differ was peer_was moves.ask.asks stands.lawful (member_of s moves.ask.second))
 
   pull_refused : (r s : ℕ) (refusal : Refusal) → PullRefused old new r s refusal → Follows volume H (Pull r s) new (Refused refusal)
   pull_refused r s refusal (inl (stays, is, none)) = ([], (refl, is, λ peers. none (member_from r peers.first) (member_from s peers.second) peers.differ), stays_stands stays)
@@ -171,24 +171,16 @@ module _ (volume : Volume) (H : List Event) (old new : Whole) (stands : WorldSta
 pub moves_stands : (volume : Volume) (H : List Event) (old : Whole) (command : Command) (answer : Answer) (new : Whole) → WorldStandsFor volume H old → Moves old command answer new → (added : List Event) × Allows volume H command answer added × WorldStandsFor volume (H ++ added) new
 moves_stands volume H old (MkDir by path) (Made id) new stands moves = make_stands volume H old new stands by path id moves
 moves_stands volume H old (MkDir by path) (Refused refusal) new stands moves = make_refused volume H old new stands by path refusal moves
-moves_stands volume H old (MkDir by path) Done new stands moves = absurd moves
-moves_stands volume H old (MkDir by path) (Names lines) new stands moves = absurd moves
-moves_stands volume H old (MkDir by path) (Lines lines) new stands moves = absurd moves
+moves_stands volume H old (MkDir by path) other new stands moves = absurd moves
 moves_stands volume H old (Ls by path) (Names lines) new stands moves = list_stands volume H old new stands by path lines moves
 moves_stands volume H old (Ls by path) (Refused refusal) new stands moves = list_refused volume H old new stands by path refusal moves
-moves_stands volume H old (Ls by path) Done new stands moves = absurd moves
-moves_stands volume H old (Ls by path) (Made id) new stands moves = absurd moves
-moves_stands volume H old (Ls by path) (Lines lines) new stands moves = absurd moves
+moves_stands volume H old (Ls by path) other new stands moves = absurd moves
 moves_stands volume H old (Tree by) (Lines lines) new stands moves = tree_stands volume H old new stands by lines moves
 moves_stands volume H old (Tree by) (Refused refusal) new stands moves = tree_refused volume H old new stands by refusal moves
-moves_stands volume H old (Tree by) Done new stands moves = absurd moves
-moves_stands volume H old (Tree by) (Made id) new stands moves = absurd moves
-moves_stands volume H old (Tree by) (Names lines) new stands moves = absurd moves
+moves_stands volume H old (Tree by) other new stands moves = absurd moves
 moves_stands volume H old (Pull by to) Done new stands moves = pull_stands volume H old new stands by to moves
 moves_stands volume H old (Pull by to) (Refused refusal) new stands moves = pull_refused volume H old new stands by to refusal moves
-moves_stands volume H old (Pull by to) (Made id) new stands moves = absurd moves
-moves_stands volume H old (Pull by to) (Names lines) new stands moves = absurd moves
-moves_stands volume H old (Pull by to) (Lines lines) new stands moves = absurd moves
+moves_stands volume H old (Pull by to) other new stands moves = absurd moves
 
 pub if_ok_stands : (volume : Volume) (H : List Event) (old : Whole) (command : Command) (new : Whole) (result : Result Answer Memory) → WorldStandsFor volume H old → IfOk result (λ answer. Moves old command answer new) → IfOk result (λ answer. (added : List Event) × Allows volume H command answer added × WorldStandsFor volume (H ++ added) new)
 if_ok_stands volume H old command new result stands moves =

@@ -47,29 +47,21 @@ allowed_lawful : (volume : Volume) (H : List Event) (command : Command) (answer 
 allowed_lawful volume H (MkDir by path) (Made id) added makes lawful =
     let place = makes.place in
     let fits = made_place volume H by path place makes.answer in
-    subst (λ events. IsLawful volume (H ++ events)) (sym makes.added_is) (lawful_more volume H (Update by (Make place.dir place.name Dir)) lawful (makes.member, fits.1, fits.0))
+    subst (λ events. IsLawful volume (H ++ events)) (sym makes.added_is) (lawful_more volume H (Update by (Make place.dir place.name Dir)) lawful (record { member = makes.member; left = fits.1; allowed = fits.0 }))
 allowed_lawful volume H (MkDir by path) (Refused refusal) added allows lawful = none_lawful volume H added allows.0 lawful
-allowed_lawful volume H (MkDir by path) Done added allows lawful = absurd allows
-allowed_lawful volume H (MkDir by path) (Names lines) added allows lawful = absurd allows
-allowed_lawful volume H (MkDir by path) (Lines lines) added allows lawful = absurd allows
+allowed_lawful volume H (MkDir by path) other added allows lawful = absurd allows
 allowed_lawful volume H (Ls by path) (Names lines) added allows lawful = none_lawful volume H added allows.0 lawful
 allowed_lawful volume H (Ls by path) (Refused refusal) added allows lawful = none_lawful volume H added allows.0 lawful
-allowed_lawful volume H (Ls by path) Done added allows lawful = absurd allows
-allowed_lawful volume H (Ls by path) (Made id) added allows lawful = absurd allows
-allowed_lawful volume H (Ls by path) (Lines lines) added allows lawful = absurd allows
+allowed_lawful volume H (Ls by path) other added allows lawful = absurd allows
 allowed_lawful volume H (Tree by) (Lines lines) added allows lawful = none_lawful volume H added allows.0 lawful
 allowed_lawful volume H (Tree by) (Refused refusal) added allows lawful = none_lawful volume H added allows.0 lawful
-allowed_lawful volume H (Tree by) Done added allows lawful = absurd allows
-allowed_lawful volume H (Tree by) (Made id) added allows lawful = absurd allows
-allowed_lawful volume H (Tree by) (Names lines) added allows lawful = absurd allows
+allowed_lawful volume H (Tree by) other added allows lawful = absurd allows
 allowed_lawful volume H (Pull by to) Done added allows lawful =
     let peers : ArePeers volume by to = allows.1 in
     let pulled = subst (IsLawful volume) (pulled_is H by to) (lawful_pulled H by to volume peers.first peers.second peers.differ lawful) in
     subst (λ events. IsLawful volume (H ++ events)) (sym allows.0) pulled
 allowed_lawful volume H (Pull by to) (Refused refusal) added allows lawful = none_lawful volume H added allows.0 lawful
-allowed_lawful volume H (Pull by to) (Made id) added allows lawful = absurd allows
-allowed_lawful volume H (Pull by to) (Names lines) added allows lawful = absurd allows
-allowed_lawful volume H (Pull by to) (Lines lines) added allows lawful = absurd allows
+allowed_lawful volume H (Pull by to) other added allows lawful = absurd allows
 
 pub step_lawful : {volume : Volume} {old new : List Event} {command : Command} {answer : Answer} → Step volume old command answer new → IsLawful volume old → IsLawful volume new
 step_lawful {volume} {old} {new} {command} {answer} step lawful = subst (IsLawful volume) (sym step.appended) (allowed_lawful volume old command answer step.added step.allowed lawful)
@@ -104,7 +96,9 @@ members_restart members = All-map (IsRestartOf members) (λ r. Restart r) (range
 
 -- members may start in a history without events
 pub start_lawful : (members : ℕ) → IsLawful (default_volume members) (start members)
-start_lawful members position event at =
-    let is = get_or_from_slice_get (start members) position event event at.is in
-    restart_may_come (default_volume members) (before position (start members)) event
-    (subst (IsRestartOf members) is (members_restart members position event (at_within at)))
+start_lawful members = record {
+  each = λ position event at.
+      let is = get_or_from_slice_get (start members) position event event at.is in
+      restart_may_come (default_volume members) (before position (start members)) event
+      (subst (IsRestartOf members) is (members_restart members position event (at_within at)));
+}

@@ -12,10 +12,9 @@ use Rattle.ficus_model.specs.declared.event.Event.TheVariants.{Restart}
 use Rattle.ficus_model.specs.Events.{raised}
 use Rattle.ficus_model.specs.Lawful.{Volume}
 use Rattle.ficus_model.specs.Stored.{Stored}
-use Rattle.ficus_codec.specs.declared.saved.Saved.{Saved}
 use Rattle.ficus_replica.specs.declared.replica.Replica.{Replica}
 use Rattle.ficus_replica.specs.SavedOf.{StandsFor}
-use Rattle.ficus_replica.proofs.EventsStand.{restarts_alone, fresh_stands}
+use Rattle.ficus_replica.proofs.EventsStand.{restarts_alone, restarted_stands}
 use Rattle.ficus_world.specs.World.{Whole, IsReplica, IsSound, IsWorld, WorldStandsFor}
 use Rattle.ficus_world.specs.Start.{default_volume, start, IsFresh, AreFresh}
 use Rattle.ficus_world.proofs.Runs.{start_lawful}
@@ -59,28 +58,17 @@ module _ {members : ℕ} {replicas : List Replica} (fresh : AreFresh (default_vo
       sound : (r : ℕ) (replica : Replica) → IsMember members r → IsReplica replicas r replica → IsSound members (length history.events) r replica
       sound r replica member is =
           let one = fresh.each r replica member is in
-          let generation : replica.saved.generation ≡ 0 = ap (λ (s : Saved). s.generation) one.saved in
+          let saved = one.stands.saved in
           record {
-            me = ap (λ (s : Saved). s.me) one.saved;
-            members = ap (λ (s : Saved). s.members) one.saved;
+            me = saved.me;
+            members = saved.members;
             fits = one.fits;
-            generation = omega arith;
+            generation = omega (arith, saved.generation);
           }
 
   replica_stands : (r : ℕ) (replica : Replica) → IsMember members r → IsReplica replicas r replica → StandsFor (default_volume members) (start members) r replica
   replica_stands r replica member is =
-      let one = fresh.each r replica member is in
-      fresh_stands (default_volume members) (start members) r replica (restarts_alone (range_with_len 1 members)) (record {
-        me = ap (λ (s : Saved). s.me) one.saved;
-        members = ap (λ (s : Saved). s.members) one.saved;
-        ids = ap (λ (s : Saved). s.ids) one.saved;
-        bytes = ap (λ (s : Saved). s.bytes) one.saved;
-        next = ap (λ (s : Saved). s.next) one.saved;
-        used = ap (λ (s : Saved). s.used) one.saved;
-        generation = ap (λ (s : Saved). s.generation) one.saved;
-        entries = ap (λ (s : Saved). s.entries) one.saved;
-        ask = one.ask;
-      })
+      restarted_stands (default_volume members) (start members) r replica (restarts_alone (range_with_len 1 members)) (fresh.each r replica member is).stands
 
 -- no position is raised
 restarts_raised : (members : List ℕ) → map (λ r. Restart r) members ≡ map (raised 0) (map (λ r. Restart r) members)

@@ -53,8 +53,8 @@ pub data MovesRefused (old : Whole) (by : ℕ) (rule : Replica → Refusal → T
   NoMember : (IsMember old.members by → ⊥) → MovesRefused old by rule Member
   ByRule : {refusal : Refusal} → Answers old by (λ replica. rule replica refusal) → MovesRefused old by rule refusal
 
--- r asks s, and takes what s holds
-pub record MovesPull (old new : Whole) (r s : ℕ) : Type 0 where
+-- member r asks member s
+pub record PullAsks (old : Whole) (r s : ℕ) : Type 0 where
   pub first : IsMember old.members r
   pub second : IsMember old.members s
   pub differ : r ≢ s
@@ -64,8 +64,12 @@ pub record MovesPull (old new : Whole) (r s : ℕ) : Type 0 where
   pub peer_is : IsReplica old.replicas s peer
   pub asked : Replica
   pub asks : AskGives puller s asked
+
+-- r asks s, and takes what s holds
+pub record MovesPull (old new : Whole) (r s : ℕ) : Type 0 where
+  pub ask : PullAsks old r s
   pub accepted : Replica
-  pub accepts : Accepted asked s asked.saved.generation peer.saved.entries accepted
+  pub accepts : Accepted ask.asked s ask.asked.saved.generation ask.peer.saved.entries accepted
   pub members : new.members ≡ old.members
   pub replicas : new.replicas ≡ slice_set old.replicas (r - 1) accepted
   pub events : new.history.events ≡ old.history.events ++ pull_events r s (length old.history.events)
@@ -77,18 +81,10 @@ AreNoPeers old r s = IsMember old.members r → IsMember old.members s → r ≢
 -- The ask and the serving of a pull took place, and what was served was refused. No world that stands for a
 -- history comes to it.
 pub record MovesPullRefused (old new : Whole) (r s : ℕ) : Type 0 where
-  pub first : IsMember old.members r
-  pub second : IsMember old.members s
-  pub differ : r ≢ s
-  pub puller : Replica
-  pub puller_is : IsReplica old.replicas r puller
-  pub peer : Replica
-  pub peer_is : IsReplica old.replicas s peer
-  pub asked : Replica
-  pub asks : AskGives puller s asked
-  pub misfit : FitsPast asked peer.saved.entries → ⊥
+  pub ask : PullAsks old r s
+  pub misfit : FitsPast ask.asked ask.peer.saved.entries → ⊥
   pub members : new.members ≡ old.members
-  pub replicas : new.replicas ≡ slice_set old.replicas (r - 1) asked
+  pub replicas : new.replicas ≡ slice_set old.replicas (r - 1) ask.asked
   pub events : new.history.events ≡ old.history.events ++ serve_events r s (length old.history.events)
 
 -- a pull is refused: there are no two such members, or what was served doesn't fit
@@ -98,21 +94,13 @@ PullRefused old new r s refusal = (Stays old new × (refusal ≡ Member) × AreN
 abbrev pub Moves : Whole → Command → Answer → Whole → Type 0
 Moves old (MkDir by path) (Made id) new = MovesMake old new by path id
 Moves old (MkDir by path) (Refused refusal) new = Stays old new × MovesRefused old by (λ replica r. MakeAnswer (BindsIn replica.saved.entries) HeldDirectory (IsSpent replica) path (Err r)) refusal
-Moves old (MkDir by path) Done new = ⊥
-Moves old (MkDir by path) (Names lines) new = ⊥
-Moves old (MkDir by path) (Lines lines) new = ⊥
+Moves old (MkDir by path) other new = ⊥
 Moves old (Ls by path) (Names lines) new = Stays old new × Answers old by (λ replica. ListAnswer (BindsIn replica.saved.entries) HeldDirectory HeldKind path (Ok lines))
 Moves old (Ls by path) (Refused refusal) new = Stays old new × MovesRefused old by (λ replica r. ListAnswer (BindsIn replica.saved.entries) HeldDirectory HeldKind path (Err r)) refusal
-Moves old (Ls by path) Done new = ⊥
-Moves old (Ls by path) (Made id) new = ⊥
-Moves old (Ls by path) (Lines lines) new = ⊥
+Moves old (Ls by path) other new = ⊥
 Moves old (Tree by) (Lines lines) new = Stays old new × Answers old by (λ replica. TreeAnswer (BindsIn replica.saved.entries) HeldKind lines)
 Moves old (Tree by) (Refused refusal) new = Stays old new × MovesRefused old by (λ replica r. ⊥) refusal
-Moves old (Tree by) Done new = ⊥
-Moves old (Tree by) (Made id) new = ⊥
-Moves old (Tree by) (Names lines) new = ⊥
+Moves old (Tree by) other new = ⊥
 Moves old (Pull by to) Done new = MovesPull old new by to
 Moves old (Pull by to) (Refused refusal) new = PullRefused old new by to refusal
-Moves old (Pull by to) (Made id) new = ⊥
-Moves old (Pull by to) (Names lines) new = ⊥
-Moves old (Pull by to) (Lines lines) new = ⊥
+Moves old (Pull by to) other new = ⊥

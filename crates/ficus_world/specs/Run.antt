@@ -49,24 +49,16 @@ pull_events r s events = Ask r s ∷ Serve s events ∷ Accept r (events + 1) �
 abbrev pub Allows : Volume → List Event → Command → Answer → List Event → Type 0
 Allows volume H (MkDir by path) (Made id) added = MakesDir volume H by path id added
 Allows volume H (MkDir by path) (Refused refusal) added = (added ≡ []) × IsRefused volume by (λ r. MakeAnswerAfter volume H by path (Err r)) refusal
-Allows volume H (MkDir by path) Done added = ⊥
-Allows volume H (MkDir by path) (Names lines) added = ⊥
-Allows volume H (MkDir by path) (Lines lines) added = ⊥
+Allows volume H (MkDir by path) other added = ⊥
 Allows volume H (Ls by path) (Names lines) added = (added ≡ []) × IsMember volume.members by × ListAnswerAfter H by path (Ok lines)
 Allows volume H (Ls by path) (Refused refusal) added = (added ≡ []) × IsRefused volume by (λ r. ListAnswerAfter H by path (Err r)) refusal
-Allows volume H (Ls by path) Done added = ⊥
-Allows volume H (Ls by path) (Made id) added = ⊥
-Allows volume H (Ls by path) (Lines lines) added = ⊥
+Allows volume H (Ls by path) other added = ⊥
 Allows volume H (Tree by) (Lines lines) added = (added ≡ []) × IsMember volume.members by × TreeAnswerAfter H by lines
 Allows volume H (Tree by) (Refused refusal) added = (added ≡ []) × IsRefused volume by (λ r. ⊥) refusal
-Allows volume H (Tree by) Done added = ⊥
-Allows volume H (Tree by) (Made id) added = ⊥
-Allows volume H (Tree by) (Names lines) added = ⊥
+Allows volume H (Tree by) other added = ⊥
 Allows volume H (Pull by to) Done added = (added ≡ pull_events by to (length H)) × ArePeers volume by to
 Allows volume H (Pull by to) (Refused refusal) added = (added ≡ []) × (refusal ≡ Member) × (ArePeers volume by to → ⊥)
-Allows volume H (Pull by to) (Made id) added = ⊥
-Allows volume H (Pull by to) (Names lines) added = ⊥
-Allows volume H (Pull by to) (Lines lines) added = ⊥
+Allows volume H (Pull by to) other added = ⊥
 
 -- one command: its answer, and the history with the events that it appends
 pub record Step (volume : Volume) (old : List Event) (command : Command) (answer : Answer) (new : List Event) : Type 0 where

@@ -1,5 +1,5 @@
 -- How a run begins.
-use Rattle.std.specs.Prelude.{◌≡◌, ℕ, List, [], None, length, map}
+use Rattle.std.specs.Prelude.{◌≡◌, ℕ, List, [], length, map}
 use Rattle.std.specs.List.{range_with_len}
 use Rattle.ficus_ids.specs.Members.{IsMember}
 use Rattle.ficus_model.specs.declared.event.Event.{Event}
@@ -7,6 +7,7 @@ use Rattle.ficus_model.specs.declared.event.Event.TheVariants.{Restart}
 use Rattle.ficus_model.specs.Lawful.{Volume}
 use Rattle.ficus_codec.specs.Saved.{FitsImage}
 use Rattle.ficus_replica.specs.declared.replica.Replica.{Replica}
+use Rattle.ficus_replica.specs.SavedOf.{StandsFor}
 use Rattle.ficus_world.specs.World.{IsReplica}
 
 -- a volume with the default limits
@@ -19,8 +20,7 @@ start members = map (λ r. Restart r) (range_with_len 1 members)
 
 -- replica r has heard of nothing
 pub record IsFresh (volume : Volume) (r : ℕ) (replica : Replica) : Type 0 where
-  pub saved : replica.saved ≡ record { me = r; members = volume.members; ids = volume.ids; bytes = volume.bytes; next = 1; used = 0; generation = 0; entries = [] }
-  pub ask : replica.ask ≡ None
+  pub stands : StandsFor volume [] r replica
   pub fits : FitsImage replica.saved
 
 -- they are so many, from replica 1 on, and none has heard of anything

@@ -5,7 +5,7 @@ use Rattle.ficus_laws.proofs.exchange.accept_joins.Goals as goal
 
 pub returns-clause-newer : goal.returns-clause-newer
 returns-clause-newer c = λ volume H replica served server position lawful may by_server known own.
-    known_before_served volume H served replica lawful may.1 known (rw (← of_same by_server (of_at may.1.served)) own)
+    known_before_served volume H served replica lawful may.answer known (rw (← of_same by_server (of_at may.answer.served)) own)
 
 pub returns-clause-known : goal.returns-clause-known
 returns-clause-known c = λ H replica served server position by_server below. (

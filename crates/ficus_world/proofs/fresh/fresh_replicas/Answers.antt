@@ -6,5 +6,5 @@ pub loop-before-preserved : goal.loop-before-preserved
 loop-before-preserved c =
     let volume = default_volume c.args.members in
     let more = fresh_more volume c.loop-before.before c.loop-before.replicas.items c.fresh.result c.loop-before.invariant
-    (record { saved = c.fresh.ensures.saved; ask = c.fresh.ensures.ask; fits = c.fresh.ensures.fits }) in
+    (record { stands = c.fresh.ensures.stands; fits = c.fresh.ensures.fits }) in
     rw c.in_ok-push.ensures.items more
