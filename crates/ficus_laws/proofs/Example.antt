@@ -32,7 +32,7 @@ unfolding start made
 small_is = refl
 
 place : HasPlace [] (Knows [] 2) ROOT (codes "a")
-place = record { directory = inl refl; reached = Base refl; free = λ t. absurd (omega (arith, update_within t.1.live.entered.update)) }
+place = record { parent = record { directory = inl refl; reached = Base (inl refl) }; free = λ t. absurd (omega (arith, update_within t.1.live.entered.update)) }
 
 first : IsMember 2 1
 first = record { at_least = omega arith; at_most = omega arith }
@@ -42,7 +42,7 @@ second = record { at_least = omega arith; at_most = omega arith }
 
 start_lawful : IsLawful small_volume start
 unfolding start made
-start_lawful = lawful_more small_volume [] (Update 2 made) (lawful_none small_volume) (record { member = second; left = omega arith; allowed = place })
+start_lawful = lawful_more small_volume [] (Update 2 made) (lawful_none small_volume) (record { member = second; left = omega arith; bytes = tt; allowed = place })
 
 entry_lives : IsLive start (Knows start 2) small_entry
 unfolding start made

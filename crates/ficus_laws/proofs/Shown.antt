@@ -6,11 +6,10 @@ use Rattle.ficus_ids.specs.declared.kind.Kind.{Kind}
 use Rattle.ficus_model.specs.declared.event.Event.{Event}
 use Rattle.ficus_model.specs.declared.event.Op.{Op}
 use Rattle.ficus_model.specs.declared.event.Op.TheVariants.{Make}
-use Rattle.ficus_model.specs.Live.{Entry, entered_by, removed_by, IsEntered, IsRemoved, IsLive, IsBound, IsTaken, IsMade, IsDirectory}
+use Rattle.ficus_model.specs.Live.{Entry, entered_by, removed_by, IsEntered, IsRemoved, IsLive, IsBound, IsMade, IsDirectory}
 use Rattle.ficus_model.specs.Reached.{IsReached, Leads, IsInTree}
 use Rattle.ficus_model.specs.Reached.IsReached.{Base, Through}
 use Rattle.ficus_model.specs.Known.{Knows}
-use Rattle.ficus_model.specs.Lawful.{HasPlace, IsAllowed}
 use Rattle.ficus_laws.specs.Accepts.{IsLiveJoined}
 use Rattle.ficus_laws.specs.Laws.{ShowSame, KnowSameUpdates}
 use Rattle.ficus_laws.specs.Updates.{HasUpdate, UpdatesWithin, SameUpdates, Joined}
@@ -62,9 +61,6 @@ live_same same l = record { entered = entered_within same.there l.entered; not_r
 pub bound_same : {H K : List Event} {U V : ℕ → Type 0} {dir target : Id} {name : List ℕ} → SameUpdates H U K V → IsBound H U dir name target → IsBound K V dir name target
 bound_same same b = record { entry = b.entry; live = live_same same b.live; in_dir = b.in_dir; named = b.named; leads = b.leads }
 
-pub taken_same : {H K : List Event} {U V : ℕ → Type 0} {dir : Id} {name : List ℕ} → SameUpdates H U K V → IsTaken H U dir name → IsTaken K V dir name
-taken_same same t = (t.0, bound_same same t.1)
-
 pub leads_same : {H K : List Event} {U V : ℕ → Type 0} {dir object : Id} → SameUpdates H U K V → Leads H U dir object → Leads K V dir object
 leads_same same l = record { name = l.name; bound = bound_same same l.bound }
 
@@ -75,12 +71,6 @@ reached_within h (Through {dir = dir} {object = object} r l) = Through (reached_
 
 pub tree_same : {H K : List Event} {U V : ℕ → Type 0} {object : Id} → SameUpdates H U K V → IsInTree H U object → IsInTree K V object
 tree_same same r = reached_within (λ dir target l. leads_same same l) r
-
-pub place_same : {H K : List Event} {U V : ℕ → Type 0} {dir : Id} {name : List ℕ} → SameUpdates H U K V → HasPlace H U dir name → HasPlace K V dir name
-place_same same p = record { directory = directory_within same.there p.directory; reached = tree_same same p.reached; free = λ t. p.free (taken_same (same_back same) t) }
-
-pub allowed_same : {H K : List Event} {U V : ℕ → Type 0} → SameUpdates H U K V → (op : Op) → IsAllowed H U op → IsAllowed K V op
-allowed_same same (Make dir name kind) a = place_same same a
 
 pub shows_same : {H K : List Event} {U V : ℕ → Type 0} → SameUpdates H U K V → ShowSame H U K V
 shows_same same =
@@ -103,7 +93,7 @@ has_either {H} {U} {V} {number} {op} u = go u.known
 pub entered_from : {H : List Event} {U : ℕ → Type 0} {op : Op} (entry : Entry) → HasUpdate H U entry.id op → entered_by entry.id op ≡ Some entry → IsEntered H U entry
 entered_from {op} entry u enters = record { position = u.position; op = op; known = u.known; update = u.update; enters = enters }
 
-pub removed_from : {H : List Event} {U : ℕ → Type 0} {number : Id} {op : Op} (id : Id) → HasUpdate H U number op → Contains (removed_by op) id → IsRemoved H U id
+pub removed_from : {H : List Event} {U : ℕ → Type 0} {number : Id} {op : Op} (id : Id) → HasUpdate H U number op → Contains (removed_by number op) id → IsRemoved H U id
 removed_from {number} {op} id u removes = record { position = u.position; number = number; op = op; known = u.known; update = u.update; removes = removes }
 
 pub entered_has : {H : List Event} {U : ℕ → Type 0} {entry : Entry} (e : IsEntered H U entry) → HasUpdate H U entry.id e.op
