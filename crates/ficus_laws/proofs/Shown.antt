@@ -10,6 +10,7 @@ use Rattle.ficus_model.specs.Live.{Entry, entered_by, removed_by, IsEntered, IsR
 use Rattle.ficus_model.specs.Reached.{IsReached, Leads, IsInTree}
 use Rattle.ficus_model.specs.Reached.IsReached.{Base, Through}
 use Rattle.ficus_model.specs.Known.{Knows}
+use Rattle.ficus_model.specs.View.{IsInReach}
 use Rattle.ficus_laws.specs.Accepts.{IsLiveJoined}
 use Rattle.ficus_laws.specs.Laws.{ShowSame, KnowSameUpdates}
 use Rattle.ficus_laws.specs.Updates.{HasUpdate, UpdatesWithin, SameUpdates, Joined}
@@ -68,6 +69,14 @@ leads_same same l = record { name = l.name; bound = bound_same same l.bound }
 pub reached_within : {leads more : Id → Id → Type 0} {base : Id → Type 0} {object : Id} → ((dir target : Id) → leads dir target → more dir target) → IsReached leads base object → IsReached more base object
 reached_within h (Base b) = Base b
 reached_within h (Through {dir = dir} {object = object} r l) = Through (reached_within h r) (h dir object l)
+
+-- from more bases more is reached
+pub reached_from_more : {leads : Id → Id → Type 0} {base more : Id → Type 0} {object : Id} → ((start : Id) → base start → more start) → IsReached leads base object → IsReached leads more object
+reached_from_more h (Base {object = object} b) = Base (h object b)
+reached_from_more h (Through r l) = Through (reached_from_more h r) l
+
+pub tree_in_reach : {H : List Event} {U : ℕ → Type 0} {object : Id} → IsInTree H U object → IsInReach H U object
+tree_in_reach r = reached_from_more (λ start root. inl root) r
 
 pub tree_same : {H K : List Event} {U V : ℕ → Type 0} {object : Id} → SameUpdates H U K V → IsInTree H U object → IsInTree K V object
 tree_same same r = reached_within (λ dir target l. leads_same same l) r
