@@ -67,7 +67,8 @@ update_end H replica op = record {
   counted = ap (λ L. count_of replica L + 1) (sym (take_at H (Update replica op ∷ []) (length H) refl));
 }
 
-abbrev id_of : ℕ → ℕ → Id
+-- the identifier of these two numbers
+abbrev pub id_of : ℕ → ℕ → Id
 id_of replica number = record { replica = replica; number = number }
 
 -- an update of a longer history was there before, or it is the last event, with the next number of its replica

@@ -41,6 +41,11 @@ abbrev pub EntriesHavePlaces : Type 0
 EntriesHavePlaces = (volume : Volume) (H : List Event) (replica : ℕ) (entry : Entry) → IsLawful volume H → IsLive H (Knows H replica) entry →
     IsDirectory H (Knows H replica) entry.dir × (kind : Kind) × IsMade H (Knows H replica) entry.target kind
 
+-- an object was made by a member
+abbrev pub ObjectsAreMembers : Type 0
+ObjectsAreMembers = (volume : Volume) (H : List Event) (replica : ℕ) (object : Id) (kind : Kind) → IsLawful volume H →
+    IsMade H (Knows H replica) object kind → IsMember volume.members object.replica
+
 -- an event of another replica, and one that is no update and takes nothing, changes nothing of what a replica is shown
 abbrev pub KeepsShown : Type 0
 KeepsShown = (H : List Event) (event : Event) (replica : ℕ) → (actor event ≢ replica) ⊎ IsQuiet event → ShowSame H (Knows H replica) (H ++ event ∷ []) (Knows (H ++ event ∷ []) replica)
