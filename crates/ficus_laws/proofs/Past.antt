@@ -79,5 +79,5 @@ update_same {H} {position} {number} {other} {op} {done} u v =
     let event : Update number.replica op ≡ Update other.replica done = at_same u.at v.at in
     let by : number.replica ≡ other.replica = cc in
     let count : number.number ≡ other.number =
-        u.counted ∙ ap (λ replica. count_of replica (before position H) + 1) by ∙ sym v.counted in
+    u.counted ∙ ap (λ replica. count_of replica (before position H) + 1) by ∙ sym v.counted in
     (ap (λ (by : ℕ). id_of by number.number) by ∙ ap (λ (count : ℕ). id_of other.replica count) count, cc)

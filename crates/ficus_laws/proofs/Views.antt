@@ -84,7 +84,8 @@ module _ {H : List Event} {U V : ℕ → Type 0} (same : SameKnown H U V) where
 
 module _ {H : List Event} {U V : ℕ → Type 0} (same : SameKnown H U V) where
   kept_same : {object : Id} → IsFilled H U object ⊎ HasUnseen H U object → IsFilled H V object ⊎ HasUnseen H V object
-  kept_same (inl f) = inl (record { made = made_within (known_updates same).there f.made; inside = inside_same same f.inside })
+  kept_same (inl f) =
+      inl (record { made = made_within (known_updates same).there f.made; inside = inside_same same f.inside })
   kept_same (inr u) = inr (record {
     is_file = file_same same u.is_file;
     position = u.position;
