@@ -42,9 +42,18 @@ fn an_answer_is_taken_once_and_only_where_it_fits(rt: HostRuntime) -> Result<(),
     let nothing = &fresh.saved.entries;
     let taken = asked.accept(alloc, 2, 1, nothing)?;
     assert_eq!(rt; taken.saved.generation, 2);
-    assert_eq!(rt; taken.accept(alloc, 2, 1, nothing).err(), Some(Refusal::Stale));
-    assert_eq!(rt; asked.accept(alloc, 2, 2, nothing).err(), Some(Refusal::Stale));
-    assert_eq!(rt; asked.accept(alloc, 1, 1, nothing).err(), Some(Refusal::Stale));
+    assert_eq!(rt;
+        taken.accept(alloc, 2, 1, nothing).err(),
+        Some(Refusal::Stale)
+    );
+    assert_eq!(rt;
+        asked.accept(alloc, 2, 2, nothing).err(),
+        Some(Refusal::Stale)
+    );
+    assert_eq!(rt;
+        asked.accept(alloc, 1, 1, nothing).err(),
+        Some(Refusal::Stale)
+    );
     assert_eq!(rt;
         asked.accept(alloc, 2, 1, &ahead.saved.entries).err(),
         Some(Refusal::BadMessage)
