@@ -4,8 +4,6 @@
 mod entries;
 mod entry;
 mod laws;
-#[cfg(test)]
-mod tests;
 
 pub use entries::Entries;
 pub use entry::{Entry, State};

@@ -39,3 +39,10 @@ impl fmt::Display for Id {
 pub fn id_order()
     ensures { (a b : Id) → ⟦<Id as Ord>⟧.cmp a b ≡ id_cmp a b }
 {}
+
+/// The law that the root is `0.0` and the attic `0.1`. No replica issues them, since replicas are numbered from 1.
+/// It does nothing when it runs.
+pub fn pseudo_ids()
+    ensures root { ROOT ≡ record { replica = 0; number = 0 } }
+    ensures attic { ATTIC ≡ record { replica = 0; number = 1 } }
+{}

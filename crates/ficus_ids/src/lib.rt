@@ -10,10 +10,8 @@ mod memory;
 mod name;
 mod number;
 mod refusal;
-#[cfg(test)]
-mod tests;
 
-pub use id::{ATTIC, Id, ROOT, id_order};
+pub use id::{ATTIC, Id, ROOT, id_order, pseudo_ids};
 pub use kind::Kind;
 pub use listed::Listed;
 pub use marks::{Marks, same_marks};

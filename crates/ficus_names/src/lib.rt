@@ -11,6 +11,3 @@ pub use directories::Directories;
 pub use listing::{Line, ShownName, same_listing, shown};
 pub use meaning::{find, same_answer};
 pub use text::shown_text;
-
-#[cfg(test)]
-mod tests;

@@ -16,6 +16,3 @@ pub use name::{one_name, write_name};
 pub use path::{Base, PART_LIMIT, Part, Path, PathFault};
 pub use reading::{one_path, read_path};
 pub use writing::write_path;
-
-#[cfg(test)]
-mod tests;

@@ -6,6 +6,3 @@ mod link;
 mod search;
 
 pub use search::reached;
-
-#[cfg(test)]
-mod tests;

@@ -4,8 +4,6 @@
 mod laws;
 mod merge;
 mod table;
-#[cfg(test)]
-mod tests;
 
 pub use laws::one_merge;
 pub use merge::merge_entries;

@@ -8,6 +8,3 @@ mod update;
 mod walk;
 
 pub use replica::{Asked, Next, Replica};
-
-#[cfg(test)]
-mod tests;

@@ -5,8 +5,6 @@ mod fresh;
 mod laws;
 mod record;
 mod step;
-#[cfg(test)]
-mod tests;
 mod world;
 
 pub use laws::{one_run, runs_are_lawful, same_updates_answer_same};
