@@ -1,13 +1,11 @@
 -- Each command is read off the table of verbs from its spelling, and no two commands share one.
-use Rattle.std.proofs.Common.{◌≡◌, ◌≢◌, ℕ, Bool, true, false, if◌then◌else◌, List, [], ◌∷◌, ◌++◌, get_or, Option, None, Some, Err, IfSome, IfNone, refl, sym, ◌∙◌, ap, subst, inl, inr, arith}
+use Rattle.std.proofs.Common.{◌≡◌, ◌≢◌, ℕ, Bool, true, false, if◌then◌else◌, List, [], ◌∷◌, ◌++◌, get_or, Option, None, Some, Err, IfSome, IfNone, refl, sym, ◌∙◌, ap, inl, inr, arith}
 use Rattle.std.specs.Prelude.{nat_le, Ok, ok_or}
 use Rattle.std.specs.Fmt.{decimal}
 use Rattle.std.specs.List.{AllByRecursion, join_with_byte}
 use Rattle.std.specs.Str.{bytes_eq}
-use Rattle.std.proofs.lemmas.Bool.{cases_Bool}
 use Rattle.std.proofs.lemmas.Bool.Decides.{leb_tells}
 use Rattle.std.proofs.lemmas.List.Elements.{All-from_recursion}
-use Rattle.std.proofs.lemmas.Slice.Eq.{bytes_eq-Decides}
 use Rattle.ficus_path.proofs.CutLaws.{IsFreeOf}
 use Rattle.ficus_script.specs.declared.arguments.Arguments.{Arguments}
 use Rattle.ficus_script.specs.declared.arguments.Arguments.TheVariants.{Nothing, OnePath, TwoReplicas}
@@ -64,23 +62,6 @@ one_command : (command other : Command) → IsCommand command → IsCommand othe
 one_command command other valid also same =
     let found : Some command ≡ Some other = sym (listed command valid).found ∙ ap at_spelling same ∙ (listed other also).found in
     cc
-
--- a command that is found is one of these, with the verb
-not_found : (verb : List ℕ) (commands : List Command) (command : Command) → AllByRecursion (λ c. IsCommand c → verb_of c ≡ verb → ⊥) commands → IsCommand command → with_verb verb commands ≡ Some command → ⊥
-not_found verb [] command each valid found = cc
-not_found verb (first ∷ commands) command each valid found =
-    elim (cases_Bool (bytes_eq (verb_of first) verb)) [
-      | inl same ↦
-          let is_first : Some first ≡ Some command = rw same at found in
-          let first_is : command ≡ first = cc in
-          each.0 (subst IsCommand first_is valid) ((bytes_eq-Decides (verb_of first) verb).0 same)
-      | inr differs ↦ not_found verb commands command each.1 valid (rw differs at found)
-    ]
-
--- where none of the commands with these before and behind has the verb, no command is spelled so
-pub no_command : (spelling : Spelling) → AllByRecursion (λ c. IsCommand c → verb_of c ≡ spelling.verb → ⊥) (commands_with spelling.by spelling.behind) → IsCommandOf spelling None
-no_command spelling each = λ command valid same.
-    not_found spelling.verb (commands_with spelling.by spelling.behind) command each valid (sym (ap at_spelling same) ∙ (listed command valid).found)
 
 letters_free : (bytes : List ℕ) → are_letters bytes ≡ true → AllByRecursion (λ byte. byte ≢ 32) bytes
 letters_free [] letters = tt

@@ -1,5 +1,5 @@
 -- What stands behind the verb of a command.
-use Rattle.std.specs.Prelude.{◌≡◌, ℕ, ◌≤◌, List, [], ◌∷◌, Option, Some, None, Result, Ok, Err}
+use Rattle.std.specs.Prelude.{◌≡◌, ℕ, ◌≤◌, List, [], ◌∷◌, slice_index, Option, Some, None, Result, Ok, Err}
 use Rattle.std.specs.Borrow.{Bor}
 use Rattle.std.specs.List.{join_with_byte}
 use Rattle.std.specs.Fmt.{decimal}
@@ -46,5 +46,4 @@ IsReadingBehind left (Err OutOfMemory) = Unit {0}
 
 -- the bytes begin as the spelling of a path does, with a slash (47)
 abbrev pub BeginsPath : List ℕ → Type 0
-BeginsPath [] = ⊥
-BeginsPath (byte ∷ bytes) = byte ≡ 47
+BeginsPath bytes = slice_index bytes 0 ≡ 47

@@ -27,7 +27,7 @@ fn with_nothing(by: u8, verb: &[u8]) -> Option<Command>
     ensures { IsCommandOf (of_replica by verb.now Nothing) result }
 {
     match verb {
-        b"tree" => Some(Command::Tree { by }),
+        _ if verb == b"tree".as_slice() => Some(Command::Tree { by }),
         _ => None,
     }
 }
@@ -38,8 +38,8 @@ fn with_path(by: u8, verb: &[u8], path: Path) -> Option<Command>
     ensures { IsCommandOf (of_replica by verb.now (OnePath path)) result }
 {
     match verb {
-        b"mkdir" if path.is_new() => Some(Command::MkDir { by, path }),
-        b"ls" => Some(Command::Ls { by, path }),
+        _ if verb == b"mkdir".as_slice() && path.is_new() => Some(Command::MkDir { by, path }),
+        _ if verb == b"ls".as_slice() => Some(Command::Ls { by, path }),
         _ => None,
     }
 }
@@ -50,7 +50,7 @@ fn with_replicas(verb: &[u8], by: u8, to: u8) -> Option<Command>
     ensures { IsCommandOf (of_none verb.now (TwoReplicas by to)) result }
 {
     match verb {
-        b"pull" => Some(Command::Pull { by, to }),
+        _ if verb == b"pull".as_slice() => Some(Command::Pull { by, to }),
         _ => None,
     }
 }
