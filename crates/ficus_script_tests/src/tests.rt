@@ -1,0 +1,151 @@
+use ficus_ids::{Id, Kind, Listed, Name, Refusal};
+use ficus_names::{Line, ShownName};
+use ficus_path::write_path;
+use ficus_script::{Answer, Command, ScriptFault, answer_text, read_script};
+use std::alloc::Global;
+use std::test::Fail;
+
+// A path of thirty-two parts.
+const LONGEST: &str = "/a/a/a/a/a/a/a/a/a/a/a/a/a/a/a/a/a/a/a/a/a/a/a/a/a/a/a/a/a/a/a/a";
+
+#[test]
+fn scripts_give_their_commands(rt: HostRuntime) -> Result<(), Fail> {
+    for (script, commands) in [
+        ("", ""),
+        ("\n", ""),
+        ("#", ""),
+        ("# 1 tree\n\n", ""),
+        ("1 mkdir /a", "1 makes /a; "),
+        ("255 mkdir /a/my\\x20notes\n", "255 makes /a/my\\x20notes; "),
+        ("1 mkdir /a#1.1/b", "1 makes /a#1.1/b; "),
+        ("1 ls /", "1 lists /; "),
+        ("1 ls /a#2.1\n", "1 lists /a#2.1; "),
+        ("1 tree", "1 walks; "),
+        ("pull 1 2\n", "1 takes from 2; "),
+        (
+            "1 tree\n\n# 1 ls /\npull 9 9\n#\n2 tree",
+            "1 walks; 9 takes from 9; 2 walks; ",
+        ),
+    ] {
+        let mut found = Vec::new(rt.alloc());
+        for command in &read_script(rt.alloc(), script.as_bytes())? {
+            found.extend_from_slice(&described(rt.alloc(), command)?)?;
+        }
+        assert_eq!(rt; found.as_slice(), commands.as_bytes(), "{script:?}");
+    }
+    let script = format!(in rt.alloc(); "1 ls {LONGEST}")?;
+    assert_eq!(rt; read_script(rt.alloc(), script.as_bytes())?.len(), 1);
+    Ok(())
+}
+
+fn described(alloc: Global, command: &Command) -> Result<Vec<u8>, Fail> {
+    let (start, path) = match command {
+        Command::MkDir { by, path } => (format!(in alloc; "{by} makes ")?, Some(path)),
+        Command::Ls { by, path } => (format!(in alloc; "{by} lists ")?, Some(path)),
+        Command::Tree { by } => (format!(in alloc; "{by} walks")?, None),
+        Command::Pull { by, to } => (format!(in alloc; "{by} takes from {to}")?, None),
+    };
+    let mut text = start.into_bytes();
+    if let Some(path) = path {
+        text.extend_from_slice(&write_path(alloc, path)?)?;
+    }
+    text.extend_from_slice(b"; ")?;
+    Ok(text)
+}
+
+#[test]
+fn the_first_bad_line_is_named(rt: HostRuntime) -> Result<(), Fail> {
+    let too_long = format!(in rt.alloc(); "1 ls {LONGEST}/a")?;
+    for line in [
+        // Thirty-three parts: a bad line, and no want of memory.
+        too_long.as_str(),
+        "0 ls /",
+        "256 tree",
+        "1",
+        "tree",
+        "1  ls /",
+        " 1 tree",
+        "1 tree /",
+        "1 ls",
+        "1 ls / ",
+        "1 ls /a /b",
+        "1 mkdir /",
+        "1 mkdir /a#1.1",
+        "1 ls /a#9.1",
+        "1 MKDIR /a",
+        "1 frob /a",
+        "pull 1",
+        "pull 1 2 3",
+        "pull 0 1",
+        "1 pull 1 2",
+        " # note",
+    ] {
+        for end in ["", "\n", "\n1 tree\n1 frob /a\n"] {
+            let script = format!(in rt.alloc(); "1 tree\n\n# note\n{line}{end}")?;
+            assert_eq!(rt;
+                read_script(rt.alloc(), script.as_bytes()).err(),
+                Some(ScriptFault::BadLine(4)),
+                "{line:?}"
+            );
+        }
+    }
+    Ok(())
+}
+
+#[test]
+fn faults_and_answers_have_their_texts(rt: HostRuntime) -> Result<(), Fail> {
+    let alloc = rt.alloc();
+    for (fault, text) in [
+        (ScriptFault::BadLine(1), "bad line 1"),
+        (ScriptFault::BadLine(12), "bad line 12"),
+        (ScriptFault::Memory, "memory"),
+    ] {
+        assert_eq!(rt; fault.to_string(alloc)?.as_str(), text);
+    }
+    let in_conflict = Line {
+        kind: Kind::Plain,
+        conflict: true,
+        ..line((1, 1), b"f", (2, 9), false)?
+    };
+    let names = vec![in alloc; line((2, 1), b"my notes", (2, 2), false)?, in_conflict]?;
+    let tree = vec![in alloc;
+        line((0, 0), b"a", (1, 1), true)?,
+        line((0, 0), b"a", (2, 1), true)?,
+        line((1, 1), b"b", (1, 2), false)?,
+        line((2, 1), b"my notes", (2, 2), false)?,
+    ]?;
+    for (answer, text) in [
+        (Answer::Done, "ok\n"),
+        (Answer::Made(id((2, 17))), "ok 2.17\n"),
+        (Answer::Refused(Refusal::NoEntry), "no noentry\n"),
+        (Answer::Names(Listed::of(Vec::new(alloc))), "ok 0\n"),
+        (
+            Answer::Names(Listed::of(names)),
+            "ok 2\nmy\\x20notes 2.2 dir\nf 2.9 plain conflict\n",
+        ),
+        (
+            Answer::Tree(Listed::of(tree)),
+            "ok 4\n0.0 a#1.1 1.1 dir\n0.0 a#2.1 2.1 dir\n1.1 b 1.2 dir\n2.1 my\\x20notes 2.2 dir\n",
+        ),
+    ] {
+        assert_eq!(rt; answer_text(alloc, &answer)?.as_slice(), text.as_bytes());
+    }
+    Ok(())
+}
+
+fn line(dir: (u8, u32), name: &[u8], target: (u8, u32), suffixed: bool) -> Result<Line, Fail> {
+    Ok(Line {
+        dir: id(dir),
+        shown: ShownName {
+            name: Name::new(name)?,
+            target: id(target),
+            suffixed,
+        },
+        kind: Kind::Dir,
+        conflict: false,
+    })
+}
+
+fn id((replica, number): (u8, u32)) -> Id {
+    Id { replica, number }
+}
