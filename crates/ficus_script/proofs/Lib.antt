@@ -1,5 +1,6 @@
+pub mod ArgumentLaws
+pub mod CommandLaws
 pub mod Cuts
-pub mod Lines
 pub mod Numbers
 pub mod ScriptLaws
 pub mod Scripts

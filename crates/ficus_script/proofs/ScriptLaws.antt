@@ -5,14 +5,14 @@ use Rattle.std.proofs.lemmas.Bool.{cases_Bool}
 use Rattle.std.proofs.lemmas.List.Elements.{recursion_from_All}
 use Rattle.ficus_script.specs.declared.command.Command.{Command}
 use Rattle.ficus_script.specs.Command.{IsCommand, command_text}
-use Rattle.ficus_script.specs.Script.{lines_of, is_passed_over, is_kept, IsLine, IsScript, IsFirstBadLine}
-use Rattle.ficus_script.proofs.Lines.{command_text_injective}
+use Rattle.ficus_script.specs.Script.{lines_of, is_passed_over, is_kept, IsScriptLine, IsScript, IsFirstBadLine}
+use Rattle.ficus_script.proofs.CommandLaws.{command_text_injective}
 
 AreCommands : List Command → Type 0
 AreCommands commands = AllByRecursion IsCommand commands
 
 AreLines : List (List ℕ) → Type 0
-AreLines lines = AllByRecursion IsLine lines
+AreLines lines = AllByRecursion IsScriptLine lines
 
 same_pair : {X : Type 0} {x y : X} {xs ys : List X} → x ≡ y → xs ≡ ys → x ∷ xs ≡ y ∷ ys
 same_pair e f = cc
@@ -49,7 +49,7 @@ lines_of_script (line ∷ lines) commands are same =
           (inr (first.0, first.2, first.3), lines_of_script lines first.1 first.4 first.5)
     ]
 
-among : (before : List (List ℕ)) (line : List ℕ) (behind : List (List ℕ)) → AreLines (before ++ line ∷ behind) → IsLine line
+among : (before : List (List ℕ)) (line : List ℕ) (behind : List (List ℕ)) → AreLines (before ++ line ∷ behind) → IsScriptLine line
 unfolding AreLines
 among [] line behind are = are.0
 among (other ∷ before) line behind are = among before line behind are.1
@@ -60,15 +60,15 @@ no_bad_line bytes commands number script first =
     let all = lines_of_script (lines_of bytes) commands (recursion_from_All IsCommand commands script.each) script.spelled in
     first.no_line (among first.before first.bad first.behind (subst AreLines first.lines all))
 
-same_count : (before others : List (List ℕ)) (bad worse : List ℕ) (behind beyond : List (List ℕ)) → AreLines before → AreLines others → (IsLine bad → ⊥) → (IsLine worse → ⊥) → before ++ bad ∷ behind ≡ others ++ worse ∷ beyond → length before ≡ length others
+same_count : (before others : List (List ℕ)) (bad worse : List ℕ) (behind beyond : List (List ℕ)) → AreLines before → AreLines others → (IsScriptLine bad → ⊥) → (IsScriptLine worse → ⊥) → before ++ bad ∷ behind ≡ others ++ worse ∷ beyond → length before ≡ length others
 unfolding AreLines
 same_count [] [] bad worse behind beyond are also no_bad no_worse same = refl
 same_count [] (line ∷ others) bad worse behind beyond are also no_bad no_worse same =
     let first : line ≡ bad = cc in
-    absurd (no_bad (subst IsLine first also.0))
+    absurd (no_bad (subst IsScriptLine first also.0))
 same_count (line ∷ before) [] bad worse behind beyond are also no_bad no_worse same =
     let first : line ≡ worse = cc in
-    absurd (no_worse (subst IsLine first are.0))
+    absurd (no_worse (subst IsScriptLine first are.0))
 same_count (line ∷ before) (other ∷ others) bad worse behind beyond are also no_bad no_worse same =
     let rest : before ++ bad ∷ behind ≡ others ++ worse ∷ beyond = cc in
     ap suc (same_count before others bad worse behind beyond are.1 also.1 no_bad no_worse rest)
@@ -76,5 +76,5 @@ same_count (line ∷ before) (other ∷ others) bad worse behind beyond are also
 pub one_bad_line : (bytes : List ℕ) (number other : ℕ) → IsFirstBadLine bytes number → IsFirstBadLine bytes other → number ≡ other
 unfolding AreLines
 one_bad_line bytes number other first also =
-    let same = same_count first.before also.before first.bad also.bad first.behind also.behind (recursion_from_All IsLine first.before first.each) (recursion_from_All IsLine also.before also.each) first.no_line also.no_line (sym first.lines ∙ also.lines) in
+    let same = same_count first.before also.before first.bad also.bad first.behind also.behind (recursion_from_All IsScriptLine first.before first.each) (recursion_from_All IsScriptLine also.before also.each) first.no_line also.no_line (sym first.lines ∙ also.lines) in
     omega (arith, first.counted, also.counted)

@@ -10,7 +10,7 @@ use Rattle.ficus_path.proofs.CutLaws.{IsFreeOf}
 use Rattle.ficus_script.specs.declared.command.Command.{Command}
 use Rattle.ficus_script.specs.Command.{IsCommand, command_text}
 use Rattle.ficus_script.specs.Line.{Takes}
-use Rattle.ficus_script.specs.Script.{lines_of, is_kept, IsLine}
+use Rattle.ficus_script.specs.Script.{lines_of, is_kept, IsScriptLine}
 
 abbrev AreFree : List ℕ → Type 0
 AreFree line = AllByRecursion (λ byte. byte ≢ 10) line
@@ -40,7 +40,7 @@ pub record IsReadTo (bytes : List ℕ) (number : ℕ) (commands : List Command) 
   pub before : List (List ℕ)
   pub lines : lines_of bytes ≡ before ++ lines_of rest
   pub counted : number ≡ length before
-  pub good : All IsLine before
+  pub good : All IsScriptLine before
   pub each : All IsCommand commands
   pub spelled : filter is_kept before ≡ map command_text commands
   pub within : number + length rest ≤ length bytes
@@ -50,7 +50,7 @@ IsReadTo-more {old} line others so_far cut shorter takes = record {
   before = so_far.before ++ line ∷ [];
   lines = so_far.lines ∙ ap (λ (lines : List (List ℕ)). so_far.before ++ lines) cut ∙ sym (append_assoc so_far.before (line ∷ []) (lines_of others));
   counted = omega (arith, so_far.counted, length-append so_far.before (line ∷ []));
-  good = All-push IsLine so_far.before line so_far.good takes.good;
+  good = All-push IsScriptLine so_far.before line so_far.good takes.good;
   each = rw takes.added (All-append IsCommand old takes.more so_far.each takes.each);
   spelled = rw (filter-append, so_far.spelled, takes.spelled, takes.added, map-append) refl;
   within = omega (arith, so_far.within);

@@ -1,16 +1,13 @@
 -- The commands of a script, and how each is spelled.
-use Rattle.std.specs.Prelude.{ℕ, ◌≤◌, List, [], ◌∷◌, codes}
+use Rattle.std.specs.Prelude.{◌≡◌, ℕ, List, [], ◌∷◌, ◌++◌, Option, Some, None, codes}
 use Rattle.std.specs.List.{join_with_byte}
 use Rattle.std.specs.Fmt.{decimal}
 use Rattle.ficus_path.specs.Path.{IsPath, IsNew}
-use Rattle.ficus_path.specs.Spelling.{path_text}
+use Rattle.ficus_script.specs.declared.arguments.Arguments.{Arguments}
+use Rattle.ficus_script.specs.declared.arguments.Arguments.TheVariants.{Nothing, OnePath, TwoReplicas}
 use Rattle.ficus_script.specs.declared.command.Command.{Command}
 use Rattle.ficus_script.specs.declared.command.Command.TheVariants.{MkDir, Ls, Tree, Pull}
-
--- what a script may give as the number of a replica
-pub record IsReplicaNumber (replica : ℕ) : Type 0 where
-  pub at_least : 1 ≤ replica
-  pub at_most : replica ≤ 255
+use Rattle.ficus_script.specs.Arguments.{IsReplicaNumber, argument_words}
 
 -- the numbers are those of replicas, the paths are paths, and what is to be made has a new path
 abbrev pub IsCommand : Command → Type 0
@@ -19,13 +16,40 @@ IsCommand (Ls by path) = IsReplicaNumber by × IsPath path
 IsCommand (Tree by) = IsReplicaNumber by
 IsCommand (Pull by to) = IsReplicaNumber by × IsReplicaNumber to
 
--- the words of the command, in order
-abbrev pub command_words : Command → List (List ℕ)
-command_words (MkDir by path) = decimal by ∷ codes "mkdir" ∷ path_text path ∷ []
-command_words (Ls by path) = decimal by ∷ codes "ls" ∷ path_text path ∷ []
-command_words (Tree by) = decimal by ∷ codes "tree" ∷ []
-command_words (Pull by to) = codes "pull" ∷ decimal by ∷ decimal to ∷ []
+-- what a line is made of: the number of the replica that leads it, if one does, the verb, and what stands behind it
+pub record Spelling : Type 0 where
+  pub by : Option ℕ
+  pub verb : List ℕ
+  pub behind : Arguments
 
--- the one spelling of the command: its words, with one space (32) between each two
+abbrev pub of_replica : ℕ → List ℕ → Arguments → Spelling
+of_replica by verb behind = record { by = Some by; verb = verb; behind = behind }
+
+abbrev pub of_none : List ℕ → Arguments → Spelling
+of_none verb behind = record { by = None; verb = verb; behind = behind }
+
+-- the one table of verbs: each command's verb, and what stands before and behind it
+abbrev pub spelling_of : Command → Spelling
+spelling_of (MkDir by path) = of_replica by (codes "mkdir") (OnePath path)
+spelling_of (Ls by path) = of_replica by (codes "ls") (OnePath path)
+spelling_of (Tree by) = of_replica by (codes "tree") Nothing
+spelling_of (Pull by to) = of_none (codes "pull") (TwoReplicas by to)
+
+-- the number of a replica is a word, and none is no word
+abbrev pub replica_words : Option ℕ → List (List ℕ)
+replica_words None = []
+replica_words (Some by) = decimal by ∷ []
+
+-- its words, in order, with one space (32) between each two
+abbrev pub spelling_text : Spelling → List ℕ
+spelling_text spelling =
+    join_with_byte 32 (replica_words spelling.by ++ spelling.verb ∷ argument_words spelling.behind)
+
+-- the one text of the command
 abbrev pub command_text : Command → List ℕ
-command_text command = join_with_byte 32 (command_words command)
+command_text command = spelling_text (spelling_of command)
+
+-- the command with this spelling, or none where none has it
+abbrev pub IsCommandOf : Spelling → Option Command → Type 0
+IsCommandOf spelling (Some command) = IsCommand command × (spelling_of command ≡ spelling)
+IsCommandOf spelling None = (command : Command) → IsCommand command → spelling_of command ≡ spelling → ⊥

@@ -1,4 +1,5 @@
 pub mod Answer
+pub mod Arguments
 pub mod Command
 pub mod Line
 pub mod Script

@@ -1,5 +1,6 @@
 -- What reading a line comes to.
-use Rattle.std.specs.Prelude.{◌≡◌, ℕ, List, [], ◌∷◌, ◌++◌, map, filter, All, Result, Ok, Err}
+use Rattle.std.specs.Prelude.{◌≡◌, ℕ, List, [], ◌∷◌, ◌++◌, map, filter, All, Option, Some, None, Result, Ok, Err}
+use Rattle.std.specs.Fmt.{decimal}
 use Rattle.ficus_path.specs.declared.path.PathFault.{PathFault}
 use Rattle.ficus_path.specs.declared.path.PathFault.TheVariants as path_fault
 use Rattle.ficus_script.specs.declared.command.Command.{Command}
@@ -8,7 +9,7 @@ use Rattle.ficus_script.specs.declared.line.LineFault.TheVariants.{NotCommand, M
 use Rattle.ficus_script.specs.Command.{IsCommand, command_text}
 use Rattle.ficus_script.specs.declared.fault.ScriptFault.{ScriptFault}
 use Rattle.ficus_script.specs.declared.fault.ScriptFault.TheVariants as script_fault
-use Rattle.ficus_script.specs.Script.{is_kept, IsCommandLine, IsLine}
+use Rattle.ficus_script.specs.Script.{is_kept, IsCommandLine, IsScriptLine}
 
 -- what a fault of a path in the line makes of the line
 abbrev pub fault_of : PathFault → LineFault
@@ -19,6 +20,11 @@ fault_of path_fault.Memory = Memory
 abbrev pub fault_at : LineFault → ℕ → ScriptFault
 fault_at NotCommand line = script_fault.BadLine line
 fault_at Memory line = script_fault.Memory
+
+-- the text behind the number of a replica and a space (32), or the text alone
+abbrev pub led_by : Option ℕ → List ℕ → List ℕ
+led_by None text = text
+led_by (Some replica) text = decimal replica ++ 32 ∷ text
 
 -- the command that the line spells, `NotCommand` where it spells none, or memory was refused
 abbrev pub IsReadingOf : List ℕ → Result Command LineFault → Type 0
@@ -32,4 +38,4 @@ pub record Takes (line : List ℕ) (old new : List Command) : Type 0 where
   pub added : new ≡ old ++ more
   pub each : All IsCommand more
   pub spelled : filter is_kept (line ∷ []) ≡ map command_text more
-  pub good : IsLine line
+  pub good : IsScriptLine line

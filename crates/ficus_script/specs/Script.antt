@@ -23,8 +23,8 @@ abbrev pub IsCommandLine : List ℕ → Type 0
 IsCommandLine line = (command : Command) × IsCommand command × (line ≡ command_text command)
 
 -- the line may stand in a script
-abbrev pub IsLine : List ℕ → Type 0
-IsLine line = IsTrue (is_passed_over line) ⊎ IsCommandLine line
+abbrev pub IsScriptLine : List ℕ → Type 0
+IsScriptLine line = IsTrue (is_passed_over line) ⊎ IsCommandLine line
 
 -- the lines that aren't passed over are, in order, the spellings of the commands
 pub record IsScript (bytes : List ℕ) (commands : List Command) : Type 0 where
@@ -38,5 +38,5 @@ pub record IsFirstBadLine (bytes : List ℕ) (number : ℕ) : Type 0 where
   pub behind : List (List ℕ)
   pub lines : lines_of bytes ≡ before ++ bad ∷ behind
   pub counted : number ≡ length before + 1
-  pub each : All IsLine before
-  pub no_line : IsLine bad → ⊥
+  pub each : All IsScriptLine before
+  pub no_line : IsScriptLine bad → ⊥

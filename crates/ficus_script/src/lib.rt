@@ -2,6 +2,7 @@
 #![tactic(auto)]
 
 mod answer;
+mod arguments;
 mod command;
 mod cut;
 mod fault;
@@ -9,6 +10,7 @@ mod laws;
 mod line;
 mod replica;
 mod script;
+mod verbs;
 mod writing;
 
 pub use answer::Answer;
@@ -17,6 +19,3 @@ pub use fault::ScriptFault;
 pub use laws::{no_bad_line, one_bad_line, one_script};
 pub use script::read_script;
 pub use writing::answer_text;
-
-#[cfg(test)]
-mod tests;

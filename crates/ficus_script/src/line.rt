@@ -1,13 +1,14 @@
-ghost use Rattle.std.specs.Prelude.{◌≡◌, ◌∷◌, ◌++◌, codes, ok_or};
-ghost use Rattle.std.specs.Fmt.{decimal};
-ghost use Rattle.ficus_script.specs.Command.{IsReplicaNumber};
+ghost use Rattle.std.specs.Prelude.{◌≡◌, ℕ, List, Some, IfSome, IfNone};
+ghost use Rattle.ficus_script.specs.Arguments.{IsReplicaNumber};
 ghost use Rattle.ficus_script.specs.declared.line.LineFault.TheVariants.{Memory as OutOfMemory};
-ghost use Rattle.ficus_script.specs.Line.{fault_at, fault_of, IsReadingOf};
+ghost use Rattle.ficus_script.specs.Line.{fault_at, fault_of, led_by, IsReadingOf};
 
+use crate::arguments::read_arguments;
 use crate::cut::cut_at;
 use crate::replica::read_replica;
+use crate::verbs::command_of;
 use crate::{Command, ScriptFault};
-use ficus_path::{PathFault, read_path};
+use ficus_path::PathFault;
 use std::alloc::{AllocFailed, Global};
 
 /// Why a line gave no command.
@@ -54,61 +55,25 @@ impl LineFault {
 pub(crate) fn read_command(alloc: Global, line: &[u8]) -> Result<Command, LineFault>
     ensures { IsReadingOf line.now result }
 {
-    let (first, words) = cut_at(line, b' ');
-    let Some(words) = words else {
-        return Err(LineFault::NotCommand);
+    let (by, words) = cut_replica(line);
+    let (verb, behind) = cut_at(words, b' ');
+    let arguments = read_arguments(alloc, behind)?;
+    command_of(by, verb, arguments).ok_or(LineFault::NotCommand)
+}
+
+// The number of a replica that leads the line, and what stands behind it and a space; or none, and the line.
+fn cut_replica(line: &[u8]) -> (Option<u8>, &[u8])
+    ensures number { IfSome result.0 IsReplicaNumber }
+    ensures whole { line.now ≡ led_by result.0 result.1.now }
+    ensures none { IfNone result.0 ((replica : ℕ) (rest : List ℕ)
+        → IsReplicaNumber replica → line.now ≡ led_by (Some replica) rest → ⊥) }
+{
+    let (first, rest) = cut_at(line, b' ');
+    let Some(rest) = rest else {
+        return (None, line);
     };
-    if first == b"pull".as_slice() {
-        return read_pull(words).ok_or(LineFault::NotCommand);
-    }
     match read_replica(first) {
-        Some(by) => read_command_of(alloc, by, words),
-        None => Err(LineFault::NotCommand),
+        Some(by) => (Some(by), rest),
+        None => (None, line),
     }
-}
-
-// Reads the words behind `pull`.
-fn read_pull(words: &[u8]) -> Option<Command>
-    ensures { IsReadingOf (codes "pull " ++ words.now) (ok_or result LineFault.NotCommand) }
-{
-    let (by, to) = cut_at(words, b' ');
-    let to = to?;
-    Some(Command::Pull {
-        by: read_replica(by)?,
-        to: read_replica(to)?,
-    })
-}
-
-// Reads the words behind the number of a replica.
-fn read_command_of(alloc: Global, by: u8, words: &[u8]) -> Result<Command, LineFault>
-    requires { IsReplicaNumber by }
-    ensures { IsReadingOf (decimal by ++ 32 ∷ words.now) result }
-{
-    let (verb, rest) = cut_at(words, b' ');
-    match rest {
-        Some(path) if verb == b"mkdir".as_slice() => read_mkdir(alloc, by, path),
-        Some(path) if verb == b"ls".as_slice() => read_ls(alloc, by, path),
-        None if verb == b"tree".as_slice() => Ok(Command::Tree { by }),
-        _ => Err(LineFault::NotCommand),
-    }
-}
-
-fn read_mkdir(alloc: Global, by: u8, path: &[u8]) -> Result<Command, LineFault>
-    requires { IsReplicaNumber by }
-    ensures { IsReadingOf (decimal by ++ (codes " mkdir " ++ path.now)) result }
-{
-    let path = read_path(alloc, path)?;
-    if path.is_new() {
-        Ok(Command::MkDir { by, path })
-    } else {
-        Err(LineFault::NotCommand)
-    }
-}
-
-fn read_ls(alloc: Global, by: u8, path: &[u8]) -> Result<Command, LineFault>
-    requires { IsReplicaNumber by }
-    ensures { IsReadingOf (decimal by ++ (codes " ls " ++ path.now)) result }
-{
-    let path = read_path(alloc, path)?;
-    Ok(Command::Ls { by, path })
 }

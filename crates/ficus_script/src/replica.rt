@@ -1,6 +1,6 @@
 ghost use Rattle.std.specs.Prelude.{◌≡◌, ℕ, IfSome, IfNone};
 ghost use Rattle.std.specs.Fmt.{decimal};
-ghost use Rattle.ficus_script.specs.Command.{IsReplicaNumber};
+ghost use Rattle.ficus_script.specs.Arguments.{IsReplicaNumber};
 
 use ficus_ids::read_number;
 

@@ -1,13 +1,15 @@
-use Rattle.std.proofs.Common.{rules}
-use Rattle.ficus_script.proofs.Lines.{one_word, no_first}
+use Rattle.std.proofs.lemmas.Result.{err_from_is_err_and}
+use Rattle.ficus_script.proofs.CommandLaws.{reading_of, reading_fault}
+use Rattle.ficus_script.proofs.Cuts.{cut_line}
 use Rattle.ficus_script.proofs.line.read_command.Goals as goal
 
-pub returns-in_default : goal.returns-in_default
-returns-in_default c =
-    let whole = rw c.in_default.is at c.cut_at.ensures.whole in
-    one_word c.args.line.now _ whole c.cut_at.ensures.front
+pub returns-in_err-arguments : goal.returns-in_err-arguments
+returns-in_err-arguments c =
+    let fault = err_from_is_err_and c.from_residual.result c.from_residual.ensures.1 in
+    let cut = cut_line c.args.line.now _ _ _ _ c.cut_replica-by.ensures.number c.cut_replica-by.ensures.whole c.cut_replica-by.ensures.none c.cut_at.ensures.front c.cut_at.ensures.whole in
+    rw (fault.1, fault.2) (reading_fault c.args.line.now _ _ _ _ cut c.in_err-arguments.ensures)
 
-pub returns-in-None : goal.returns-in-None
-returns-in-None c =
-    let cut = rw c.in-Some.is at c.cut_at.ensures.whole in
-    no_first c.args.line.now _ _ cut c.cut_at.ensures.front (search rules) c.in-None.ensures.none
+pub returns : goal.returns
+returns c =
+    let cut = cut_line c.args.line.now _ _ _ _ c.cut_replica-by.ensures.number c.cut_replica-by.ensures.whole c.cut_replica-by.ensures.none c.cut_at.ensures.front c.cut_at.ensures.whole in
+    rw c.ok_or.ensures.value (reading_of c.args.line.now _ _ _ _ _ cut c.in_ok-arguments.ensures c.command_of.ensures)

@@ -1,31 +1,40 @@
-use crate::{Answer, Command, ScriptFault, answer_text, read_script};
 use ficus_ids::{Id, Kind, Listed, Name, Refusal};
 use ficus_names::{Line, ShownName};
 use ficus_path::write_path;
+use ficus_script::{Answer, Command, ScriptFault, answer_text, read_script};
 use std::alloc::Global;
 use std::test::Fail;
 
+// A path of thirty-two parts.
+const LONGEST: &str = "/a/a/a/a/a/a/a/a/a/a/a/a/a/a/a/a/a/a/a/a/a/a/a/a/a/a/a/a/a/a/a/a";
+
 #[test]
-fn reads_commands_and_passes_over_the_other_lines(rt: HostRuntime) -> Result<(), Fail> {
-    let script = b"1 mkdir /a\n\
-        \n\
-        # the same name elsewhere\n\
-        255 mkdir /a/my\\x20notes\n\
-        pull 1 2\n\
-        #\n\
-        1 ls /a#2.1\n\
-        1 ls /\n\
-        1 tree";
-    let mut found = Vec::new(rt.alloc());
-    for command in &read_script(rt.alloc(), script)? {
-        found.extend_from_slice(&described(rt.alloc(), command)?)?;
+fn scripts_give_their_commands(rt: HostRuntime) -> Result<(), Fail> {
+    for (script, commands) in [
+        ("", ""),
+        ("\n", ""),
+        ("#", ""),
+        ("# 1 tree\n\n", ""),
+        ("1 mkdir /a", "1 makes /a; "),
+        ("255 mkdir /a/my\\x20notes\n", "255 makes /a/my\\x20notes; "),
+        ("1 mkdir /a#1.1/b", "1 makes /a#1.1/b; "),
+        ("1 ls /", "1 lists /; "),
+        ("1 ls /a#2.1\n", "1 lists /a#2.1; "),
+        ("1 tree", "1 walks; "),
+        ("pull 1 2\n", "1 takes from 2; "),
+        (
+            "1 tree\n\n# 1 ls /\npull 9 9\n#\n2 tree",
+            "1 walks; 9 takes from 9; 2 walks; ",
+        ),
+    ] {
+        let mut found = Vec::new(rt.alloc());
+        for command in &read_script(rt.alloc(), script.as_bytes())? {
+            found.extend_from_slice(&described(rt.alloc(), command)?)?;
+        }
+        assert_eq!(rt; found.as_slice(), commands.as_bytes(), "{script:?}");
     }
-    assert_eq!(rt;
-        found.as_slice(),
-        b"1 makes /a; 255 makes /a/my\\x20notes; 1 takes from 2; \
-            1 lists /a#2.1; 1 lists /; 1 walks; "
-            .as_slice()
-    );
+    let script = format!(in rt.alloc(); "1 ls {LONGEST}")?;
+    assert_eq!(rt; read_script(rt.alloc(), script.as_bytes())?.len(), 1);
     Ok(())
 }
 
@@ -45,55 +54,30 @@ fn described(alloc: Global, command: &Command) -> Result<Vec<u8>, Fail> {
 }
 
 #[test]
-fn a_script_may_be_empty_and_its_last_line_may_lack_its_end(rt: HostRuntime) -> Result<(), Fail> {
-    for (script, count) in [
-        ("", 0),
-        ("\n", 0),
-        ("#", 0),
-        ("# 1 tree\n\n", 0),
-        ("1 tree", 1),
-        ("1 tree\n", 1),
-        ("1 tree\n2 tree", 2),
-    ] {
-        let commands = read_script(rt.alloc(), script.as_bytes())?;
-        assert_eq!(rt; commands.len(), count, "{script:?}");
-    }
-    Ok(())
-}
-
-#[test]
-fn names_the_first_line_that_is_no_command(rt: HostRuntime) -> Result<(), Fail> {
+fn the_first_bad_line_is_named(rt: HostRuntime) -> Result<(), Fail> {
+    let too_long = format!(in rt.alloc(); "1 ls {LONGEST}/a")?;
     for line in [
-        "01 mkdir /a",
+        // Thirty-three parts: a bad line, and no want of memory.
+        too_long.as_str(),
         "0 ls /",
         "256 tree",
-        "+1 tree",
         "1",
-        "pull",
         "tree",
         "1  ls /",
         " 1 tree",
-        "1 tree ",
         "1 tree /",
         "1 ls",
-        "1 ls ",
-        "1 ls a",
         "1 ls / ",
         "1 ls /a /b",
-        "1 mkdir",
         "1 mkdir /",
         "1 mkdir /a#1.1",
-        "1 mkdir /a/",
+        "1 ls /a#9.1",
         "1 MKDIR /a",
         "1 frob /a",
         "pull 1",
-        "pull 1 ",
         "pull 1 2 3",
-        "pull 1 256",
         "pull 0 1",
         "1 pull 1 2",
-        "1 tree\r",
-        " ",
         " # note",
     ] {
         for end in ["", "\n", "\n1 tree\n1 frob /a\n"] {
@@ -109,19 +93,15 @@ fn names_the_first_line_that_is_no_command(rt: HostRuntime) -> Result<(), Fail> 
 }
 
 #[test]
-fn faults_have_their_texts(rt: HostRuntime) -> Result<(), Fail> {
+fn faults_and_answers_have_their_texts(rt: HostRuntime) -> Result<(), Fail> {
+    let alloc = rt.alloc();
     for (fault, text) in [
+        (ScriptFault::BadLine(1), "bad line 1"),
         (ScriptFault::BadLine(12), "bad line 12"),
         (ScriptFault::Memory, "memory"),
     ] {
-        assert_eq!(rt; fault.to_string(rt.alloc())?.as_str(), text);
+        assert_eq!(rt; fault.to_string(alloc)?.as_str(), text);
     }
-    Ok(())
-}
-
-#[test]
-fn answers_have_their_texts(rt: HostRuntime) -> Result<(), Fail> {
-    let alloc = rt.alloc();
     let in_conflict = Line {
         kind: Kind::Plain,
         conflict: true,

@@ -1,0 +1,140 @@
+-- Each command is read off the table of verbs from its spelling, and no two commands share one.
+use Rattle.std.proofs.Common.{◌≡◌, ◌≢◌, ℕ, Bool, true, false, if◌then◌else◌, List, [], ◌∷◌, ◌++◌, get_or, Option, None, Some, Err, IfSome, IfNone, refl, sym, ◌∙◌, ap, inl, inr, arith}
+use Rattle.std.specs.Prelude.{nat_le, Ok, ok_or}
+use Rattle.std.specs.Fmt.{decimal}
+use Rattle.std.specs.List.{AllByRecursion, join_with_byte}
+use Rattle.std.specs.Str.{bytes_eq}
+use Rattle.std.proofs.lemmas.Bool.Decides.{leb_tells}
+use Rattle.std.proofs.lemmas.List.Elements.{All-from_recursion}
+use Rattle.ficus_path.proofs.CutLaws.{IsFreeOf}
+use Rattle.ficus_script.specs.declared.arguments.Arguments.{Arguments}
+use Rattle.ficus_script.specs.declared.arguments.Arguments.TheVariants.{Nothing, OnePath, TwoReplicas}
+use Rattle.ficus_script.specs.declared.command.Command.{Command}
+use Rattle.ficus_script.specs.declared.command.Command.TheVariants.{MkDir, Ls, Tree, Pull}
+use Rattle.ficus_script.specs.declared.line.LineFault.{LineFault}
+use Rattle.ficus_script.specs.declared.line.LineFault.TheVariants.{NotCommand, Memory as OutOfMemory}
+use Rattle.ficus_script.specs.Arguments.{AreArguments, IsReplicaNumber, IsReadingBehind, argument_words, left_of}
+use Rattle.ficus_script.specs.Command.{IsCommand, IsCommandOf, Spelling, spelling_of, replica_words, spelling_text, command_text}
+use Rattle.ficus_script.specs.Line.{IsReadingOf, led_by}
+use Rattle.ficus_script.proofs.ArgumentLaws.{one_arguments}
+use Rattle.ficus_script.proofs.Cuts.{IsCut, join_first, one_cut, one_first_word, spaced}
+use Rattle.ficus_script.proofs.Numbers.{IsFreeOf-replica, first_digit}
+
+-- the commands with these before and behind their verbs
+abbrev pub commands_with : Option ℕ → Arguments → List Command
+commands_with (Some by) Nothing = Tree by ∷ []
+commands_with (Some by) (OnePath path) = MkDir by path ∷ Ls by path ∷ []
+commands_with None (TwoReplicas by to) = Pull by to ∷ []
+commands_with (Some by) (TwoReplicas first second) = []
+commands_with None Nothing = []
+commands_with None (OnePath path) = []
+
+abbrev verb_of : Command → List ℕ
+verb_of command = (spelling_of command).verb
+
+-- the first of the commands that has the verb
+abbrev with_verb : List ℕ → List Command → Option Command
+with_verb verb [] = None
+with_verb verb (command ∷ commands) = if bytes_eq (verb_of command) verb then Some command else with_verb verb commands
+
+abbrev at_spelling : Spelling → Option Command
+at_spelling spelling = with_verb spelling.verb (commands_with spelling.by spelling.behind)
+
+-- no byte stands before the letters
+abbrev are_letters : List ℕ → Bool
+are_letters [] = true
+are_letters (byte ∷ bytes) = if nat_le 97 byte then are_letters bytes else false
+
+-- The command's spelling is a good one, and leads back to the command.
+record IsListed (command : Command) : Type 0 where
+  number : IfSome (spelling_of command).by IsReplicaNumber
+  letters : are_letters (verb_of command) ≡ true
+  behind : AreArguments (spelling_of command).behind
+  found : at_spelling (spelling_of command) ≡ Some command
+
+listed : (command : Command) → IsCommand command → IsListed command
+listed (MkDir by path) valid = record { number = valid.0; letters = refl; behind = valid.1; found = refl }
+listed (Ls by path) valid = record { number = valid.0; letters = refl; behind = valid.1; found = refl }
+listed (Tree by) valid = record { number = valid; letters = refl; behind = tt; found = refl }
+listed (Pull by to) valid = record { number = tt; letters = refl; behind = valid; found = refl }
+
+one_command : (command other : Command) → IsCommand command → IsCommand other → spelling_of command ≡ spelling_of other → command ≡ other
+one_command command other valid also same =
+    let found : Some command ≡ Some other = sym (listed command valid).found ∙ ap at_spelling same ∙ (listed other also).found in
+    cc
+
+letters_free : (bytes : List ℕ) → are_letters bytes ≡ true → AllByRecursion (λ byte. byte ≢ 32) bytes
+letters_free [] letters = tt
+letters_free (byte ∷ bytes) letters =
+    elim (leb_tells 97 byte) [
+      | inl letter ↦ (omega (arith, letter.1), letters_free bytes (rw letter.0 at letters))
+      | inr other ↦ let clash : false ≡ true = rw other.0 at letters in cc
+    ]
+
+no_number : (verb : List ℕ) (replica : ℕ) → are_letters verb ≡ true → IsReplicaNumber replica → verb ≡ decimal replica → ⊥
+no_number [] replica letters number same =
+    omega (arith, first_digit replica number, ap (λ (bytes : List ℕ). get_or bytes 0 0) same)
+no_number (byte ∷ bytes) replica letters number same =
+    elim (leb_tells 97 byte) [
+      | inl letter ↦ omega (arith, letter.1, first_digit replica number, ap (λ (bytes : List ℕ). get_or bytes 0 0) same)
+      | inr other ↦ let clash : false ≡ true = rw other.0 at letters in cc
+    ]
+
+led_words : (by : Option ℕ) (verb : List ℕ) (words : List (List ℕ)) → join_with_byte 32 (replica_words by ++ verb ∷ words) ≡ led_by by (verb ++ spaced (left_of words))
+led_words None verb words = join_first verb words
+led_words (Some by) verb words = ap (λ (text : List ℕ). decimal by ++ 32 ∷ text) (join_first verb words)
+
+no_leading_number : (by : Option ℕ) (verb : List ℕ) (left : Option (List ℕ)) → are_letters verb ≡ true → IsFreeOf 32 verb → IfNone by ((replica : ℕ) (rest : List ℕ) → IsReplicaNumber replica → led_by by (verb ++ spaced left) ≡ led_by (Some replica) rest → ⊥)
+no_leading_number None verb left letters free = λ replica rest number same.
+    no_number verb replica letters number (one_first_word verb (decimal replica) left (Some rest) free (IsFreeOf-replica replica number) same).0
+no_leading_number (Some by) verb left letters free = tt
+
+IsCut-command : (command : Command) → IsCommand command → IsCut (command_text command) (spelling_of command).by (verb_of command) (left_of (argument_words (spelling_of command).behind))
+IsCut-command command valid =
+    let spelling : Spelling = spelling_of command in
+    let is_listed = listed command valid in
+    let free : IsFreeOf 32 spelling.verb = All-from_recursion (λ byte. byte ≢ 32) spelling.verb (letters_free spelling.verb is_listed.letters) in
+    let words : List (List ℕ) = argument_words spelling.behind in
+    let whole = led_words spelling.by spelling.verb words in
+    record {
+      number = is_listed.number;
+      free = free;
+      whole = whole;
+      none = rw whole (no_leading_number spelling.by spelling.verb (left_of words) is_listed.letters free);
+    }
+
+same_spelling : (spelling other : Spelling) → spelling.by ≡ other.by → spelling.verb ≡ other.verb → spelling.behind ≡ other.behind → spelling ≡ other
+same_spelling spelling other e f g =
+    let with_by = λ (by : Option ℕ). let made : Spelling = record { by = by; verb = spelling.verb; behind = spelling.behind } in made in
+    let with_verb = λ (verb : List ℕ). let made : Spelling = record { by = other.by; verb = verb; behind = spelling.behind } in made in
+    let with_behind = λ (behind : Arguments). let made : Spelling = record { by = other.by; verb = other.verb; behind = behind } in made in
+    ap with_by e ∙ ap with_verb f ∙ ap with_behind g
+
+-- no two commands have one spelling
+pub command_text_injective : (command other : Command) → IsCommand command → IsCommand other → command_text command ≡ command_text other → command ≡ other
+command_text_injective command other valid also same =
+    let first : Spelling = spelling_of command in
+    let second : Spelling = spelling_of other in
+    let cut = one_cut (command_text command) first.verb second.verb first.by second.by _ _ (IsCut-command command valid) (rw same (IsCut-command other also)) in
+    let behind = one_arguments first.behind second.behind (listed command valid).behind (listed other also).behind cut.2 in
+    one_command command other valid also (same_spelling first second cut.0 cut.1 behind)
+
+-- the line has the spelling of the command that is read off it, or no command's
+pub reading_of : (line verb : List ℕ) (by : Option ℕ) (left : Option (List ℕ)) (behind : Arguments) (found : Option Command) → IsCut line by verb left → IsReadingBehind left (Ok behind) → IsCommandOf (record { by = by; verb = verb; behind = behind }) found → IsReadingOf line (ok_or found NotCommand)
+reading_of line verb by left behind (Some command) cut read is =
+    (is.0, cut.whole ∙ ap (λ (rest : Option (List ℕ)). led_by by (verb ++ spaced rest)) read.1 ∙ sym (led_words by verb (argument_words behind)) ∙ sym (ap spelling_text is.1))
+reading_of line verb by left behind None cut read none = λ spelled.
+    let command : Command = spelled.0 in
+    let spelling : Spelling = spelling_of command in
+    let parts = one_cut line spelling.verb verb spelling.by by _ left (rw spelled.2 (IsCut-command command spelled.1)) cut in
+    let arguments = one_arguments spelling.behind behind (listed command spelled.1).behind read.0 (parts.2 ∙ read.1) in
+    none command spelled.1 (same_spelling spelling _ parts.0 parts.1 arguments)
+
+-- where what stands behind the verb are no arguments, the line is no command's
+pub reading_fault : (line verb : List ℕ) (by : Option ℕ) (left : Option (List ℕ)) (fault : LineFault) → IsCut line by verb left → IsReadingBehind left (Err fault) → IsReadingOf line (Err fault)
+reading_fault line verb by left OutOfMemory cut none = tt
+reading_fault line verb by left NotCommand cut none = λ spelled.
+    let command : Command = spelled.0 in
+    let spelling : Spelling = spelling_of command in
+    let parts = one_cut line spelling.verb verb spelling.by by _ left (rw spelled.2 (IsCut-command command spelled.1)) cut in
+    none spelling.behind (listed command spelled.1).behind (sym parts.2)

@@ -1,0 +1,49 @@
+-- What stands behind the verb of a command.
+use Rattle.std.specs.Prelude.{◌≡◌, ℕ, ◌≤◌, List, [], ◌∷◌, slice_index, Option, Some, None, Result, Ok, Err}
+use Rattle.std.specs.Borrow.{Bor}
+use Rattle.std.specs.List.{join_with_byte}
+use Rattle.std.specs.Fmt.{decimal}
+use Rattle.ficus_path.specs.Path.{IsPath}
+use Rattle.ficus_path.specs.Spelling.{path_text}
+use Rattle.ficus_script.specs.declared.arguments.Arguments.{Arguments}
+use Rattle.ficus_script.specs.declared.arguments.Arguments.TheVariants.{Nothing, OnePath, TwoReplicas}
+use Rattle.ficus_script.specs.declared.line.LineFault.{LineFault}
+use Rattle.ficus_script.specs.declared.line.LineFault.TheVariants.{NotCommand, Memory as OutOfMemory}
+
+-- what a script may give as the number of a replica
+pub record IsReplicaNumber (replica : ℕ) : Type 0 where
+  pub at_least : 1 ≤ replica
+  pub at_most : replica ≤ 255
+
+-- paths are paths, and the numbers of replicas are those
+abbrev pub AreArguments : Arguments → Type 0
+AreArguments Nothing = Unit {0}
+AreArguments (OnePath path) = IsPath path
+AreArguments (TwoReplicas first second) = IsReplicaNumber first × IsReplicaNumber second
+
+-- the words that spell them, in order
+abbrev pub argument_words : Arguments → List (List ℕ)
+argument_words Nothing = []
+argument_words (OnePath path) = path_text path ∷ []
+argument_words (TwoReplicas first second) = decimal first ∷ decimal second ∷ []
+
+-- what stands behind a word and a space, where these words follow it, or nothing
+abbrev pub left_of : List (List ℕ) → Option (List ℕ)
+left_of [] = None
+left_of (word ∷ words) = Some (join_with_byte 32 (word ∷ words))
+
+-- the bytes behind a reference, if there is one
+abbrev pub bytes_of : Option (Bor (List ℕ)) → Option (List ℕ)
+bytes_of None = None
+bytes_of (Some bytes) = Some bytes.now
+
+-- the arguments that the bytes behind a verb spell, `NotCommand` where they spell none, or memory was refused
+abbrev pub IsReadingBehind : Option (List ℕ) → Result Arguments LineFault → Type 0
+IsReadingBehind left (Ok arguments) = AreArguments arguments × (left ≡ left_of (argument_words arguments))
+IsReadingBehind left (Err NotCommand) =
+    (arguments : Arguments) → AreArguments arguments → left ≡ left_of (argument_words arguments) → ⊥
+IsReadingBehind left (Err OutOfMemory) = Unit {0}
+
+-- the bytes begin as the spelling of a path does, with a slash (47)
+abbrev pub BeginsPath : List ℕ → Type 0
+BeginsPath bytes = slice_index bytes 0 ≡ 47
