@@ -30,5 +30,5 @@ loop-filled-preserved g c =
           ∙ ap (λ (l : List ℕ). take n xs ++ l) (took.taken tells)
           ∙ sym (append_assoc (take n xs) (take count ys) (g.S.Source.left c.take.new.self))
           ∙ ap (λ (l : List ℕ). l ++ g.S.Source.left c.take.new.self) (sym (front_filled xs ys n (length xs - n) count c.loop-filled.invariant.within took.within));
-      counted = omega (arith, c.take.ensures.counted);
+      steady = took.steady ∙ c.loop-filled.invariant.steady;
     }
