@@ -21,6 +21,7 @@ pub trait Sink {
         ensures kept { tells → OnErr result (written self.new ≡ written self.old) }
         ensures failed { OnErr result (Rose (faults self.old) (faults self.new)) }
         ensures none { 0 < length bytes.now → result ≡ Ok 0 → Rose (faults self.old) (faults self.new) }
-        ensures steady { IfOk result (λ count. (0 < count) ⊎ (length bytes.now ≡ 0) → faults self.new ≡ faults self.old) }
+        ensures steady { IfOk result (λ count. (0 < count) ⊎ (length bytes.now ≡ 0)
+            → faults self.new ≡ faults self.old) }
         ensures counted { faults self.old ≤ faults self.new };
 }

@@ -47,7 +47,8 @@ impl<W: Write + Drop> Sink for WriterSink<W> {
         ensures within { IfOk result (λ count. count ≤ length bytes.now) }
         ensures failed { OnErr result (Rose self.old.faults self.new.faults) }
         ensures none { 0 < length bytes.now → result ≡ Ok 0 → Rose self.old.faults self.new.faults }
-        ensures steady { IfOk result (λ count. (0 < count) ⊎ (length bytes.now ≡ 0) → self.new.faults ≡ self.old.faults) }
+        ensures steady { IfOk result (λ count. (0 < count) ⊎ (length bytes.now ≡ 0)
+            → self.new.faults ≡ self.old.faults) }
         ensures counted { self.old.faults ≤ self.new.faults }
 
         // The writer holds what was taken besides, and with a fault nothing.

@@ -21,7 +21,8 @@ pub(crate) fn read_commands<S: Source>(
 ) -> Result<Vec<Command>, ReadingFault>
     ensures each { IfOk result (λ commands. All IsCommand commands.items) }
     ensures count { IfOk result (λ commands. length commands.items ≤ script_limit) }
-    ensures script { S.tells → IfOk result (λ commands. TakesAll (S.left input.old) (S.left input.new) × IsScript (S.left input.old) commands.items) }
+    ensures script { S.tells → IfOk result (λ commands.
+        TakesAll (S.left input.old) (S.left input.new) × IsScript (S.left input.old) commands.items) }
     ensures until { S.tells → IfErr result (TakesUntil (S.left input.old) (S.left input.new)) }
     ensures failed { IsErrOf result ReadingFault.Source → Rose (S.faults input.old) (S.faults input.new) }
     ensures told { S.faults input.old < S.faults input.new → IsErrOf result ReadingFault.Source }

@@ -43,7 +43,8 @@ pub fn ficus<S: Source, K: Sink>(
     ensures unasked { result.code ≡ 1 → input.new ≡ input.old }
 
     // Code 8 comes exactly where the source gave a byte more than a script may have, and wherever it has one more.
-    ensures too_long { S.tells → (result.code ≡ 8) ↔ GivesCount (S.left input.old) (script_limit + 1) (S.left input.new) }
+    ensures too_long { S.tells
+        → (result.code ≡ 8) ↔ GivesCount (S.left input.old) (script_limit + 1) (S.left input.new) }
     ensures too_long_comes { S.tells → (members : ℕ) → AreWords (texts words.now.items) members
         → (Rose (S.faults input.old) (S.faults input.new) → ⊥) → script_limit < length (S.left input.old)
         → (result.code ≡ 8) ⊎ (result.code ≡ 3) }
@@ -63,11 +64,13 @@ pub fn ficus<S: Source, K: Sink>(
 
     // With code 0, what was put are the texts of the answers to the script's commands, and the source is empty.
     ensures answers { S.tells → result.code ≡ 0 → (members : ℕ) → AreWords (texts words.now.items) members
-        → Answers K.tells members (S.left input.old) (K.written output.old) (K.written output.new) × (S.left input.new ≡ []) }
+        → Answers K.tells members (S.left input.old) (K.written output.old) (K.written output.new)
+        × (S.left input.new ≡ []) }
 
     // With codes 3 and 5, what was put is a front of them; with code 3 maybe before the script was read.
     ensures prefix { S.tells → (members : ℕ) → AreWords (texts words.now.items) members
-        → (result.code ≡ 5 → AnswersFront K.tells members (S.left input.old) (K.written output.old) (K.written output.new))
+        → (result.code ≡ 5
+        → AnswersFront K.tells members (S.left input.old) (K.written output.old) (K.written output.new))
         × (result.code ≡ 3 → (output.new ≡ output.old)
         ⊎ AnswersFront K.tells members (S.left input.old) (K.written output.old) (K.written output.new)) }
 
@@ -102,13 +105,18 @@ fn run<S: Source, K: Sink>(
     ensures takes { S.tells → Takes (S.left input.old) (S.left input.new) result }
     ensures answers { S.tells → OnOk result ((members : ℕ) → AreWords (texts words.now.items) members
         → Answers K.tells members (S.left input.old) (K.written output.old) (K.written output.new)) }
-    ensures prefix { S.tells → IfErr result (λ fault. IsAnswering fault → (members : ℕ) → AreWords (texts words.now.items) members
+    ensures prefix { S.tells → IfErr result (λ fault. IsAnswering fault
+        → (members : ℕ) → AreWords (texts words.now.items) members
         → AnswersFront K.tells members (S.left input.old) (K.written output.old) (K.written output.new)) }
     ensures idle { IfErr result (λ fault. IsIdle fault → output.new ≡ output.old) }
-    ensures read_fault { IsErrOf result (Fault.Reading ReadingFault.Source) → Rose (S.faults input.old) (S.faults input.new) }
-    ensures read_fault_comes { S.faults input.old < S.faults input.new → IsErrOf result (Fault.Reading ReadingFault.Source) }
-    ensures write_fault { IsErrOf result (Fault.Answering AnsweringFault.Sink) → Rose (K.faults output.old) (K.faults output.new) }
-    ensures write_fault_comes { K.faults output.old < K.faults output.new → IsErrOf result (Fault.Answering AnsweringFault.Sink) }
+    ensures read_fault { IsErrOf result (Fault.Reading ReadingFault.Source)
+        → Rose (S.faults input.old) (S.faults input.new) }
+    ensures read_fault_comes { S.faults input.old < S.faults input.new
+        → IsErrOf result (Fault.Reading ReadingFault.Source) }
+    ensures write_fault { IsErrOf result (Fault.Answering AnsweringFault.Sink)
+        → Rose (K.faults output.old) (K.faults output.new) }
+    ensures write_fault_comes { K.faults output.old < K.faults output.new
+        → IsErrOf result (Fault.Answering AnsweringFault.Sink) }
     ensures counted { (S.faults input.old ≤ S.faults input.new) × (K.faults output.old ≤ K.faults output.new) }
 {
     let Some(members) = read_words(words.as_slice()) else {
@@ -130,9 +138,11 @@ fn answer_commands<K: Sink>(
     requires commands { All IsCommand commands.now }
     requires count { length commands.now ≤ script_limit }
     ensures answers { OnOk result ((after : List Event)
-        × Serves K.tells (default_volume members) (start members) commands.now after (K.written output.old) (K.written output.new)) }
+        × Serves K.tells (default_volume members) (start members) commands.now after
+        (K.written output.old) (K.written output.new)) }
     ensures prefix { OnErr result ((after : List Event)
-        × ServesFront K.tells (default_volume members) (start members) commands.now after (K.written output.old) (K.written output.new)) }
+        × ServesFront K.tells (default_volume members) (start members) commands.now after
+        (K.written output.old) (K.written output.new)) }
     ensures failed { IsErrOf result AnsweringFault.Sink → Rose (K.faults output.old) (K.faults output.new) }
     ensures told { K.faults output.old < K.faults output.new → IsErrOf result AnsweringFault.Sink }
     ensures counted { K.faults output.old ≤ K.faults output.new }

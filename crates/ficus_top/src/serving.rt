@@ -34,7 +34,8 @@ pub fn serve<K: Sink>(
     // world stands now.
     ensures answers { result.code ≡ 0 → (volume : Volume) (H : List Event) → WorldStandsFor volume H world.old
         → ServesWorld K.tells volume H commands.now world.new (K.written output.old) (K.written output.new) }
-    ensures prefix { (result.code ≡ 3) ⊎ (result.code ≡ 5) → (volume : Volume) (H : List Event) → WorldStandsFor volume H world.old
+    ensures prefix { (result.code ≡ 3) ⊎ (result.code ≡ 5)
+        → (volume : Volume) (H : List Event) → WorldStandsFor volume H world.old
         → ServesWorldFront K.tells volume H commands.now world.new (K.written output.old) (K.written output.new) }
 
     // Code 5 comes only where the sink has failed in this call, and wherever it has.
@@ -84,7 +85,8 @@ fn answer_one<K: Sink>(
     ensures answer { OnOk result ((volume : Volume) (H : List Event) → WorldStandsFor volume H world.old
         → ServesWorld K.tells volume H (command.now ∷ []) world.new (K.written output.old) (K.written output.new)) }
     ensures front { OnErr result ((volume : Volume) (H : List Event) → WorldStandsFor volume H world.old
-        → ServesWorldFront K.tells volume H (command.now ∷ []) world.new (K.written output.old) (K.written output.new)) }
+        → ServesWorldFront K.tells volume H (command.now ∷ []) world.new
+        (K.written output.old) (K.written output.new)) }
     ensures failed { IsErrOf result AnsweringFault.Sink → Rose (K.faults output.old) (K.faults output.new) }
     ensures told { K.faults output.old < K.faults output.new → IsErrOf result AnsweringFault.Sink }
     ensures counted { K.faults output.old ≤ K.faults output.new }
@@ -97,7 +99,8 @@ fn answer_one<K: Sink>(
 // Puts the text of the answer.
 fn put_answer<K: Sink>(alloc: Global, answer: &Answer, output: &mut K) -> Result<(), AnsweringFault>
     ensures put { OnOk result (K.tells → K.written output.new ≡ K.written output.old ++ answer_text_of answer.now) }
-    ensures front { OnErr result (K.tells → PutsFront (K.written output.old) (answer_text_of answer.now) (K.written output.new)) }
+    ensures front { OnErr result (K.tells
+        → PutsFront (K.written output.old) (answer_text_of answer.now) (K.written output.new)) }
     ensures failed { IsErrOf result AnsweringFault.Sink → Rose (K.faults output.old) (K.faults output.new) }
     ensures told { K.faults output.old < K.faults output.new → IsErrOf result AnsweringFault.Sink }
     ensures counted { K.faults output.old ≤ K.faults output.new }

@@ -15,7 +15,13 @@ returns-in_err-world-clause-prefix g c =
 
 pub answer_all-requires-clause-room : goal.answer_all-requires-clause-room
 answer_all-requires-clause-room g c =
-    omega (arith, ap length c.in_ok-world.ensures.events, length-map (range_with_len 1 c.args.members) (λ r. Restart r), length-range_with_len 1 c.args.members, c.requires.members.at_most)
+    omega (
+      arith,
+      ap length c.in_ok-world.ensures.events,
+      length-map (range_with_len 1 c.args.members) (λ r. Restart r),
+      length-range_with_len 1 c.args.members,
+      c.requires.members.at_most,
+    )
 
 pub returns-clause-answers : goal.returns-clause-answers
 returns-clause-answers g c =
