@@ -10,6 +10,10 @@ use Rattle.ficus_world.specs.Run.{Run}
 use Rattle.ficus_world.specs.World.{Whole, WorldStandsFor}
 use Rattle.ficus_top.specs.Outside.{PutsFront}
 
+-- A world with fewer stored events has room for those of a script's commands, which are three each at most.
+abbrev pub serving_limit : ℕ
+serving_limit = 4000000000
+
 -- the texts of the answers, one after the other
 abbrev pub texts_of : List Answer → List ℕ
 texts_of answers = flat_map answer_text_of answers

@@ -5,7 +5,7 @@ ghost use Rattle.ficus_outside.specs.Faults.{Rose};
 ghost use Rattle.ficus_script.specs.Answer.{answer_text_of};
 ghost use Rattle.ficus_script.specs.Command.{IsCommand};
 ghost use Rattle.ficus_top.specs.Outside.{PutsFront};
-ghost use Rattle.ficus_top.specs.Serving.{ServesWorld, ServesWorldFront};
+ghost use Rattle.ficus_top.specs.Serving.{serving_limit, ServesWorld, ServesWorldFront};
 ghost use Rattle.ficus_top.specs.Headline.{script_limit};
 ghost use Rattle.ficus_world.specs.World.{WorldStandsFor};
 
@@ -27,7 +27,7 @@ pub fn serve<K: Sink>(
 ) -> Status
     requires commands { All IsCommand commands.now }
     requires count { length commands.now ≤ script_limit }
-    requires room { length world.old.history.events < 4000000000 }
+    requires room { length world.old.history.events < serving_limit }
     ensures codes { (result.code ≡ 0) ⊎ (result.code ≡ 3) ⊎ (result.code ≡ 5) }
 
     // Whatever history the world stood for before: what was answered, what of it was put, and for which history the
@@ -58,7 +58,7 @@ pub(crate) fn answer_all<K: Sink>(
 ) -> Result<(), AnsweringFault>
     requires commands { All IsCommand commands.now }
     requires count { length commands.now ≤ script_limit }
-    requires room { length world.old.history.events < 4000000000 }
+    requires room { length world.old.history.events < serving_limit }
     ensures answers { OnOk result ((volume : Volume) (H : List Event) → WorldStandsFor volume H world.old
         → ServesWorld K.tells volume H commands.now world.new (K.written output.old) (K.written output.new)) }
     ensures prefix { OnErr result ((volume : Volume) (H : List Event) → WorldStandsFor volume H world.old
