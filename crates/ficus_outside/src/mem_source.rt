@@ -50,6 +50,7 @@ impl Source for MemSource {
         ensures end { ⊤ → 0 < length into.new → result ≡ Ok 0 → self.old.left ≡ [] }
         ensures kept { ⊤ → OnErr result (self.new.left ≡ self.old.left) }
         ensures failed { OnErr result (Rose self.old.calls.faults self.new.calls.faults) }
+        ensures steady { OnOk result (self.new.calls.faults ≡ self.old.calls.faults) }
         ensures counted { self.old.calls.faults ≤ self.new.calls.faults }
 
         // It fails exactly where it was told, and gives as many bytes as fit.
