@@ -65,12 +65,12 @@ pub record IsSavedOf (volume : Volume) (H : List Event) (replica : ℕ) (saved :
   pub directories : MakeDirectories H (Knows H replica)
 
 -- what a replica saves that has heard of nothing
-abbrev pub fresh_saved : ℕ → ℕ → ℕ → ℕ → Saved
-fresh_saved me members ids bytes = record {
-  me = me;
-  members = members;
-  ids = ids;
-  bytes = bytes;
+abbrev pub fresh_saved : Volume → ℕ → Saved
+fresh_saved volume replica = record {
+  me = replica;
+  members = volume.members;
+  ids = volume.ids;
+  bytes = volume.bytes;
   next = 1;
   used = 0;
   generation = 0;
