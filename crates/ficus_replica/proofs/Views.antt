@@ -11,12 +11,11 @@ use Rattle.ficus_model.specs.Lawful.{Volume}
 use Rattle.ficus_model.specs.Live.{Entry as ModelEntry, IsLive, IsMade}
 use Rattle.ficus_model.specs.Reached.{IsReached}
 use Rattle.ficus_entry.specs.declared.entry.State.TheVariants.{Live}
-use Rattle.ficus_laws.proofs.Places.{entered_target}
-use Rattle.ficus_laws.proofs.Shown.{made_has, reached_within}
+use Rattle.ficus_laws.proofs.Shown.{reached_within}
 use Rattle.ficus_replica.specs.declared.replica.Replica.{Replica}
-use Rattle.ficus_replica.specs.SavedOf.{StandsFor, MakeDirectories}
+use Rattle.ficus_replica.specs.SavedOf.{StandsFor, MakesDirectories}
 use Rattle.ficus_replica.specs.View.{View, SameView, IsBoundIn, IsTakenIn, IsDirectoryIn, LeadsWithin, IsReachedIn, IsNamedBy, held_live, tables_view, history_view}
-use Rattle.ficus_replica.proofs.Directories.{made_live, made_directory}
+use Rattle.ficus_replica.proofs.Directories.{directories_target, directories_made, directories_named}
 
 pub same_itself : (view : View) → SameView view view
 same_itself view = record { live = λ entry. (λ live. live, λ live. live); kinds = λ object kind. (λ is. is, λ is. is); spent = (λ spent. spent, λ spent. spent) }
@@ -70,17 +69,17 @@ module _ {volume : Volume} {H : List Event} {r : ℕ} {replica : Replica} (stand
   named_made : (object : Id) → IsNamedBy replica.saved.entries object → IsMade H (Knows H r) object Dir
   named_made object named =
       let live : IsLive H (Knows H r) named.entry = (live_history named.entry).0 named.inside in
-      subst (λ o. IsMade H (Knows H r) o Dir) named.leads (made_directory stands.saved.directories live.entered)
+      subst (λ o. IsMade H (Knows H r) o Dir) named.leads (directories_target stands.saved.directories live.entered)
 
   made_named : (object : Id) (kind : Kind) → IsMade H (Knows H r) object kind → IsNamedBy replica.saved.entries object
   made_named object kind made =
-      let live = made_live stands.saved.directories made in
+      let live = directories_named stands.saved.directories made in
       record { entry = live.entry; inside = (live_history live.entry).1 live.live; leads = live.leads }
 
   kinds_history : (object : Id) (kind : Kind) → (tables_view replica).kinds object kind ↔ IsMade H (Knows H r) object kind
   kinds_history object kind = (
     λ held. subst (IsMade H (Knows H r) object) (sym held.0) (named_made object held.1),
-    λ made. (stands.saved.directories.each object _ (made_has made), made_named object kind made),
+    λ made. (directories_made stands.saved.directories made, made_named object kind made),
   )
 
   -- this alone carries an answer over the tables to one over the history, and back
