@@ -9,3 +9,4 @@ pub mod Lists
 pub mod Trees
 pub mod Changes
 pub mod Looks
+pub mod Saves
