@@ -10,7 +10,7 @@ use Rattle.ficus_model.specs.declared.event.Op.{Op}
 use Rattle.ficus_model.specs.Events.{IsAt, IsUpdate, before, through, actor, is_update_of, count_of}
 use Rattle.ficus_laws.specs.Updates.{next_number, IsIssued}
 use Rattle.ficus_laws.proofs.Counts.{counted_one, counted_none, counted_before, counted_through}
-use Rattle.ficus_laws.proofs.Positions.{through_is, AgreeBelow, agree_back, agree_more, agree_at, agree_take, at_within, at_same, at_end, at_cases}
+use Rattle.ficus_laws.proofs.Positions.{AgreeBelow, agree_back, agree_more, agree_at, agree_take, at_within, at_same, at_end, at_cases}
 
 update_is_of : (replica : ℕ) (op : Op) → is_update_of replica (Update replica op) ≡ true
 update_is_of replica op = search rules

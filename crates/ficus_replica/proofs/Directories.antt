@@ -21,7 +21,7 @@ directories_within fewer makes = record { each = λ number op u. makes.each numb
 pub directories_made : {H : List Event} {U : ℕ → Type 0} {object : Id} {kind : Kind} → MakesDirectories H U → IsMade H U object kind → kind ≡ Dir
 directories_made {object} {kind} makes made = makes.each object (Make made.dir made.name kind) (made_has made)
 
-removes_none : (number : Id) (op : Op) (id : Id) → MakesDirectory op → Contains (removed_by number op) id → ⊥
+pub removes_none : (number : Id) (op : Op) (id : Id) → MakesDirectory op → Contains (removed_by number op) id → ⊥
 removes_none number (Make dir name kind) id makes removes = not_inside_none id removes
 removes_none number (Link dir name target) id makes removes = makes
 removes_none number (Remove entries target) id makes removes = makes

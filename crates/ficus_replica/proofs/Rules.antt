@@ -25,6 +25,10 @@ module _ {A B : Type 0} {first : Result A Refusal → Type 0} {rest : A → Resu
   then_once (Err r) (Err s) (inr (a, fa, ra)) (inl stops) = absurd (stops_or_goes a s stops fa)
   then_once (Err r) (Err s) (inr (a, fa, ra)) (inr (d, fd, rd)) = goes_once a d (Err r) (Err s) fa fd ra rd
 
+pub then_goes : {A B : Type 0} (first : Result A Refusal → Type 0) (rest : A → Result B Refusal → Type 0) (a : A) (answer : Result B Refusal) → first (Ok a) → rest a answer → Then first rest answer
+then_goes first rest a (Ok b) fa ra = (a, fa, ra)
+then_goes first rest a (Err refusal) fa ra = inr (a, fa, ra)
+
 module _ {B : Type 0} (condition : Type 0) (refusal : Refusal) {rest : Result B Refusal → Type 0} (rest_once : Once rest) where
   pub unless_once : Once (Unless condition refusal rest)
   unless_once (Ok b) (Ok c) (good, rb) (good_too, rc) = rest_once (Ok b) (Ok c) rb rc

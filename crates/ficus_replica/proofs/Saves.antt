@@ -49,7 +49,7 @@ written_none r (Accept by serve) none = refl
 written_none r (Collect by) none = refl
 written_none r (Restart by) none = refl
 
-written_kept : (r : ℕ) (H : List Event) (event : Event) → is_update_of r event ≡ false → written_of r (H ++ event ∷ []) ≡ written_of r H
+pub written_kept : (r : ℕ) (H : List Event) (event : Event) → is_update_of r event ≡ false → written_of r (H ++ event ∷ []) ≡ written_of r H
 written_kept r H event none = omega (arith, sum_by_push (written_in r) H event, written_none r event none)
 
 pub written_more : (r : ℕ) (H : List Event) (op : Op) → written_of r (H ++ Update r op ∷ []) ≡ written_of r H + length (bytes_of op)

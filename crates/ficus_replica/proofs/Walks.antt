@@ -64,10 +64,10 @@ module _ (view : View) where
   parts_reach (part ∷ parts) object target (directory, (next, found, rest)) reached =
       parts_reach parts next target rest (Through reached (part.name, found_bound (IsBoundIn view object) part.name part.target next found))
 
-  base_reached : (base : PathBase) (object : Id) → BaseRule view base (Ok object) → IsReachedIn view object
+  pub base_reached : (base : PathBase) (object : Id) → BaseRule view base (Ok object) → IsReachedIn view object
   base_reached Root object is = Base is
 
-  walk_reached : (base : PathBase) (parts : List Part) (object : Id) → WalkRule view base parts (Ok object) → IsReachedIn view object
+  pub walk_reached : (base : PathBase) (parts : List Part) (object : Id) → WalkRule view base parts (Ok object) → IsReachedIn view object
   walk_reached base parts object (start, begun, rest) = parts_reach parts start object rest (base_reached base start begun)
 
   -- a directory that is walked to
