@@ -11,7 +11,7 @@ use Rattle.ficus_codec.specs.Saved.{FitsImage}
 use Rattle.ficus_replica.specs.declared.replica.Next.{Next}
 use Rattle.ficus_replica.specs.declared.replica.Replica.{Replica}
 use Rattle.ficus_replica.specs.Change.{Change, ChangeRule, Changed, ChangeGives, ChangedAfter, ChangeStands, Make}
-use Rattle.ficus_replica.specs.Effect.{EntersName}
+use Rattle.ficus_replica.specs.Effect.{Applied, EntersName}
 use Rattle.ficus_replica.specs.Rule.{Once, Along}
 use Rattle.ficus_replica.specs.SavedOf.{MakesDirectory, StandsFor}
 use Rattle.ficus_replica.specs.View.{View, SameView, tables_view, history_view}
@@ -58,9 +58,18 @@ module _ {volume : Volume} {H : List Event} {r : ℕ} {old : Replica} (lawful : 
         };
       }
 
-  pub change_stands : (result : Result Next Refusal) → ChangeGives old change result → ChangeStands volume H r change result
+  change_stands : (result : Result Next Refusal) → ChangeGives old change result → ChangeStands volume H r change result
   change_stands (Ok next) gives = changed_after next gives
   change_stands (Err refusal) gives = memory_along (change_along (stands_same stands) change) (Err refusal) gives
+
+-- so it does over every lawful history for which the replica stands
+pub change_holds : (old : Replica) (change : Change) (result : Result Next Refusal) → IsOfDirectory change → FitsImage old.saved → ChangeGives old change result → (volume : Volume) (H : List Event) → IsLawful volume H → StandsFor volume H old.saved.me old → ChangeStands volume H old.saved.me change result
+change_holds old change result directory fits gives volume H lawful stands =
+    change_stands lawful (subst (λ members. IsMember members old.saved.me) stands.saved.members fits.me) stands change directory result gives
+
+-- the operation that the rule gives, done
+pub change_done : (old : Replica) (change : Change) (op : Op) (next : Next) → ChangeRule (tables_view old) change (Ok op) → next.op ≡ op → Applied old.saved op next.replica.saved → next.replica.ask ≡ old.ask → Changed old change next
+change_done old change op next rule is applied ask = record { answer = rw is rule; applied = rw is applied; ask = ask }
 
 -- the replica after a change fits an image
 pub change_fits : (old : Replica) (change : Change) (next : Next) → FitsImage old.saved → old.saved.generation < 2 ^ 63 - 1 → EntersName old.saved next.op → Changed old change next → FitsImage next.replica.saved

@@ -13,6 +13,7 @@ pub mod OpenAsks
 pub mod Allowed
 pub mod Places
 pub mod Effects
+pub mod Entering
 pub mod Makes
 pub mod Changes
 pub mod Events

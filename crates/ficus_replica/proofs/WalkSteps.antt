@@ -2,6 +2,7 @@
 use Rattle.std.proofs.Common.{◌≡◌, ◌≢◌, ◌↔◌, ℕ, ◌+◌, ◌-◌, ◌<◌, ◌≤◌, List, [], ◌∷◌, ◌++◌, Result, Ok, Err, Option, Some, None, length, get_or, take, drop, Bool, not, IsTrue, refl, sym, ap, subst, ◌∙◌, inl, inr, arith}
 use Rattle.std.specs.List.{last_or}
 use Rattle.std.proofs.lemmas.List.{drop_all, drop_more, take_all, take_more}
+use Rattle.std.proofs.lemmas.Option.{same_Some}
 use denote.Enum.Bare.{sameb}
 use Rattle.ficus_ids.specs.declared.id.Id.{Id}
 use Rattle.ficus_ids.specs.declared.refusal.Refusal.{Refusal}
@@ -10,6 +11,8 @@ use Rattle.ficus_ids.specs.contracts.refusal.Refusal.{the_type}
 use Rattle.ficus_path.specs.declared.path.Base.{Base}
 use Rattle.ficus_path.specs.declared.path.Base.TheVariants.{Root}
 use Rattle.ficus_path.specs.declared.path.Part.{Part}
+use Rattle.ficus_path.specs.declared.path.Path.{Path}
+use Rattle.ficus_path.specs.Path.{IsNew}
 use Rattle.ficus_names.specs.Binds.{BindsIn}
 use Rattle.ficus_names.specs.Find.{FindsOnly, FindAnswer}
 use Rattle.ficus_names.specs.FindLaws.{FindAnswer-along}
@@ -95,3 +98,9 @@ last_at_end parts last some is =
     let before : List Part = take (length parts - 1) parts in
     let whole : parts ≡ before ++ get_or parts (length parts - 1) last ∷ [] = sym (take_all (length parts - 1 + 1) parts (omega (arith, not_empty parts some))) ∙ take_more parts (length parts - 1) last (omega (arith, not_empty parts some)) in
     ap (last_or None) whole ∙ last_from None before (get_or parts (length parts - 1) last) ∙ ap Some (sym is)
+
+-- the last part of a new path has no target
+pub last_is_new : (path : Path) (last : Part) → IsNew path → last_or None path.parts ≡ Some last → last.target ≡ None
+last_is_new path last (front, part, is, new) at =
+    let same : Some part ≡ Some last = sym (last_from None front part) ∙ sym (ap (last_or None) is) ∙ at in
+    ap (λ (p : Part). p.target) (sym (same_Some part last same)) ∙ new
