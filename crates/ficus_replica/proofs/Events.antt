@@ -133,13 +133,13 @@ module _ (H : List Event) (r : ℕ) (restarts : All IsRestart H) where
 pub no_restarts : All IsRestart []
 no_restarts k d within = absurd (omega arith)
 
-no_ask : {r : ℕ} (asked : Option Asked) → IsOpenAskOf [] r asked → asked ≡ None
-no_ask None none = refl
-no_ask (Some asked) waits = absurd (restart_at no_restarts waits.1.ask)
+no_ask : (r : ℕ) (asked : Option Asked) → IsOpenAskOf [] r asked → asked ≡ None
+no_ask r None none = refl
+no_ask r (Some asked) waits = absurd (restart_at no_restarts waits.1.ask)
 
 -- so whatever stands for no events stands for the restarts too
 pub restarted_stands : (volume : Volume) (H : List Event) (r : ℕ) (replica : Replica) → All IsRestart H → StandsFor volume [] r replica → StandsFor volume H r replica
 restarted_stands volume H r replica restarts stands =
     let saved = saved_once stands.saved (fresh_stands [] r no_restarts volume).saved in
     let fresh = fresh_stands H r restarts volume in
-    record { saved = rw saved fresh.saved; ask = rw (no_ask replica.ask stands.ask) fresh.ask }
+    record { saved = rw saved fresh.saved; ask = rw (no_ask r replica.ask stands.ask) fresh.ask }
