@@ -1,4 +1,5 @@
 pub mod Positions
+pub mod Counts
 pub mod Updates
 pub mod Seen
 pub mod Knowledge

@@ -38,7 +38,7 @@ module _ (H : List Event) (replica server : ℕ) where
       ∙ count_no_update other (asked H replica server) (Serve server (length H)) refl
       ∙ count_no_update other H (Ask replica server) refl
 
-  served_at : IsAt (answered H replica server) (length H + 1) (Serve server (length H))
+  pub served_at : IsAt (answered H replica server) (length H + 1) (Serve server (length H))
   served_at = rw (← length_asked) (at_end (asked H replica server) (Serve server (length H)))
 
   answers : AnswersOpenAsk (answered H replica server) (length H + 1) replica

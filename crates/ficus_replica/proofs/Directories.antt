@@ -1,5 +1,5 @@
 -- What follows where each known update makes a directory.
-use Rattle.std.proofs.Common.{◌≡◌, ℕ, List, Some, subst}
+use Rattle.std.proofs.Common.{◌≡◌, ℕ, List, Some, refl, subst}
 use Rattle.std.specs.Prelude.{Contains}
 use Rattle.std.proofs.lemmas.Option.{same_Some}
 use Rattle.ficus_ids.specs.ListLaws.{not_inside_none}
@@ -9,9 +9,9 @@ use Rattle.ficus_ids.specs.declared.kind.Kind.TheVariants.{Dir}
 use Rattle.ficus_model.specs.declared.event.Event.{Event}
 use Rattle.ficus_model.specs.declared.event.Op.{Op}
 use Rattle.ficus_model.specs.declared.event.Op.TheVariants.{Make, Link, Remove, Move, Write, Settle, Resolve, Adopt, Discard}
-use Rattle.ficus_model.specs.Live.{Entry, entry_of, entered_by, removed_by, IsEntered, IsRemoved, IsMade}
+use Rattle.ficus_model.specs.Live.{Entry, entry_of, entered_by, removed_by, IsEntered, IsRemoved, IsLive, IsMade, HasName}
 use Rattle.ficus_laws.specs.Updates.{HasUpdate, UpdatesWithin}
-use Rattle.ficus_laws.proofs.Shown.{entered_has, removed_has, made_has, made_from}
+use Rattle.ficus_laws.proofs.Shown.{entered_from, entered_has, removed_has, made_has, made_from}
 use Rattle.ficus_replica.specs.SavedOf.{MakesDirectory, MakesDirectories}
 
 -- so it is where fewer updates are known
@@ -21,7 +21,7 @@ directories_within fewer makes = record { each = λ number op u. makes.each numb
 pub directories_made : {H : List Event} {U : ℕ → Type 0} {object : Id} {kind : Kind} → MakesDirectories H U → IsMade H U object kind → kind ≡ Dir
 directories_made {object} {kind} makes made = makes.each object (Make made.dir made.name kind) (made_has made)
 
-removes_none : (number : Id) (op : Op) (id : Id) → MakesDirectory op → Contains (removed_by number op) id → ⊥
+pub removes_none : (number : Id) (op : Op) (id : Id) → MakesDirectory op → Contains (removed_by number op) id → ⊥
 removes_none number (Make dir name kind) id makes removes = not_inside_none id removes
 removes_none number (Link dir name target) id makes removes = makes
 removes_none number (Remove entries target) id makes removes = makes
@@ -52,3 +52,13 @@ target_directory number (Discard file) entry makes u enters = absurd makes
 -- each entry names a directory that is made
 pub directories_target : {H : List Event} {U : ℕ → Type 0} {entry : Entry} → MakesDirectories H U → IsEntered H U entry → IsMade H U entry.target Dir
 directories_target {entry} makes e = target_directory entry.id e.op entry (makes.each entry.id e.op (entered_has e)) (entered_has e) e.enters
+
+-- and each object that is made is named by a live entry
+pub directories_named : {H : List Event} {U : ℕ → Type 0} {object : Id} {kind : Kind} → MakesDirectories H U → IsMade H U object kind → HasName H U object
+directories_named {object} makes made =
+    let entry : Entry = entry_of object made.dir made.name object in
+    record {
+      entry = entry;
+      live = record { entered = entered_from entry (made_has made) refl; not_removed = directories_keep makes };
+      leads = refl;
+    }
