@@ -6,7 +6,7 @@ use std::io;
 use std::marker::Model;
 
 /// A count of faults, which stands still at 2^64 - 1.
-#[derive(Debug, Drop)]
+#[derive(Drop)]
 pub(crate) struct Faults {
     count: u64,
 }

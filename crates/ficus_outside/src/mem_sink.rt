@@ -13,7 +13,7 @@ use std::marker::Model;
 pub const MEM_SINK_ROOM: usize = 8 * 1024 * 1024;
 
 /// A sink of bytes in memory. It tells what was put, and fails at the calls that it was told.
-#[derive(Debug, Drop)]
+#[derive(Drop)]
 pub struct MemSink {
     written: Vec<u8>,
     calls: Calls,

@@ -39,7 +39,7 @@ IsCode code = (code ≡ 0) ⊎ (code ≡ 1) ⊎ (code ≡ 2) ⊎ (code ≡ 3) �
 abbrev pub IsIdleCode : ℕ → Type 0
 IsIdleCode code = (code ≡ 1) ⊎ (code ≡ 2) ⊎ (code ≡ 4) ⊎ (code ≡ 8)
 
--- the code of a run in which the whole script was read
+-- a code with which a run ends only after the whole script was read
 abbrev pub IsReadCode : ℕ → Type 0
 IsReadCode code = (code ≡ 0) ⊎ (code ≡ 2) ⊎ (code ≡ 5)
 
