@@ -21,7 +21,7 @@ use Rattle.ficus_script.proofs.Cuts.{IsCut, join_first, one_cut, one_first_word,
 use Rattle.ficus_script.proofs.Numbers.{IsFreeOf-replica, first_digit}
 
 -- the commands with these before and behind their verbs
-abbrev pub commands_with : Option ℕ → Arguments → List Command
+abbrev commands_with : Option ℕ → Arguments → List Command
 commands_with (Some by) Nothing = Tree by ∷ []
 commands_with (Some by) (OnePath path) = MkDir by path ∷ Ls by path ∷ []
 commands_with None (TwoReplicas by to) = Pull by to ∷ []
@@ -29,6 +29,7 @@ commands_with (Some by) (TwoReplicas first second) = []
 commands_with None Nothing = []
 commands_with None (OnePath path) = []
 
+-- the verb of the command
 abbrev verb_of : Command → List ℕ
 verb_of command = (spelling_of command).verb
 
@@ -37,6 +38,7 @@ abbrev with_verb : List ℕ → List Command → Option Command
 with_verb verb [] = None
 with_verb verb (command ∷ commands) = if bytes_eq (verb_of command) verb then Some command else with_verb verb commands
 
+-- the command that the table has for the spelling
 abbrev at_spelling : Spelling → Option Command
 at_spelling spelling = with_verb spelling.verb (commands_with spelling.by spelling.behind)
 
@@ -52,17 +54,21 @@ record IsListed (command : Command) : Type 0 where
   behind : AreArguments (spelling_of command).behind
   found : at_spelling (spelling_of command) ≡ Some command
 
+-- the rows of the table, one for each verb
 listed : (command : Command) → IsCommand command → IsListed command
 listed (MkDir by path) valid = record { number = valid.0; letters = refl; behind = valid.1; found = refl }
 listed (Ls by path) valid = record { number = valid.0; letters = refl; behind = valid.1; found = refl }
 listed (Tree by) valid = record { number = valid; letters = refl; behind = tt; found = refl }
 listed (Pull by to) valid = record { number = tt; letters = refl; behind = valid; found = refl }
 
-one_command : (command other : Command) → IsCommand command → IsCommand other → spelling_of command ≡ spelling_of other → command ≡ other
+-- the table has one command for a spelling
+one_command : (command other : Command) → IsCommand command → IsCommand other →
+    spelling_of command ≡ spelling_of other → command ≡ other
 one_command command other valid also same =
     let found : Some command ≡ Some other = sym (listed command valid).found ∙ ap at_spelling same ∙ (listed other also).found in
     cc
 
+-- no space stands among letters
 letters_free : (bytes : List ℕ) → are_letters bytes ≡ true → AllByRecursion (λ byte. byte ≢ 32) bytes
 letters_free [] letters = tt
 letters_free (byte ∷ bytes) letters =
@@ -71,7 +77,9 @@ letters_free (byte ∷ bytes) letters =
       | inr other ↦ let clash : false ≡ true = rw other.0 at letters in cc
     ]
 
-no_number : (verb : List ℕ) (replica : ℕ) → are_letters verb ≡ true → IsReplicaNumber replica → verb ≡ decimal replica → ⊥
+-- letters spell no number of a replica
+no_number : (verb : List ℕ) (replica : ℕ) → are_letters verb ≡ true → IsReplicaNumber replica → verb ≡ decimal replica →
+    ⊥
 no_number [] replica letters number same =
     omega (arith, first_digit replica number, ap (λ (bytes : List ℕ). get_or bytes 0 0) same)
 no_number (byte ∷ bytes) replica letters number same =
@@ -80,16 +88,24 @@ no_number (byte ∷ bytes) replica letters number same =
       | inr other ↦ let clash : false ≡ true = rw other.0 at letters in cc
     ]
 
-led_words : (by : Option ℕ) (verb : List ℕ) (words : List (List ℕ)) → join_with_byte 32 (replica_words by ++ verb ∷ words) ≡ led_by by (verb ++ spaced (left_of words))
+-- a line is its words joined, cut behind its verb
+led_words : (by : Option ℕ) (verb : List ℕ) (words : List (List ℕ)) →
+    join_with_byte 32 (replica_words by ++ verb ∷ words) ≡ led_by by (verb ++ spaced (left_of words))
 led_words None verb words = join_first verb words
 led_words (Some by) verb words = ap (λ (text : List ℕ). decimal by ++ 32 ∷ text) (join_first verb words)
 
-no_leading_number : (by : Option ℕ) (verb : List ℕ) (left : Option (List ℕ)) → are_letters verb ≡ true → IsFreeOf 32 verb → IfNone by ((replica : ℕ) (rest : List ℕ) → IsReplicaNumber replica → led_by by (verb ++ spaced left) ≡ led_by (Some replica) rest → ⊥)
+-- no number leads a line that a verb leads
+no_leading_number : (by : Option ℕ) (verb : List ℕ) (left : Option (List ℕ)) → are_letters verb ≡ true →
+    IsFreeOf 32 verb → IfNone by ((replica : ℕ) (rest : List ℕ) → IsReplicaNumber replica →
+    led_by by (verb ++ spaced left) ≡ led_by (Some replica) rest → ⊥)
 no_leading_number None verb left letters free = λ replica rest number same.
     no_number verb replica letters number (one_first_word verb (decimal replica) left (Some rest) free (IsFreeOf-replica replica number) same).0
 no_leading_number (Some by) verb left letters free = tt
 
-IsCut-command : (command : Command) → IsCommand command → IsCut (command_text command) (spelling_of command).by (verb_of command) (left_of (argument_words (spelling_of command).behind))
+-- how the text of a command is cut
+IsCut-command : (command : Command) → IsCommand command →
+    IsCut (command_text command) (spelling_of command).by (verb_of command)
+    (left_of (argument_words (spelling_of command).behind))
 IsCut-command command valid =
     let spelling : Spelling = spelling_of command in
     let is_listed = listed command valid in
@@ -103,7 +119,9 @@ IsCut-command command valid =
       none = rw whole (no_leading_number spelling.by spelling.verb (left_of words) is_listed.letters free);
     }
 
-same_spelling : (spelling other : Spelling) → spelling.by ≡ other.by → spelling.verb ≡ other.verb → spelling.behind ≡ other.behind → spelling ≡ other
+-- a spelling is its three parts
+same_spelling : (spelling other : Spelling) → spelling.by ≡ other.by → spelling.verb ≡ other.verb →
+    spelling.behind ≡ other.behind → spelling ≡ other
 same_spelling spelling other e f g =
     let with_by = λ (by : Option ℕ). let made : Spelling = record { by = by; verb = spelling.verb; behind = spelling.behind } in made in
     let with_verb = λ (verb : List ℕ). let made : Spelling = record { by = other.by; verb = verb; behind = spelling.behind } in made in
@@ -111,18 +129,25 @@ same_spelling spelling other e f g =
     ap with_by e ∙ ap with_verb f ∙ ap with_behind g
 
 -- no two commands have one spelling
-pub command_text_injective : (command other : Command) → IsCommand command → IsCommand other → command_text command ≡ command_text other → command ≡ other
+pub command_text_injective : (command other : Command) → IsCommand command → IsCommand other →
+    command_text command ≡ command_text other → command ≡ other
 command_text_injective command other valid also same =
     let first : Spelling = spelling_of command in
     let second : Spelling = spelling_of other in
-    let cut = one_cut (command_text command) first.verb second.verb first.by second.by _ _ (IsCut-command command valid) (rw same (IsCut-command other also)) in
+    let cut = one_cut (command_text command) first.verb second.verb first.by second.by _ _ (IsCut-command command valid)
+    (rw same (IsCut-command other also)) in
     let behind = one_arguments first.behind second.behind (listed command valid).behind (listed other also).behind cut.2 in
     one_command command other valid also (same_spelling first second cut.0 cut.1 behind)
 
 -- the line has the spelling of the command that is read off it, or no command's
-pub reading_of : (line verb : List ℕ) (by : Option ℕ) (left : Option (List ℕ)) (behind : Arguments) (found : Option Command) → IsCut line by verb left → IsReadingBehind left (Ok behind) → IsCommandOf (record { by = by; verb = verb; behind = behind }) found → IsReadingOf line (ok_or found NotCommand)
-reading_of line verb by left behind (Some command) cut read is =
-    (is.0, cut.whole ∙ ap (λ (rest : Option (List ℕ)). led_by by (verb ++ spaced rest)) read.1 ∙ sym (led_words by verb (argument_words behind)) ∙ sym (ap spelling_text is.1))
+pub reading_of : (line verb : List ℕ) (by : Option ℕ) (left : Option (List ℕ)) (behind : Arguments)
+    (found : Option Command) → IsCut line by verb left → IsReadingBehind left (Ok behind) →
+    IsCommandOf (record { by = by; verb = verb; behind = behind }) found → IsReadingOf line (ok_or found NotCommand)
+reading_of line verb by left behind (Some command) cut read is = (
+  is.0,
+  cut.whole ∙ ap (λ (rest : Option (List ℕ)). led_by by (verb ++ spaced rest)) read.1 ∙ sym (led_words by verb (argument_words behind))
+      ∙ sym (ap spelling_text is.1),
+)
 reading_of line verb by left behind None cut read none = λ spelled.
     let command : Command = spelled.0 in
     let spelling : Spelling = spelling_of command in
@@ -131,7 +156,8 @@ reading_of line verb by left behind None cut read none = λ spelled.
     none command spelled.1 (same_spelling spelling _ parts.0 parts.1 arguments)
 
 -- where what stands behind the verb are no arguments, the line is no command's
-pub reading_fault : (line verb : List ℕ) (by : Option ℕ) (left : Option (List ℕ)) (fault : LineFault) → IsCut line by verb left → IsReadingBehind left (Err fault) → IsReadingOf line (Err fault)
+pub reading_fault : (line verb : List ℕ) (by : Option ℕ) (left : Option (List ℕ)) (fault : LineFault) →
+    IsCut line by verb left → IsReadingBehind left (Err fault) → IsReadingOf line (Err fault)
 reading_fault line verb by left OutOfMemory cut none = tt
 reading_fault line verb by left NotCommand cut none = λ spelled.
     let command : Command = spelled.0 in

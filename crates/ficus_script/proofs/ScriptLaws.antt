@@ -17,7 +17,8 @@ AreLines lines = AllByRecursion IsScriptLine lines
 same_pair : {X : Type 0} {x y : X} {xs ys : List X} → x ≡ y → xs ≡ ys → x ∷ xs ≡ y ∷ ys
 same_pair e f = cc
 
-texts_injective : (commands others : List Command) → AreCommands commands → AreCommands others → map command_text commands ≡ map command_text others → commands ≡ others
+texts_injective : (commands others : List Command) → AreCommands commands → AreCommands others →
+    map command_text commands ≡ map command_text others → commands ≡ others
 unfolding AreCommands
 texts_injective [] [] are also same = refl
 texts_injective [] (other ∷ others) are also same = cc
@@ -27,18 +28,24 @@ texts_injective (command ∷ commands) (other ∷ others) are also same =
     let behind : map command_text commands ≡ map command_text others = cc in
     same_pair (command_text_injective command other are.0 also.0 first) (texts_injective commands others are.1 also.1 behind)
 
-pub one_script : (bytes : List ℕ) (commands others : List Command) → IsScript bytes commands → IsScript bytes others → commands ≡ others
+pub one_script : (bytes : List ℕ) (commands others : List Command) → IsScript bytes commands → IsScript bytes others →
+    commands ≡ others
 unfolding AreCommands
 one_script bytes commands others script also =
-    texts_injective commands others (recursion_from_All IsCommand commands script.each) (recursion_from_All IsCommand others also.each) (sym script.spelled ∙ also.spelled)
+    texts_injective commands others (recursion_from_All IsCommand commands script.each) (recursion_from_All IsCommand others also.each)
+    (sym script.spelled ∙ also.spelled)
 
 -- the first line that is kept spells the first command
-first_command : (line : List ℕ) (kept : List (List ℕ)) (commands : List Command) → AreCommands commands → line ∷ kept ≡ map command_text commands → (command : Command) × (others : List Command) × IsCommand command × (line ≡ command_text command) × AreCommands others × (kept ≡ map command_text others)
+first_command : (line : List ℕ) (kept : List (List ℕ)) (commands : List Command) → AreCommands commands →
+    line ∷ kept ≡ map command_text commands →
+    (command : Command) × (others : List Command) × IsCommand command × (line ≡ command_text command)
+    × AreCommands others × (kept ≡ map command_text others)
 unfolding AreCommands
 first_command line kept [] are same = cc
 first_command line kept (command ∷ others) are same = (command, others, are.0, cc, are.1, cc)
 
-lines_of_script : (lines : List (List ℕ)) (commands : List Command) → AreCommands commands → filter is_kept lines ≡ map command_text commands → AreLines lines
+lines_of_script : (lines : List (List ℕ)) (commands : List Command) → AreCommands commands →
+    filter is_kept lines ≡ map command_text commands → AreLines lines
 unfolding AreLines
 lines_of_script [] commands are same = tt
 lines_of_script (line ∷ lines) commands are same =
@@ -49,18 +56,22 @@ lines_of_script (line ∷ lines) commands are same =
           (inr (first.0, first.2, first.3), lines_of_script lines first.1 first.4 first.5)
     ]
 
-among : (before : List (List ℕ)) (line : List ℕ) (behind : List (List ℕ)) → AreLines (before ++ line ∷ behind) → IsScriptLine line
+among : (before : List (List ℕ)) (line : List ℕ) (behind : List (List ℕ)) → AreLines (before ++ line ∷ behind) →
+    IsScriptLine line
 unfolding AreLines
 among [] line behind are = are.0
 among (other ∷ before) line behind are = among before line behind are.1
 
-pub no_bad_line : (bytes : List ℕ) (commands : List Command) (number : ℕ) → IsScript bytes commands → IsFirstBadLine bytes number → ⊥
+pub no_bad_line : (bytes : List ℕ) (commands : List Command) (number : ℕ) → IsScript bytes commands →
+    IsFirstBadLine bytes number → ⊥
 unfolding AreCommands AreLines
 no_bad_line bytes commands number script first =
     let all = lines_of_script (lines_of bytes) commands (recursion_from_All IsCommand commands script.each) script.spelled in
     first.no_line (among first.before first.bad first.behind (subst AreLines first.lines all))
 
-same_count : (before others : List (List ℕ)) (bad worse : List ℕ) (behind beyond : List (List ℕ)) → AreLines before → AreLines others → (IsScriptLine bad → ⊥) → (IsScriptLine worse → ⊥) → before ++ bad ∷ behind ≡ others ++ worse ∷ beyond → length before ≡ length others
+same_count : (before others : List (List ℕ)) (bad worse : List ℕ) (behind beyond : List (List ℕ)) → AreLines before →
+    AreLines others → (IsScriptLine bad → ⊥) → (IsScriptLine worse → ⊥) →
+    before ++ bad ∷ behind ≡ others ++ worse ∷ beyond → length before ≡ length others
 unfolding AreLines
 same_count [] [] bad worse behind beyond are also no_bad no_worse same = refl
 same_count [] (line ∷ others) bad worse behind beyond are also no_bad no_worse same =
@@ -73,8 +84,11 @@ same_count (line ∷ before) (other ∷ others) bad worse behind beyond are also
     let rest : before ++ bad ∷ behind ≡ others ++ worse ∷ beyond = cc in
     ap suc (same_count before others bad worse behind beyond are.1 also.1 no_bad no_worse rest)
 
-pub one_bad_line : (bytes : List ℕ) (number other : ℕ) → IsFirstBadLine bytes number → IsFirstBadLine bytes other → number ≡ other
+pub one_bad_line : (bytes : List ℕ) (number other : ℕ) → IsFirstBadLine bytes number → IsFirstBadLine bytes other →
+    number ≡ other
 unfolding AreLines
 one_bad_line bytes number other first also =
-    let same = same_count first.before also.before first.bad also.bad first.behind also.behind (recursion_from_All IsScriptLine first.before first.each) (recursion_from_All IsScriptLine also.before also.each) first.no_line also.no_line (sym first.lines ∙ also.lines) in
+    let same = same_count first.before also.before first.bad also.bad first.behind also.behind
+    (recursion_from_All IsScriptLine first.before first.each) (recursion_from_All IsScriptLine also.before also.each) first.no_line also.no_line
+    (sym first.lines ∙ also.lines) in
     omega (arith, first.counted, also.counted)

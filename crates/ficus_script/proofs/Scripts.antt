@@ -28,7 +28,9 @@ line_whole (byte ∷ []) some free = rw (ne_eqb byte 10 free.0) refl
 line_whole (byte ∷ next ∷ line) some free =
     rw (ne_eqb byte 10 free.0) (ap (onto_first byte) (line_whole (next ∷ line) (omega arith) free.1))
 
-pub first_of_lines : (bytes line : List ℕ) (rest : Option (Bor (List ℕ))) (nothing : Bor (List ℕ)) → nothing.now ≡ [] → 0 < length bytes → IsFreeOf 10 line → MatchOption rest (bytes ≡ line) (λ behind. bytes ≡ line ++ 10 ∷ behind.now) → lines_of bytes ≡ line ∷ lines_of (unwrap_or rest nothing).now
+pub first_of_lines : (bytes line : List ℕ) (rest : Option (Bor (List ℕ))) (nothing : Bor (List ℕ)) → nothing.now ≡ [] →
+    0 < length bytes → IsFreeOf 10 line → MatchOption rest (bytes ≡ line) (λ behind. bytes ≡ line ++ 10 ∷ behind.now) →
+    lines_of bytes ≡ line ∷ lines_of (unwrap_or rest nothing).now
 first_of_lines bytes line None nothing empty some free whole =
     let each = recursion_from_All (λ byte. byte ≢ 10) line free in
     ap lines_of whole ∙ line_whole line (omega (arith, ap length whole)) each ∙ sym (ap (λ (behind : List ℕ). line ∷ lines_of behind) empty)
@@ -45,7 +47,9 @@ pub record IsReadTo (bytes : List ℕ) (number : ℕ) (commands : List Command) 
   pub spelled : filter is_kept before ≡ map command_text commands
   pub within : number + length rest ≤ length bytes
 
-pub IsReadTo-more : {bytes rest : List ℕ} {number : ℕ} {old new : List Command} (line others : List ℕ) → IsReadTo bytes number old rest → lines_of rest ≡ line ∷ lines_of others → length others < length rest → Takes line old new → IsReadTo bytes (number + 1) new others
+pub IsReadTo-more : {bytes rest : List ℕ} {number : ℕ} {old new : List Command} (line others : List ℕ) →
+    IsReadTo bytes number old rest → lines_of rest ≡ line ∷ lines_of others → length others < length rest →
+    Takes line old new → IsReadTo bytes (number + 1) new others
 IsReadTo-more {old} line others so_far cut shorter takes = record {
   before = so_far.before ++ line ∷ [];
   lines = so_far.lines ∙ ap (λ (lines : List (List ℕ)). so_far.before ++ lines) cut ∙ sym (append_assoc so_far.before (line ∷ []) (lines_of others));
@@ -57,6 +61,7 @@ IsReadTo-more {old} line others so_far cut shorter takes = record {
 }
 
 -- what holds on `Ok` holds where the same call with its error changed is `Ok`
-pub from_ok : {T E F P : Type 0} (result : Result T E) (changed : Result T F) (value : T) → changed ≡ Ok value → is_ok changed ≡ is_ok result → OnOk result P → P
+pub from_ok : {T E F P : Type 0} (result : Result T E) (changed : Result T F) (value : T) → changed ≡ Ok value →
+    is_ok changed ≡ is_ok result → OnOk result P → P
 from_ok (Ok x) changed value was same holds = holds
 from_ok (Err e) changed value was same holds = absurd (true≢false (ap is_ok (sym was) ∙ same))

@@ -13,7 +13,8 @@ use Rattle.ficus_script.specs.declared.answer.Answer.TheVariants.{Done, Made, Na
 -- the shown name, its target and the kind, ` conflict` for a file in conflict, and byte 10
 abbrev pub name_line : Line → List ℕ
 name_line line =
-    shown_text_of line.shown ++ 32 ∷ id_text line.shown.target ++ 32 ∷ kind_word line.kind ++ (if line.conflict then codes " conflict" else []) ++ 10 ∷ []
+    shown_text_of line.shown ++ 32 ∷ id_text line.shown.target ++ 32 ∷ kind_word line.kind
+    ++ (if line.conflict then codes " conflict" else []) ++ 10 ∷ []
 
 -- the directory, and what `name_line` has
 abbrev pub tree_line : Line → List ℕ
@@ -27,6 +28,7 @@ count_line count = codes "ok " ++ decimal count ++ 10 ∷ []
 abbrev pub counted_lines : (Line → List ℕ) → List Line → List ℕ
 counted_lines line_text lines = count_line (length lines) ++ flat_map line_text lines
 
+-- the text of each answer
 abbrev pub answer_text_of : Answer → List ℕ
 answer_text_of Done = codes "ok" ++ 10 ∷ []
 answer_text_of (Made id) = codes "ok " ++ id_text id ++ 10 ∷ []

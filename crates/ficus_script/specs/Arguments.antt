@@ -44,6 +44,18 @@ IsReadingBehind left (Err NotCommand) =
     (arguments : Arguments) → AreArguments arguments → left ≡ left_of (argument_words arguments) → ⊥
 IsReadingBehind left (Err OutOfMemory) = Unit {0}
 
--- the bytes begin as the spelling of a path does, with a slash (47)
+-- the words are the first one, and what is left behind it
+abbrev pub Begins : List ℕ → Option (List ℕ) → List (List ℕ) → Type 0
+Begins first rest [] = ⊥
+Begins first rest (word ∷ words) = (first ≡ word) × (rest ≡ left_of words)
+
+-- the same of the first word behind the verb, and of what is left behind it
+abbrev pub IsReadingWords : List ℕ → Option (List ℕ) → Result Arguments LineFault → Type 0
+IsReadingWords first rest (Ok arguments) = AreArguments arguments × Begins first rest (argument_words arguments)
+IsReadingWords first rest (Err NotCommand) =
+    (arguments : Arguments) → AreArguments arguments → Begins first rest (argument_words arguments) → ⊥
+IsReadingWords first rest (Err OutOfMemory) = Unit {0}
+
+-- the word begins as the spelling of a path does, with a slash (47)
 abbrev pub BeginsPath : List ℕ → Type 0
-BeginsPath bytes = slice_index bytes 0 ≡ 47
+BeginsPath word = slice_index word 0 ≡ 47

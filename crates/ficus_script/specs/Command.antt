@@ -22,9 +22,11 @@ pub record Spelling : Type 0 where
   pub verb : List ℕ
   pub behind : Arguments
 
+-- a line that the number of a replica leads
 abbrev pub of_replica : ℕ → List ℕ → Arguments → Spelling
 of_replica by verb behind = record { by = Some by; verb = verb; behind = behind }
 
+-- a line that the verb leads
 abbrev pub of_none : List ℕ → Arguments → Spelling
 of_none verb behind = record { by = None; verb = verb; behind = behind }
 

@@ -1,5 +1,5 @@
-ghost use Rattle.std.specs.Prelude.{◌↔◌, IsTrue, Some, ok_or};
-ghost use Rattle.ficus_script.specs.Arguments.{bytes_of, BeginsPath, IsReadingBehind};
+ghost use Rattle.std.specs.Prelude.{◌↔◌, IsTrue, ok_or};
+ghost use Rattle.ficus_script.specs.Arguments.{bytes_of, BeginsPath, IsReadingBehind, IsReadingWords};
 ghost use Rattle.ficus_script.specs.declared.line.LineFault.TheVariants.{NotCommand};
 
 use crate::cut::cut_at;
@@ -19,28 +19,43 @@ pub(crate) enum Arguments {
     TwoReplicas(u8, u8),
 }
 
-/// The arguments that stand behind a verb, where a space and these bytes do, or nothing. The first byte tells a path
-/// from a number.
+/// The arguments that stand behind a verb, where a space and these bytes do, or nothing.
 pub(crate) fn read_arguments(alloc: Global, behind: Option<&[u8]>) -> Result<Arguments, LineFault>
     ensures { IsReadingBehind (bytes_of behind.entry) result }
 {
-    match behind {
-        None => Ok(Arguments::Nothing),
-        Some(words) if begins_path(words) => Ok(Arguments::OnePath(read_path(alloc, words)?)),
-        Some(words) => read_replicas(words).ok_or(LineFault::NotCommand),
+    let Some(words) = behind else {
+        return Ok(Arguments::Nothing);
+    };
+    let (first, rest) = cut_at(words, b' ');
+    if begins_path(first) {
+        path_first(alloc, first, rest)
+    } else {
+        number_first(first, rest).ok_or(LineFault::NotCommand)
     }
 }
 
-fn begins_path(words: &[u8]) -> bool
-    ensures { IsTrue result ↔ BeginsPath words.now }
+fn begins_path(word: &[u8]) -> bool
+    ensures { IsTrue result ↔ BeginsPath word.now }
 {
-    matches!(words, [b'/', ..])
+    matches!(word, [b'/', ..])
 }
 
-fn read_replicas(words: &[u8]) -> Option<Arguments>
-    requires { BeginsPath words.now → ⊥ }
-    ensures { IsReadingBehind (Some words.now) (ok_or result NotCommand) }
+// The shapes whose first word is a path.
+fn path_first(alloc: Global, first: &[u8], rest: Option<&[u8]>) -> Result<Arguments, LineFault>
+    requires { BeginsPath first.now }
+    ensures { IsReadingWords first.now (bytes_of rest.entry) result }
 {
-    let (first, second) = cut_at(words, b' ');
-    Some(Arguments::TwoReplicas(read_replica(first)?, read_replica(second?)?))
+    let path = read_path(alloc, first)?;
+    match rest {
+        None => Ok(Arguments::OnePath(path)),
+        Some(_) => Err(LineFault::NotCommand),
+    }
+}
+
+// The shapes whose first word is a number.
+fn number_first(first: &[u8], rest: Option<&[u8]>) -> Option<Arguments>
+    requires { BeginsPath first.now → ⊥ }
+    ensures { IsReadingWords first.now (bytes_of rest.entry) (ok_or result NotCommand) }
+{
+    Some(Arguments::TwoReplicas(read_replica(first)?, read_replica(rest?)?))
 }

@@ -27,15 +27,20 @@ fn scripts_give_their_commands(rt: HostRuntime) -> Result<(), Fail> {
             "1 walks; 9 takes from 9; 2 walks; ",
         ),
     ] {
-        let mut found = Vec::new(rt.alloc());
-        for command in &read_script(rt.alloc(), script.as_bytes())? {
-            found.extend_from_slice(&described(rt.alloc(), command)?)?;
-        }
+        let found = all_described(rt.alloc(), script)?;
         assert_eq!(rt; found.as_slice(), commands.as_bytes(), "{script:?}");
     }
     let script = format!(in rt.alloc(); "1 ls {LONGEST}")?;
     assert_eq!(rt; read_script(rt.alloc(), script.as_bytes())?.len(), 1);
     Ok(())
+}
+
+fn all_described(alloc: Global, script: &str) -> Result<Vec<u8>, Fail> {
+    let mut text = Vec::new(alloc);
+    for command in &read_script(alloc, script.as_bytes())? {
+        text.extend_from_slice(&described(alloc, command)?)?;
+    }
+    Ok(text)
 }
 
 fn described(alloc: Global, command: &Command) -> Result<Vec<u8>, Fail> {
@@ -80,14 +85,12 @@ fn the_first_bad_line_is_named(rt: HostRuntime) -> Result<(), Fail> {
         "1 pull 1 2",
         " # note",
     ] {
-        for end in ["", "\n", "\n1 tree\n1 frob /a\n"] {
-            let script = format!(in rt.alloc(); "1 tree\n\n# note\n{line}{end}")?;
-            assert_eq!(rt;
-                read_script(rt.alloc(), script.as_bytes()).err(),
-                Some(ScriptFault::BadLine(4)),
-                "{line:?}"
-            );
-        }
+        let script = format!(in rt.alloc(); "1 tree\n\n# note\n{line}\n1 tree\n1 frob /a")?;
+        assert_eq!(rt;
+            read_script(rt.alloc(), script.as_bytes()).err(),
+            Some(ScriptFault::BadLine(4)),
+            "{line:?}"
+        );
     }
     Ok(())
 }

@@ -1,8 +1,12 @@
-use Rattle.std.proofs.lemmas.Result.{err_from_is_err_and}
-use Rattle.ficus_script.proofs.ArgumentLaws.{no_path_behind}
+use Rattle.ficus_script.proofs.ArgumentLaws.{reading_words}
+use Rattle.ficus_script.proofs.Cuts.{cut_whole}
 use Rattle.ficus_script.proofs.arguments.read_arguments.Goals as goal
 
-pub returns-in_err-read_path-in-Some : goal.returns-in_err-read_path-in-Some
-returns-in_err-read_path-in-Some c =
-    let fault = err_from_is_err_and c.from_residual.result c.from_residual.ensures.1 in
-    rw (c.in-Some.is, fault.1, fault.2) (no_path_behind c.in-Some.words.now _ (c.begins_path.ensures.0 c.if-begins_path.true) c.in_err-read_path-in-Some.ensures.not_path)
+pub returns-then-begins_path : goal.returns-then-begins_path
+returns-then-begins_path c =
+    rw c.in-Some.is (reading_words c.in-Some.words.now _ _ _ (cut_whole _ _ _ c.cut_at.ensures.whole) c.cut_at.ensures.front c.path_first.ensures)
+
+pub returns-else-begins_path : goal.returns-else-begins_path
+returns-else-begins_path c =
+    rw (c.in-Some.is, c.ok_or.ensures.value)
+    (reading_words c.in-Some.words.now _ _ _ (cut_whole _ _ _ c.cut_at.ensures.whole) c.cut_at.ensures.front c.number_first.ensures)

@@ -4,4 +4,5 @@ use Rattle.ficus_script.proofs.script.first_line.Goals as goal
 
 pub returns-clause-lines : goal.returns-clause-lines
 returns-clause-lines c =
-    rw c.unwrap_or.ensures (first_of_lines c.args.bytes.now c.cut_at.result.0.now c.cut_at.result.1 _ refl (search rules) c.cut_at.ensures.front c.cut_at.ensures.whole)
+    rw c.unwrap_or.ensures
+    (first_of_lines c.args.bytes.now c.cut_at.result.0.now c.cut_at.result.1 _ refl (search rules) c.cut_at.ensures.front c.cut_at.ensures.whole)
