@@ -20,14 +20,17 @@ pub record MayBeDone (volume : Volume) (H : List Event) (r : ℕ) (op : Op) : Ty
   pub allowed : IsAllowed H (Knows H r) op
 
 module _ (volume : Volume) (H : List Event) (r : ℕ) where
-  bound_in : {dir target : Id} {name : List ℕ} → IsBound H (Knows H r) dir name target → IsBoundIn (history_view volume H r) dir name target
+  bound_in : {dir target : Id} {name : List ℕ} → IsBound H (Knows H r) dir name target →
+      IsBoundIn (history_view volume H r) dir name target
   bound_in bound = record { entry = bound.entry; live = bound.live; in_dir = bound.in_dir; named = bound.named; leads = bound.leads }
 
-  bound_of : {dir target : Id} {name : List ℕ} → IsBoundIn (history_view volume H r) dir name target → IsBound H (Knows H r) dir name target
+  bound_of : {dir target : Id} {name : List ℕ} → IsBoundIn (history_view volume H r) dir name target →
+      IsBound H (Knows H r) dir name target
   bound_of bound = record { entry = bound.entry; live = bound.live; in_dir = bound.in_dir; named = bound.named; leads = bound.leads }
 
   -- a name that isn't taken, in a directory that a walk leads to, is a place for a new entry
-  pub new_place : (path : Path) (dir : Id) (name : List ℕ) → ParentRule (history_view volume H r) path (Ok dir) → (IsTakenIn (history_view volume H r) dir name → ⊥) → HasPlace H (Knows H r) dir name
+  pub new_place : (path : Path) (dir : Id) (name : List ℕ) → ParentRule (history_view volume H r) path (Ok dir) →
+      (IsTakenIn (history_view volume H r) dir name → ⊥) → HasPlace H (Knows H r) dir name
   new_place path dir name walk free =
       let walked = parent_walked (history_view volume H r) path dir walk in
       record {

@@ -33,21 +33,28 @@ use Rattle.ficus_replica.proofs.Walks.{parent_once, parent_along}
 pub make_once : (view : View) (path : Path) (kind : Kind) → Once (MakeRule view path kind)
 make_once view path kind = then_once (parent_once view path) (λ dir. unless_once _ _ (unless_once _ _ (gives_once _)))
 
-pub make_along : {one other : View} → SameView one other → (path : Path) (kind : Kind) → Along (MakeRule one path kind) (MakeRule other path kind)
-make_along same path kind = then_along (parent_along same path) (λ dir walked. unless_along Exists (taken_same same dir (last_name path)) (unless_along Spent same.spent (gives_along (Make dir (last_name path) kind))))
+pub make_along : {one other : View} → SameView one other → (path : Path) (kind : Kind) →
+    Along (MakeRule one path kind) (MakeRule other path kind)
+make_along same path kind =
+    then_along (parent_along same path)
+    (λ dir walked. unless_along Exists (taken_same same dir (last_name path))
+    (unless_along Spent same.spent (gives_along (Make dir (last_name path) kind))))
 
 -- so far a `make` is asked for a directory
-pub make_directory : (view : View) (path : Path) (kind : Kind) (op : Op) → kind ≡ Dir → MakeRule view path kind (Ok op) → MakesDirectory op
+pub make_directory : (view : View) (path : Path) (kind : Kind) (op : Op) → kind ≡ Dir →
+    MakeRule view path kind (Ok op) → MakesDirectory op
 make_directory view path kind op dir (parent, walk, (free, (left, is))) = subst MakesDirectory (sym is) dir
 
-pub make_may : (volume : Volume) (H : List Event) (r : ℕ) (path : Path) (kind : Kind) (op : Op) → MakeRule (history_view volume H r) path kind (Ok op) → MayBeDone volume H r op
+pub make_may : (volume : Volume) (H : List Event) (r : ℕ) (path : Path) (kind : Kind) (op : Op) →
+    MakeRule (history_view volume H r) path kind (Ok op) → MayBeDone volume H r op
 make_may volume H r path kind op (parent, walk, (free, (left, is))) = subst (MayBeDone volume H r) (sym is) (record {
   left = omega arith;
   bytes = tt;
   allowed = new_place volume H r path parent (last_name path) walk free;
 })
 
-pub make_fits : (old : Replica) (path : Path) (kind : Kind) (op : Op) → FitsImage old.saved → MakeRule (tables_view old) path kind (Ok op) → EntersName old.saved op → FitsSaved old.saved op
+pub make_fits : (old : Replica) (path : Path) (kind : Kind) (op : Op) → FitsImage old.saved →
+    MakeRule (tables_view old) path kind (Ok op) → EntersName old.saved op → FitsSaved old.saved op
 make_fits old path kind op fits (parent, walk, (free, (left, is))) name = record {
   left = omega arith;
   bytes = rw is (omega (arith, fits.used));

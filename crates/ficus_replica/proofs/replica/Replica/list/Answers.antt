@@ -25,9 +25,14 @@ returns-in_err-dir-clause-stands c =
 pub returns-clause-gives : goal.returns-clause-gives
 returns-clause-gives c =
     let walk = rw c.items.ensures at c.in_ok-dir.ensures in
-    let lines : c.add_lines.new.lines.items ≡ map (line_of c.in_ok-dir.dir) c.in_ok-names.names.items = c.in_ok-add_lines.ensures ∙ ap (λ before. before ++ map (line_of c.in_ok-dir.dir) c.in_ok-names.names.items) c.in_ok-lines.ensures.items in
+    let lines : c.add_lines.new.lines.items ≡ map (line_of c.in_ok-dir.dir) c.in_ok-names.names.items =
+        c.in_ok-add_lines.ensures ∙ ap (λ before. before ++ map (line_of c.in_ok-dir.dir) c.in_ok-names.names.items)
+        c.in_ok-lines.ensures.items in
     let listing = IsListing-along (tables_bound c.args.self.now c.in_ok-dir.dir) c.in_ok-names.ensures in
-    (c.in_ok-dir.dir, walk, (c.add_lines.new.lines.items, rw lines (lines_of_one (tables_view c.args.self.now) (tables_directories c.args.self.now) c.in_ok-dir.dir c.in_ok-names.names.items listing), refl))
+    (c.in_ok-dir.dir, walk,
+        (c.add_lines.new.lines.items, rw lines
+        (lines_of_one (tables_view c.args.self.now) (tables_directories c.args.self.now) c.in_ok-dir.dir
+        c.in_ok-names.names.items listing), refl))
 
 pub returns-clause-stands : goal.returns-clause-stands
 returns-clause-stands c =
