@@ -3,6 +3,7 @@ use Rattle.std.proofs.Common.{◌≡◌, ◌↔◌, ◌⊎◌, ℕ, ◌+◌, ◌
 use Rattle.std.specs.Prelude.{All, Contains, IsTrue, ◌==◌}
 use Rattle.std.proofs.lemmas.Bool.{eqb-true}
 use Rattle.std.proofs.lemmas.List.Elements.{All-contains, All-contains_itself, All-weaker}
+use Rattle.std.proofs.lemmas.Option.{same_Some}
 use Rattle.ficus_ids.specs.Marks.{has, HasMembersOnly}
 use Rattle.ficus_ids.specs.Members.{IsMember}
 use Rattle.ficus_ids.specs.Name.{IsName}
@@ -105,6 +106,12 @@ pub record EntersWell (old : Saved) (op : Op) (entry : ModelEntry) : Type 0 wher
   pub target : IsIssuable old.members entry.target
   pub target_past : IsOfPast old.me (old.next + 1) entry.target
   pub attic : entry.dir ≡ ATTIC → Contains (removed_by (next_id old) op) entry.id
+
+-- an operation enters one entry
+pub enters_one : (old : Saved) (op : Op) (entry : ModelEntry) → entered_by (next_id old) op ≡ Some entry →
+    EntersWell old op entry → (other : ModelEntry) → entered_by (next_id old) op ≡ Some other → EntersWell old op other
+enters_one old op entry enters well other enters_other =
+    subst (EntersWell old op) (same_Some entry other (sym enters ∙ enters_other)) well
 
 -- the replica has an update and so many bytes left, and what is entered may stand in its tables
 pub record FitsSaved (old : Saved) (op : Op) : Type 0 where
