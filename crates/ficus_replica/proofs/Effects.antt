@@ -191,16 +191,30 @@ module _ {old : Saved} {op : Op} (fits : FitsImage old) (ready : FitsSaved old o
   fits_then entry Live is stays =
       let is_there = there (without_state entry) stays.present in
       record {
-        tables = record { id = is_there.id; dir = is_there.dir; name = is_there.name; target = is_there.target; state =
-            tt; attic = λ in_attic. stays.kept (is_there.attic in_attic) };
+        tables = record {
+          id = is_there.id;
+          dir = is_there.dir;
+          name = is_there.name;
+          target = is_there.target;
+          state =
+              tt;
+          attic = λ in_attic. stays.kept (is_there.attic in_attic);
+        };
         past = is_there.past;
       }
   fits_then entry (Dead one two) is (inl was) = subst (λ state. FitsThen (record entry { state = state })) is (was_there entry was)
   fits_then entry (Dead one two) is (inr now) =
       let is_there = there (without_state entry) now.present in
       record {
-        tables = record { id = is_there.id; dir = is_there.dir; name = is_there.name; target = is_there.target; state =
-            fits_marks one two now.known now.known_of_all; attic = tt };
+        tables = record {
+          id = is_there.id;
+          dir = is_there.dir;
+          name = is_there.name;
+          target = is_there.target;
+          state =
+              fits_marks one two now.known now.known_of_all;
+          attic = tt;
+        };
         past = record { id = is_there.past.id; dir = is_there.past.dir; target = is_there.past.target };
       }
 
@@ -216,12 +230,17 @@ module _ {old : Saved} {op : Op} (fits : FitsImage old) (ready : FitsSaved old o
     next_at_most = omega (arith, ready.left);
     used = ready.bytes;
     generation = omega arith;
-    tables = record { rising = applied.rising; each =
-        All-weaker (Contains applied.entries) (FitsEntry old.members) (λ entry inside. (then entry inside).tables)
-        applied.entries (All-contains_itself applied.entries) };
-    past = record { each =
-        All-weaker (Contains applied.entries) (IsEntryOfPast old.me (old.next + 1))
-        (λ entry inside. (then entry inside).past) applied.entries (All-contains_itself applied.entries) };
+    tables = record {
+      rising = applied.rising;
+      each =
+          All-weaker (Contains applied.entries) (FitsEntry old.members) (λ entry inside. (then entry inside).tables)
+          applied.entries (All-contains_itself applied.entries);
+    };
+    past = record {
+      each =
+          All-weaker (Contains applied.entries) (IsEntryOfPast old.me (old.next + 1))
+          (λ entry inside. (then entry inside).past) applied.entries (All-contains_itself applied.entries);
+    };
   })
     where
       then : (entry : Entry) → Contains applied.entries entry → FitsThen entry

@@ -18,9 +18,12 @@ use Rattle.ficus_replica.specs.View.{View, SameView, IsBoundIn, IsTakenIn, IsDir
 use Rattle.ficus_replica.proofs.Directories.{directories_target, directories_made, directories_named}
 
 pub same_itself : (view : View) → SameView view view
-same_itself view = record
-    { live = λ entry. (λ live. live, λ live. live); kinds = λ object kind. (λ is. is, λ is. is); spent =
-    (λ spent. spent, λ spent. spent) }
+same_itself view = record {
+  live = λ entry. (λ live. live, λ live. live);
+  kinds = λ object kind. (λ is. is, λ is. is);
+  spent =
+      (λ spent. spent, λ spent. spent);
+}
 
 pub same_back : {one other : View} → SameView one other → SameView other one
 same_back same = record {
