@@ -39,6 +39,7 @@ use Rattle.ficus_replica.specs.Accept.{IsOpen, FitsPast, Accepted, AcceptGives, 
 use Rattle.ficus_replica.specs.SavedOf.{is_saved, generation_of, IsHeldAs, AreHeldBy, MakesDirectory, MakesDirectories, IsOpenAskOf, StandsFor}
 use Rattle.ficus_replica.specs.View.{held_live, without_state}
 use Rattle.ficus_replica.proofs.Directories.{directories_keep}
+use Rattle.ficus_replica.proofs.Images.{image_then}
 use Rattle.ficus_replica.proofs.MergeFits.{merged_tables}
 use Rattle.ficus_replica.proofs.Merged.{AreLive, AreOne, merged_entries}
 use Rattle.ficus_replica.proofs.OpenAsks.{open_none}
@@ -273,16 +274,7 @@ pub accepted_fits : (from number : ℕ) (entries : List Entry) (old new : Replic
 accepted_fits from number entries old new fits tables generation accepted =
     let merged = merged_tables old.saved.me old.saved.members fits.me old.saved.next old.saved.entries entries
     accepted.merged fits.tables.each fits.past.each tables.each accepted.past.each accepted.merges in
-    subst (λ (replica : Replica). FitsImage replica.saved) (sym accepted.replica) (record {
-      members = fits.members;
-      me = fits.me;
-      ids_at_least = fits.ids_at_least;
-      ids_at_most = fits.ids_at_most;
-      bytes = fits.bytes;
-      next_at_least = fits.next_at_least;
-      next_at_most = fits.next_at_most;
-      used = fits.used;
-      generation = omega arith;
-      tables = record { rising = accepted.rising; each = merged.0 };
-      past = record { each = merged.1 };
-    })
+    subst (λ (replica : Replica). FitsImage replica.saved) (sym accepted.replica)
+    (image_then fits fits.next_at_least fits.next_at_most fits.used (omega arith)
+    (record { rising = accepted.rising; each = merged.0 })
+    (record { each = merged.1 }))
