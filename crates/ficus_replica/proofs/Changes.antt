@@ -1,4 +1,4 @@
--- The changes, each by its rule; and what a change gives over the tables it gives over the history.
+-- What a change gives over the tables it gives over the history.
 use Rattle.std.proofs.Common.{◌≡◌, ℕ, ◌+◌, ◌-◌, ◌^◌, ◌<◌, List, Result, Ok, Err, refl, subst, arith}
 use Rattle.ficus_ids.specs.Members.{IsMember}
 use Rattle.ficus_ids.specs.declared.kind.Kind.TheVariants.{Dir}
@@ -12,22 +12,16 @@ use Rattle.ficus_replica.specs.declared.replica.Next.{Next}
 use Rattle.ficus_replica.specs.declared.replica.Replica.{Replica}
 use Rattle.ficus_replica.specs.Change.{Change, ChangeRule, Changed, ChangeGives, ChangedAfter, ChangeStands, Make}
 use Rattle.ficus_replica.specs.Effect.{Applied, EntersName}
-use Rattle.ficus_replica.specs.Rule.{Once, Along}
 use Rattle.ficus_replica.specs.SavedOf.{MakesDirectory, StandsFor}
-use Rattle.ficus_replica.specs.View.{View, SameView, tables_view, history_view}
+use Rattle.ficus_rules.specs.View.{View, history_view}
+use Rattle.ficus_replica.specs.View.{tables_view}
 use Rattle.ficus_replica.proofs.Allowed.{MayBeDone}
 use Rattle.ficus_replica.proofs.Effects.{FitsSaved, applied_stands, applied_fits}
-use Rattle.ficus_replica.proofs.Makes.{make_once, make_along, make_directory, make_may, make_fits}
+use Rattle.ficus_replica.proofs.Makes.{make_directory, make_may, make_fits}
 use Rattle.ficus_replica.proofs.OpenAsks.{open_kept}
-use Rattle.ficus_replica.proofs.Rules.{memory_along}
+use Rattle.ficus_rules.proofs.Rules.{memory_along}
+pub use Rattle.ficus_rules.proofs.Changes.{change_once, change_along}
 use Rattle.ficus_replica.proofs.Views.{stands_same}
-
-pub change_once : (view : View) (change : Change) → Once (ChangeRule view change)
-change_once view (Make path kind) = make_once view path kind
-
-pub change_along : {one other : View} → SameView one other → (change : Change) →
-    Along (ChangeRule one change) (ChangeRule other change)
-change_along same (Make path kind) = make_along same path kind
 
 -- so far each change makes a directory
 abbrev pub IsOfDirectory : Change → Type 0

@@ -2,10 +2,7 @@ pub mod Rules
 pub mod Directories
 pub mod Views
 pub mod Tables
-pub mod Walks
 pub mod WalkSteps
-pub mod Listings
-pub mod Lists
 pub mod Trees
 pub mod Looks
 pub mod Saves
