@@ -2,16 +2,14 @@ pub mod Rules
 pub mod Directories
 pub mod Views
 pub mod Tables
-pub mod Walks
 pub mod WalkSteps
-pub mod Listings
-pub mod Lists
 pub mod Trees
 pub mod Looks
 pub mod Saves
 pub mod OpenAsks
 pub mod Allowed
 pub mod Places
+pub mod Images
 pub mod Effects
 pub mod Entering
 pub mod Makes

@@ -16,21 +16,12 @@ use Rattle.ficus_names.specs.declared.listing.ShownName.{ShownName}
 use Rattle.ficus_reach.specs.Leads.{LeadsIn}
 use Rattle.ficus_reach.specs.ReachedLaws.{IsReached-along}
 use Rattle.ficus_replica.specs.declared.replica.Replica.{Replica}
-use Rattle.ficus_replica.specs.Lines.{line_of, AreLines}
-use Rattle.ficus_replica.specs.Rule.{Once, Along}
-use Rattle.ficus_replica.specs.Told.{Lines}
-use Rattle.ficus_replica.specs.Tree.{TreeRule}
-use Rattle.ficus_replica.specs.View.{View, SameView, IsBoundIn, LeadsWithin, IsReachedIn, without_state, held_live, tables_view}
-use Rattle.ficus_replica.proofs.Listings.{no_lines, lines_more, lines_along, lines_once}
-use Rattle.ficus_replica.proofs.Rules.{tells_once, tells_along}
-use Rattle.ficus_replica.proofs.Tables.{HasDirectoriesOnly, held_as_live}
-use Rattle.ficus_replica.proofs.Views.{HasOneKind, same_itself, reached_same}
-
-pub tree_once : {view : View} → HasOneKind view → Once (TreeRule view)
-tree_once kinds = tells_once Lines (lines_once kinds)
-
-pub tree_along : {one other : View} → SameView one other → Along (TreeRule one) (TreeRule other)
-tree_along same = tells_along Lines (λ lines are. lines_along same (reached_same same) are)
+use Rattle.ficus_rules.specs.Lines.{line_of, AreLines}
+use Rattle.ficus_rules.specs.View.{View, IsBoundIn, LeadsWithin, IsReachedIn}
+use Rattle.ficus_replica.specs.View.{without_state, held_live, tables_view}
+use Rattle.ficus_rules.proofs.Listings.{no_lines, lines_more, lines_along}
+use Rattle.ficus_replica.proofs.Tables.{held_as_live}
+use Rattle.ficus_rules.proofs.Views.{HasDirectoriesOnly, same_itself}
 
 module _ (view : View) where
   -- the lines of the first objects
@@ -42,21 +33,26 @@ module _ (view : View) where
       let nothing : (dir : Id) → ⊥ ↔ Contains [] dir = λ dir. (λ no. absurd no, λ inside. not_inside_none dir inside) in
       rw none (lines_along (same_itself view) nothing (no_lines view))
 
-  module _ (directories : HasDirectoriesOnly view) (objects : List Id) (rising : IsRisingBy (λ id. id) objects) (index : ℕ) (d : Id) (within : index < length objects) where
+  module _ (directories : HasDirectoriesOnly view) (objects : List Id) (rising : IsRisingBy (λ id. id) objects)
+      (index : ℕ) (d : Id) (within : index < length objects) where
     abbrev next : Id
     next = get_or objects index d
 
     below_next : (other : Id) → Contains (take index objects) other → id_cmp other next ≡ Less
     below_next other (place, inside, is) =
         let before : place < index = omega (arith, length-take index objects) in
-        let at : get_or objects place d ≡ other = get_or_default objects place d other (omega arith) ∙ sym (get_or-take index objects place other before) ∙ is in
+        let at : get_or objects place d ≡ other =
+        get_or_default objects place d other (omega arith) ∙ sym (get_or-take index objects place other before) ∙ is
+        in
         subst (λ (o : Id). id_cmp o next ≡ Less) at (rising.each place index d before within)
 
     -- those of the next object go behind
-    pub first_more : (lines : List Line) (names : List ShownName) → IsListing (IsBoundIn view next) names → AreFirst objects index lines → AreFirst objects (index + 1) (lines ++ map (line_of next) names)
+    pub first_more : (lines : List Line) (names : List ShownName) → IsListing (IsBoundIn view next) names →
+        AreFirst objects index lines → AreFirst objects (index + 1) (lines ++ map (line_of next) names)
     first_more lines names listing are =
         let more : take (index + 1) objects ≡ take index objects ++ next ∷ [] = take_more objects index d within in
-        rw more (lines_more view directories next names listing (Contains (take index objects)) (Contains (take index objects ++ next ∷ [])) lines are below_next
+        rw more (lines_more view directories next names listing (Contains (take index objects))
+        (Contains (take index objects ++ next ∷ [])) lines are below_next
         (λ other earlier. Contains-append_left (take index objects) (next ∷ []) other earlier)
         (Contains-push (take index objects) next)
         (λ other inside. elim (Contains-push_cases (take index objects) next other inside) [
@@ -65,16 +61,21 @@ module _ (view : View) where
         ]))
 
 module _ (replica : Replica) where
-  leads_from : (dir object : Id) → LeadsIn replica.saved.entries dir object → LeadsWithin (tables_view replica) dir object
-  leads_from dir object way = (way.entry.name, record {
-    entry = without_state way.entry;
-    live = subst (Contains replica.saved.entries) (held_as_live way.entry way.live) way.inside;
-    in_dir = way.in_dir;
-    named = refl;
-    leads = way.leads;
-  })
+  leads_from : (dir object : Id) → LeadsIn replica.saved.entries dir object →
+      LeadsWithin (tables_view replica) dir object
+  leads_from dir object way = (
+    way.entry.name,
+    record {
+      entry = without_state way.entry;
+      live = subst (Contains replica.saved.entries) (held_as_live way.entry way.live) way.inside;
+      in_dir = way.in_dir;
+      named = refl;
+      leads = way.leads;
+    },
+  )
 
-  leads_into : (dir object : Id) → LeadsWithin (tables_view replica) dir object → LeadsIn replica.saved.entries dir object
+  leads_into : (dir object : Id) → LeadsWithin (tables_view replica) dir object →
+      LeadsIn replica.saved.entries dir object
   leads_into dir object (name, bound) = record { entry = held_live bound.entry; inside = bound.live; live = refl; in_dir = bound.in_dir; leads = bound.leads }
 
   root_is : (object : Id) → Contains (ROOT ∷ []) object → object ≡ ROOT
@@ -84,7 +85,10 @@ module _ (replica : Replica) where
   root_inside object is = subst (Contains (ROOT ∷ [])) (sym is) (here ROOT [])
 
   -- the lines of all objects that are reached from the root
-  pub first_all : (objects : List Id) (index : ℕ) (lines : List Line) → ((object : Id) → Contains objects object ↔ IsReached (LeadsIn replica.saved.entries) (Contains (ROOT ∷ [])) object) → length objects ≤ index → AreFirst (tables_view replica) objects index lines → AreLines (tables_view replica) (IsReachedIn (tables_view replica)) lines
+  pub first_all : (objects : List Id) (index : ℕ) (lines : List Line) →
+      ((object : Id) → Contains objects object ↔ IsReached (LeadsIn replica.saved.entries) (Contains (ROOT ∷ [])) object) →
+      length objects ≤ index → AreFirst (tables_view replica) objects index lines →
+      AreLines (tables_view replica) (IsReachedIn (tables_view replica)) lines
   first_all objects index lines reached past are =
       let whole : take index objects ≡ objects = take_all index objects past in
       let all : AreLines (tables_view replica) (Contains objects) lines = subst (λ dirs. AreLines (tables_view replica) (Contains dirs) lines) whole are in
