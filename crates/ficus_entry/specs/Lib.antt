@@ -1,1 +1,5 @@
+pub mod Changes
 pub mod Entry
+pub mod Inside
+pub mod Kill
+pub mod Place

@@ -4,6 +4,8 @@
 mod entries;
 mod entry;
 mod laws;
+mod place;
+mod table;
 #[cfg(test)]
 mod tests;
 

@@ -1,16 +1,18 @@
-use Rattle.ficus_ids.specs.RisingLaws.{Contains-insert, IsRisingBy-insert}
-use Rattle.ficus_entry.specs.Entry.{IsRising}
+use Rattle.std.proofs.Common.{◌≡◌, ◌≤◌, length, vec_capacity, arith}
+use Rattle.ficus_entry.proofs.Killed.{sound_fresh, rising_view}
 use Rattle.ficus_entry.proofs.entries.Entries.insert.Goals as goal
-use Rattle.ficus_entry.proofs.entries.Entries.insert.Goals.{In_ok-insert}
-
-rises : (c : In_ok-insert) → IsRising c.insert.new.self.items
-rises c = rw (c.in_ok-insert.ensures.items) (IsRisingBy-insert (λ entry. entry.id) c.self.inside.items.items c.args.entry c.place-index.result c.self.invariant (rw c.self.view_is c.place-index.ensures))
 
 pub invariant_of-self-2 : goal.invariant_of-self-2
-invariant_of-self-2 c = rises (goal.at.invariant_of-self-2 c).In_ok-insert
+invariant_of-self-2 c =
+    let table = c.in_ok-table.table in
+    let room : length table.list ≤ vec_capacity c.clear.new.self = omega (arith, c.in_ok-reserve.ensures.ok, c.len.ensures, c.clear.ensures.capacity) in
+    rw c.clear.ensures.items (sound_fresh table.list _ _ table.rising c.clear.ensures.len room)
+
+pub returns-in_err-table-clause-rising : goal.returns-in_err-table-clause-rising
+returns-in_err-table-clause-rising c = rw (← c.self.view_is) (rising_view c.self.inside.changed.items c.self.inside.table.list _ _ c.self.invariant)
+
+pub returns-in_err-reserve-clause-rising : goal.returns-in_err-reserve-clause-rising
+returns-in_err-reserve-clause-rising c = rw c.reserve.ensures.items (rising_view c.self.inside.changed.items c.self.inside.table.list _ _ c.self.invariant)
 
 pub returns-clause-added : goal.returns-clause-added
-returns-clause-added c = λ other. rw (c.in_ok-insert.ensures.items, c.self.view_is) (Contains-insert c.args.self.now c.place-index.result c.args.entry other)
-
-pub returns-clause-rising : goal.returns-clause-rising
-returns-clause-rising c = rises (goal.at.returns-clause-rising c).In_ok-insert
+returns-clause-added c = rw c.clear.ensures.items c.in_ok-table.ensures

@@ -1,0 +1,4 @@
+pub mod Killed
+pub mod Later
+pub mod Noted
+pub mod Search
