@@ -2,3 +2,4 @@ pub mod Killed
 pub mod Later
 pub mod Noted
 pub mod Search
+pub mod Within

@@ -25,7 +25,7 @@ pub(crate) struct Changed {
 /// stands beside the table, in room that an earlier call reserved, until the next copy or insert.
 #[derive(Drop)]
 pub struct Entries {
-    table: Table,
+    pub(crate) table: Table,
     changed: Vec<Changed>,
 }
 
@@ -104,7 +104,7 @@ impl Entries {
         let room = (table.list.len() / ROOM)
             .saturating_add(1)
             .saturating_mul(ROOM);
-        let changed = Vec::with_capacity(*self.changed.allocator(), room)?;
+        let changed = Vec::with_capacity(self.allocator(), room)?;
         Ok(Entries { table, changed })
     }
 
@@ -144,11 +144,16 @@ impl Entries {
         self.changed.push_reserved(Changed { index, entry });
     }
 
+    /// From where these have their memory.
+    pub(crate) fn allocator(&self) -> Global {
+        *self.changed.allocator()
+    }
+
     // The entries in a table of their own.
     fn whole(&self) -> Result<Table, Memory>
         ensures { IfOk result (λ table. table.list ≡ self.now) }
     {
-        let alloc = *self.changed.allocator();
+        let alloc = self.allocator();
         let mut table = self.table.copy()?;
         for change in &self.changed {
             table = table.put(alloc, change.index, change.entry.copy()?)?;
@@ -161,7 +166,7 @@ impl Entries {
         requires { Holds self.now entry.id → ⊥ }
         ensures { IfOk result (λ table. AddsEntry self.now table.list entry) }
     {
-        let alloc = *self.changed.allocator();
+        let alloc = self.allocator();
         let place = self.place(entry.id);
         let table = self.whole()?;
         table.insert(alloc, place, entry)

@@ -3,6 +3,7 @@
 
 mod entries;
 mod entry;
+mod inside;
 mod laws;
 mod place;
 mod table;
@@ -11,4 +12,5 @@ mod tests;
 
 pub use entries::Entries;
 pub use entry::{Entry, State};
+pub use inside::Leading;
 pub use laws::{one_entry, same_entries};
