@@ -92,10 +92,7 @@ impl Entries {
         ensures { IsTrue result ↔ HasLiveInside self.now dir }
     {
         let from = Place { dir, rank: 0 };
-        let to = Place {
-            dir,
-            rank: REMOVED,
-        };
+        let to = Place { dir, rank: REMOVED };
         self.first(from, to, &LiveIn { dir }).is_some()
     }
 
@@ -175,7 +172,12 @@ fn first_of<'a, T: Test>(
 }
 
 // The identifiers in the links of a span whose entries lie in the directory.
-fn noted_of(entries: &Entries, links: &PersistentList<Link>, span: Span, dir: Id) -> Result<Vec<Id>, Memory>
+fn noted_of(
+    entries: &Entries,
+    links: &PersistentList<Link>,
+    span: Span,
+    dir: Id,
+) -> Result<Vec<Id>, Memory>
     requires { span.end ≤ length links.now }
     ensures sound { IfOk result (λ ids. (id : IdValue) → Contains ids.items id → LiesInside entries.now dir id) }
     ensures complete { IfOk result (λ ids. (id : IdValue) → LiesInside entries.now dir id
