@@ -12,10 +12,10 @@ use Rattle.ficus_persistent.specs.Cut.{IsCutAt}
 use Rattle.ficus_ids.specs.declared.id.Id.{Id}
 use Rattle.ficus_ids.specs.Id.{id_cmp}
 use Rattle.ficus_ids.specs.IdLaws.{not_below_itself}
-use Rattle.ficus_ids.specs.RisingLaws.{Contains-insert}
+use Rattle.ficus_ids.specs.RisingLaws.{Contains-insert, none_at_place}
 use Rattle.ficus_entry.specs.declared.entry.Entry.{Entry}
 use Rattle.ficus_entry.specs.declared.place.Link.{Link}
-use Rattle.ficus_entry.specs.Entry.{IsRising, IsPlace, IsFoundAt}
+use Rattle.ficus_entry.specs.Entry.{IsRising, IsPlace, IsFoundAt, PutsEntry}
 use Rattle.ficus_entry.specs.Place.{order_of, link_of, AreOrdered, AreNoted, IsLinkAt}
 use Rattle.ficus_entry.proofs.Search.{before_place}
 
@@ -75,7 +75,7 @@ module _ (entries : List Entry) (entry : Entry) (index : ℕ) (found : IsFoundAt
         | inr (inr behind) ↦ not_below_itself (get_or entries index d).id (subst (λ id. id_cmp (get_or entries index d).id id ≡ Less) one (rising.each index k d behind within))
       ]
 
-  pub from_set : IsRising entries → (other : Entry) → Contains (set entries index entry) other → (Contains entries other × (other.id ≢ entry.id)) ⊎ (other ≡ entry)
+  from_set : IsRising entries → (other : Entry) → Contains (set entries index entry) other → (Contains entries other × (other.id ≢ entry.id)) ⊎ (other ≡ entry)
   from_set rising other (k, within, is) =
       elim (cases_eq k index) [
         | inl here ↦ inr (sym is ∙ rw here (get_or-set_same entries index entry other found.0))
@@ -85,12 +85,32 @@ module _ (entries : List Entry) (entry : Entry) (index : ℕ) (found : IsFoundAt
             inl ((k, inside, old), subst (λ (x : Entry). x.id ≢ entry.id) old (other_id rising k other inside elsewhere))
       ]
 
+  into_set : (other : Entry) → (Contains entries other × (other.id ≢ entry.id)) ⊎ (other ≡ entry) → Contains (set entries index entry) other
+  into_set other (inl kept) =
+      let k = kept.0.0 in
+      let elsewhere : k ≡ index → ⊥ = λ here. kept.1 (ap (λ (e : Entry). e.id) (sym kept.0.2) ∙ rw here (found.1 other)) in
+      (k, rw length-set kept.0.1, rw (get_or-set_other entries index k entry other elsewhere) kept.0.2)
+  into_set other (inr is) = (index, rw length-set found.0, get_or-set_same entries index entry other found.0 ∙ sym is)
+
+  pub set_puts : IsRising entries → PutsEntry entries (set entries index entry) entry
+  set_puts rising other = (from_set rising other, into_set other)
+
   pub set_noted : (links fewer more : List Link) (id : Id) → id ≡ entry.id → IsRising entries → AreNoted entries links → ((other : Link) → other.id ≢ id → Contains links other → Contains fewer other) → ((other : Link) → Contains fewer other ⊎ (other ≡ link_of entry) → Contains more other) → AreNoted (set entries index entry) more
   set_noted links fewer more id same rising noted kept into one inside missing =
       elim (from_set rising one inside) [
         | inl old ↦ noted one old.0 (λ link. missing (into (link_of one) (inl (kept (link_of one) (λ is. old.1 (is ∙ same)) link))))
         | inr is ↦ missing (into (link_of one) (inr (ap link_of is)))
       ]
+
+pub insert_puts : (entries : List Entry) (entry : Entry) (index : ℕ) → IsPlace entries entry.id index → PutsEntry entries (insert entries index entry) entry
+insert_puts entries entry index place other =
+    let both = Contains-insert entries index entry other in (
+      λ inside. elim (both.0 inside) [
+        | inl old ↦ inl (old, λ is. none_at_place (λ (e : Entry). e.id) entries entry.id index place (record { item = other; inside = old; has_id = is }))
+        | inr is ↦ inr is
+      ],
+      λ either. both.1 (elim either [ inl kept ↦ inl kept.0 | inr is ↦ inr is ]),
+    )
 
 -- what stands at the index has the identifier
 pub id_at : (entries : List Entry) (id : Id) (index : ℕ) (entry : Entry) → IsFoundAt entries id index → slice_get entries index ≡ Some entry → entry.id ≡ id

@@ -1,6 +1,6 @@
 ghost use Rattle.std.specs.Prelude.{◌≡◌, ◌≤◌, ◌<◌, ◌==◌, [], length, slice_get, Some, IfOk, IfErr, OnOk, OnErr};
 ghost use Rattle.std.specs.Option.{option_copied};
-ghost use Rattle.ficus_entry.specs.Entry.{IsRising, Holds, HoldsUnder, IsFoundAt, IsPlace, AddsEntry};
+ghost use Rattle.ficus_entry.specs.Entry.{IsRising, Holds, HoldsUnder, IsFoundAt, IsPlace, AddsEntry, PutsEntry};
 ghost use Rattle.ficus_entry.specs.Kill.{HoldsLive, IsKilled};
 
 use crate::table::Table;
@@ -116,10 +116,18 @@ impl Entries {
         ensures rising { IsRising self.new }
     {
         let table = self.with(entry)?;
-        self.changed.reserve(table.list.len())?;
-        self.changed.clear();
-        self.table = table;
-        Ok(())
+        self.hold(table)
+    }
+
+    /// Adds an entry, in place of the one with its identifier if there is one. After `Memory` the entries are as
+    /// before.
+    pub fn put(&mut self, entry: Entry) -> Result<(), Memory>
+        ensures put { OnOk result (PutsEntry self.old self.new entry) }
+        ensures kept { OnErr result (self.new ≡ self.old) }
+        ensures rising { IsRising self.new }
+    {
+        let table = self.putting(entry)?;
+        self.hold(table)
     }
 
     /// Removes the live entry with the identifier: it becomes dead, and `by` is known to know of it. Takes no
@@ -151,7 +159,8 @@ impl Entries {
 
     // The entries in a table of their own.
     fn whole(&self) -> Result<Table, Memory>
-        ensures { IfOk result (λ table. table.list ≡ self.now) }
+        ensures same { IfOk result (λ table. table.list ≡ self.now) }
+        ensures rising { IsRising self.now }
     {
         let alloc = self.allocator();
         let mut table = self.table.copy()?;
@@ -161,10 +170,36 @@ impl Entries {
         Ok(table)
     }
 
+    // Holds these entries from now on.
+    fn hold(&mut self, table: Table) -> Result<(), Memory>
+        ensures held { OnOk result (self.new ≡ table.list) }
+        ensures kept { OnErr result (self.new ≡ self.old) }
+        ensures rising { IsRising self.new }
+    {
+        self.changed.reserve(table.list.len())?;
+        self.changed.clear();
+        self.table = table;
+        Ok(())
+    }
+
+    // The entries with this one, in place of the one with its identifier if there is one.
+    fn putting(&self, entry: Entry) -> Result<Table, Memory>
+        ensures puts { IfOk result (λ table. PutsEntry self.now table.list entry) }
+        ensures rising { IsRising self.now }
+    {
+        let alloc = self.allocator();
+        let table = self.whole()?;
+        match table.search(entry.id) {
+            Ok(index) => table.put(alloc, index, entry),
+            Err(index) => table.insert(alloc, index, entry),
+        }
+    }
+
     // The entries and one more, whose identifier no entry has.
     fn with(&self, entry: Entry) -> Result<Table, Memory>
         requires { Holds self.now entry.id → ⊥ }
-        ensures { IfOk result (λ table. AddsEntry self.now table.list entry) }
+        ensures adds { IfOk result (λ table. AddsEntry self.now table.list entry) }
+        ensures rising { IsRising self.now }
     {
         let alloc = self.allocator();
         let place = self.place(entry.id);
