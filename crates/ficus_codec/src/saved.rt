@@ -2,7 +2,7 @@ use ficus_entry::Entries;
 use ficus_ids::Members;
 
 /// What a replica saves: all that outlives a restart.
-#[derive(Debug, Drop)]
+#[derive(Drop)]
 pub struct Saved {
     /// The replica's own number.
     pub me: u8,

@@ -1,5 +1,6 @@
 -- Lists of directory entries.
-use Rattle.std.specs.Prelude.{◌≡◌, ◌⊎◌, ◌↔◌, ℕ, List, Option, Contains}
+use Rattle.std.specs.Prelude.{◌≡◌, ◌≢◌, ◌⊎◌, ◌↔◌, ℕ, ◌<◌, List, length, Option, Contains}
+use Rattle.std.specs.List.{HoldsAt}
 use Rattle.ficus_ids.specs.declared.id.Id.{Id}
 use Rattle.ficus_ids.specs.Rising.{IsRisingBy, HoldsBy, HoldsUnderBy, IsPlaceBy}
 use Rattle.ficus_entry.specs.declared.entry.Entry.{Entry}
@@ -23,3 +24,11 @@ IsPlace entries id index = IsPlaceBy (λ entry. entry.id) entries id index
 -- the new list holds the old entries and this one
 abbrev pub AddsEntry : List Entry → List Entry → Entry → Type 0
 AddsEntry old new entry = (other : Entry) → Contains new other ↔ (Contains old other ⊎ (other ≡ entry))
+
+-- the entry at this index has the identifier
+abbrev pub IsFoundAt : List Entry → Id → ℕ → Type 0
+IsFoundAt entries id index = (index < length entries) × HoldsAt (λ entry. entry.id ≡ id) entries index
+
+-- the new list holds this entry, and those old ones that have other identifiers
+abbrev pub PutsEntry : List Entry → List Entry → Entry → Type 0
+PutsEntry old new entry = (other : Entry) → Contains new other ↔ ((Contains old other × (other.id ≢ entry.id)) ⊎ (other ≡ entry))

@@ -1,1 +1,6 @@
+pub mod Changes
 pub mod Entry
+pub mod Inside
+pub mod Kill
+pub mod Place
+pub mod SortLaws

@@ -1,26 +1,46 @@
-ghost use Rattle.std.specs.Prelude.{◌≡◌, ◌<◌, ◌==◌, [], List, length, slice_get, Some, IfOk, IfErr, OnOk, OnErr};
+ghost use Rattle.std.specs.Prelude.{◌≡◌, ◌≤◌, ◌<◌, ◌==◌, [], length, slice_get, Some, IfOk, IfErr, OnOk, OnErr};
 ghost use Rattle.std.specs.Option.{option_copied};
-ghost use Rattle.std.specs.List.{HoldsAt};
-ghost use Rattle.ficus_entry.specs.Entry.{IsRising, Holds, HoldsUnder, IsPlace, AddsEntry};
-ghost use Rattle.ficus_entry.specs.declared.entry.Entry.{Entry as EntryValue};
+ghost use Rattle.ficus_entry.specs.Entry.{IsRising, Holds, HoldsUnder, IsFoundAt, IsPlace, AddsEntry, PutsEntry};
+ghost use Rattle.ficus_entry.specs.Kill.{HoldsLive, IsKilled};
 
-use crate::Entry;
-use ficus_ids::{Id, Memory};
+use crate::table::Table;
+use crate::{Entry, State};
+use ficus_ids::{Id, Marks, Memory};
 use std::alloc::Global;
 use std::marker::Model;
 
-/// Entries with different identifiers. Contracts see them as a list in which the identifiers rise strictly.
-#[derive(Debug, Drop)]
+// The room for changes is a multiple of this, so that an insert into a copy finds room, and one block serves after
+// the other.
+const ROOM: usize = 4096;
+
+/// What has become of the entry at an index of a table since it was made.
+#[derive(Drop)]
+pub(crate) struct Changed {
+    pub(crate) index: usize,
+    pub(crate) entry: Entry,
+}
+
+/// Entries with different identifiers. Contracts see them as a list in which the identifiers rise strictly. A copy
+/// shares what it has with them, and a change takes time for a logarithm of them alone. What changes without memory
+/// stands beside the table, in room that an earlier call reserved, until the next copy or insert.
+#[derive(Drop)]
 pub struct Entries {
-    items: Vec<Entry>,
+    pub(crate) table: Table,
+    changed: Vec<Changed>,
 }
 
 impl Model for Entries {
+    ghost use Rattle.std.specs.Prelude.{List};
+    ghost use Rattle.ficus_entry.specs.declared.entry.Entry.{Entry as EntryValue};
+
     ghost Value = { List EntryValue };
 
-    ghost view = { λ e. e.items.items };
+    ghost use Rattle.ficus_entry.specs.Changes.{overlaid, IsSound};
+    ghost use Rattle.std.specs.Prelude.{vec_len, vec_capacity};
 
-    ghost invariant = { λ e. IsRising e.items.items };
+    ghost view = { λ e. overlaid e.changed.items e.table.list };
+
+    ghost invariant = { λ e. IsSound e.changed.items e.table.list (vec_len e.changed) (vec_capacity e.changed) };
 }
 
 impl Entries {
@@ -29,7 +49,8 @@ impl Entries {
         ensures { result ≡ [] }
     {
         Entries {
-            items: Vec::new(alloc),
+            table: Table::new(),
+            changed: Vec::new(alloc),
         }
     }
 
@@ -38,14 +59,14 @@ impl Entries {
         ensures value { result ≡ length self.now }
         ensures rising { IsRising self.now }
     {
-        self.items.len()
+        self.table.list.len()
     }
 
     /// Whether there are no entries.
     pub fn is_empty(&self) -> bool
         ensures { result ≡ (length self.now == 0) }
     {
-        self.items.is_empty()
+        self.len() == 0
     }
 
     /// The entry at a place in the order of identifiers, from 0. The place is below the length.
@@ -53,7 +74,15 @@ impl Entries {
         requires { index < length self.now }
         ensures { slice_get self.now index ≡ Some result.now }
     {
-        &self.items[index]
+        let mut left = self.changed.len();
+        while left > 0 {
+            left -= 1;
+            let changed = &self.changed[left];
+            if changed.index == index {
+                return &changed.entry;
+            }
+        }
+        self.table.list.at(index)
     }
 
     /// The entry with an identifier, or `None` exactly where no entry has it.
@@ -62,7 +91,7 @@ impl Entries {
         ensures rising { IsRising self.now }
     {
         match self.search(id) {
-            Ok(index) => Some(&self.items[index]),
+            Ok(index) => Some(self.at(index)),
             Err(_) => None,
         }
     }
@@ -71,24 +100,111 @@ impl Entries {
     pub fn copy(&self) -> Result<Entries, Memory>
         ensures { IfOk result (λ entries. entries ≡ self.now) }
     {
-        let mut items = Vec::with_capacity(*self.items.allocator(), self.items.len())?;
-        for entry in &self.items {
-            items.push(entry.copy()?)?;
-        }
-        Ok(Entries { items })
+        let table = self.whole()?;
+        let room = (table.list.len() / ROOM)
+            .saturating_add(1)
+            .saturating_mul(ROOM);
+        let changed = Vec::with_capacity(self.allocator(), room)?;
+        Ok(Entries { table, changed })
     }
 
-    /// Adds an entry whose identifier no entry has. One that goes behind all others costs no search. After
-    /// `Memory` the entries are as before.
+    /// Adds an entry whose identifier no entry has. After `Memory` the entries are as before.
     pub fn insert(&mut self, entry: Entry) -> Result<(), Memory>
         requires { Holds self.old entry.id → ⊥ }
         ensures added { OnOk result (AddsEntry self.old self.new entry) }
         ensures kept { OnErr result (self.new ≡ self.old) }
         ensures rising { IsRising self.new }
     {
-        let index = self.place(entry.id);
-        self.items.insert(index, entry)?;
+        let table = self.with(entry)?;
+        self.hold(table)
+    }
+
+    /// Adds an entry, in place of the one with its identifier if there is one. After `Memory` the entries are as
+    /// before.
+    pub fn put(&mut self, entry: Entry) -> Result<(), Memory>
+        ensures put { OnOk result (PutsEntry self.old self.new entry) }
+        ensures kept { OnErr result (self.new ≡ self.old) }
+        ensures rising { IsRising self.new }
+    {
+        let table = self.putting(entry)?;
+        self.hold(table)
+    }
+
+    /// Removes the live entry with the identifier: it becomes dead, and `by` is known to know of it. Takes no
+    /// memory.
+    pub fn kill(&mut self, id: Id, by: u8)
+        requires live { HoldsLive self.old id }
+        requires at_least { 1 ≤ by }
+        requires at_most { by ≤ 8 }
+        ensures killed { IsKilled self.old self.new id by }
+        ensures rising { IsRising self.new }
+    {
+        let Ok(index) = self.search(id) else {
+            unreachable!()
+        };
+        let Ok(mut entry) = self.at(index).copy() else {
+            unreachable!()
+        };
+        entry.state = State::Dead {
+            one: Marks::empty().with(by),
+            two: Marks::empty(),
+        };
+        self.changed.push_reserved(Changed { index, entry });
+    }
+
+    /// From where these have their memory.
+    pub(crate) fn allocator(&self) -> Global {
+        *self.changed.allocator()
+    }
+
+    // The entries in a table of their own.
+    fn whole(&self) -> Result<Table, Memory>
+        ensures same { IfOk result (λ table. table.list ≡ self.now) }
+        ensures rising { IsRising self.now }
+    {
+        let alloc = self.allocator();
+        let mut table = self.table.copy()?;
+        for change in &self.changed {
+            table = table.put(alloc, change.index, change.entry.copy()?)?;
+        }
+        Ok(table)
+    }
+
+    // Holds these entries from now on.
+    fn hold(&mut self, table: Table) -> Result<(), Memory>
+        ensures held { OnOk result (self.new ≡ table.list) }
+        ensures kept { OnErr result (self.new ≡ self.old) }
+        ensures rising { IsRising self.new }
+    {
+        self.changed.reserve(table.list.len())?;
+        self.changed.clear();
+        self.table = table;
         Ok(())
+    }
+
+    // The entries with this one, in place of the one with its identifier if there is one.
+    fn putting(&self, entry: Entry) -> Result<Table, Memory>
+        ensures puts { IfOk result (λ table. PutsEntry self.now table.list entry) }
+        ensures rising { IsRising self.now }
+    {
+        let alloc = self.allocator();
+        let table = self.whole()?;
+        match table.search(entry.id) {
+            Ok(index) => table.put(alloc, index, entry),
+            Err(index) => table.insert(alloc, index, entry),
+        }
+    }
+
+    // The entries and one more, whose identifier no entry has.
+    fn with(&self, entry: Entry) -> Result<Table, Memory>
+        requires { Holds self.now entry.id → ⊥ }
+        ensures adds { IfOk result (λ table. AddsEntry self.now table.list entry) }
+        ensures rising { IsRising self.now }
+    {
+        let alloc = self.allocator();
+        let place = self.place(entry.id);
+        let table = self.whole()?;
+        table.insert(alloc, place, entry)
     }
 
     // Where an entry goes whose identifier no entry has.
@@ -96,21 +212,17 @@ impl Entries {
         requires { Holds self.now id → ⊥ }
         ensures { IsPlace self.now id result }
     {
-        match self.items.last() {
-            Some(last) if last.id > id => match self.search(id) {
-                Ok(index) | Err(index) => index,
-            },
-            _ => self.items.len(),
+        match self.search(id) {
+            Ok(index) | Err(index) => index,
         }
     }
 
     // Where the entry with the identifier is, or where one with it would go.
     fn search(&self, id: Id) -> Result<usize, usize>
-        ensures found { IfOk result (λ index.
-            (index < length self.now) × HoldsAt (λ entry. entry.id ≡ id) self.now index) }
+        ensures found { IfOk result (IsFoundAt self.now id) }
         ensures place { IfErr result (IsPlace self.now id) }
         ensures rising { IsRising self.now }
     {
-        self.items.binary_search_by_key(&id, |entry| entry.id)
+        self.table.search(id)
     }
 }

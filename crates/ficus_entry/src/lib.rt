@@ -3,8 +3,12 @@
 
 mod entries;
 mod entry;
+mod inside;
 mod laws;
+mod place;
+mod table;
 
 pub use entries::Entries;
 pub use entry::{Entry, State};
+pub use inside::Leading;
 pub use laws::{one_entry, same_entries};

@@ -1,7 +1,7 @@
+mod Among
 mod ByDirectory
 mod Found
 mod Known
 mod Listed
 mod Neighbours
 mod Order
-mod Sorts

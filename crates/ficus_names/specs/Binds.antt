@@ -12,3 +12,10 @@ pub record BindsIn (entries : List Entry) (dir : Id) (name : List ℕ) (target :
   pub in_dir : entry.dir ≡ dir
   pub named : entry.name ≡ name
   pub leads : entry.target ≡ target
+
+-- the entry of the list with the identifier is live and lies in the directory
+pub record IsLiveIn (entries : List Entry) (id dir : Id) (entry : Entry) : Type 0 where
+  pub inside : Contains entries entry
+  pub live : entry.state ≡ Live
+  pub in_dir : entry.dir ≡ dir
+  pub has_id : entry.id ≡ id

@@ -1,8 +1,10 @@
-ghost use Rattle.std.specs.Prelude.{◌≡◌, ◌↔◌, ◌<◌, ℕ, List, length, slice_get, Contains, IfOk, IfSome, IsTrue};
+ghost use Rattle.std.specs.Prelude.{◌≡◌, ◌↔◌, ◌<◌, ℕ, List, length, slice_get, Contains, IfOk, IfSome, IfNone, IsTrue};
 ghost use Rattle.std.specs.List.Sorted.{IsStrictlySortedBy};
 ghost use Rattle.ficus_model.specs.ShownNames.{HasOther};
 ghost use Rattle.ficus_names.specs.Binding.{Binds, binding_cmp};
-ghost use Rattle.ficus_names.specs.Binds.{BindsIn};
+ghost use Rattle.ficus_names.specs.Binds.{BindsIn, IsLiveIn};
+ghost use Rattle.ficus_entry.specs.declared.entry.Entry.{Entry as EntryValue};
+ghost use Rattle.ficus_entry.specs.Entry.{IsRising};
 ghost use Rattle.ficus_names.specs.declared.binding.Binding.{Binding as Bound};
 ghost use Rattle.ficus_entry.specs.declared.entry.State.TheVariants.{Live};
 ghost use Rattle.ficus_ids.specs.declared.id.Id.{Id as IdValue};
@@ -24,10 +26,10 @@ pub fn bindings_in(alloc: Global, entries: &Entries, dir: Id) -> Result<Vec<Bind
     ensures { IfOk result (λ bindings. (name : List ℕ) (target : IdValue) →
         Binds bindings.items name target ↔ BindsIn entries.now dir name target) }
 {
+    let ids = entries.inside(dir)?;
     let mut bindings = Vec::new(alloc);
-    for index in 0..entries.len() {
-        let entry = entries.at(index);
-        if is_live_in(entry, dir) {
+    for id in &ids {
+        if let Some(entry) = live_in(entries, *id, dir) {
             bindings.push(Binding {
                 name: entry.name.copy()?,
                 target: entry.target,
@@ -37,8 +39,20 @@ pub fn bindings_in(alloc: Global, entries: &Entries, dir: Id) -> Result<Vec<Bind
     Ok(bindings)
 }
 
-/// Whether the entry is live and lies in the directory.
-pub fn is_live_in(entry: &Entry, dir: Id) -> bool
+// The entry with the identifier, if it is live and lies in the directory.
+fn live_in(entries: &Entries, id: Id, dir: Id) -> Option<&Entry>
+    ensures rising { IsRising entries.now }
+    ensures some { IfSome result (λ entry. IsLiveIn entries.now id dir entry.now) }
+    ensures none { IfNone result ((entry : EntryValue) → IsLiveIn entries.now id dir entry → ⊥) }
+{
+    match entries.get(id) {
+        Some(entry) if is_live_in(entry, dir) => Some(entry),
+        _ => None,
+    }
+}
+
+// Whether the entry is live and lies in the directory.
+fn is_live_in(entry: &Entry, dir: Id) -> bool
     ensures { IsTrue result ↔ ((entry.now.state ≡ Live) × (entry.now.dir ≡ dir)) }
 {
     entry.is_live() && entry.dir == dir

@@ -1,5 +1,5 @@
 -- A walk along two rising lists, the lower identifier first. `i` and `j` are how far it has come.
-use Rattle.std.proofs.Common.{◌≡◌, ◌⊎◌, ℕ, ◌+◌, ◌<◌, ◌≤◌, List, [], ◌∷◌, ◌++◌, length, take, get_or, slice_get, Option, Some, None, is_some, option_copied, Bor, Ordering, Less, Equal, Greater, Contains, sym, subst, subst₂, ◌∙◌, ap, inl, inr, refl, arith, add-zero, le_of_lt, length-take, get_or-take}
+use Rattle.std.proofs.Common.{◌≡◌, ◌≢◌, ◌⊎◌, ℕ, ◌+◌, ◌<◌, ◌≤◌, List, [], ◌∷◌, ◌++◌, length, take, get_or, slice_get, Option, Some, None, is_some, option_copied, Bor, Ordering, Less, Equal, Greater, Contains, sym, subst, subst₂, ◌∙◌, ap, inl, inr, refl, arith, add-zero, le_of_lt, length-take, get_or-take}
 use Rattle.std.proofs.lemmas.Bool.{cases_lt}
 use Rattle.std.proofs.lemmas.List.{take_more, take_all}
 use Rattle.std.proofs.lemmas.List.Elements.{Contains-append_left, Contains-push, Contains-push_cases}
@@ -8,13 +8,14 @@ use Rattle.std.specs.Int.{from_bool}
 use Rattle.std.specs.Ordering.{MatchOrdering}
 use Rattle.ficus_ids.specs.declared.id.Id.{Id}
 use Rattle.ficus_ids.specs.Id.{id_cmp}
-use Rattle.ficus_ids.specs.IdLaws.{id_cmp_total, id_cmp-Equal, id_cmp-flip_back, not_below_itself}
+use Rattle.ficus_ids.specs.IdLaws.{id_cmp_total, id_cmp-Equal, id_cmp-flip_back, not_below_itself, same_id_or_not}
+use Rattle.ficus_ids.specs.RisingLaws.{one_held}
 use Rattle.ficus_ids.specs.ListLaws.{not_inside_none}
 use Rattle.ficus_entry.specs.Entry.{IsRising, Holds, HoldsUnder}
 use Rattle.ficus_entry.specs.declared.entry.Entry.{Entry}
-use Rattle.ficus_recon_dir.specs.Merge.{MergesEntries, AddsIfAny, AreLowest}
+use Rattle.ficus_recon_dir.specs.Merge.{MergesEntries, Settles, AreLowest}
 use Rattle.ficus_recon_dir.specs.Table.{MergesEntry}
-use Rattle.ficus_recon_dir.proofs.Adding.{HasId, adds_nothing, nothing_else, after_has_id, merges_more}
+use Rattle.ficus_recon_dir.proofs.Adding.{HasId, AddsIfAny, Settled, adds_nothing, after_has_id, settled}
 
 -- what was taken from the one list is below what is left of the other
 abbrev pub IsBelow : List Entry → ℕ → List Entry → ℕ → Type 0
@@ -29,6 +30,8 @@ pub record Step (mine theirs : List Entry) (i j : ℕ) (at_r at_peer : Option En
   pub id : Id
   pub mine_has : HasId id at_r
   pub theirs_has : HasId id at_peer
+  pub mine_holds : HoldsUnder mine id at_r
+  pub theirs_holds : HoldsUnder theirs id at_peer
   pub mine_free : Holds (take i mine) id → ⊥
   pub theirs_free : Holds (take j theirs) id → ⊥
   pub mine_adds : AddsIfAny (take i mine) (take (i + taken at_r) mine) at_r
@@ -44,6 +47,8 @@ Step-flip mine theirs i j at_r at_peer step = record {
   id = step.id;
   mine_has = step.theirs_has;
   theirs_has = step.mine_has;
+  mine_holds = step.theirs_holds;
+  theirs_holds = step.mine_holds;
   mine_free = step.theirs_free;
   theirs_free = step.mine_free;
   mine_adds = step.theirs_adds;
@@ -113,12 +118,26 @@ not_past : (xs : List Entry) (i l : ℕ) → slice_get xs i ≡ None → i ≤ l
 not_past xs i l ended from within =
     elim (slice_get_cases xs i).1 [ inl some ↦ cc (some.2, ended) | inr past ↦ omega (arith, past.0) ]
 
+holds_next : (xs : List Entry) (i : ℕ) (x : Entry) → slice_get xs i ≡ Some x → HoldsUnder xs x.id (Some x)
+holds_next xs i x is_next = ((i, slice_get_within xs i x is_next, get_or_from_slice_get xs i x x is_next), refl)
+
+-- no entry has an identifier that is above all that were taken and below all that are left
+holds_none : (id : Id) (ys : List Entry) (j : ℕ) → (Holds (take j ys) id → ⊥) → ((l : ℕ) (d : Entry) → j ≤ l → l < length ys → id_cmp id (get_or ys l d).id ≡ Less) → Holds ys id → ⊥
+holds_none id ys j taken_not below held =
+    let k = held.inside.0 in
+    elim (cases_lt k j) [
+      | inl before ↦ taken_not (record { item = held.item; inside = (k, omega (arith, length-take j ys, held.inside.1), get_or-take j ys k held.item before ∙ held.inside.2); has_id = held.has_id })
+      | inr left ↦ not_below_itself id (subst (λ i. id_cmp id i ≡ Less) (ap (λ (e : Entry). e.id) held.inside.2 ∙ held.has_id) (below k held.item left held.inside.1))
+    ]
+
 -- only mine comes next
 take_mine : (mine theirs : List Entry) (i j : ℕ) (x : Entry) → IsRising mine → IsBelow mine i theirs j → IsBelow theirs j mine i → j ≤ length theirs → slice_get mine i ≡ Some x → ((l : ℕ) (d : Entry) → j ≤ l → l < length theirs → id_cmp x.id (get_or theirs l d).id ≡ Less) → Step mine theirs i j (Some x) None
 take_mine mine theirs i j x rising mine_below theirs_below within is_next lowest = record {
   id = x.id;
   mine_has = refl;
   theirs_has = tt;
+  mine_holds = holds_next mine i x is_next;
+  theirs_holds = holds_none x.id theirs j (free mine i x theirs j theirs_below is_next) lowest;
   mine_free = free mine i x mine i (below_itself mine i rising) is_next;
   theirs_free = free mine i x theirs j theirs_below is_next;
   mine_adds = adds_next mine i x is_next;
@@ -135,6 +154,8 @@ take_both mine theirs i j x y rising_mine rising_theirs mine_below theirs_below 
   id = x.id;
   mine_has = refl;
   theirs_has = sym same;
+  mine_holds = holds_next mine i x mine_next;
+  theirs_holds = ((holds_next theirs j y theirs_next).0, sym same);
   mine_free = free mine i x mine i (below_itself mine i rising_mine) mine_next;
   theirs_free = free mine i x theirs j theirs_below mine_next;
   mine_adds = adds_next mine i x mine_next;
@@ -173,50 +194,107 @@ step mine theirs i j None None at_r at_peer rising_mine rising_theirs mine_below
       | inr left ↦ not_past theirs j j theirs_next (omega arith) left
     ])
 
--- what holds after each step: the entries that were taken are merged
+-- an entry with the identifier was taken
+abbrev IsTaken : List Entry → List Entry → ℕ → ℕ → Id → Type 0
+IsTaken mine theirs i j id = Holds (take i mine) id ⊎ Holds (take j theirs) id
+
+-- what holds after each step: the entries that were taken are merged, and the others of mine stand as they did
 pub record IsMerged (r members : ℕ) (mine theirs merged : List Entry) (i j : ℕ) : Type 0 where
-  pub merges : MergesEntries r members (take i mine) (take j theirs) merged
+  pub merges : (id : Id) (x y z : Option Entry) → IsTaken mine theirs i j id → HoldsUnder mine id x → HoldsUnder theirs id y → HoldsUnder merged id z → MergesEntry r members x y z
+  pub left : (id : Id) → (IsTaken mine theirs i j id → ⊥) → (z : Option Entry) → HoldsUnder merged id z → HoldsUnder mine id z
   pub rising : IsRising merged
   pub mine_below : IsBelow mine i theirs j
   pub theirs_below : IsBelow theirs j mine i
   pub mine_within : i ≤ length mine
   pub theirs_within : j ≤ length theirs
 
-nothing_held : (id : Id) (found : Option Entry) → HoldsUnder [] id found → found ≡ None
-nothing_held id None held = refl
-nothing_held id (Some entry) held = absurd (not_inside_none entry held.0)
+none_taken : (mine theirs : List Entry) (id : Id) → IsTaken mine theirs 0 0 id → ⊥
+none_taken mine theirs id (inl held) = not_inside_none held.item held.inside
+none_taken mine theirs id (inr held) = not_inside_none held.item held.inside
 
-pub IsMerged-start : (r members : ℕ) (mine theirs : List Entry) → IsMerged r members mine theirs [] 0 0
-IsMerged-start r members mine theirs = record {
-  merges = record {
-    each = λ id x y z held_x held_y held_z. rw (nothing_held id x held_x, nothing_held id y held_y, nothing_held id z held_z) (record { state = refl; place = tt });
-  };
-  rising = record { each = λ i j d before within. absurd (omega arith) };
+pub IsMerged-start : (r members : ℕ) (mine theirs : List Entry) → IsRising mine → IsMerged r members mine theirs mine 0 0
+IsMerged-start r members mine theirs rising = record {
+  merges = λ id x y z is_taken. absurd (none_taken mine theirs id is_taken);
+  left = λ id not_taken z held. held;
+  rising = rising;
   mine_below = λ k l d to from within. absurd (omega arith);
   theirs_below = λ k l d to from within. absurd (omega arith);
   mine_within = omega arith;
   theirs_within = omega arith;
 }
 
-pub IsMerged-more : (r members : ℕ) (mine theirs merged new : List Entry) (i j : ℕ) (at_r at_peer after : Option Entry) → IsMerged r members mine theirs merged i j → Step mine theirs i j at_r at_peer → MergesEntry r members at_r at_peer after → AddsIfAny merged new after → IsRising new → IsMerged r members mine theirs new (i + taken at_r) (j + taken at_peer)
-IsMerged-more r members mine theirs merged new i j at_r at_peer after so_far step row adds rising = record {
-  merges = merges_more r members (take i mine) (take j theirs) merged (take (i + taken at_r) mine) (take (j + taken at_peer) theirs) new step.id at_r at_peer after so_far.merges step.mine_adds step.theirs_adds adds step.mine_free step.theirs_free step.mine_has step.theirs_has row;
-  rising = rising;
-  mine_below = step.mine_below;
-  theirs_below = step.theirs_below;
-  mine_within = step.mine_within;
-  theirs_within = step.theirs_within;
-}
+-- what one step takes of a list
+before_step : (xs : List Entry) (i : ℕ) (id other : Id) (at_xs : Option Entry) → HasId id at_xs → AddsIfAny (take i xs) (take (i + taken at_xs) xs) at_xs → other ≢ id → Holds (take (i + taken at_xs) xs) other → Holds (take i xs) other
+before_step xs i id other at_xs has adds differs held =
+    elim ((adds held.item).0 held.inside) [
+      | inl before ↦ record { item = held.item; inside = before; has_id = held.has_id }
+      | inr is ↦ absurd (differs (sym held.has_id ∙ subst (HasId id) is has))
+    ]
+
+after_step : (xs : List Entry) (i : ℕ) (other : Id) (at_xs : Option Entry) → AddsIfAny (take i xs) (take (i + taken at_xs) xs) at_xs → Holds (take i xs) other → Holds (take (i + taken at_xs) xs) other
+after_step xs i other at_xs adds held = record { item = held.item; inside = (adds held.item).1 (inl held.inside); has_id = held.has_id }
+
+now_taken : (mine theirs : List Entry) (i j : ℕ) (at_r at_peer : Option Entry) (s : Step mine theirs i j at_r at_peer) → IsTaken mine theirs (i + taken at_r) (j + taken at_peer) s.id
+now_taken mine theirs i j (Some x) at_peer s = inl (record { item = x; inside = (s.mine_adds x).1 (inr refl); has_id = s.mine_has })
+now_taken mine theirs i j None (Some y) s = inr (record { item = y; inside = (s.theirs_adds y).1 (inr refl); has_id = s.theirs_has })
+now_taken mine theirs i j None None s = absurd (omega (arith, s.goes_on))
+
+module _ (r members : ℕ) (mine theirs merged : List Entry) (i j : ℕ) (at_r at_peer : Option Entry) (so_far : IsMerged r members mine theirs merged i j) (s : Step mine theirs i j at_r at_peer) where
+  taken_before : (id : Id) → id ≢ s.id → IsTaken mine theirs (i + taken at_r) (j + taken at_peer) id → IsTaken mine theirs i j id
+  taken_before id differs (inl held) = inl (before_step mine i s.id id at_r s.mine_has s.mine_adds differs held)
+  taken_before id differs (inr held) = inr (before_step theirs j s.id id at_peer s.theirs_has s.theirs_adds differs held)
+
+  taken_after : (id : Id) → IsTaken mine theirs i j id → IsTaken mine theirs (i + taken at_r) (j + taken at_peer) id
+  taken_after id (inl held) = inl (after_step mine i id at_r s.mine_adds held)
+  taken_after id (inr held) = inr (after_step theirs j id at_peer s.theirs_adds held)
+
+  not_taken_yet : IsTaken mine theirs i j s.id → ⊥
+  not_taken_yet (inl held) = s.mine_free held
+  not_taken_yet (inr held) = s.theirs_free held
+
+  pub IsMerged-more : (new : List Entry) (after : Option Entry) → IsRising mine → IsRising theirs → MergesEntry r members at_r at_peer after → Settles merged new at_r after → IsRising new → IsMerged r members mine theirs new (i + taken at_r) (j + taken at_peer)
+  IsMerged-more new after rising_mine rising_theirs row settles rising =
+      let now : Settled merged new s.id after = settled merged new mine s.id (so_far.left s.id not_taken_yet) rising_mine r members at_r at_peer after row s.mine_holds (after_has_id r members at_r at_peer after s.id row s.mine_has s.theirs_has) rising settles in
+      record {
+        merges = λ id x y z is_taken held_x held_y held_z. elim (same_id_or_not id s.id) [
+          | inl same ↦
+              let x_is : x ≡ at_r = one_held (λ e. e.id) mine s.id x at_r rising_mine (subst (λ k. HoldsUnder mine k x) same held_x) s.mine_holds in
+              let y_is : y ≡ at_peer = one_held (λ e. e.id) theirs s.id y at_peer rising_theirs (subst (λ k. HoldsUnder theirs k y) same held_y) s.theirs_holds in
+              let z_is : z ≡ after = now.under z (subst (λ k. HoldsUnder new k z) same held_z) in
+              rw (x_is, y_is, z_is) row
+          | inr differs ↦ so_far.merges id x y z (taken_before id differs is_taken) held_x held_y (now.others id differs z held_z)
+        ];
+        left = λ id not_taken z held. elim (same_id_or_not id s.id) [
+          | inl same ↦ absurd (not_taken (subst (IsTaken mine theirs (i + taken at_r) (j + taken at_peer)) (sym same) (now_taken mine theirs i j at_r at_peer s)))
+          | inr differs ↦ so_far.left id (λ is_taken. not_taken (taken_after id is_taken)) z (now.others id differs z held)
+        ];
+        rising = rising;
+        mine_below = s.mine_below;
+        theirs_below = s.theirs_below;
+        mine_within = s.mine_within;
+        theirs_within = s.theirs_within;
+      }
 
 pub IsMerged-end : (r members : ℕ) (mine theirs merged : List Entry) (i j : ℕ) → IsMerged r members mine theirs merged i j → length mine ≤ i → length theirs ≤ j → MergesEntries r members mine theirs merged
-IsMerged-end r members mine theirs merged i j so_far mine_ended theirs_ended =
-    subst₂ (λ xs ys. MergesEntries r members xs ys merged) (take_all i mine mine_ended) (take_all j theirs theirs_ended) so_far.merges
+IsMerged-end r members mine theirs merged i j so_far mine_ended theirs_ended = record { each = all }
+  where
+    of_mine : (id : Id) → Holds mine id → IsTaken mine theirs i j id
+    of_mine id held = inl (subst (λ xs. Holds xs id) (sym (take_all i mine mine_ended)) held)
 
--- what the table makes of the next entries is new in the merged list
-pub is_new : (r members : ℕ) (mine theirs merged : List Entry) (i j : ℕ) (at_r at_peer : Option Entry) (after : Entry) → IsMerged r members mine theirs merged i j → Step mine theirs i j at_r at_peer → MergesEntry r members at_r at_peer (Some after) → Holds merged after.id → ⊥
-is_new r members mine theirs merged i j at_r at_peer after so_far step row held =
-    let has : after.id ≡ step.id = after_has_id r members at_r at_peer (Some after) step.id row step.mine_has step.theirs_has in
-    nothing_else r members (take i mine) (take j theirs) merged step.id so_far.merges step.mine_free step.theirs_free (subst (Holds merged) has held)
+    of_theirs : (id : Id) → Holds theirs id → IsTaken mine theirs i j id
+    of_theirs id held = inr (subst (λ xs. Holds xs id) (sym (take_all j theirs theirs_ended)) held)
+
+    not_taken : (id : Id) → (Holds mine id → ⊥) → (Holds theirs id → ⊥) → IsTaken mine theirs i j id → ⊥
+    not_taken id not_mine not_theirs (inl held) = not_mine (subst (λ xs. Holds xs id) (take_all i mine mine_ended) held)
+    not_taken id not_mine not_theirs (inr held) = not_theirs (subst (λ xs. Holds xs id) (take_all j theirs theirs_ended) held)
+
+    all : (id : Id) (x y z : Option Entry) → HoldsUnder mine id x → HoldsUnder theirs id y → HoldsUnder merged id z → MergesEntry r members x y z
+    all id (Some x) y z held_x held_y held_z = so_far.merges id (Some x) y z (of_mine id (record { item = x; inside = held_x.0; has_id = held_x.1 })) held_x held_y held_z
+    all id None (Some y) z held_x held_y held_z = so_far.merges id None (Some y) z (of_theirs id (record { item = y; inside = held_y.0; has_id = held_y.1 })) held_x held_y held_z
+    all id None None None held_x held_y held_z = record { state = refl; place = tt }
+    all id None None (Some z) held_x held_y held_z =
+        let was = so_far.left id (not_taken id held_x held_y) (Some z) held_z in
+        absurd (held_x (record { item = z; inside = was.0; has_id = was.1 }))
 
 pub taken-copied : (entry : Option (Bor Entry)) → taken (option_copied entry) ≡ from_bool (is_some entry)
 taken-copied None = refl

@@ -1,11 +1,11 @@
-ghost use Rattle.std.specs.Prelude.{◌≡◌, ◌<◌, ◌^◌, length, IfOk, OnOk, slice_get};
-ghost use Rattle.std.specs.Option.{option_copied, ForSome};
+ghost use Rattle.std.specs.Prelude.{◌≡◌, ◌<◌, ◌^◌, length, Some, IfOk, OnOk, IsTrue, slice_get};
+ghost use Rattle.std.specs.Option.{option_copied};
 ghost use Rattle.ficus_ids.specs.Members.{IsMember};
-ghost use Rattle.ficus_entry.specs.Entry.{IsRising, Holds};
-ghost use Rattle.ficus_recon_dir.specs.Merge.{MergesEntries, AddsIfAny, AreLowest};
+ghost use Rattle.ficus_entry.specs.Entry.{IsRising};
+ghost use Rattle.ficus_recon_dir.specs.Merge.{MergesEntries, KeepsMine, Settles, AreLowest};
 
 use crate::table::Taker;
-use ficus_entry::{Entries, Entry};
+use ficus_entry::{Entries, Entry, State};
 use ficus_ids::{Members, Memory};
 use std::alloc::Global;
 use std::cmp::Ordering;
@@ -13,7 +13,7 @@ use std::cmp::Ordering;
 /// What replica `me` holds after it has taken a peer's entries: the merge table, entry by entry. `me` is a
 /// member.
 pub fn merge_entries(
-    alloc: Global,
+    _alloc: Global,
     mine: &Entries,
     theirs: &Entries,
     me: u8,
@@ -24,14 +24,20 @@ pub fn merge_entries(
     ensures rising { IfOk result IsRising }
 {
     let taker = Taker::new(me, members);
-    let mut merged = Entries::new(alloc);
+    // Tells that the identifiers rise.
+    let _count = mine.len();
+    let mut merged = mine.copy()?;
     let mut mine_done = 0;
     let mut theirs_done = 0;
     while mine_done < mine.len() || theirs_done < theirs.len() {
         let my_next = entry_at(mine, mine_done);
         let their_next = entry_at(theirs, theirs_done);
         let next = lowest(my_next, their_next);
-        add(&mut merged, taker.merge_entry(next.mine, next.theirs)?)?;
+        settle(
+            &mut merged,
+            next.mine,
+            taker.merge_entry(next.mine, next.theirs)?,
+        )?;
         mine_done += usize::from(next.mine.is_some());
         theirs_done += usize::from(next.theirs.is_some());
     }
@@ -73,14 +79,36 @@ fn entry_at(entries: &Entries, index: usize) -> Option<&Entry>
     }
 }
 
-// Adds the entry, if there is one.
-fn add(entries: &mut Entries, entry: Option<Entry>) -> Result<(), Memory>
-    requires { ForSome entry (λ added. Holds entries.old added.id → ⊥) }
-    ensures added { OnOk result (AddsIfAny entries.old entries.new entry) }
-    ensures rising { IsRising entries.old → OnOk result (IsRising entries.new) }
+// Puts in place what the table made, where it isn't what stood there.
+fn settle(merged: &mut Entries, mine: Option<&Entry>, after: Option<Entry>) -> Result<(), Memory>
+    requires { KeepsMine (option_copied mine) after }
+    ensures settled { OnOk result (Settles merged.old merged.new (option_copied mine.entry) after) }
+    ensures rising { OnOk result (IsRising merged.new) }
 {
-    match entry {
-        Some(entry) => entries.insert(entry),
-        None => Ok(()),
+    // Tells that the identifiers rise.
+    let _count = merged.len();
+    let Some(after) = after else {
+        return Ok(());
+    };
+    if stands(mine, &after) {
+        return Ok(());
     }
+    merged.put(after)
+}
+
+// Whether the entry stands there as it is to be.
+fn stands(mine: Option<&Entry>, after: &Entry) -> bool
+    requires { KeepsMine (option_copied mine) (Some after.now) }
+    ensures { IsTrue result → option_copied mine.entry ≡ Some after.now }
+{
+    match mine {
+        Some(mine) => is_same_state(&mine.state, &after.state),
+        None => false,
+    }
+}
+
+fn is_same_state(one: &State, other: &State) -> bool
+    ensures { IsTrue result → one.now ≡ other.now }
+{
+    one == other
 }

@@ -16,14 +16,14 @@ pub struct Asked {
 }
 
 /// One replica: what it saves, and its open ask, which doesn't outlive a restart.
-#[derive(Debug, Drop)]
+#[derive(Drop)]
 pub struct Replica {
     pub saved: Saved,
     pub ask: Option<Asked>,
 }
 
 /// An update that may take place: the replica after it, and what it does.
-#[derive(Debug, Drop)]
+#[derive(Drop)]
 pub struct Next {
     pub replica: Replica,
     pub op: Op,

@@ -14,7 +14,7 @@ pub const DEFAULT_IDS: u32 = 100_000;
 pub const DEFAULT_BYTES: u32 = 4_194_304;
 
 /// The replicas of a volume, and the history of this run.
-#[derive(Debug, Drop)]
+#[derive(Drop)]
 pub struct World {
     pub(crate) members: Members,
     pub(crate) replicas: Vec<Replica>,

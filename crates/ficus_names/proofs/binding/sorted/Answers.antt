@@ -4,7 +4,7 @@ use Rattle.std.specs.Ordering.{eq_by_cmp}
 use Rattle.std.proofs.lemmas.List.Filters.{dedup_is}
 use Rattle.ficus_ids.specs.Id.{id_cmp}
 use Rattle.ficus_names.proofs.Order.{binding_cmp_total, binding_cmp-Equal, equality}
-use Rattle.ficus_names.proofs.Sorts.{rising_after, same_items}
+use Rattle.ficus_entry.specs.SortLaws.{rising_after, same_items}
 use Rattle.ficus_names.specs.Binding.{binding_cmp}
 use Rattle.ficus_names.proofs.binding.sorted.Goals as goal
 

@@ -1,7 +1,8 @@
 use Rattle.std.proofs.Common.{◌≡◌, inl, inr, sym, ap, ◌∙◌, option_copied, arith}
 use Rattle.std.specs.Int.{from_bool}
 use Rattle.ficus_recon_dir.specs.Table.{MergesEntry}
-use Rattle.ficus_recon_dir.proofs.Steps.{Step, step, taken, taken-copied, IsMerged-more, is_new}
+use Rattle.ficus_recon_dir.proofs.Steps.{Step, step, taken, taken-copied, IsMerged-start, IsMerged-more, IsMerged-end}
+use Rattle.ficus_recon_dir.proofs.Adding.{keeps_mine}
 use Rattle.ficus_recon_dir.proofs.merge.merge_entries.Goals as goal
 use Rattle.ficus_recon_dir.proofs.merge.merge_entries.Goals.{After-lowest-next, After-from, After-from-in-loop-mine_done, In_ok-merge_entry, then-mine_done-len, else-mine_done-len+then-theirs_done-len}
 
@@ -16,8 +17,8 @@ the_step c =
 the_row : (c : In_ok-merge_entry) → MergesEntry c.args.me c.args.members (option_copied c.lowest-next.result.mine) (option_copied c.lowest-next.result.theirs) c.in_ok-merge_entry.field-0
 the_row c = rw (← c.new-taker.ensures.number, ← c.new-taker.ensures.members) c.in_ok-merge_entry.ensures
 
-pub add-requires : goal.add-requires
-add-requires c = λ after is. is_new c.args.me c.args.members c.args.mine.now c.args.theirs.now c.loop-mine_done.merged c.loop-mine_done.mine_done c.loop-mine_done.theirs_done _ _ after c.loop-mine_done.invariant (the_step (goal.at.add-requires c).After-lowest-next) (rw is at (the_row c))
+pub settle-requires : goal.settle-requires
+settle-requires c = keeps_mine c.args.me c.args.members (option_copied c.lowest-next.result.mine) (option_copied c.lowest-next.result.theirs) c.in_ok-merge_entry.field-0 (the_row c)
 
 my_taken : (c : After-from) → c.from.result ≡ taken (option_copied c.lowest-next.result.mine)
 my_taken c = c.from.ensures ∙ ap from_bool c.is_some.ensures ∙ sym (taken-copied c.lowest-next.result.mine)
@@ -42,6 +43,14 @@ loop-mine_done-smaller c =
 pub loop-mine_done-preserved : goal.loop-mine_done-preserved
 loop-mine_done-preserved c =
     rw (my_taken (goal.at.loop-mine_done-preserved c).After-from, their_taken c)
-    (IsMerged-more c.args.me c.args.members c.args.mine.now c.args.theirs.now c.loop-mine_done.merged c.add.new.entries c.loop-mine_done.mine_done c.loop-mine_done.theirs_done _ _ c.in_ok-merge_entry.field-0
-    c.loop-mine_done.invariant (the_step (goal.at.loop-mine_done-preserved c).After-lowest-next) (the_row (goal.at.loop-mine_done-preserved c).In_ok-merge_entry)
-    c.in_ok-add.ensures.added (c.in_ok-add.ensures.rising c.loop-mine_done.invariant.rising))
+    (IsMerged-more c.args.me c.args.members c.args.mine.now c.args.theirs.now c.loop-mine_done.merged c.loop-mine_done.mine_done c.loop-mine_done.theirs_done _ _
+    c.loop-mine_done.invariant (the_step (goal.at.loop-mine_done-preserved c).After-lowest-next) c.settle.new.merged c.in_ok-merge_entry.field-0
+    c.entry_at-my_next.ensures.rising c.entry_at-their_next.ensures.rising (the_row (goal.at.loop-mine_done-preserved c).In_ok-merge_entry) c.in_ok-settle.ensures.settled c.in_ok-settle.ensures.rising)
+
+pub loop-mine_done-init : goal.loop-mine_done-init
+loop-mine_done-init c = rw c.in_ok-merged.ensures (IsMerged-start c.args.me c.args.members c.args.mine.now c.args.theirs.now c.len-count.ensures.rising)
+
+pub returns-clause-merged : goal.returns-clause-merged
+returns-clause-merged c =
+    IsMerged-end c.args.me c.args.members c.args.mine.now c.args.theirs.now c.loop-mine_done.merged c.loop-mine_done.mine_done c.loop-mine_done.theirs_done c.loop-mine_done.invariant
+    (omega (arith, c.if-mine_done-len.false, c.len.ensures.value)) (omega (arith, c.if-theirs_done-len.false, c.len-else-mine_done-len.ensures.value))

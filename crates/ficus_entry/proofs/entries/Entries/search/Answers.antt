@@ -1,17 +1,20 @@
-use Rattle.std.proofs.Common.{rules}
-use Rattle.std.proofs.lemmas.List.Sorted.{answers_always}
-use Rattle.ficus_ids.specs.Id.{id_cmp}
-use Rattle.ficus_ids.specs.RisingLaws.{found_by_search, place_by_search}
+use Rattle.std.proofs.Common.{◌≡◌}
+use Rattle.std.proofs.lemmas.Result.{IfOk-weaker, MatchResult-weaker}
+use Rattle.ficus_entry.proofs.Killed.{rising_view, later_view}
+use Rattle.ficus_entry.proofs.Later.{later_found, later_place}
 use Rattle.ficus_entry.proofs.entries.Entries.search.Goals as goal
 
--- the closure gives an entry's identifier, and the slice is the list of the entries
-pub returns : goal.returns
-unfolding id_cmp
-returns c =
-    let facts = c.binary_search_by_key.ensures in
-    let by_id = facts.position (λ entry. entry.id) (answers_always _ _ _ (λ f a r g called. search rules)) in
-    rw (← c.self.view_is, ← c.deref.ensures.value) (record {
-      found = found_by_search (λ entry. entry.id) _ c.args.id _ facts.bound by_id;
-      place = place_by_search (λ entry. entry.id) _ c.args.id _ (rw c.deref.ensures.value c.self.invariant) facts.bound by_id;
-      rising = rw c.deref.ensures.value c.self.invariant;
-    })
+pub returns-clause-found : goal.returns-clause-found
+returns-clause-found c =
+    let base = c.self.inside.table.list in
+    let later = later_view c.self.inside.changed.items base _ _ c.self.invariant in
+    rw (← c.self.view_is) (IfOk-weaker c.search.result _ _ (λ i found. later_found base _ later c.args.id i found) c.search.ensures.found)
+
+pub returns-clause-place : goal.returns-clause-place
+returns-clause-place c =
+    let base = c.self.inside.table.list in
+    let later = later_view c.self.inside.changed.items base _ _ c.self.invariant in
+    rw (← c.self.view_is) (MatchResult-weaker c.search.result c.search.ensures.place (λ i h. h) (λ i place. later_place base _ later c.args.id i place))
+
+pub returns-clause-rising : goal.returns-clause-rising
+returns-clause-rising c = rw (← c.self.view_is) (rising_view c.self.inside.changed.items c.self.inside.table.list _ _ c.self.invariant)

@@ -1,4 +1,4 @@
--- What `dedup` leaves of a sorted list, at any total order that tells different items apart.
+-- What `dedup` leaves of a sorted list, at any total order that tells different items apart; for the proofs of this crate and of those above it.
 use Rattle.std.specs.Prelude.{◌↔◌, List, Contains}
 use Rattle.std.specs.declared.cmp.Ordering.{Ordering}
 use Rattle.std.specs.Cmp.{IsTotalOrder}

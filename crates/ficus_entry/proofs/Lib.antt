@@ -1,0 +1,5 @@
+pub mod Killed
+pub mod Later
+pub mod Noted
+pub mod Search
+pub mod Within

@@ -1,0 +1,48 @@
+-- What lies in a directory.
+use Rattle.std.specs.Prelude.{◌≡◌, ◌≢◌, ◌↔◌, ◌≤◌, ◌<◌, ℕ, List, Contains}
+use Rattle.ficus_ids.specs.declared.id.Id.{Id}
+use Rattle.ficus_entry.specs.declared.entry.Entry.{Entry}
+use Rattle.ficus_entry.specs.declared.entry.State.TheVariants.{Live}
+use Rattle.ficus_entry.specs.declared.inside.Leading.{Leading}
+use Rattle.ficus_entry.specs.declared.inside.Leading.TheVariants.{Anywhere, To, Besides}
+use Rattle.ficus_entry.specs.declared.place.Link.{Link}
+use Rattle.ficus_entry.specs.declared.place.Place.{Place}
+use Rattle.ficus_entry.specs.Place.{IsLinkAt, order_of, place_of}
+
+-- the entry is live, lies in the directory and has the name
+pub record IsNamedIn (entry : Entry) (dir : Id) (name : List ℕ) : Type 0 where
+  pub live : entry.state ≡ Live
+  pub in_dir : entry.dir ≡ dir
+  pub named : entry.name ≡ name
+
+-- the target is one of those that are asked for
+abbrev pub Leads : Leading → Id → Type 0
+Leads Anywhere target = Unit {0}
+Leads (To wanted) target = target ≡ wanted
+Leads (Besides other) target = target ≢ other
+
+-- a live entry of the list lies in the directory
+pub record HasLiveInside (entries : List Entry) (dir : Id) : Type 0 where
+  pub entry : Entry
+  pub inside : Contains entries entry
+  pub live : entry.state ≡ Live
+  pub in_dir : entry.dir ≡ dir
+
+-- an entry of the list, live or not, lies in the directory and has the identifier
+pub record LiesInside (entries : List Entry) (dir id : Id) : Type 0 where
+  pub entry : Entry
+  pub inside : Contains entries entry
+  pub in_dir : entry.dir ≡ dir
+  pub has_id : entry.id ≡ id
+
+-- the place of the entry is from one place up to another
+pub record LiesBetween (from to : Place) (entry : Entry) : Type 0 where
+  pub at_least : order_of from ≤ order_of (place_of entry)
+  pub below : order_of (place_of entry) < order_of to
+
+-- a link with the identifier stands at an index from start up to end
+pub record IsLinkedWithin (links : List Link) (start end : ℕ) (id : Id) : Type 0 where
+  pub index : ℕ
+  pub from : start ≤ index
+  pub to : index < end
+  pub at : IsLinkAt links id index

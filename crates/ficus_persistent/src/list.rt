@@ -1,0 +1,387 @@
+ghost use Rattle.std.specs.Prelude.{◌≡◌, ◌<◌, ◌≤◌, [], ◌∷◌, ◌++◌, length, true, false, map};
+ghost use Rattle.std.specs.Prelude.{slice_get, slice_set, Some, IfOk, OnOk, Bool, IsTrue, ◌↔◌};
+ghost use Rattle.std.specs.List.{insert, remove};
+ghost use Rattle.std.specs.List.Sorted.{IsPartitionedBy};
+ghost use Rattle.ficus_persistent.specs.Cut.{IsCutAt};
+
+use ficus_ids::Memory;
+use std::alloc::Global;
+use std::marker::Model;
+use std::rc::Rc;
+
+/// What a persistent list holds.
+pub trait Item: Drop {
+    /// The same once more.
+    fn copied(&self) -> Result<Self, Memory>
+        ensures { IfOk result (λ item. item ≡ self.now) };
+}
+
+/// A cut through a list in order: whether an item lies before it.
+pub trait Cut<T> {
+    ghost is_before: { Self → T → Bool };
+
+    fn is_before(&self, item: &T) -> bool
+        ensures { result ≡ is_before self.now item.now };
+}
+
+/// A list. A copy shares all nodes with it, and a change makes only those on one way down anew. The nodes are a
+/// search tree by place, which is balanced as by Adelson-Velsky and Landis (1962); contracts don't speak of it.
+#[cycle(list)]
+#[derive(Drop)]
+pub struct PersistentList<T> {
+    node: Node<T>,
+}
+
+#[cycle(list)]
+#[derive(Drop)]
+enum Node<T> {
+    Leaf,
+    Fork(Rc<Branch<T>>),
+}
+
+#[cycle(list)]
+#[derive(Drop)]
+struct Branch<T> {
+    left: PersistentList<T>,
+    item: T,
+    right: PersistentList<T>,
+    count: u32,
+    height: u8,
+}
+
+impl<T> Model for PersistentList<T> {
+    ghost use Rattle.std.specs.Prelude.{List, length};
+
+    ghost Value = { List T };
+
+    ghost use Rattle.ficus_persistent.specs.Node.{items, HasCount};
+
+    ghost view = { λ l. items l.node };
+
+    ghost invariant = { λ l. HasCount l.node };
+
+    ghost size = { length };
+
+    ghost use Rattle.std.proofs.Common.{arith, length-append};
+
+    ghost size_decreases = { λ t h. Prim.grind (arith, length-append) };
+}
+
+impl<T: Item> PersistentList<T> {
+    /// No items. Takes no memory.
+    pub fn new() -> PersistentList<T>
+        ensures { result ≡ [] }
+    {
+        PersistentList { node: Node::Leaf }
+    }
+
+    /// How many items there are.
+    pub fn len(&self) -> usize
+        ensures { result ≡ length self.now }
+    {
+        match &self.node {
+            Node::Leaf => 0,
+            Node::Fork(branch) => branch.count as usize,
+        }
+    }
+
+    /// Whether there are no items.
+    pub fn is_empty(&self) -> bool
+        ensures { IsTrue result ↔ (self.now ≡ []) }
+    {
+        match &self.node {
+            Node::Leaf => true,
+            Node::Fork(_) => false,
+        }
+    }
+
+    /// How many nodes lie one below the other.
+    pub fn height(&self) -> u8 {
+        match &self.node {
+            Node::Leaf => 0,
+            Node::Fork(branch) => branch.height,
+        }
+    }
+
+    /// The same list once more, in the same nodes.
+    pub fn copy(&self) -> Result<PersistentList<T>, Memory>
+        ensures { IfOk result (λ list. list ≡ self.now) }
+    {
+        match &self.node {
+            Node::Leaf => Ok(PersistentList { node: Node::Leaf }),
+            Node::Fork(branch) => {
+                let branch = branch.clone()?;
+                Ok(PersistentList {
+                    node: Node::Fork(branch),
+                })
+            }
+        }
+    }
+
+    /// The item at an index.
+    pub fn at(&self, index: usize) -> &T
+        requires { index < length self.now }
+        ensures { slice_get self.now index ≡ Some result.now }
+    {
+        match &self.node {
+            Node::Leaf => unreachable!(),
+            Node::Fork(branch) => {
+                let before = branch.left.len();
+                if index < before {
+                    branch.left.at(index)
+                } else if index == before {
+                    &branch.item
+                } else {
+                    branch.right.at(index - before - 1)
+                }
+            }
+        }
+    }
+
+    /// How many items lie before the cut, where the list has none of them behind one that doesn't.
+    pub fn partition_point<C: Cut<T>>(&self, cut: &C) -> usize
+        requires { IsPartitionedBy (C.is_before cut.now) self.now }
+        ensures within { result ≤ length self.now }
+        ensures point { IsCutAt (C.is_before cut.now) self.now result }
+    {
+        let _whole = self.len();
+        match &self.node {
+            Node::Leaf => 0,
+            Node::Fork(branch) => {
+                let branch = branch.as_ref();
+                if cut.is_before(&branch.item) {
+                    branch.left.len() + 1 + branch.right.partition_point(cut)
+                } else {
+                    branch.left.partition_point(cut)
+                }
+            }
+        }
+    }
+
+    /// Appends the items in order to those gathered before.
+    pub fn gather<'a>(&'a self, gathered: &mut Vec<&'a T>) -> Result<(), Memory>
+        ensures { OnOk result (map (λ item. item.now) gathered.new.items
+            ≡ map (λ item. item.now) gathered.old.items ++ self.now) }
+    {
+        match &self.node {
+            Node::Leaf => Ok(()),
+            Node::Fork(branch) => {
+                let branch = branch.as_ref();
+                branch.left.gather(gathered)?;
+                gathered.push(&branch.item)?;
+                branch.right.gather(gathered)
+            }
+        }
+    }
+
+    /// The list with one more item, in front of the one at the index.
+    pub fn insert(&self, alloc: Global, index: usize, item: T) -> Result<PersistentList<T>, Memory>
+        requires { index ≤ length self.now }
+        ensures { IfOk result (λ list. list ≡ insert self.now index item) }
+    {
+        match &self.node {
+            Node::Leaf => PersistentList::join(
+                alloc,
+                PersistentList::new(),
+                item,
+                PersistentList::new(),
+            ),
+            Node::Fork(branch) => {
+                let branch = branch.as_ref();
+                let before = branch.left.len();
+                let old = branch.item.copied()?;
+                if index <= before {
+                    let left = branch.left.insert(alloc, index, item)?;
+                    PersistentList::balanced(alloc, left, old, branch.right.copy()?)
+                } else {
+                    let right = branch.right.insert(alloc, index - before - 1, item)?;
+                    PersistentList::balanced(alloc, branch.left.copy()?, old, right)
+                }
+            }
+        }
+    }
+
+    /// The list with another item at the index, or the same list where the index isn't below the length.
+    pub fn put(&self, alloc: Global, index: usize, item: T) -> Result<PersistentList<T>, Memory>
+        ensures { IfOk result (λ list. list ≡ slice_set self.now index item) }
+    {
+        match &self.node {
+            Node::Leaf => Ok(PersistentList::new()),
+            Node::Fork(branch) => {
+                let branch = branch.as_ref();
+                let before = branch.left.len();
+                if index < before {
+                    let left = branch.left.put(alloc, index, item)?;
+                    PersistentList::join(alloc, left, branch.item.copied()?, branch.right.copy()?)
+                } else if index == before {
+                    PersistentList::join(alloc, branch.left.copy()?, item, branch.right.copy()?)
+                } else {
+                    let right = branch.right.put(alloc, index - before - 1, item)?;
+                    PersistentList::join(alloc, branch.left.copy()?, branch.item.copied()?, right)
+                }
+            }
+        }
+    }
+
+    /// The list without the item at the index.
+    pub fn remove(&self, alloc: Global, index: usize) -> Result<PersistentList<T>, Memory>
+        requires { index < length self.now }
+        ensures { IfOk result (λ list. list ≡ remove self.now index) }
+    {
+        match &self.node {
+            Node::Leaf => unreachable!(),
+            Node::Fork(branch) => {
+                let branch = branch.as_ref();
+                let before = branch.left.len();
+                if index < before {
+                    let left = branch.left.remove(alloc, index)?;
+                    PersistentList::balanced(
+                        alloc,
+                        left,
+                        branch.item.copied()?,
+                        branch.right.copy()?,
+                    )
+                } else if index > before {
+                    let right = branch.right.remove(alloc, index - before - 1)?;
+                    PersistentList::balanced(
+                        alloc,
+                        branch.left.copy()?,
+                        branch.item.copied()?,
+                        right,
+                    )
+                } else if before == 0 {
+                    branch.right.copy()
+                } else {
+                    let last = branch.left.at(before - 1).copied()?;
+                    let left = branch.left.remove(alloc, before - 1)?;
+                    PersistentList::balanced(alloc, left, last, branch.right.copy()?)
+                }
+            }
+        }
+    }
+
+    /// The items of a slice, in nodes of the least height.
+    pub fn of(alloc: Global, items: &[T]) -> Result<PersistentList<T>, Memory>
+        ensures { IfOk result (λ list. list ≡ items.now) }
+    {
+        if items.is_empty() {
+            return Ok(PersistentList::new());
+        }
+        let middle = items.len() / 2;
+        let left = PersistentList::of(alloc, &items[..middle])?;
+        let right = PersistentList::of(alloc, &items[middle + 1..])?;
+        PersistentList::join(alloc, left, items[middle].copied()?, right)
+    }
+
+    // One node above two lists.
+    fn join(
+        alloc: Global,
+        left: PersistentList<T>,
+        item: T,
+        right: PersistentList<T>,
+    ) -> Result<PersistentList<T>, Memory>
+        ensures { IfOk result (λ list. list ≡ left ++ item ∷ right) }
+    {
+        let Ok(count) = u32::try_from(left.len().saturating_add(right.len()).saturating_add(1))
+        else {
+            return Err(Memory);
+        };
+        let height = left.height().max(right.height()).saturating_add(1);
+        let branch = Rc::new(
+            alloc,
+            Branch {
+                left,
+                item,
+                right,
+                count,
+                height,
+            },
+        )?;
+        Ok(PersistentList {
+            node: Node::Fork(branch),
+        })
+    }
+
+    // The same as `join`, by a rotation where one side is more than one higher.
+    fn balanced(
+        alloc: Global,
+        left: PersistentList<T>,
+        item: T,
+        right: PersistentList<T>,
+    ) -> Result<PersistentList<T>, Memory>
+        ensures { IfOk result (λ list. list ≡ left ++ item ∷ right) }
+    {
+        let (on_left, on_right) = (left.height(), right.height());
+        if on_left > on_right.saturating_add(1) {
+            PersistentList::lean_left(alloc, &left, item, right)
+        } else if on_right > on_left.saturating_add(1) {
+            PersistentList::lean_right(alloc, left, item, &right)
+        } else {
+            PersistentList::join(alloc, left, item, right)
+        }
+    }
+
+    // The same as `join`, where the left side is too high.
+    fn lean_left(
+        alloc: Global,
+        left: &PersistentList<T>,
+        item: T,
+        right: PersistentList<T>,
+    ) -> Result<PersistentList<T>, Memory>
+        ensures { IfOk result (λ list. list ≡ left.now ++ item ∷ right) }
+    {
+        let Node::Fork(outer) = &left.node else {
+            return PersistentList::join(alloc, left.copy()?, item, right);
+        };
+        let outer = outer.as_ref();
+        if outer.left.height() >= outer.right.height() {
+            let below = PersistentList::join(alloc, outer.right.copy()?, item, right)?;
+            return PersistentList::join(alloc, outer.left.copy()?, outer.item.copied()?, below);
+        }
+        let middle = &outer.right;
+        let Node::Fork(inner) = &middle.node else {
+            return PersistentList::join(alloc, left.copy()?, item, right);
+        };
+        let inner = inner.as_ref();
+        let first = PersistentList::join(
+            alloc,
+            outer.left.copy()?,
+            outer.item.copied()?,
+            inner.left.copy()?,
+        )?;
+        let second = PersistentList::join(alloc, inner.right.copy()?, item, right)?;
+        PersistentList::join(alloc, first, inner.item.copied()?, second)
+    }
+
+    // The same as `join`, where the right side is too high.
+    fn lean_right(
+        alloc: Global,
+        left: PersistentList<T>,
+        item: T,
+        right: &PersistentList<T>,
+    ) -> Result<PersistentList<T>, Memory>
+        ensures { IfOk result (λ list. list ≡ left ++ item ∷ right.now) }
+    {
+        let Node::Fork(outer) = &right.node else {
+            return PersistentList::join(alloc, left, item, right.copy()?);
+        };
+        let outer = outer.as_ref();
+        if outer.right.height() >= outer.left.height() {
+            let below = PersistentList::join(alloc, left, item, outer.left.copy()?)?;
+            return PersistentList::join(alloc, below, outer.item.copied()?, outer.right.copy()?);
+        }
+        let middle = &outer.left;
+        let Node::Fork(inner) = &middle.node else {
+            return PersistentList::join(alloc, left, item, right.copy()?);
+        };
+        let inner = inner.as_ref();
+        let first = PersistentList::join(alloc, left, item, inner.left.copy()?)?;
+        let second = PersistentList::join(
+            alloc,
+            inner.right.copy()?,
+            outer.item.copied()?,
+            outer.right.copy()?,
+        )?;
+        PersistentList::join(alloc, first, inner.item.copied()?, second)
+    }
+}
