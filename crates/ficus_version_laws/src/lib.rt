@@ -1,0 +1,9 @@
+//! The laws of versions: what vectors and covers tell, and which versions are shown after each event.
+//!
+//! A law is the contract of a function with an empty body. Its lemmas stand in `proofs/`, for the proofs of
+//! the crates above.
+#![tactic(auto)]
+
+mod vectors;
+
+pub use vectors::{vectors_stay, vectors_tell_pasts};
