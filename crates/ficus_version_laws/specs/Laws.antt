@@ -2,10 +2,14 @@
 use Rattle.std.specs.Prelude.{◌≡◌, ◌≢◌, ◌↔◌, ◌⊎◌, ℕ, ◌<◌, List, [], ◌∷◌, ◌++◌, length}
 use Rattle.ficus_ids.specs.declared.id.Id.{Id}
 use Rattle.ficus_model.specs.declared.event.Event.{Event}
+use Rattle.ficus_model.specs.declared.event.Event.TheVariants.{Update, Accept}
+use Rattle.ficus_model.specs.Events.{IsOf, through}
+use Rattle.ficus_model.specs.Known.{Knows}
 use Rattle.ficus_model.specs.Lawful.{Volume, IsLawful}
-use Rattle.ficus_model.specs.Versions.{IsVersion}
+use Rattle.ficus_model.specs.Versions.{IsVersion, IsShown}
 use Rattle.ficus_model.specs.Vectors.{IsVectorOf}
 use Rattle.ficus_version_laws.specs.Compared.{CompareAsPasts}
+use Rattle.ficus_version_laws.specs.Listed.{Item, AreShown, IsLatestOfBoth, AreMerged}
 
 -- in a lawful history the vectors of two versions of a file stand to each other as their pasts
 abbrev pub VectorsTellPasts : Type 0
@@ -18,3 +22,25 @@ VectorsTellPasts = (volume : Volume) (H : List Event) (file : Id) (position othe
 abbrev pub VectorsStay : Type 0
 VectorsStay = (H later : List Event) (file : Id) (position : ℕ) (vector : ℕ → ℕ) → position < length H →
     IsVectorOf H file position vector ↔ IsVectorOf (H ++ later) file position vector
+
+-- of each replica at most one version of a file is shown
+abbrev pub OneShownOfEach : Type 0
+OneShownOfEach = (H : List Event) (reader : ℕ) (file : Id) (position other replica : ℕ) →
+    IsShown H (Knows H reader) file position → IsShown H (Knows H reader) file other →
+    IsOf H position replica → IsOf H other replica → position ≡ other
+
+-- after an Accept its replica is shown the latest of what it and the server were shown
+abbrev pub AcceptShowsLatest : Type 0
+AcceptShowsLatest = (H : List Event) (replica served server : ℕ) (file : Id) (position : ℕ) → IsOf H served server →
+    let K = H ++ Accept replica served ∷ [] in
+    IsShown K (Knows K replica) file position ↔
+    IsLatestOfBoth H (Knows H replica) (through served H) (Knows (through served H) server) file position
+
+-- and the list of its versions is the two lists without what is under another, by the vectors alone
+abbrev pub AcceptMergesVersions : Type 0
+AcceptMergesVersions = (volume : Volume) (H : List Event) (replica served server : ℕ) (file : Id)
+    (versions others merged : List Item) → IsLawful volume H → IsOf H served server →
+    AreShown H (Knows H replica) file versions → AreShown (through served H) (Knows (through served H) server) file others →
+    AreMerged volume.members versions others merged →
+    let K = H ++ Accept replica served ∷ [] in
+    AreShown K (Knows K replica) file merged

@@ -5,5 +5,7 @@
 #![tactic(auto)]
 
 mod vectors;
+mod versions;
 
 pub use vectors::{vectors_stay, vectors_tell_pasts};
+pub use versions::{accept_joins_versions, one_version_of_each};

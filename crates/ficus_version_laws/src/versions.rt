@@ -1,0 +1,13 @@
+ghost use Rattle.ficus_version_laws.specs.Laws.{OneShownOfEach, AcceptShowsLatest, AcceptMergesVersions};
+
+/// Of each replica at most one version of a file is shown.
+pub fn one_version_of_each()
+    ensures { OneShownOfEach }
+{}
+
+/// After an Accept its replica is shown the latest of the versions that it and the server were shown. Their
+/// list follows from the two lists by the vectors.
+pub fn accept_joins_versions()
+    ensures shown { AcceptShowsLatest }
+    ensures merged { AcceptMergesVersions }
+{}
