@@ -3,3 +3,5 @@ pub mod Past
 pub mod Comparing
 pub mod Latest
 pub mod Taking
+pub mod Listing
+pub mod Advancing

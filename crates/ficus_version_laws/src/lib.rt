@@ -8,4 +8,4 @@ mod vectors;
 mod versions;
 
 pub use vectors::{vectors_stay, vectors_tell_pasts};
-pub use versions::{accept_joins_versions, one_version_of_each};
+pub use versions::{accept_joins_versions, one_version_of_each, update_replaces_versions};

@@ -1,4 +1,4 @@
-ghost use Rattle.ficus_version_laws.specs.Laws.{OneShownOfEach, AcceptShowsLatest, AcceptMergesVersions};
+ghost use Rattle.ficus_version_laws.specs.Laws.{OneShownOfEach, AcceptShowsLatest, AcceptMergesVersions, VersionReplacesAll, VersionAdvances, OthersKeepVersions};
 
 /// Of each replica at most one version of a file is shown.
 pub fn one_version_of_each()
@@ -10,4 +10,12 @@ pub fn one_version_of_each()
 pub fn accept_joins_versions()
     ensures shown { AcceptShowsLatest }
     ensures merged { AcceptMergesVersions }
+{}
+
+/// After a version event of a file its replica is shown this one version, over all that it knew. Any other
+/// operation leaves the versions of the file.
+pub fn update_replaces_versions()
+    ensures shown { VersionReplacesAll }
+    ensures advanced { VersionAdvances }
+    ensures kept { OthersKeepVersions }
 {}
