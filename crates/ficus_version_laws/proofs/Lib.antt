@@ -5,3 +5,6 @@ pub mod Latest
 pub mod Taking
 pub mod Listing
 pub mod Advancing
+pub mod Objects
+pub mod Covering
+pub mod Making

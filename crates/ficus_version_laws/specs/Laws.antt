@@ -4,13 +4,18 @@ use Rattle.ficus_ids.specs.declared.id.Id.{Id}
 use Rattle.ficus_model.specs.declared.event.Event.{Event}
 use Rattle.ficus_model.specs.declared.event.Event.TheVariants.{Update, Accept}
 use Rattle.ficus_model.specs.declared.event.Op.{Op}
+use Rattle.ficus_model.specs.declared.event.Op.TheVariants.{Make, Move}
+use Rattle.ficus_ids.specs.declared.kind.Kind.{Kind}
+use Rattle.ficus_ids.specs.declared.kind.Kind.TheVariants.{Dir}
+use Rattle.ficus_model.specs.Live.{IsFile, IsMade}
 use Rattle.ficus_model.specs.Events.{IsOf, through}
 use Rattle.ficus_model.specs.Known.{Knows}
 use Rattle.ficus_model.specs.Lawful.{Volume, IsLawful}
-use Rattle.ficus_model.specs.Versions.{version_of, bytes_of, IsVersion, IsShown}
-use Rattle.ficus_model.specs.Vectors.{IsVectorOf}
-use Rattle.ficus_version_laws.specs.Compared.{CompareAsPasts}
-use Rattle.ficus_version_laws.specs.Listed.{Item, AreShown, IsLatestOfBoth, AreMerged, advanced}
+use Rattle.ficus_model.specs.Versions.{version_of, bytes_of, covered_by, IsVersion, IsShown}
+use Rattle.ficus_model.specs.Vectors.{IsVectorOf, IsCoverOf}
+use Rattle.ficus_version_laws.specs.Compared.{IsAtMost, CompareAsPasts, join}
+use Rattle.ficus_version_laws.specs.Listed.{Item, AreShown, IsLatestOfBoth, AreMerged, join_all, advanced}
+use Rattle.ficus_version_laws.specs.Covers.{HasCover}
 use Rattle.ficus_laws.specs.Updates.{next_number}
 
 -- in a lawful history the vectors of two versions of a file stand to each other as their pasts
@@ -67,3 +72,57 @@ OthersKeepVersions = (H : List Event) (replica : ℕ) (op : Op) (file : Id) (ver
     version_of (next_number replica H) op ≢ Some file →
     let K = H ++ Update replica op ∷ [] in
     AreShown H (Knows H replica) file versions ↔ AreShown K (Knows K replica) file versions
+
+-- a version's vector is at most the cover exactly where a known Remove or Discard of the file has it in its past
+abbrev pub CoversTellPasts : Type 0
+CoversTellPasts = (volume : Volume) (H : List Event) (replica : ℕ) (file : Id) (position : ℕ) (vector cover : ℕ → ℕ) →
+    IsLawful volume H → IsVersion H file position → IsVectorOf H file position vector →
+    IsCoverOf H (Knows H replica) file cover →
+    IsAtMost volume.members vector cover ↔ HasCover H (Knows H replica) file position
+
+-- after an Accept the cover is the join of the two
+abbrev pub AcceptJoinsCovers : Type 0
+AcceptJoinsCovers = (H : List Event) (replica served server : ℕ) (file : Id) (cover other : ℕ → ℕ) → IsOf H served server →
+    IsCoverOf H (Knows H replica) file cover →
+    IsCoverOf (through served H) (Knows (through served H) server) file other →
+    let K = H ++ Accept replica served ∷ [] in
+    IsCoverOf K (Knows K replica) file (join cover other)
+
+-- after a Remove or a Discard of a file the cover is joined with the vectors of the shown versions
+abbrev pub RemovalCoversShown : Type 0
+RemovalCoversShown = (H : List Event) (replica : ℕ) (op : Op) (file : Id) (versions : List Item) (cover : ℕ → ℕ) →
+    covered_by op ≡ Some file → AreShown H (Knows H replica) file versions → IsCoverOf H (Knows H replica) file cover →
+    let K = H ++ Update replica op ∷ [] in
+    IsCoverOf K (Knows K replica) file (join cover (join_all versions))
+
+-- any other operation leaves the cover of the file
+abbrev pub OthersKeepCover : Type 0
+OthersKeepCover = (H : List Event) (replica : ℕ) (op : Op) (file : Id) (cover : ℕ → ℕ) → covered_by op ≢ Some file →
+    let K = H ++ Update replica op ∷ [] in
+    IsCoverOf H (Knows H replica) file cover ↔ IsCoverOf K (Knows K replica) file cover
+
+-- so a Move leaves every cover
+abbrev pub MoveKeepsCover : Type 0
+MoveKeepsCover = (H : List Event) (replica : ℕ) (entries : List Id) (dir : Id) (name : List ℕ) (target file : Id)
+    (cover : ℕ → ℕ) →
+    let K = H ++ Update replica (Move entries dir name target) ∷ [] in
+    IsCoverOf H (Knows H replica) file cover ↔ IsCoverOf K (Knows K replica) file cover
+
+-- where a version is known, its file is known, and it is no directory
+abbrev pub VersionsAreOfFiles : Type 0
+VersionsAreOfFiles = (volume : Volume) (H : List Event) (replica : ℕ) (file : Id) (position : ℕ) →
+    IsLawful volume H → IsVersion H file position → Knows H replica position → IsFile H (Knows H replica) file
+
+-- after a Make of a file its replica is shown its first version, with the own count 1 and without bytes
+abbrev pub MakeShowsFirst : Type 0
+MakeShowsFirst = (volume : Volume) (H : List Event) (replica : ℕ) (dir : Id) (name : List ℕ) (kind : Kind) →
+    IsLawful volume H → kind ≢ Dir →
+    let K = H ++ Update replica (Make dir name kind) ∷ [] in
+    AreShown K (Knows K replica) (next_number replica H) (advanced replica [] [])
+
+-- and of an object just made nothing is covered
+abbrev pub MakeCoversNothing : Type 0
+MakeCoversNothing = (volume : Volume) (H : List Event) (replica : ℕ) (dir : Id) (name : List ℕ) (kind : Kind) →
+    IsLawful volume H →
+    let K = H ++ Update replica (Make dir name kind) ∷ [] in
+    IsCoverOf K (Knows K replica) (next_number replica H) (λ by. 0)

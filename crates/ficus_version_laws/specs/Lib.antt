@@ -1,3 +1,4 @@
 pub mod Compared
 pub mod Listed
+pub mod Covers
 pub mod Laws

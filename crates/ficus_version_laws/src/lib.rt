@@ -4,8 +4,12 @@
 //! the crates above.
 #![tactic(auto)]
 
+mod covers;
 mod vectors;
 mod versions;
 
+pub use covers::{covers_follow_events, covers_tell_pasts};
 pub use vectors::{vectors_stay, vectors_tell_pasts};
-pub use versions::{accept_joins_versions, one_version_of_each, update_replaces_versions};
+pub use versions::{
+    accept_joins_versions, files_have_versions, one_version_of_each, update_replaces_versions,
+};

@@ -1,4 +1,4 @@
-ghost use Rattle.ficus_version_laws.specs.Laws.{OneShownOfEach, AcceptShowsLatest, AcceptMergesVersions, VersionReplacesAll, VersionAdvances, OthersKeepVersions};
+ghost use Rattle.ficus_version_laws.specs.Laws.{OneShownOfEach, AcceptShowsLatest, AcceptMergesVersions, VersionReplacesAll, VersionAdvances, OthersKeepVersions, VersionsAreOfFiles, MakeShowsFirst, MakeCoversNothing};
 
 /// Of each replica at most one version of a file is shown.
 pub fn one_version_of_each()
@@ -18,4 +18,11 @@ pub fn update_replaces_versions()
     ensures shown { VersionReplacesAll }
     ensures advanced { VersionAdvances }
     ensures kept { OthersKeepVersions }
+{}
+
+/// Versions are of files. A file just made has one version, of its maker, and nothing of it is covered.
+pub fn files_have_versions()
+    ensures files { VersionsAreOfFiles }
+    ensures first { MakeShowsFirst }
+    ensures uncovered { MakeCoversNothing }
 {}
