@@ -22,7 +22,7 @@ use Rattle.ficus_version_laws.specs.Covers.{HasCover}
 use Rattle.ficus_version_laws.proofs.Counting.{IsFirstPart, counts_at_most, counts_same, counts_to, counts_none, counts_join, first_part_within}
 use Rattle.ficus_version_laws.proofs.Past.{agree_past, agree_version, agree_covering, version_within, covering_within, past_less, past_through, seen_own}
 use Rattle.ficus_version_laws.proofs.Comparing.{IsVersionBy, IsSeenVersion, version_seen, seen_first_part, writer, writer_member, vector_counts}
-use Rattle.ficus_version_laws.proofs.Latest.{KnownBelow}
+use Rattle.ficus_version_laws.proofs.Agreeing.{KnownBelow}
 use Rattle.ficus_version_laws.proofs.Taking.{knows_before, taken_known, known_taken}
 use Rattle.ficus_version_laws.proofs.Listing.{IsKnownVersion, knows_closed, known_first_part, known_counts}
 use Rattle.ficus_version_laws.proofs.Advancing.{own_end, past_of_end, known_after}

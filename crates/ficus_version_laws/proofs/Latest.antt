@@ -13,7 +13,8 @@ use Rattle.ficus_laws.proofs.Positions.{AgreeBelow, agree_back}
 use Rattle.ficus_laws.proofs.Seen.{seen_through}
 use Rattle.ficus_version_laws.specs.Compared.{IsUnder}
 use Rattle.ficus_version_laws.specs.Listed.{Item, IsItemOf, IsShownItem, IsListed, AreShown, IsShownInEither, IsLatestOfBoth, IsOfEither, IsKept, AreMerged}
-use Rattle.ficus_version_laws.proofs.Past.{agree_past, agree_version, agree_bytes, version_within, past_less, past_seen, past_through, update_seen, seen_own}
+use Rattle.ficus_version_laws.proofs.Past.{agree_bytes, version_within, past_less, past_seen, past_through, update_seen, seen_own}
+use Rattle.ficus_version_laws.proofs.Agreeing.{KnownBelow, agree_known, shown_within}
 use Rattle.ficus_version_laws.proofs.Comparing.{compare_as_pasts, agree_vector}
 
 -- the first set lies in the second, for versions of the file
@@ -36,18 +37,10 @@ are_shown_same there back a = record {
   all = λ position s. a.all position (shown_same back there s);
 }
 
--- all known positions lie below the bound
-abbrev pub KnownBelow : ℕ → (ℕ → Type 0) → Type 0
-KnownBelow bound U = (position : ℕ) → U position → position < bound
-
 -- what is shown doesn't depend on what follows the known positions
 pub agree_shown : {n : ℕ} {H K : List Event} {U : ℕ → Type 0} {file : Id} {position : ℕ} →
     AgreeBelow n H K → KnownBelow n U → IsShown H U file position → IsShown K U file position
-agree_shown {position = position} g below s = record {
-  version = agree_version g (below position s.known) s.version;
-  known = s.known;
-  latest = λ other v k p. let l = below other k in s.latest other (agree_version (agree_back g) l v) k (agree_past (agree_back g) l p);
-}
+agree_shown g below s = shown_within (agree_known g below) s
 
 pub agree_item : {n : ℕ} {H K : List Event} {file : Id} {position : ℕ} {item : Item} →
     AgreeBelow n H K → position < n → IsItemOf H file position item → IsItemOf K file position item

@@ -1,5 +1,6 @@
 pub mod Counting
 pub mod Past
+pub mod Agreeing
 pub mod Comparing
 pub mod Latest
 pub mod Taking

@@ -2,7 +2,6 @@
 use Rattle.std.proofs.Common.{◌≡◌, ◌≢◌, ℕ, ◌+◌, ◌<◌, List, [], ◌∷◌, Option, Some, None, refl, subst, arith}
 use Rattle.std.specs.Prelude.{Contains}
 use Rattle.std.proofs.lemmas.Option.{same_Some}
-use Rattle.ficus_ids.specs.ListLaws.{here}
 use Rattle.ficus_ids.specs.declared.id.Id.{Id}
 use Rattle.ficus_ids.specs.declared.kind.Kind.{Kind}
 use Rattle.ficus_ids.specs.declared.kind.Kind.TheVariants.{Dir, Plain, Lines, Max, Keep}
@@ -13,14 +12,14 @@ use Rattle.ficus_model.specs.declared.event.Op.TheVariants.{Make, Link, Remove, 
 use Rattle.ficus_model.specs.Events.{IsUpdate, before}
 use Rattle.ficus_model.specs.Known.{Knows}
 use Rattle.ficus_model.specs.Live.{IsMade, IsFile}
-use Rattle.ficus_model.specs.Lawful.{Volume, AreNames, MayUpdate, IsLawful}
+use Rattle.ficus_model.specs.Lawful.{Volume, MayUpdate, IsLawful}
 use Rattle.ficus_model.specs.Versions.{made_file, version_of, covered_by, IsVersion, IsCovering}
 use Rattle.ficus_laws.specs.Updates.{next_number, UpdatesWithin}
 use Rattle.ficus_laws.proofs.Positions.{of_at}
 use Rattle.ficus_laws.proofs.Shown.{made_within}
 use Rattle.ficus_laws.proofs.Issued.{made_issued}
 use Rattle.ficus_laws.proofs.Lawful.{lawful_before}
-use Rattle.ficus_laws.proofs.Places.{within_past, entered_target}
+use Rattle.ficus_laws.proofs.Places.{within_past, some_inside, entered_target}
 
 pub file_within : {H K : List Event} {U V : ℕ → Type 0} {object : Id} → UpdatesWithin H U K V → IsFile H U object → IsFile K V object
 file_within more f = record { kind = f.kind; made = made_within more f.made; other = f.other }
@@ -32,10 +31,6 @@ made_file_is number file Plain e = (same_Some number file e, λ d. cc)
 made_file_is number file Lines e = (same_Some number file e, λ d. cc)
 made_file_is number file Max e = (same_Some number file e, λ d. cc)
 made_file_is number file Keep e = (same_Some number file e, λ d. cc)
-
-some_name : {H : List Event} {U : ℕ → Type 0} {entries : List Id} {object : Id} → AreNames H U entries object → (id : Id) × Contains entries id
-some_name {entries = []} names = absurd (names.some refl)
-some_name {entries = id ∷ ids} names = (id, here id ids)
 
 pub none_is : (file : Id) → None ≡ Some file → ⊥
 none_is file e = cc
@@ -72,8 +67,8 @@ module _ (volume : Volume) (H : List Event) (lawful : IsLawful volume H) (reader
 
   removed_object : {position : ℕ} {number object : Id} {entries : List Id} → IsUpdate H position number (Remove entries object) →
       Knows H reader position → IsKnownObject object
-  removed_object {position} {number} {object} u k =
-      let id = some_name (may u).allowed.names in
+  removed_object {position} {number} {object} {entries} u k =
+      let id = some_inside entries (may u).allowed.names.some in
       let bound = (((may u).allowed.names.all id.0).0 id.1).bound in
       let target = entered_target volume (before position H) (lawful_before volume H position lawful) bound.live.entered in
       (target.0, made_within (more u k) (subst (λ o. IsMade (before position H) (Knows (before position H) number.replica) o target.0) bound.leads target.1))

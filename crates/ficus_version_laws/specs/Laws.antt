@@ -8,7 +8,7 @@ use Rattle.ficus_model.specs.declared.event.Op.TheVariants.{Make, Move}
 use Rattle.ficus_ids.specs.declared.kind.Kind.{Kind}
 use Rattle.ficus_ids.specs.declared.kind.Kind.TheVariants.{Dir}
 use Rattle.ficus_model.specs.Live.{IsFile, IsMade}
-use Rattle.ficus_model.specs.Events.{IsOf, through}
+use Rattle.ficus_model.specs.Events.{IsOf, through, actor}
 use Rattle.ficus_model.specs.Known.{Knows}
 use Rattle.ficus_model.specs.Lawful.{Volume, IsLawful}
 use Rattle.ficus_model.specs.Versions.{version_of, bytes_of, covered_by, IsVersion, IsShown}
@@ -16,7 +16,10 @@ use Rattle.ficus_model.specs.Vectors.{IsVectorOf, IsCoverOf}
 use Rattle.ficus_version_laws.specs.Compared.{IsAtMost, CompareAsPasts, join}
 use Rattle.ficus_version_laws.specs.Listed.{Item, AreShown, IsLatestOfBoth, AreMerged, join_all, advanced}
 use Rattle.ficus_version_laws.specs.Covers.{HasCover}
-use Rattle.ficus_laws.specs.Updates.{next_number}
+use Rattle.ficus_version_laws.specs.Views.{ShowSameView, IsSameFile}
+use Rattle.ficus_model.specs.View.{ViewSame}
+use Rattle.ficus_laws.specs.Laws.{KnowSameUpdates}
+use Rattle.ficus_laws.specs.Updates.{next_number, IsQuiet}
 
 -- in a lawful history the vectors of two versions of a file stand to each other as their pasts
 abbrev pub VectorsTellPasts : Type 0
@@ -126,3 +129,24 @@ MakeCoversNothing = (volume : Volume) (H : List Event) (replica : ℕ) (dir : Id
     IsLawful volume H →
     let K = H ++ Update replica (Make dir name kind) ∷ [] in
     IsCoverOf K (Knows K replica) (next_number replica H) (λ by. 0)
+
+-- an event of another replica, and one that is no update and takes nothing, changes nothing of a replica's view
+abbrev pub OthersKeepView : Type 0
+OthersKeepView = (H : List Event) (event : Event) (replica : ℕ) → (actor event ≢ replica) ⊎ IsQuiet event →
+    let K = H ++ event ∷ [] in
+    ShowSameView H (Knows H replica) K (Knows K replica)
+
+-- nor of the versions, the conflict and the cover of a file that isn't visible
+abbrev pub OthersKeepFile : Type 0
+OthersKeepFile = (H : List Event) (event : Event) (replica : ℕ) (file : Id) → (actor event ≢ replica) ⊎ IsQuiet event →
+    let K = H ++ event ∷ [] in
+    IsSameFile H (Knows H replica) K (Knows K replica) file
+
+-- replicas that know the same updates have the same view
+abbrev pub EqualKnowledgeEqualViews : Type 0
+EqualKnowledgeEqualViews = (H : List Event) (replica other : ℕ) → KnowSameUpdates H replica other →
+    ViewSame H (Knows H replica) (Knows H other)
+
+-- what a replica knew at some time shows the same in every longer history
+abbrev pub ViewsStay : Type 0
+ViewsStay = (H later : List Event) (replica : ℕ) → ShowSameView H (Knows H replica) (H ++ later) (Knows H replica)

@@ -7,9 +7,11 @@
 mod covers;
 mod vectors;
 mod versions;
+mod views;
 
 pub use covers::{covers_follow_events, covers_tell_pasts};
 pub use vectors::{vectors_stay, vectors_tell_pasts};
 pub use versions::{
     accept_joins_versions, files_have_versions, one_version_of_each, update_replaces_versions,
 };
+pub use views::{equal_knowledge_equal_views, others_keep_views, views_stay};
