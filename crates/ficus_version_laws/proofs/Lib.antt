@@ -9,3 +9,5 @@ pub mod Advancing
 pub mod Objects
 pub mod Covering
 pub mod Making
+pub mod Pigeonhole
+pub mod Few

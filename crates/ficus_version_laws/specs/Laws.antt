@@ -1,5 +1,5 @@
 -- The laws, as the law functions state them.
-use Rattle.std.specs.Prelude.{◌≡◌, ◌≢◌, ◌↔◌, ◌⊎◌, ℕ, ◌<◌, List, [], ◌∷◌, ◌++◌, length, Some}
+use Rattle.std.specs.Prelude.{◌≡◌, ◌≢◌, ◌↔◌, ◌⊎◌, ℕ, ◌<◌, List, [], ◌∷◌, ◌++◌, length, Some, ◌≤◌, Contains, AllPairs}
 use Rattle.ficus_ids.specs.declared.id.Id.{Id}
 use Rattle.ficus_model.specs.declared.event.Event.{Event}
 use Rattle.ficus_model.specs.declared.event.Event.TheVariants.{Update, Accept}
@@ -150,3 +150,9 @@ EqualKnowledgeEqualViews = (H : List Event) (replica other : ℕ) → KnowSameUp
 -- what a replica knew at some time shows the same in every longer history
 abbrev pub ViewsStay : Type 0
 ViewsStay = (H later : List Event) (replica : ℕ) → ShowSameView H (Knows H replica) (H ++ later) (Knows H replica)
+
+-- of a file at most as many versions are shown as the volume has members
+abbrev pub FewVersionsShown : Type 0
+FewVersionsShown = (volume : Volume) (H : List Event) (reader : ℕ) (file : Id) (positions : List ℕ) → IsLawful volume H →
+    ((position : ℕ) → Contains positions position → IsShown H (Knows H reader) file position) →
+    AllPairs (λ position other. position ≢ other) positions → length positions ≤ volume.members

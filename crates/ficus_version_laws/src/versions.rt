@@ -1,8 +1,9 @@
-ghost use Rattle.ficus_version_laws.specs.Laws.{OneShownOfEach, AcceptShowsLatest, AcceptMergesVersions, VersionReplacesAll, VersionAdvances, OthersKeepVersions, VersionsAreOfFiles, MakeShowsFirst, MakeCoversNothing};
+ghost use Rattle.ficus_version_laws.specs.Laws.{OneShownOfEach, FewVersionsShown, AcceptShowsLatest, AcceptMergesVersions, VersionReplacesAll, VersionAdvances, OthersKeepVersions, VersionsAreOfFiles, MakeShowsFirst, MakeCoversNothing};
 
-/// Of each replica at most one version of a file is shown.
+/// Of each replica at most one version of a file is shown, so at most as many as there are members.
 pub fn one_version_of_each()
-    ensures { OneShownOfEach }
+    ensures one { OneShownOfEach }
+    ensures few { FewVersionsShown }
 {}
 
 /// After an Accept its replica is shown the latest of the versions that it and the server were shown. Their
