@@ -35,12 +35,14 @@ pub entered_issued : {H : List Event} {U : ℕ → Type 0} {entry : Entry} → I
 entered_issued e = update_issued e.update
 
 -- the names that an operation may remove have been issued
-names_issued : {H : List Event} {U : ℕ → Type 0} {entries : List Id} {object id : Id} → AreNames H U entries object → Contains entries id → IsIssued H id
+names_issued : {H : List Event} {U : ℕ → Type 0} {entries : List Id} {object id : Id} → AreNames H U entries object →
+    Contains entries id → IsIssued H id
 names_issued {H} {id = id} names inside =
     let named = (names.all id).0 inside in
     subst (IsIssued H) named.by (entered_issued named.bound.live.entered)
 
-removes_issued : (H : List Event) (U : ℕ → Type 0) (number id : Id) (op : Op) → IsAllowed H U op → Contains (removed_by number op) id → IsIssued H id ⊎ (id ≡ number)
+removes_issued : (H : List Event) (U : ℕ → Type 0) (number id : Id) (op : Op) → IsAllowed H U op →
+    Contains (removed_by number op) id → IsIssued H id ⊎ (id ≡ number)
 removes_issued H U number id (Make dir name kind) allowed removes = absurd (not_inside_none id removes)
 removes_issued H U number id (Link dir name target) allowed removes = absurd (not_inside_none id removes)
 removes_issued H U number id (Remove entries target) allowed removes = inl (names_issued allowed.names removes)
@@ -56,8 +58,10 @@ removes_issued H U number id (Discard file) allowed removes = inr (only (here_or
     only (inr none) = absurd (not_inside_none id none)
 
 -- in a lawful history, what is removed has been issued
-pub removed_issued : (volume : Volume) (H : List Event) {U : ℕ → Type 0} {id : Id} → IsLawful volume H → IsRemoved H U id → IsIssued H id
-removed_issued volume H {id = id} lawful r = go (removes_issued (before r.position H) (Knows (before r.position H) r.number.replica) r.number id r.op may.allowed r.removes)
+pub removed_issued : (volume : Volume) (H : List Event) {U : ℕ → Type 0} {id : Id} → IsLawful volume H →
+    IsRemoved H U id → IsIssued H id
+removed_issued volume H {id = id} lawful r =
+    go (removes_issued (before r.position H) (Knows (before r.position H) r.number.replica) r.number id r.op may.allowed r.removes)
   where
     may : MayUpdate volume (before r.position H) r.number.replica r.op
     may = lawful.each r.position (Update r.number.replica r.op) r.update.at
@@ -67,25 +71,30 @@ removed_issued volume H {id = id} lawful r = go (removes_issued (before r.positi
     go (inr same) = rw same (update_issued r.update)
 
 -- so nothing has removed the entry that the next update may enter
-pub next_not_removed : (volume : Volume) (H : List Event) (replica : ℕ) {U : ℕ → Type 0} → IsLawful volume H → IsRemoved H U (next_number replica H) → ⊥
+pub next_not_removed : (volume : Volume) (H : List Event) (replica : ℕ) {U : ℕ → Type 0} → IsLawful volume H →
+    IsRemoved H U (next_number replica H) → ⊥
 next_not_removed volume H replica lawful r = let i = removed_issued volume H lawful r in omega (arith, i.at_most)
 
 -- an identifier is entered once, as one entry
-pub entered_once : {H : List Event} {U V : ℕ → Type 0} {entry other : Entry} → IsEntered H U entry → IsEntered H V other → entry.id ≡ other.id → entry ≡ other
+pub entered_once : {H : List Event} {U V : ℕ → Type 0} {entry other : Entry} → IsEntered H U entry →
+    IsEntered H V other → entry.id ≡ other.id → entry ≡ other
 entered_once {H} {U} {V} {entry} {other} e f same =
     let again : IsUpdate H f.position entry.id f.op = subst (λ id. IsUpdate H f.position id f.op) (sym same) f.update in
     let done = (update_once e.update again).1 in
     same_Some entry other (sym e.enters ∙ ap (entered_by entry.id) done ∙ ap (λ id. entered_by id f.op) same ∙ f.enters)
 
 -- an object is made once, of one kind
-pub made_once : {H : List Event} {U V : ℕ → Type 0} {object : Id} {kind other : Kind} → IsMade H U object kind → IsMade H V object other → kind ≡ other
+pub made_once : {H : List Event} {U V : ℕ → Type 0} {object : Id} {kind other : Kind} → IsMade H U object kind →
+    IsMade H V object other → kind ≡ other
 made_once {H} {object = object} {kind = kind} {other = other} m n =
     let done : Make m.dir m.name kind ≡ Make n.dir n.name other = (update_once m.update n.update).1 in
     cc
 
-pub made_issued : {H : List Event} {U : ℕ → Type 0} {object : Id} {kind : Kind} → IsMade H U object kind → IsIssued H object
+pub made_issued : {H : List Event} {U : ℕ → Type 0} {object : Id} {kind : Kind} → IsMade H U object kind →
+    IsIssued H object
 made_issued m = update_issued m.update
 
 -- identifiers are issued by members
-pub issuer_member : (volume : Volume) (H : List Event) {position : ℕ} {number : Id} {op : Op} → IsLawful volume H → IsUpdate H position number op → IsMember volume.members number.replica
+pub issuer_member : (volume : Volume) (H : List Event) {position : ℕ} {number : Id} {op : Op} → IsLawful volume H →
+    IsUpdate H position number op → IsMember volume.members number.replica
 issuer_member volume H lawful u = lawful_member volume H lawful (of_at u.at)

@@ -12,3 +12,5 @@ pub mod Pull
 pub mod Example
 pub mod Places
 pub mod OpenAsk
+pub mod Past
+pub mod Views

@@ -23,11 +23,22 @@ pub enum Event {
 pub enum Op {
     /// Makes an object of a kind and enters it in a directory under a name. The object has the update's
     /// number as its identifier, as the entry has.
-    Make { dir: Id, name: Name, kind: Kind },
+    Make {
+        dir: Id,
+        name: Name,
+        kind: Kind,
+    },
     /// Enters a file in a directory under one more name.
-    Link { dir: Id, name: Name, target: Id },
+    Link {
+        dir: Id,
+        name: Name,
+        target: Id,
+    },
     /// Removes the entries of one directory that have one name and lead to the target.
-    Remove { entries: Listed<Id>, target: Id },
+    Remove {
+        entries: Listed<Id>,
+        target: Id,
+    },
     /// Removes such entries, and enters their target in a directory under a name.
     Move {
         entries: Listed<Id>,
@@ -36,13 +47,28 @@ pub enum Op {
         target: Id,
     },
     /// Gives a file that isn't in conflict new bytes.
-    Write { file: Id, bytes: Listed<u8> },
+    Write {
+        file: Id,
+        bytes: Listed<u8>,
+    },
     /// Ends a file's conflict by bytes that a user chose.
-    Settle { file: Id, bytes: Listed<u8> },
+    Settle {
+        file: Id,
+        bytes: Listed<u8>,
+    },
     /// Ends a file's conflict by the bytes that the resolver of its kind gives.
-    Resolve { file: Id, bytes: Listed<u8> },
+    Resolve {
+        file: Id,
+        bytes: Listed<u8>,
+    },
     /// Enters an orphan in a directory under a name.
-    Adopt { file: Id, dir: Id, name: Name },
+    Adopt {
+        file: Id,
+        dir: Id,
+        name: Name,
+    },
     /// Gives up an orphan that is a file.
-    Discard { file: Id },
+    Discard {
+        file: Id,
+    },
 }

@@ -91,7 +91,7 @@ fresh_stands volume r replica saved none = record {
     used = refl;
     generation = refl;
     entries = λ entry. (λ inside. absurd (not_inside_none entry inside), λ held. absurd (nothing_held entry entry.state held));
-    directories = λ object kind made. absurd (nothing_at made.update.at);
+    directories = record { each = λ number op u. absurd (nothing_at u.update.at) };
   });
   ask = rw none (λ position to open_ask. nothing_at open_ask.ask);
 }
@@ -147,7 +147,7 @@ restarted_stands volume H r replica restarts stands =
         used = was.used;
         generation = was.generation ∙ sym (generation_fresh H r restarts);
         entries = λ entry. (λ inside. absurd (none_held [] r none_restarts entry entry.state ((was.entries entry).0 inside)), λ held. absurd (none_held H r restarts entry entry.state held));
-        directories = λ object kind made. absurd (restart_at restarts made.update.at);
+        directories = record { each = λ number op u. absurd (restart_at restarts u.update.at) };
       };
       ask = no_ask H r replica.ask restarts stands.ask;
     }

@@ -1,3 +1,4 @@
+pub mod Directories
 pub mod Shown
 pub mod OpenAsks
 pub mod Saves

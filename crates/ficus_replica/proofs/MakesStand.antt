@@ -3,7 +3,6 @@ use Rattle.std.proofs.Common.{◌≡◌, ◌↔◌, ℕ, ◌<◌, List, [], ◌�
 use Rattle.std.specs.Prelude.{Contains}
 use Rattle.ficus_ids.specs.Members.{IsMember}
 use Rattle.ficus_ids.specs.declared.id.Id.{Id}
-use Rattle.ficus_ids.specs.declared.kind.Kind.{Kind}
 use Rattle.ficus_ids.specs.declared.kind.Kind.TheVariants.{Dir}
 use Rattle.ficus_model.specs.declared.event.Event.{Event}
 use Rattle.ficus_model.specs.declared.event.Event.TheVariants.{Update}
@@ -11,22 +10,24 @@ use Rattle.ficus_model.specs.declared.event.Op.{Op}
 use Rattle.ficus_model.specs.declared.event.Op.TheVariants.{Make}
 use Rattle.ficus_model.specs.Events.{count_of}
 use Rattle.ficus_model.specs.Known.{Knows}
-use Rattle.ficus_model.specs.Live.{Entry as ModelEntry, IsLive, IsMade}
+use Rattle.ficus_model.specs.Live.{Entry as ModelEntry, IsLive}
 use Rattle.ficus_model.specs.Lawful.{Volume, HasPlace, IsLawful}
 use Rattle.ficus_path.specs.declared.path.Path.{Path}
 use Rattle.ficus_entry.specs.declared.entry.Entry.{Entry}
 use Rattle.ficus_entry.specs.declared.entry.State.{State}
 use Rattle.ficus_entry.specs.declared.entry.State.TheVariants.{Live, Dead}
-use Rattle.ficus_laws.specs.Updates.{next_number, made_entry as next_entry}
+use Rattle.ficus_laws.specs.Updates.{next_number, made_entry as next_entry, HasUpdate}
 use Rattle.ficus_laws.proofs.Updates.{count_update}
-use Rattle.ficus_laws.proofs.AfterUpdate.{make_live, make_kept, make_new, make_made}
+use Rattle.ficus_laws.proofs.AfterUpdate.{make_live, make_kept, make_new}
 use Rattle.ficus_laws.proofs.Issued.{next_not_removed}
+use Rattle.ficus_laws.proofs.OneMore.{has_after_update}
+use Rattle.ficus_laws.proofs.Shown.{tree_in_reach}
 use Rattle.ficus_replica.specs.declared.replica.Replica.{Replica}
 use Rattle.ficus_replica.specs.declared.replica.Next.{Next}
 use Rattle.ficus_replica.specs.AnswerOf.{Place}
 use Rattle.ficus_replica.specs.AnswerOf.MakeAnswer.{Makes}
 use Rattle.ficus_replica.specs.Gives.{made_entry, IsAdded, HasSaved, Made}
-use Rattle.ficus_replica.specs.SavedOf.{IsHeldAs, IsSavedOf, StandsFor}
+use Rattle.ficus_replica.specs.SavedOf.{IsHeldAs, MakesDirectory, MakesDirectories, IsSavedOf, StandsFor}
 use Rattle.ficus_replica.specs.Stands.{MakeAnswerAfter, StandsAfter, MadeAfter}
 use Rattle.ficus_replica.proofs.Shown.{directory_is, directory_reached}
 use Rattle.ficus_replica.proofs.OpenAsks.{open_kept}
@@ -35,7 +36,7 @@ use Rattle.ficus_replica.proofs.AnswersStand.{make_answer_stands}
 
 -- the place of a new entry is one, and the replica isn't spent
 made_place : (volume : Volume) (H : List Event) (r : ℕ) (path : Path) (place : Place) → MakeAnswerAfter volume H r path (Ok place) → HasPlace H (Knows H r) place.dir place.name × (count_of r H < volume.ids)
-made_place volume H r path place (Makes splits ends free left) = (record { directory = directory_is ends; reached = directory_reached ends; free = free }, omega arith)
+made_place volume H r path place (Makes splits ends free left) = (record { parent = record { directory = directory_is ends; reached = tree_in_reach (directory_reached ends) }; free = free }, omega arith)
 
 -- a live entry of the list for one of the history
 abbrev live_entry : ModelEntry → Entry
@@ -83,12 +84,12 @@ module _ (volume : Volume) (H : List Event) (r : ℕ) (place : Place) (lawful : 
       out (inl was) = inl ((is.entries entry).1 was)
       out (inr made) = inr (made ∙ sym same)
 
-  made_directories : (old : Replica) → IsSavedOf volume H r old.saved → (object : Id) (kind : Kind) → IsMade after (Knows after r) object kind → kind ≡ Dir
-  made_directories old is object kind made = go (make_made H r place.dir place.name Dir made)
+  made_directories : (old : Replica) → IsSavedOf volume H r old.saved → MakesDirectories after (Knows after r)
+  made_directories old is = record { each = λ number op u. go number op (has_after_update (Make place.dir place.name Dir) u) }
     where
-      go : IsMade H (Knows H r) object kind ⊎ ((object ≡ next_number r H) × (kind ≡ Dir)) → kind ≡ Dir
-      go (inl was) = is.directories object kind was
-      go (inr next) = next.1
+      go : (number : Id) (op : Op) → HasUpdate H (Knows H r) number op ⊎ ((number ≡ next_number r H) × (op ≡ Make place.dir place.name Dir)) → MakesDirectory op
+      go number op (inl was) = is.directories.each number op was
+      go number op (inr (next, same)) = rw same refl
 
   next_stands : (old new : Replica) → StandsFor volume H r old → IsAdded old.saved.entries (made_entry old place) new.saved.entries → HasSaved old new 1 new.saved.entries old.ask → StandsFor volume after r new
   next_stands old new stands added now =
@@ -109,7 +110,7 @@ made_stands volume H r old path next lawful member stands made =
       answer = answer;
       op = made.op;
       after = subst (λ (op : Op). StandsAfter volume H r (Update r op) next.replica) (sym made.op) (record {
-        lawful = record { member = member; left = fits.1; allowed = fits.0 };
+        lawful = record { member = member; left = fits.1; bytes = tt; allowed = fits.0 };
         stands = next_stands volume H r place lawful old next.replica stands made.added made.saved;
       });
     }

@@ -3,15 +3,11 @@ use Rattle.std.proofs.Common.{◌≡◌, ◌≢◌, ◌↔◌, ℕ, ◌+◌, ◌
 use Rattle.std.specs.Prelude.{Contains}
 use Rattle.std.proofs.lemmas.List.{take-take}
 use Rattle.std.proofs.lemmas.List.Sums.{sum_by_push, sum_by-take-le}
-use Rattle.ficus_ids.specs.declared.id.Id.{Id}
-use Rattle.ficus_ids.specs.declared.kind.Kind.{Kind}
-use Rattle.ficus_ids.specs.declared.kind.Kind.TheVariants.{Dir}
 use Rattle.ficus_model.specs.declared.event.Event.{Event}
 use Rattle.ficus_model.specs.declared.event.Event.TheVariants.{Update, Ask, Serve, Accept, Collect, Restart}
 use Rattle.ficus_model.specs.declared.event.Op.{Op}
 use Rattle.ficus_model.specs.Events.{IsAt, before, through, actor, count_of}
 use Rattle.ficus_model.specs.Known.{Knows}
-use Rattle.ficus_model.specs.Live.{IsMade}
 use Rattle.ficus_model.specs.Lawful.{Volume}
 use Rattle.ficus_entry.specs.declared.entry.Entry.{Entry}
 use Rattle.ficus_entry.specs.declared.entry.State.{State}
@@ -19,11 +15,12 @@ use Rattle.ficus_entry.specs.declared.entry.State.TheVariants.{Live, Dead}
 use Rattle.ficus_codec.specs.declared.saved.Saved.{Saved}
 use Rattle.ficus_laws.specs.Updates.{SameUpdates}
 use Rattle.ficus_laws.proofs.Positions.{through_is}
-use Rattle.ficus_laws.proofs.Shown.{live_same, made_within, same_back}
+use Rattle.ficus_laws.proofs.Shown.{live_same, same_back}
 use Rattle.ficus_replica.specs.declared.replica.Asked.{Asked}
 use Rattle.ficus_replica.specs.declared.replica.Replica.{Replica}
-use Rattle.ficus_replica.specs.SavedOf.{is_saved, generation_of, IsHeldAs, IsSavedOf}
+use Rattle.ficus_replica.specs.SavedOf.{MakesDirectories, is_saved, generation_of, IsHeldAs, IsSavedOf}
 use Rattle.ficus_replica.specs.Gives.{HasSaved}
+use Rattle.ficus_replica.proofs.Directories.{directories_within}
 
 pub saved_of_other : (r : ℕ) (event : Event) → actor event ≢ r → is_saved r event ≡ false
 saved_of_other r (Update by op) n = grind arith
@@ -71,8 +68,8 @@ entries_kept same was entry = (
   λ held. (was.entries entry).1 (held_same entry entry.state (same_back same) held),
 )
 
-pub directories_kept : {volume : Volume} {H K : List Event} {r : ℕ} {saved : Saved} → SameUpdates H (Knows H r) K (Knows K r) → IsSavedOf volume H r saved → (object : Id) (kind : Kind) → IsMade K (Knows K r) object kind → kind ≡ Dir
-directories_kept same was object kind made = was.directories object kind (made_within same.back made)
+pub directories_kept : {volume : Volume} {H K : List Event} {r : ℕ} {saved : Saved} → SameUpdates H (Knows H r) K (Knows K r) → IsSavedOf volume H r saved → MakesDirectories K (Knows K r)
+directories_kept same was = directories_within same.back was.directories
 
 -- an event that brings no update and no save leaves what is saved
 pub saved_kept : {volume : Volume} {H : List Event} {r : ℕ} {saved : Saved} (event : Event) → SameUpdates H (Knows H r) (H ++ event ∷ []) (Knows (H ++ event ∷ []) r) → count_of r (H ++ event ∷ []) ≡ count_of r H → is_saved r event ≡ false → IsSavedOf volume H r saved → IsSavedOf volume (H ++ event ∷ []) r saved
@@ -90,7 +87,7 @@ saved_kept {H = H} {r = r} event same counted no_save was = record {
 
 -- An event after which the replica saves: what it saves then stands for the longer history where its entries and
 -- its objects do.
-pub saves : {volume : Volume} {H : List Event} {r updates : ℕ} {old new : Replica} {held : List Entry} {asked : Option Asked} (event : Event) → IsSavedOf volume H r old.saved → HasSaved old new updates held asked → is_saved r event ≡ true → count_of r (H ++ event ∷ []) ≡ count_of r H + updates → ((entry : Entry) → Contains held entry ↔ IsHeldAs (H ++ event ∷ []) r entry entry.state) → ((object : Id) (kind : Kind) → IsMade (H ++ event ∷ []) (Knows (H ++ event ∷ []) r) object kind → kind ≡ Dir) → IsSavedOf volume (H ++ event ∷ []) r new.saved
+pub saves : {volume : Volume} {H : List Event} {r updates : ℕ} {old new : Replica} {held : List Entry} {asked : Option Asked} (event : Event) → IsSavedOf volume H r old.saved → HasSaved old new updates held asked → is_saved r event ≡ true → count_of r (H ++ event ∷ []) ≡ count_of r H + updates → ((entry : Entry) → Contains held entry ↔ IsHeldAs (H ++ event ∷ []) r entry entry.state) → MakesDirectories (H ++ event ∷ []) (Knows (H ++ event ∷ []) r) → IsSavedOf volume (H ++ event ∷ []) r new.saved
 saves {H = H} {r = r} {updates = updates} {new = new} {held = held} event was now saved counted entries directories = record {
   me = now.me ∙ was.me;
   members = now.members ∙ was.members;

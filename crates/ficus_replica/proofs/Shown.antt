@@ -1,8 +1,7 @@
 -- What a replica's entries show is what the known updates show, so walks and answers over the ones are walks and
 -- answers over the others.
-use Rattle.std.proofs.Common.{◌≡◌, ℕ, List, Bool, Option, Some, None, Result, Ok, Err, refl, sym, subst, inl, inr}
+use Rattle.std.proofs.Common.{ℕ, List, Bool, Option, Some, None, Result, Ok, Err, refl, sym, subst, inl, inr}
 use Rattle.ficus_ids.specs.declared.id.Id.{Id}
-use Rattle.ficus_ids.specs.declared.kind.Kind.{Kind}
 use Rattle.ficus_ids.specs.declared.kind.Kind.TheVariants.{Dir}
 use Rattle.ficus_ids.specs.declared.refusal.Refusal.{Refusal}
 use Rattle.ficus_ids.specs.declared.refusal.Refusal.TheVariants.{NoEntry, Ambiguous}
@@ -17,7 +16,6 @@ use Rattle.ficus_entry.specs.declared.entry.Entry.{Entry}
 use Rattle.ficus_names.specs.Binds.{BindsIn}
 use Rattle.ficus_names.specs.Find.{FindsOnly, FindsTarget, FindAnswer}
 use Rattle.ficus_names.specs.declared.listing.Line.{Line}
-use Rattle.ficus_laws.proofs.Places.{entered_target}
 use Rattle.ficus_laws.proofs.Shown.{reached_within}
 use Rattle.ficus_replica.specs.Walk.{WalkAnswer, DirectoryAnswer}
 use Rattle.ficus_replica.specs.Walk.WalkAnswer.{Arrives, NoDirectory, Refuses, Step}
@@ -27,12 +25,14 @@ use Rattle.ficus_replica.specs.AnswerOf.{Place, MakeAnswer, ListAnswer, TreeAnsw
 use Rattle.ficus_replica.specs.AnswerOf.MakeAnswer.{NoParent, IsTaken, IsSpent, Makes}
 use Rattle.ficus_replica.specs.AnswerOf.ListAnswer.{NoDirectory as ListsNone, Lists}
 use Rattle.ficus_replica.specs.Held.{HeldDirectory, HeldKind}
+use Rattle.ficus_replica.specs.SavedOf.{MakesDirectories}
+use Rattle.ficus_replica.proofs.Directories.{directories_target}
 
 -- the live entries bind what the known updates bind, and these make directories only
 pub record ShowsAs (entries : List Entry) (H : List Event) (U : ℕ → Type 0) : Type 0 where
   pub there : {dir target : Id} {name : List ℕ} → BindsIn entries dir name target → IsBound H U dir name target
   pub back : {dir target : Id} {name : List ℕ} → IsBound H U dir name target → BindsIn entries dir name target
-  pub directories : (object : Id) (kind : Kind) → IsMade H U object kind → kind ≡ Dir
+  pub directories : MakesDirectories H U
 
 -- two ways of saying what the names of one directory lead to, which say the same
 record SaySame (binds bound : List ℕ → Id → Type 0) : Type 0 where
@@ -86,9 +86,7 @@ module _ {entries : List Entry} {H : List Event} {U : ℕ → Type 0} (shows : S
   bound_made : {dir target : Id} {name : List ℕ} → BindsIn entries dir name target → IsMade H U target Dir
   bound_made {target = target} binds =
       let bound = shows.there binds in
-      let made = entered_target bound.live.entered in
-      let kind : made.0 ≡ Dir = shows.directories bound.entry.target made.0 made.1 in
-      subst (λ object. IsMade H U object Dir) bound.leads (subst (IsMade H U bound.entry.target) kind made.1)
+      subst (λ object. IsMade H U object Dir) bound.leads (directories_target shows.directories bound.live.entered)
 
   same_in : (dir : Id) → SaySame (BindsIn entries dir) (IsBound H U dir)
   same_in dir = record { there = λ binds. shows.there binds; back = λ bound. shows.back bound }

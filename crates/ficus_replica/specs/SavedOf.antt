@@ -1,18 +1,20 @@
 -- What it means that a replica stands for a history.
 use Rattle.std.specs.Prelude.{◌≡◌, ◌↔◌, ℕ, ◌+◌, List, Bool, false, ◌==◌, Option, Some, None, Contains, count_by}
 use Rattle.ficus_ids.specs.declared.id.Id.{Id}
-use Rattle.ficus_ids.specs.declared.kind.Kind.{Kind}
 use Rattle.ficus_ids.specs.declared.kind.Kind.TheVariants.{Dir}
 use Rattle.ficus_model.specs.declared.event.Event.{Event}
 use Rattle.ficus_model.specs.declared.event.Event.TheVariants.{Update, Ask, Serve, Accept, Collect, Restart}
+use Rattle.ficus_model.specs.declared.event.Op.{Op}
+use Rattle.ficus_model.specs.declared.event.Op.TheVariants.{Make, Link, Remove, Move, Write, Settle, Resolve, Adopt, Discard}
 use Rattle.ficus_model.specs.Events.{count_of, through}
 use Rattle.ficus_model.specs.Known.{Knows}
 use Rattle.ficus_model.specs.Lawful.{Volume, IsOpenAsk}
-use Rattle.ficus_model.specs.Live.{IsLive, IsMade}
+use Rattle.ficus_model.specs.Live.{IsLive}
 use Rattle.ficus_entry.specs.declared.entry.Entry.{Entry}
 use Rattle.ficus_entry.specs.declared.entry.State.{State}
 use Rattle.ficus_entry.specs.declared.entry.State.TheVariants.{Live, Dead}
 use Rattle.ficus_codec.specs.declared.saved.Saved.{Saved}
+use Rattle.ficus_laws.specs.Updates.{HasUpdate}
 use Rattle.ficus_replica.specs.declared.replica.Asked.{Asked}
 use Rattle.ficus_replica.specs.declared.replica.Replica.{Replica}
 
@@ -35,6 +37,22 @@ abbrev pub IsHeldAs : List Event → ℕ → Entry → State → Type 0
 IsHeldAs H replica entry Live = IsLive H (Knows H replica) (record { id = entry.id; dir = entry.dir; name = entry.name; target = entry.target })
 IsHeldAs H replica entry (Dead one two) = ⊥
 
+-- the operation makes a directory
+abbrev pub MakesDirectory : Op → Type 0
+MakesDirectory (Make dir name kind) = kind ≡ Dir
+MakesDirectory (Link dir name target) = ⊥
+MakesDirectory (Remove entries target) = ⊥
+MakesDirectory (Move entries dir name target) = ⊥
+MakesDirectory (Write file bytes) = ⊥
+MakesDirectory (Settle file bytes) = ⊥
+MakesDirectory (Resolve file bytes) = ⊥
+MakesDirectory (Adopt file dir name) = ⊥
+MakesDirectory (Discard file) = ⊥
+
+-- each known update makes a directory: no command does anything else yet
+pub record MakesDirectories (H : List Event) (U : ℕ → Type 0) : Type 0 where
+  pub each : (number : Id) (op : Op) → HasUpdate H U number op → MakesDirectory op
+
 -- what the replica saves after the history
 pub record IsSavedOf (volume : Volume) (H : List Event) (replica : ℕ) (saved : Saved) : Type 0 where
   pub me : saved.me ≡ replica
@@ -45,8 +63,7 @@ pub record IsSavedOf (volume : Volume) (H : List Event) (replica : ℕ) (saved :
   pub used : saved.used ≡ 0
   pub generation : saved.generation ≡ generation_of replica H
   pub entries : (entry : Entry) → Contains saved.entries entry ↔ IsHeldAs H replica entry entry.state
-  -- no file is kept yet
-  pub directories : (object : Id) (kind : Kind) → IsMade H (Knows H replica) object kind → kind ≡ Dir
+  pub directories : MakesDirectories H (Knows H replica)
 
 -- the ask that the replica waits for an answer to
 abbrev pub IsOpenAskOf : List Event → ℕ → Option Asked → Type 0

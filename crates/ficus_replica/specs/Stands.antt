@@ -1,9 +1,7 @@
 -- What each call on a replica gives, where the replica stands for a lawful history.
 use Rattle.std.specs.Prelude.{◌≡◌, ◌↔◌, ℕ, ◌≤◌, List, ◌∷◌, [], ◌++◌, Result, Ok, Err, Contains, Vec}
 use Rattle.std.specs.declared.alloc.Global.{Global}
-use Rattle.ficus_ids.specs.declared.id.Id.{Id}
 use Rattle.ficus_ids.specs.declared.kind.Kind.{Kind}
-use Rattle.ficus_ids.specs.declared.kind.Kind.TheVariants.{Dir}
 use Rattle.ficus_ids.specs.declared.refusal.Refusal.{Refusal}
 use Rattle.ficus_ids.specs.declared.refusal.Refusal.TheVariants.{Memory, Stale}
 use Rattle.ficus_model.specs.declared.event.Event.{Event}
@@ -19,7 +17,7 @@ use Rattle.ficus_names.specs.declared.listing.Line.{Line}
 use Rattle.ficus_replica.specs.declared.replica.Replica.{Replica}
 use Rattle.ficus_replica.specs.declared.replica.Next.{Next}
 use Rattle.ficus_replica.specs.AnswerOf.{Place, MakeAnswer, ListAnswer, TreeAnswer}
-use Rattle.ficus_replica.specs.SavedOf.{StandsFor, IsHeldAs, generation_of}
+use Rattle.ficus_replica.specs.SavedOf.{StandsFor, IsHeldAs, MakesDirectories, generation_of}
 
 -- what the calls on replica r answer after the history
 abbrev pub MakeAnswerAfter : Volume → List Event → ℕ → Path → Result Place Refusal → Type 0
@@ -64,8 +62,7 @@ pub record IsServed (H : List Event) (r s number : ℕ) (tables : List Entry) (s
   pub served : IsAt H serve (Serve s ask)
   pub numbered : number ≡ generation_of r (through ask H)
   pub entries : AreHeldBy (through serve H) s tables
-  -- no file is kept yet
-  pub directories : (object : Id) (kind : Kind) → IsMade (through serve H) (Knows (through serve H) s) object kind → kind ≡ Dir
+  pub directories : MakesDirectories (through serve H) (Knows (through serve H) s)
 
 -- what was served is taken where the history allows it, and is stale where it doesn't
 abbrev pub AcceptStands : Volume → List Event → ℕ → ℕ → Result Replica Refusal → Type 0

@@ -16,6 +16,7 @@ use Rattle.ficus_model.specs.Known.{Knows}
 use Rattle.ficus_model.specs.Lawful.{Volume, HasPlace, MayCome, IsLawful}
 use Rattle.ficus_laws.proofs.Positions.{at_within}
 use Rattle.ficus_laws.proofs.Lawful.{lawful_more}
+use Rattle.ficus_laws.proofs.Shown.{tree_in_reach}
 use Rattle.ficus_laws.proofs.Pull.{lawful_pulled, pulled_is}
 use Rattle.ficus_path.specs.declared.path.Path.{Path}
 use Rattle.ficus_replica.specs.AnswerOf.{Place}
@@ -37,7 +38,7 @@ run_more (Then first rest) step = Then first (run_more rest step)
 
 -- a new entry goes to a place for it, while updates are left
 made_place : (volume : Volume) (H : List Event) (r : ℕ) (path : Path) (place : Place) → MakeAnswerAfter volume H r path (Ok place) → HasPlace H (Knows H r) place.dir place.name × (count_of r H < volume.ids)
-made_place volume H r path place (Makes splits ends free left) = (record { directory = directory_is ends; reached = directory_reached ends; free = free }, omega arith)
+made_place volume H r path place (Makes splits ends free left) = (record { parent = record { directory = directory_is ends; reached = tree_in_reach (directory_reached ends) }; free = free }, omega arith)
 
 none_lawful : (volume : Volume) (H added : List Event) → added ≡ [] → IsLawful volume H → IsLawful volume (H ++ added)
 none_lawful volume H added none lawful = subst (λ events. IsLawful volume (H ++ events)) (sym none) (subst (IsLawful volume) (sym (append-nil H)) lawful)
@@ -47,7 +48,7 @@ allowed_lawful : (volume : Volume) (H : List Event) (command : Command) (answer 
 allowed_lawful volume H (MkDir by path) (Made id) added makes lawful =
     let place = makes.place in
     let fits = made_place volume H by path place makes.answer in
-    subst (λ events. IsLawful volume (H ++ events)) (sym makes.added_is) (lawful_more volume H (Update by (Make place.dir place.name Dir)) lawful (record { member = makes.member; left = fits.1; allowed = fits.0 }))
+    subst (λ events. IsLawful volume (H ++ events)) (sym makes.added_is) (lawful_more volume H (Update by (Make place.dir place.name Dir)) lawful (record { member = makes.member; left = fits.1; bytes = tt; allowed = fits.0 }))
 allowed_lawful volume H (MkDir by path) (Refused refusal) added allows lawful = none_lawful volume H added allows.0 lawful
 allowed_lawful volume H (MkDir by path) other added allows lawful = absurd allows
 allowed_lawful volume H (Ls by path) (Names lines) added allows lawful = none_lawful volume H added allows.0 lawful
