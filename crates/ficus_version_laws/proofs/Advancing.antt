@@ -20,7 +20,8 @@ use Rattle.ficus_laws.proofs.Knowledge.{knows_within, knows_more, knows_own, kno
 use Rattle.ficus_version_laws.specs.Compared.{bump}
 use Rattle.ficus_version_laws.specs.Listed.{Item, IsItemOf, IsListed, IsShownItem, AreShown, join_all, advanced}
 use Rattle.ficus_version_laws.proofs.Counting.{counts_same}
-use Rattle.ficus_version_laws.proofs.Past.{agree_version, version_within, past_less}
+use Rattle.ficus_laws.proofs.Past.{agree_version, past_earlier}
+use Rattle.ficus_version_laws.proofs.Past.{version_within}
 use Rattle.ficus_version_laws.proofs.Latest.{VersionsWithin, shown_same, are_shown_same, agree_shown, agree_are_shown}
 use Rattle.ficus_version_laws.proofs.Listing.{IsKnownVersion, knows_closed, known_counts}
 
@@ -96,7 +97,7 @@ module _ (H : List Event) (replica : ℕ) (op : Op) where
   -- Of a file of which it is a version event it is the one version shown, over all that were known.
   module _ {file : Id} (is : version_of (next_number replica H) op ≡ Some file) where
     pub end_shown : IsShown after (Knows after replica) file (length H)
-    end_shown = record { version = end_version is; known = knows_own own_end; latest = λ other v k p. omega (arith, past_less p, version_within v, length_push H (Update replica op)) }
+    end_shown = record { version = end_version is; known = knows_own own_end; latest = λ other v k p. omega (arith, past_earlier p, version_within v, length_push H (Update replica op)) }
 
     pub shown_is_end : {position : ℕ} → IsShown after (Knows after replica) file position → position ≡ length H
     shown_is_end {position} s = go (known_after s.known)

@@ -14,7 +14,8 @@ use Rattle.ficus_laws.proofs.Seen.{seen_within, seen_through}
 use Rattle.ficus_laws.proofs.Issued.{issuer_member}
 use Rattle.ficus_version_laws.specs.Compared.{IsAtMost, AreEqual, IsUnder, AreApart, AreConcurrent, CompareAsPasts}
 use Rattle.ficus_version_laws.proofs.Counting.{IsFirstPart, counts_at_most, counts_same, counts_to, counts_once, first_part_within}
-use Rattle.ficus_version_laws.proofs.Past.{agree_past, agree_version, version_within, past_less, past_seen, update_seen, seen_own}
+use Rattle.ficus_laws.proofs.Past.{agree_past, agree_version, past_earlier, past_seen, update_seen}
+use Rattle.ficus_version_laws.proofs.Past.{version_within, seen_own}
 
 -- a version event of the file by the replica
 pub record IsVersionBy (H : List Event) (file : Id) (replica position : ℕ) : Type 0 where
@@ -89,7 +90,7 @@ module _ (volume : Volume) (H : List Event) (lawful : IsLawful volume H) (file :
       back : HasInPast H other position → IsUnder volume.members vector again
       back p = record {
         at_most = (seen_at_most v w t u).0 (past_seen p);
-        strictly = λ a. omega (arith, past_less p, seen_within ((seen_at_most w v u t).1 a));
+        strictly = λ a. omega (arith, past_earlier p, seen_within ((seen_at_most w v u t).1 a));
       }
 
   equal_one : {position other : ℕ} {vector again : ℕ → ℕ} → IsVersion H file position → IsVersion H file other → IsVectorOf H file position vector → IsVectorOf H file other again → AreEqual volume.members vector again → position ≡ other

@@ -20,9 +20,10 @@ use Rattle.ficus_version_laws.specs.Compared.{IsAtMost, join}
 use Rattle.ficus_version_laws.specs.Listed.{Item, AreShown, join_all}
 use Rattle.ficus_version_laws.specs.Covers.{HasCover}
 use Rattle.ficus_version_laws.proofs.Counting.{IsFirstPart, counts_at_most, counts_same, counts_to, counts_none, counts_join, first_part_within}
-use Rattle.ficus_version_laws.proofs.Past.{agree_past, agree_version, agree_covering, version_within, covering_within, past_less, past_through, seen_own}
+use Rattle.ficus_laws.proofs.Past.{agree_past, agree_version, agree_covering, past_earlier}
+use Rattle.ficus_version_laws.proofs.Past.{version_within, covering_within, seen_own, past_sees}
 use Rattle.ficus_version_laws.proofs.Comparing.{IsVersionBy, IsSeenVersion, version_seen, seen_first_part, writer, writer_member, vector_counts}
-use Rattle.ficus_version_laws.proofs.Agreeing.{KnownBelow}
+use Rattle.ficus_laws.proofs.Views.{KnownBelow}
 use Rattle.ficus_version_laws.proofs.Taking.{knows_before, taken_known, known_taken}
 use Rattle.ficus_version_laws.proofs.Listing.{IsKnownVersion, knows_closed, known_first_part, known_counts}
 use Rattle.ficus_version_laws.proofs.Advancing.{own_end, past_of_end, known_after}
@@ -36,7 +37,7 @@ is_covered v o c = record { version = v; own = o; cover = c.cover; covering = c.
 
 -- what a covered version has seen is covered
 pub cover_seen : {H : List Event} {U : ℕ → Type 0} {file : Id} {position seen : ℕ} → HasCover H U file position → HasSeen H position seen → HasCover H U file seen
-cover_seen c s = record { cover = c.cover; covering = c.covering; known = c.known; past = past_through c.covering.update.at c.past s }
+cover_seen c s = record { cover = c.cover; covering = c.covering; known = c.known; past = past_sees c.past s }
 
 pub covered_first_part : {H : List Event} {U : ℕ → Type 0} {file : Id} {replica : ℕ} → IsFirstPart (IsVersionBy H file replica) (IsCovered H U file replica)
 covered_first_part = record {
@@ -89,7 +90,7 @@ pub agree_covered : {n : ℕ} {H K : List Event} {U : ℕ → Type 0} {file : Id
     AgreeBelow n H K → KnownBelow n U → IsCovered H U file replica number → IsCovered K U file replica number
 agree_covered g below p =
     let l = below p.cover p.known in
-    let m = past_less p.past in
+    let m = past_earlier p.past in
     record { version = agree_version g (omega arith) p.version; own = agree_of g (omega arith) p.own; cover = p.cover; covering = agree_covering g l p.covering; known = p.known; past = agree_past g l p.past }
 
 pub agree_cover : {n : ℕ} {H K : List Event} {U : ℕ → Type 0} {file : Id} {cover : ℕ → ℕ} → length H ≤ length K →

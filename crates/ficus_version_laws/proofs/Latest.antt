@@ -13,8 +13,9 @@ use Rattle.ficus_laws.proofs.Positions.{AgreeBelow, agree_back}
 use Rattle.ficus_laws.proofs.Seen.{seen_through}
 use Rattle.ficus_version_laws.specs.Compared.{IsUnder}
 use Rattle.ficus_version_laws.specs.Listed.{Item, IsItemOf, IsShownItem, IsListed, AreShown, IsShownInEither, IsLatestOfBoth, IsOfEither, IsKept, AreMerged}
-use Rattle.ficus_version_laws.proofs.Past.{agree_bytes, version_within, past_less, past_seen, past_through, update_seen, seen_own}
-use Rattle.ficus_version_laws.proofs.Agreeing.{KnownBelow, agree_known, shown_within}
+use Rattle.ficus_laws.proofs.Past.{agree_bytes, past_earlier, past_seen, update_seen}
+use Rattle.ficus_version_laws.proofs.Past.{version_within, seen_own}
+use Rattle.ficus_laws.proofs.Views.{KnownBelow, agree_known, shown_within}
 use Rattle.ficus_version_laws.proofs.Comparing.{compare_as_pasts, agree_vector}
 
 -- the first set lies in the second, for versions of the file
@@ -80,7 +81,7 @@ none_seen U none zero position l v k s = omega (arith, version_within v)
 none_seen U none (suc rest) position l v k s = none position (record {
   version = v;
   known = k;
-  latest = λ other w j p. none_seen U none rest other (let m = past_less p in omega arith) w j (seen_through (past_seen p) s);
+  latest = λ other w j p. none_seen U none rest other (let m = past_earlier p in omega arith) w j (seen_through (past_seen p) s);
 }) s
 
 -- where none has it in its past, no known one has

@@ -1,6 +1,5 @@
 pub mod Counting
 pub mod Past
-pub mod Agreeing
 pub mod Comparing
 pub mod Latest
 pub mod Taking

@@ -13,7 +13,8 @@ use Rattle.ficus_laws.proofs.Seen.{seen_through}
 use Rattle.ficus_laws.proofs.Knowledge.{knows_past}
 use Rattle.ficus_version_laws.specs.Listed.{Item, IsItemOf, IsShownItem, IsListed, AreShown, join_all}
 use Rattle.ficus_version_laws.proofs.Counting.{IsFirstPart, counts_same, counts_none, counts_join, counts_decide}
-use Rattle.ficus_version_laws.proofs.Past.{version_within, past_less, seen_own}
+use Rattle.ficus_laws.proofs.Past.{past_earlier}
+use Rattle.ficus_version_laws.proofs.Past.{version_within, seen_own}
 use Rattle.ficus_version_laws.proofs.Comparing.{IsVersionBy, IsSeenVersion, seen_version_later, seen_first_part, seen_from_count, writer, vector_counts}
 use Rattle.ficus_version_laws.proofs.Latest.{none_seen}
 

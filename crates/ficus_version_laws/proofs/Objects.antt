@@ -17,12 +17,10 @@ use Rattle.ficus_model.specs.Versions.{made_file, version_of, covered_by, IsVers
 use Rattle.ficus_laws.specs.Updates.{next_number, UpdatesWithin}
 use Rattle.ficus_laws.proofs.Positions.{of_at}
 use Rattle.ficus_laws.proofs.Shown.{made_within}
+use Rattle.ficus_laws.proofs.Views.{file_within}
 use Rattle.ficus_laws.proofs.Issued.{made_issued}
 use Rattle.ficus_laws.proofs.Lawful.{lawful_before}
 use Rattle.ficus_laws.proofs.Places.{within_past, some_inside, entered_target}
-
-pub file_within : {H K : List Event} {U V : ℕ → Type 0} {object : Id} → UpdatesWithin H U K V → IsFile H U object → IsFile K V object
-file_within more f = record { kind = f.kind; made = made_within more f.made; other = f.other }
 
 -- a kind whose Make is a version isn't that of directories
 made_file_is : (number file : Id) (kind : Kind) → made_file number kind ≡ Some file → (number ≡ file) × (kind ≢ Dir)

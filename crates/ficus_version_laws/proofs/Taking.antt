@@ -15,8 +15,8 @@ use Rattle.ficus_laws.proofs.Seen.{seen_within}
 use Rattle.ficus_laws.proofs.Knowledge.{knows_within}
 use Rattle.ficus_laws.proofs.Accept.{accept_knows, accept_keeps, accept_brings}
 use Rattle.ficus_version_laws.specs.Listed.{Item, AreShown, IsShownInEither, IsLatestOfBoth, AreMerged}
-use Rattle.ficus_version_laws.proofs.Past.{agree_past, agree_version}
-use Rattle.ficus_version_laws.proofs.Agreeing.{KnownBelow}
+use Rattle.ficus_laws.proofs.Past.{agree_past, agree_version}
+use Rattle.ficus_laws.proofs.Views.{KnownBelow}
 use Rattle.ficus_version_laws.proofs.Latest.{VersionsWithin, shown_same, are_shown_same, agree_shown, agree_are_shown, joined_shown, shown_joined, are_shown_merged}
 
 -- what is known among the first events lies among them

@@ -16,9 +16,8 @@ use Rattle.ficus_model.specs.Vectors.{IsVectorOf, IsCoverOf}
 use Rattle.ficus_version_laws.specs.Compared.{IsAtMost, CompareAsPasts, join}
 use Rattle.ficus_version_laws.specs.Listed.{Item, AreShown, IsLatestOfBoth, AreMerged, join_all, advanced}
 use Rattle.ficus_version_laws.specs.Covers.{HasCover}
-use Rattle.ficus_version_laws.specs.Views.{ShowSameView, IsSameFile}
-use Rattle.ficus_model.specs.View.{ViewSame}
-use Rattle.ficus_laws.specs.Laws.{KnowSameUpdates}
+use Rattle.ficus_version_laws.specs.Views.{IsSameFile}
+use Rattle.ficus_laws.specs.Views.{ShowSameView}
 use Rattle.ficus_laws.specs.Updates.{next_number, IsQuiet}
 
 -- in a lawful history the vectors of two versions of a file stand to each other as their pasts
@@ -141,11 +140,6 @@ abbrev pub OthersKeepFile : Type 0
 OthersKeepFile = (H : List Event) (event : Event) (replica : ℕ) (file : Id) → (actor event ≢ replica) ⊎ IsQuiet event →
     let K = H ++ event ∷ [] in
     IsSameFile H (Knows H replica) K (Knows K replica) file
-
--- replicas that know the same updates have the same view
-abbrev pub EqualKnowledgeEqualViews : Type 0
-EqualKnowledgeEqualViews = (H : List Event) (replica other : ℕ) → KnowSameUpdates H replica other →
-    ViewSame H (Knows H replica) (Knows H other)
 
 -- what a replica knew at some time shows the same in every longer history
 abbrev pub ViewsStay : Type 0

@@ -14,4 +14,4 @@ pub use vectors::{vectors_stay, vectors_tell_pasts};
 pub use versions::{
     accept_joins_versions, files_have_versions, one_version_of_each, update_replaces_versions,
 };
-pub use views::{equal_knowledge_equal_views, others_keep_views, views_stay};
+pub use views::{others_keep_views, views_stay};

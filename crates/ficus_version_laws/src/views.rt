@@ -1,15 +1,10 @@
-ghost use Rattle.ficus_version_laws.specs.Laws.{OthersKeepView, OthersKeepFile, EqualKnowledgeEqualViews, ViewsStay};
+ghost use Rattle.ficus_version_laws.specs.Laws.{OthersKeepView, OthersKeepFile, ViewsStay};
 
 /// What a replica is shown stays the same after an event of another replica, and after an event of its own
 /// that is no update and takes nothing.
 pub fn others_keep_views()
     ensures view { OthersKeepView }
     ensures file { OthersKeepFile }
-{}
-
-/// Replicas that know the same updates have the same view.
-pub fn equal_knowledge_equal_views()
-    ensures { EqualKnowledgeEqualViews }
 {}
 
 /// What is known shows the same in every longer history.

@@ -1,4 +1,4 @@
-use Rattle.ficus_version_laws.proofs.Agreeing.{same_turned, kept_known, shown_within, conflict_within, same_view}
+use Rattle.ficus_laws.proofs.Views.{same_turned, kept_known, shown_within, conflict_within, same_view}
 use Rattle.ficus_version_laws.proofs.Advancing.{are_shown_kept}
 use Rattle.ficus_version_laws.proofs.Covering.{cover_kept, cover_was}
 use Rattle.ficus_version_laws.proofs.views.others_keep_views.Goals as goal
