@@ -8,8 +8,6 @@ use Rattle.ficus_model.specs.declared.event.Op.{Op}
 use Rattle.ficus_model.specs.Events.{IsUpdate, actor}
 use Rattle.ficus_model.specs.Known.{Knows, HasInPast}
 use Rattle.ficus_model.specs.Live.{IsBound, HasName, HasInside, IsFile}
-use Rattle.ficus_model.specs.Reached.{IsReached}
-use Rattle.ficus_model.specs.Reached.IsReached.{Base, Through}
 use Rattle.ficus_model.specs.ShownNames.{HasOther}
 use Rattle.ficus_model.specs.Versions.{IsVersion, IsCovering, HasBytes, IsShown, IsUncovered, ShowsBytes, IsInConflict}
 use Rattle.ficus_model.specs.View.{IsFilled, HasUnseen, IsOrphan, IsTop, IsInReach, IsDetached, IsVisible, ShowsName, IsShared, ShowsConflict, ShowsVersion, ViewSame}
@@ -20,7 +18,7 @@ use Rattle.ficus_laws.proofs.Positions.{AgreeBelow, agree_back, agree_more}
 use Rattle.ficus_laws.proofs.Updates.{agree_update, update_within, update_cases}
 use Rattle.ficus_laws.proofs.Knowledge.{knows_within, knows_more, knows_of_other, knows_untold}
 use Rattle.ficus_laws.proofs.OneMore.{quiet_takes}
-use Rattle.ficus_laws.proofs.Shown.{made_within, live_same, bound_same, leads_same}
+use Rattle.ficus_laws.proofs.Shown.{made_within, live_same, bound_same, leads_same, reached_within, reached_from_more}
 use Rattle.ficus_laws.proofs.Past.{agree_past}
 
 -- an update that the first knows stands at the same position of the second, with the same past, and is known there
@@ -157,13 +155,12 @@ module _ {H K : List Event} {U V : ℕ → Type 0} (same : KnowsSame H U K V) wh
   visible_within (inl n) = inl (named_within same n)
   visible_within (inr o) = inr (orphan_within o)
 
-  top_within : {object : Id} → IsTop H U object → IsTop K V object
-  top_within (inl root) = inl root
-  top_within (inr o) = inr (orphan_within o)
+  top_within : (object : Id) → IsTop H U object → IsTop K V object
+  top_within object (inl root) = inl root
+  top_within object (inr o) = inr (orphan_within o)
 
   pub reach_within : {object : Id} → IsInReach H U object → IsInReach K V object
-  reach_within (Base b) = Base (top_within b)
-  reach_within (Through r l) = Through (reach_within r) (leads_same (same_updates same) l)
+  reach_within r = reached_from_more top_within (reached_within (λ dir target l. leads_same (same_updates same) l) r)
 
   other_within : {dir target : Id} {name : List ℕ} → HasOther (IsBound H U dir) name target → HasOther (IsBound K V dir) name target
   other_within o = record { other = o.other; bound = bound_same (same_updates same) o.bound; differs = o.differs }

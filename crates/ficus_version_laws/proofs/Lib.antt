@@ -10,3 +10,4 @@ pub mod Covering
 pub mod Making
 pub mod Pigeonhole
 pub mod Few
+pub mod Orphaned

@@ -1,5 +1,5 @@
 -- What covers a version, and which versions of a list are beyond a cover.
-use Rattle.std.specs.Prelude.{ℕ, List, Contains}
+use Rattle.std.specs.Prelude.{◌≢◌, ℕ, List, Contains}
 use Rattle.ficus_ids.specs.declared.id.Id.{Id}
 use Rattle.ficus_model.specs.declared.event.Event.{Event}
 use Rattle.ficus_model.specs.Known.{HasInPast}
@@ -25,3 +25,11 @@ pub record HasBeyond (members : ℕ) (versions : List Item) (cover : ℕ → ℕ
   pub item : Item
   pub inside : Contains versions item
   pub beyond : IsAtMost members item.vector cover → ⊥
+
+-- two versions of the list differ in bytes
+pub record HasTwoTexts (versions : List Item) : Type 0 where
+  pub one : Item
+  pub other : Item
+  pub inside : Contains versions one
+  pub inside_too : Contains versions other
+  pub differ : one.bytes ≢ other.bytes

@@ -7,15 +7,16 @@ use Rattle.ficus_model.specs.declared.event.Op.{Op}
 use Rattle.ficus_model.specs.declared.event.Op.TheVariants.{Make, Move}
 use Rattle.ficus_ids.specs.declared.kind.Kind.{Kind}
 use Rattle.ficus_ids.specs.declared.kind.Kind.TheVariants.{Dir}
-use Rattle.ficus_model.specs.Live.{IsFile, IsMade}
+use Rattle.ficus_model.specs.Live.{IsFile, IsMade, HasName}
 use Rattle.ficus_model.specs.Events.{IsOf, through, actor}
 use Rattle.ficus_model.specs.Known.{Knows}
 use Rattle.ficus_model.specs.Lawful.{Volume, IsLawful}
-use Rattle.ficus_model.specs.Versions.{version_of, bytes_of, covered_by, IsVersion, IsShown}
+use Rattle.ficus_model.specs.Versions.{version_of, bytes_of, covered_by, IsVersion, IsShown, IsInConflict}
 use Rattle.ficus_model.specs.Vectors.{IsVectorOf, IsCoverOf}
 use Rattle.ficus_version_laws.specs.Compared.{IsAtMost, CompareAsPasts, join}
 use Rattle.ficus_version_laws.specs.Listed.{Item, AreShown, IsLatestOfBoth, AreMerged, join_all, advanced}
-use Rattle.ficus_version_laws.specs.Covers.{HasCover}
+use Rattle.ficus_version_laws.specs.Covers.{HasCover, HasBeyond, HasTwoTexts}
+use Rattle.ficus_model.specs.View.{IsOrphan}
 use Rattle.ficus_version_laws.specs.Views.{IsSameFile}
 use Rattle.ficus_laws.specs.Views.{ShowSameView}
 use Rattle.ficus_laws.specs.Updates.{next_number, IsQuiet}
@@ -150,3 +151,17 @@ abbrev pub FewVersionsShown : Type 0
 FewVersionsShown = (volume : Volume) (H : List Event) (reader : ℕ) (file : Id) (positions : List ℕ) → IsLawful volume H →
     ((position : ℕ) → Contains positions position → IsShown H (Knows H reader) file position) →
     AllPairs (λ position other. position ≢ other) positions → length positions ≤ volume.members
+
+-- a file is in conflict exactly where two versions of its list differ in bytes
+abbrev pub ConflictsDifferInBytes : Type 0
+ConflictsDifferInBytes = (H : List Event) (replica : ℕ) (file : Id) (versions : List Item) →
+    AreShown H (Knows H replica) file versions →
+    IsInConflict H (Knows H replica) file ↔ HasTwoTexts versions
+
+-- a file is an orphan exactly where it has no live name, and the vector of a shown version isn't at most the cover
+abbrev pub OrphansHaveUncovered : Type 0
+OrphansHaveUncovered = (volume : Volume) (H : List Event) (replica : ℕ) (file : Id) (versions : List Item) (cover : ℕ → ℕ) →
+    IsLawful volume H → IsFile H (Knows H replica) file →
+    AreShown H (Knows H replica) file versions → IsCoverOf H (Knows H replica) file cover →
+    IsOrphan H (Knows H replica) file ↔
+    ((HasName H (Knows H replica) file → ⊥) × HasBeyond volume.members versions cover)
