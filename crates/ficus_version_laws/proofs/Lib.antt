@@ -11,3 +11,4 @@ pub mod Making
 pub mod Pigeonhole
 pub mod Few
 pub mod Orphaned
+pub mod Existing

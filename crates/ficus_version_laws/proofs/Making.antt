@@ -9,7 +9,8 @@ use Rattle.ficus_model.specs.declared.event.Event.TheVariants.{Update}
 use Rattle.ficus_model.specs.declared.event.Op.TheVariants.{Make}
 use Rattle.ficus_model.specs.Known.{Knows}
 use Rattle.ficus_model.specs.Lawful.{Volume, IsLawful}
-use Rattle.ficus_model.specs.Versions.{made_file}
+use Rattle.ficus_model.specs.Live.{IsFile}
+use Rattle.ficus_model.specs.Versions.{made_file, IsVersion}
 use Rattle.ficus_model.specs.Vectors.{IsCovered, IsCoverOf}
 use Rattle.ficus_laws.specs.Updates.{next_number}
 use Rattle.ficus_version_laws.specs.Listed.{AreShown, advanced}
@@ -24,6 +25,10 @@ made_file_of number Plain differs = refl
 made_file_of number Lines differs = refl
 made_file_of number Max differs = refl
 made_file_of number Keep differs = refl
+
+-- the Make of a file is a version of it
+pub made_version : {H : List Event} {U : ℕ → Type 0} {file : Id} (f : IsFile H U file) → IsVersion H file f.made.position
+made_version {file = file} f = record { number = file; op = Make f.made.dir f.made.name f.kind; update = f.made.update; versions = made_file_of file f.kind f.other }
 
 module _ (volume : Volume) (H : List Event) (replica : ℕ) (lawful : IsLawful volume H) where
   -- of the object that the next update would make no version is shown

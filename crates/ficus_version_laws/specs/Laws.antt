@@ -15,8 +15,8 @@ use Rattle.ficus_model.specs.Versions.{version_of, bytes_of, covered_by, IsVersi
 use Rattle.ficus_model.specs.Vectors.{IsVectorOf, IsCoverOf}
 use Rattle.ficus_version_laws.specs.Compared.{IsAtMost, CompareAsPasts, join}
 use Rattle.ficus_version_laws.specs.Listed.{Item, AreShown, IsLatestOfBoth, AreMerged, join_all, advanced}
-use Rattle.ficus_version_laws.specs.Covers.{HasCover, HasBeyond, HasTwoTexts}
-use Rattle.ficus_model.specs.View.{IsOrphan}
+use Rattle.ficus_version_laws.specs.Covers.{HasCover, ShowsUncovered, HasBeyond, HasTwoTexts}
+use Rattle.ficus_model.specs.View.{IsOrphan, HasUnseen}
 use Rattle.ficus_version_laws.specs.Views.{IsSameFile}
 use Rattle.ficus_laws.specs.Views.{ShowSameView}
 use Rattle.ficus_laws.specs.Updates.{next_number, IsQuiet}
@@ -165,3 +165,22 @@ OrphansHaveUncovered = (volume : Volume) (H : List Event) (replica : ℕ) (file 
     AreShown H (Knows H replica) file versions → IsCoverOf H (Knows H replica) file cover →
     IsOrphan H (Knows H replica) file ↔
     ((HasName H (Knows H replica) file → ⊥) × HasBeyond volume.members versions cover)
+
+-- each file has a list of its shown versions
+abbrev pub ListsExist : Type 0
+ListsExist = (H : List Event) (replica : ℕ) (file : Id) →
+    (versions : List Item) × AreShown H (Knows H replica) file versions
+
+-- and a cover
+abbrev pub CoversExist : Type 0
+CoversExist = (H : List Event) (replica : ℕ) (file : Id) → (cover : ℕ → ℕ) × IsCoverOf H (Knows H replica) file cover
+
+-- some shown version of each known file
+abbrev pub FilesShowVersions : Type 0
+FilesShowVersions = (H : List Event) (replica : ℕ) (file : Id) → IsFile H (Knows H replica) file →
+    (position : ℕ) × IsShown H (Knows H replica) file position
+
+-- where a version is uncovered, one that is shown is
+abbrev pub UncoveredAreShown : Type 0
+UncoveredAreShown = (H : List Event) (replica : ℕ) (file : Id) →
+    HasUnseen H (Knows H replica) file ↔ (IsFile H (Knows H replica) file × ShowsUncovered H (Knows H replica) file)

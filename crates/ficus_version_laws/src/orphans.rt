@@ -1,4 +1,4 @@
-ghost use Rattle.ficus_version_laws.specs.Laws.{ConflictsDifferInBytes, OrphansHaveUncovered};
+ghost use Rattle.ficus_version_laws.specs.Laws.{ConflictsDifferInBytes, OrphansHaveUncovered, UncoveredAreShown};
 
 /// A file is in conflict exactly where two of its shown versions differ in bytes.
 pub fn conflicts_differ_in_bytes()
@@ -7,5 +7,6 @@ pub fn conflicts_differ_in_bytes()
 
 /// A file is an orphan exactly where no live entry leads to it, and one of its shown versions isn't covered.
 pub fn orphans_have_uncovered_versions()
-    ensures { OrphansHaveUncovered }
+    ensures listed { OrphansHaveUncovered }
+    ensures shown { UncoveredAreShown }
 {}

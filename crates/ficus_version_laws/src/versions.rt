@@ -1,4 +1,4 @@
-ghost use Rattle.ficus_version_laws.specs.Laws.{OneShownOfEach, FewVersionsShown, AcceptShowsLatest, AcceptMergesVersions, VersionReplacesAll, VersionAdvances, OthersKeepVersions, VersionsAreOfFiles, MakeShowsFirst, MakeCoversNothing};
+ghost use Rattle.ficus_version_laws.specs.Laws.{OneShownOfEach, FewVersionsShown, AcceptShowsLatest, AcceptMergesVersions, VersionReplacesAll, VersionAdvances, OthersKeepVersions, VersionsAreOfFiles, MakeShowsFirst, MakeCoversNothing, ListsExist, CoversExist, FilesShowVersions};
 
 /// Of each replica at most one version of a file is shown, so at most as many as there are members.
 pub fn one_version_of_each()
@@ -26,4 +26,11 @@ pub fn files_have_versions()
     ensures files { VersionsAreOfFiles }
     ensures first { MakeShowsFirst }
     ensures uncovered { MakeCoversNothing }
+{}
+
+/// Each file has a list of its shown versions and a cover, and where it is known the list isn't empty.
+pub fn files_have_lists()
+    ensures lists { ListsExist }
+    ensures covers { CoversExist }
+    ensures some { FilesShowVersions }
 {}
