@@ -5,11 +5,13 @@ use Rattle.ficus_ids.specs.declared.id.Id.{Id}
 use Rattle.ficus_model.specs.declared.event.Event.{Event}
 use Rattle.ficus_model.specs.declared.event.Event.TheVariants.{Update, Accept}
 use Rattle.ficus_model.specs.declared.event.Op.{Op}
+use Rattle.ficus_model.specs.declared.event.Op.TheVariants.{Make, Link, Remove, Move, Write, Settle, Resolve, Adopt, Discard}
+use Rattle.ficus_model.specs.View.{HasUnseen}
 use Rattle.ficus_model.specs.Events.{IsOf, IsUpdate, through}
 use Rattle.ficus_model.specs.Known.{HasSeen, Knows, HasInPast}
 use Rattle.ficus_model.specs.Known.HasSeen.{Itself}
 use Rattle.ficus_model.specs.Lawful.{Volume, IsLawful}
-use Rattle.ficus_model.specs.Versions.{covered_by, IsVersion, IsCovering}
+use Rattle.ficus_model.specs.Versions.{version_of, covered_by, IsVersion, IsCovering}
 use Rattle.ficus_model.specs.Vectors.{Counts, IsVectorOf, IsCovered, IsCoverOf}
 use Rattle.ficus_model.specs.Vectors.Counts.{OneMore, AsMany}
 use Rattle.ficus_laws.specs.Updates.{Joined, next_number}
@@ -26,7 +28,7 @@ use Rattle.ficus_version_laws.proofs.Comparing.{IsVersionBy, IsSeenVersion, vers
 use Rattle.ficus_laws.proofs.Views.{KnownBelow}
 use Rattle.ficus_version_laws.proofs.Taking.{knows_before, taken_known, known_taken}
 use Rattle.ficus_version_laws.proofs.Listing.{IsKnownVersion, knows_closed, known_first_part, known_counts}
-use Rattle.ficus_version_laws.proofs.Advancing.{own_end, past_of_end, known_after}
+use Rattle.ficus_version_laws.proofs.Advancing.{own_end, past_of_end, known_after, version_after}
 
 pub has_cover : {H : List Event} {U : ℕ → Type 0} {file : Id} {replica position : ℕ} → IsCovered H U file replica position → HasCover H U file position
 has_cover c = record { cover = c.cover; covering = c.covering; known = c.known; past = c.past }
@@ -134,6 +136,18 @@ cover_accept {H} {replica} {served} {server} {file} {cover} {other} by_server a 
     below position (inl k) = knows_within k
     below position (inr k) = let l = of_within by_server in let m = knows_before H served k in omega arith
 
+-- an operation that covers an object is no version event
+covers_no_version : (number : Id) (op : Op) (file : Id) → covered_by op ≡ Some file → version_of number op ≡ Some file → ⊥
+covers_no_version number (Make dir name kind) file c v = cc
+covers_no_version number (Link dir name target) file c v = cc
+covers_no_version number (Remove entries target) file c v = cc
+covers_no_version number (Move entries dir name target) file c v = cc
+covers_no_version number (Write object bytes) file c v = cc
+covers_no_version number (Settle object bytes) file c v = cc
+covers_no_version number (Resolve object bytes) file c v = cc
+covers_no_version number (Adopt object dir name) file c v = cc
+covers_no_version number (Discard object) file c v = cc
+
 -- In these a replica has done one more operation.
 module _ (H : List Event) (replica : ℕ) (op : Op) where
   abbrev after : List Event
@@ -189,3 +203,12 @@ module _ (H : List Event) (replica : ℕ) (op : Op) where
     cover_covered = record {
       counts = λ by. counts_same (counts_to (length after) (omega (arith, length_push H (Update replica op))) (λ number l p. late l p) (counts_join covered_first_part (known_first_part (knows_closed H replica)) (d.counts by) (known_counts (knows_closed H replica) a by))) (λ number l p. covers p) (λ number l p. covered p);
     }
+
+  -- so none that is known then is uncovered
+  pub covers_all : {file : Id} → covered_by op ≡ Some file → HasUnseen after (Knows after replica) file → ⊥
+  covers_all {file} is u = go (known_after H replica op u.uncovered.known) (version_after H replica op u.uncovered.version)
+    where
+      go : (u.position ≡ length H) ⊎ Knows H replica u.position → IsVersion H file u.position ⊎ ((u.position ≡ length H) × (version_of (next_number replica H) op ≡ Some file)) → ⊥
+      go (inl end) (inl v) = omega (arith, version_within v)
+      go (inl end) (inr (here, versions)) = covers_no_version (next_number replica H) op file is versions
+      go (inr k) v = u.uncovered.uncovered (length H) (record { number = next_number replica H; op = op; update = update_end H replica op; covers = is }) (knows_own (own_end H replica op)) ((past_of_end H replica op).1 k)

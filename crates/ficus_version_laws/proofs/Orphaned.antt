@@ -1,12 +1,12 @@
 -- What the lists of versions and the covers tell of conflicts and orphans.
-use Rattle.std.proofs.Common.{◌≡◌, ◌≢◌, ◌↔◌, ◌⊎◌, inl, inr, ℕ, List, sym, ap, ◌∙◌}
+use Rattle.std.proofs.Common.{◌≡◌, ◌≢◌, ◌↔◌, ◌⊎◌, inl, inr, ℕ, List, sym, ap, ◌∙◌, subst}
 use Rattle.std.specs.Prelude.{Contains}
 use Rattle.ficus_ids.specs.declared.id.Id.{Id}
 use Rattle.ficus_model.specs.declared.event.Event.{Event}
 use Rattle.ficus_model.specs.Known.{Knows}
 use Rattle.ficus_model.specs.Live.{HasName, IsFile}
 use Rattle.ficus_model.specs.Lawful.{Volume, IsLawful}
-use Rattle.ficus_model.specs.Versions.{bytes_of, HasBytes, IsUncovered, ShowsBytes, IsInConflict}
+use Rattle.ficus_model.specs.Versions.{bytes_of, HasBytes, IsShown, IsUncovered, ShowsBytes, IsInConflict}
 use Rattle.ficus_model.specs.Vectors.{IsCoverOf}
 use Rattle.ficus_model.specs.View.{IsFilled, HasUnseen, IsOrphan}
 use Rattle.ficus_laws.proofs.Issued.{made_once}
@@ -18,8 +18,17 @@ use Rattle.ficus_version_laws.proofs.Listing.{IsKnownVersion, IsSeenByListed, se
 use Rattle.ficus_version_laws.proofs.Covering.{cover_seen, covered_from_cover, cover_from_covered}
 use Rattle.ficus_version_laws.proofs.Objects.{version_file}
 
-bytes_once : {H : List Event} {position : ℕ} {bytes again : List ℕ} → HasBytes H position bytes → HasBytes H position again → bytes ≡ again
+-- an update has one text
+pub bytes_once : {H : List Event} {position : ℕ} {bytes again : List ℕ} → HasBytes H position bytes → HasBytes H position again → bytes ≡ again
 bytes_once b c = sym b.are ∙ ap bytes_of (update_same b.update c.update).1 ∙ c.are
+
+-- a file of which one version is shown isn't in conflict
+pub one_no_conflict : {H : List Event} {U : ℕ → Type 0} {file : Id} {only : ℕ} →
+    ((position : ℕ) → IsShown H U file position → position ≡ only) → IsInConflict H U file → ⊥
+one_no_conflict {H} one c =
+    let e = one c.shows_one.position c.shows_one.shown in
+    let f = one c.shows_other.position c.shows_other.shown in
+    c.differ (bytes_once c.shows_one.has (subst (λ p. HasBytes H p c.other) (f ∙ sym e) c.shows_other.has))
 
 -- a file is in conflict exactly where two versions of its list differ in bytes
 pub conflict_listed : {H : List Event} {U : ℕ → Type 0} {file : Id} {versions : List Item} →

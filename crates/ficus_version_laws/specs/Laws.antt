@@ -184,3 +184,28 @@ FilesShowVersions = (H : List Event) (replica : ℕ) (file : Id) → IsFile H (K
 abbrev pub UncoveredAreShown : Type 0
 UncoveredAreShown = (H : List Event) (replica : ℕ) (file : Id) →
     HasUnseen H (Knows H replica) file ↔ (IsFile H (Knows H replica) file × ShowsUncovered H (Knows H replica) file)
+
+-- a version has one vector
+abbrev pub OneVector : Type 0
+OneVector = (H : List Event) (file : Id) (position : ℕ) (vector again : ℕ → ℕ) →
+    IsVectorOf H file position vector → IsVectorOf H file position again →
+    (replica : ℕ) → vector replica ≡ again replica
+
+-- a file has one cover
+abbrev pub OneCover : Type 0
+OneCover = (H : List Event) (reader : ℕ) (file : Id) (cover again : ℕ → ℕ) →
+    IsCoverOf H (Knows H reader) file cover → IsCoverOf H (Knows H reader) file again →
+    (replica : ℕ) → cover replica ≡ again replica
+
+-- after a version event of a file it isn't in conflict
+abbrev pub VersionEndsConflict : Type 0
+VersionEndsConflict = (H : List Event) (replica : ℕ) (op : Op) (file : Id) →
+    version_of (next_number replica H) op ≡ Some file →
+    let K = H ++ Update replica op ∷ [] in
+    IsInConflict K (Knows K replica) file → ⊥
+
+-- after a Remove or a Discard of a file none of its known versions is uncovered
+abbrev pub RemovalCoversAll : Type 0
+RemovalCoversAll = (H : List Event) (replica : ℕ) (op : Op) (file : Id) → covered_by op ≡ Some file →
+    let K = H ++ Update replica op ∷ [] in
+    HasUnseen K (Knows K replica) file → ⊥

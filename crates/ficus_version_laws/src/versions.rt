@@ -1,4 +1,4 @@
-ghost use Rattle.ficus_version_laws.specs.Laws.{OneShownOfEach, FewVersionsShown, AcceptShowsLatest, AcceptMergesVersions, VersionReplacesAll, VersionAdvances, OthersKeepVersions, VersionsAreOfFiles, MakeShowsFirst, MakeCoversNothing, ListsExist, CoversExist, FilesShowVersions};
+ghost use Rattle.ficus_version_laws.specs.Laws.{OneShownOfEach, FewVersionsShown, AcceptShowsLatest, AcceptMergesVersions, VersionReplacesAll, VersionAdvances, VersionEndsConflict, OthersKeepVersions, VersionsAreOfFiles, MakeShowsFirst, MakeCoversNothing, ListsExist, CoversExist, FilesShowVersions};
 
 /// Of each replica at most one version of a file is shown, so at most as many as there are members.
 pub fn one_version_of_each()
@@ -18,6 +18,7 @@ pub fn accept_joins_versions()
 pub fn update_replaces_versions()
     ensures shown { VersionReplacesAll }
     ensures advanced { VersionAdvances }
+    ensures settled { VersionEndsConflict }
     ensures kept { OthersKeepVersions }
 {}
 

@@ -2,7 +2,7 @@ use Rattle.std.proofs.Common.{◌≢◌, List, ℕ, None, Some}
 use Rattle.ficus_ids.specs.declared.id.Id.{Id}
 use Rattle.ficus_model.specs.declared.event.Event.TheVariants.{Update}
 use Rattle.ficus_model.specs.declared.event.Op.TheVariants.{Move}
-use Rattle.ficus_version_laws.proofs.Covering.{cover_accept, cover_covered, coverings_back, cover_kept, cover_was}
+use Rattle.ficus_version_laws.proofs.Covering.{cover_accept, cover_covered, covers_all, coverings_back, cover_kept, cover_was}
 use Rattle.ficus_version_laws.proofs.Objects.{none_is}
 use Rattle.ficus_version_laws.proofs.covers.covers_follow_events.Goals as goal
 
@@ -23,3 +23,6 @@ returns-clause-moved c = λ H replica entries dir name target file cover. (
   cover_kept H (Update replica (Move entries dir name target)) replica (coverings_back H replica (Move entries dir name target) (none_is file)),
   cover_was H (Update replica (Move entries dir name target)) replica (coverings_back H replica (Move entries dir name target) (none_is file)),
 )
+
+pub returns-clause-all : goal.returns-clause-all
+returns-clause-all c = λ H replica op file is unseen. covers_all H replica op is unseen
