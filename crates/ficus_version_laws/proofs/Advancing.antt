@@ -1,5 +1,5 @@
 -- What an update leaves of the versions.
-use Rattle.std.proofs.Common.{◌≡◌, ◌≢◌, ◌↔◌, ◌⊎◌, inl, inr, ℕ, suc, ◌+◌, ◌<◌, ◌≤◌, ◌==◌, Bool, true, false, if◌then◌else◌, List, [], ◌∷◌, ◌++◌, length, take, Some, None, arith, refl, sym, ap, ◌∙◌, subst}
+use Rattle.std.proofs.Common.{◌≡◌, ◌≢◌, ◌↔◌, ◌⊎◌, inl, inr, ℕ, suc, ◌+◌, ◌<◌, ◌==◌, Bool, true, false, if◌then◌else◌, List, [], ◌∷◌, ◌++◌, length, take, Some, arith, refl, sym, ap, ◌∙◌, subst}
 use Rattle.std.specs.Prelude.{Contains}
 use Rattle.std.proofs.lemmas.Bool.{both_ways, eq-eqb, eqb-true}
 use Rattle.std.proofs.lemmas.List.{take_at, length_push}
@@ -9,13 +9,13 @@ use Rattle.ficus_model.specs.declared.event.Event.{Event}
 use Rattle.ficus_model.specs.declared.event.Event.TheVariants.{Update}
 use Rattle.ficus_model.specs.declared.event.Op.{Op}
 use Rattle.ficus_model.specs.Events.{IsOf, IsUpdate}
-use Rattle.ficus_model.specs.Known.{HasSeen, Knows, HasInPast}
+use Rattle.ficus_model.specs.Known.{Knows, HasInPast}
 use Rattle.ficus_model.specs.Versions.{version_of, bytes_of, IsVersion, IsShown}
 use Rattle.ficus_model.specs.Vectors.{Counts, IsInVector, IsVectorOf}
 use Rattle.ficus_model.specs.Vectors.Counts.{OneMore, AsMany}
 use Rattle.ficus_laws.specs.Updates.{next_number}
 use Rattle.ficus_laws.proofs.Positions.{agree_back, agree_more, of_end, of_more, of_less, of_same}
-use Rattle.ficus_laws.proofs.Updates.{update_end, update_cases, update_within}
+use Rattle.ficus_laws.proofs.Updates.{update_end, update_cases}
 use Rattle.ficus_laws.proofs.Knowledge.{knows_within, knows_more, knows_own, knows_untold}
 use Rattle.ficus_version_laws.specs.Compared.{bump}
 use Rattle.ficus_version_laws.specs.Listed.{Item, IsItemOf, IsListed, IsShownItem, AreShown, join_all, advanced}
@@ -23,7 +23,7 @@ use Rattle.ficus_version_laws.proofs.Counting.{counts_same}
 use Rattle.ficus_laws.proofs.Past.{agree_version, past_earlier}
 use Rattle.ficus_version_laws.proofs.Past.{version_within}
 use Rattle.ficus_version_laws.proofs.Latest.{VersionsWithin, shown_same, are_shown_same, agree_shown, agree_are_shown}
-use Rattle.ficus_version_laws.proofs.Listing.{IsKnownVersion, knows_closed, known_counts}
+use Rattle.ficus_version_laws.proofs.Listing.{knows_closed, known_counts}
 
 -- Where of the versions of a file the same ones are known after one more event, the same are shown.
 module _ (H : List Event) (event : Event) (replica : ℕ) {file : Id}

@@ -1,5 +1,5 @@
 -- Covers tell which versions lie in the past of a Remove or a Discard.
-use Rattle.std.proofs.Common.{◌≡◌, ◌≢◌, ◌↔◌, ◌⊎◌, inl, inr, ℕ, suc, ◌+◌, ◌<◌, ◌≤◌, List, [], ◌∷◌, ◌++◌, length, length-take, Some, arith, refl, sym, ap, ◌∙◌, subst}
+use Rattle.std.proofs.Common.{◌≡◌, ◌≢◌, ◌⊎◌, inl, inr, ℕ, suc, ◌+◌, ◌≤◌, List, [], ◌∷◌, ◌++◌, length, length-take, Some, arith, ap, ◌∙◌, subst}
 use Rattle.std.proofs.lemmas.List.{length_push}
 use Rattle.ficus_ids.specs.declared.id.Id.{Id}
 use Rattle.ficus_model.specs.declared.event.Event.{Event}
@@ -9,22 +9,21 @@ use Rattle.ficus_model.specs.declared.event.Op.TheVariants.{Make, Link, Remove, 
 use Rattle.ficus_model.specs.View.{HasUnseen}
 use Rattle.ficus_model.specs.Events.{IsOf, IsUpdate, through}
 use Rattle.ficus_model.specs.Known.{HasSeen, Knows, HasInPast}
-use Rattle.ficus_model.specs.Known.HasSeen.{Itself}
 use Rattle.ficus_model.specs.Lawful.{Volume, IsLawful}
 use Rattle.ficus_model.specs.Versions.{version_of, covered_by, IsVersion, IsCovering}
 use Rattle.ficus_model.specs.Vectors.{Counts, IsVectorOf, IsCovered, IsCoverOf}
 use Rattle.ficus_model.specs.Vectors.Counts.{OneMore, AsMany}
 use Rattle.ficus_laws.specs.Updates.{Joined, next_number}
 use Rattle.ficus_laws.proofs.Positions.{AgreeBelow, agree_back, agree_more, agree_before, agree_of, of_within, of_more, of_less}
-use Rattle.ficus_laws.proofs.Updates.{update_cases, update_end, update_within}
+use Rattle.ficus_laws.proofs.Updates.{update_cases, update_end}
 use Rattle.ficus_laws.proofs.Knowledge.{knows_within, knows_more, knows_own}
 use Rattle.ficus_version_laws.specs.Compared.{IsAtMost, join}
 use Rattle.ficus_version_laws.specs.Listed.{Item, AreShown, join_all}
 use Rattle.ficus_version_laws.specs.Covers.{HasCover}
-use Rattle.ficus_version_laws.proofs.Counting.{IsFirstPart, counts_at_most, counts_same, counts_to, counts_none, counts_join, first_part_within}
+use Rattle.ficus_version_laws.proofs.Counting.{IsFirstPart, counts_at_most, counts_same, counts_to, counts_join, first_part_within}
 use Rattle.ficus_laws.proofs.Past.{agree_past, agree_version, agree_covering, past_earlier}
 use Rattle.ficus_version_laws.proofs.Past.{version_within, covering_within, seen_own, past_sees}
-use Rattle.ficus_version_laws.proofs.Comparing.{IsVersionBy, IsSeenVersion, version_seen, seen_first_part, writer, writer_member, vector_counts}
+use Rattle.ficus_version_laws.proofs.Comparing.{IsVersionBy, version_seen, seen_first_part, writer, writer_member, vector_counts}
 use Rattle.ficus_laws.proofs.Views.{KnownBelow}
 use Rattle.ficus_version_laws.proofs.Taking.{knows_before, taken_known, known_taken}
 use Rattle.ficus_version_laws.proofs.Listing.{IsKnownVersion, knows_closed, known_first_part, known_counts}

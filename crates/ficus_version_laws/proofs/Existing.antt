@@ -9,10 +9,9 @@ use Rattle.ficus_ids.specs.declared.id.Id.{Id}
 use Rattle.ficus_model.specs.declared.event.Event.{Event}
 use Rattle.ficus_model.specs.declared.event.Event.TheVariants.{Update, Ask, Serve, Accept, Collect, Restart}
 use Rattle.ficus_model.specs.declared.event.Op.{Op}
-use Rattle.ficus_model.specs.Events.{IsAt, IsOf, IsUpdate, actor, before}
+use Rattle.ficus_model.specs.Events.{IsAt, IsUpdate, actor, before}
 use Rattle.ficus_model.specs.Known.{HasSeen, Knows, HasInPast}
 use Rattle.ficus_model.specs.Known.HasSeen.{Itself}
-use Rattle.ficus_model.specs.Live.{IsFile}
 use Rattle.ficus_model.specs.Versions.{version_of, covered_by, bytes_of, IsVersion, IsCovering, IsShown}
 use Rattle.ficus_model.specs.Vectors.{Counts, IsInVector, IsVectorOf, IsCovered, IsCoverOf}
 use Rattle.ficus_model.specs.Vectors.Counts.{Nothing, OneMore, AsMany}

@@ -7,10 +7,7 @@ use Rattle.ficus_model.specs.Events.{IsOf}
 use Rattle.ficus_model.specs.Lawful.{Volume, IsLawful}
 use Rattle.ficus_model.specs.Versions.{IsShown}
 use Rattle.ficus_laws.proofs.Positions.{of_same}
-use Rattle.ficus_laws.proofs.Seen.{seen_within}
-use Rattle.ficus_version_laws.specs.Compared.{AreEqual}
-use Rattle.ficus_version_laws.specs.Listed.{Item, IsItemOf, IsShownItem, AreShown}
-use Rattle.ficus_version_laws.proofs.Comparing.{writer, writer_member, seen_from_count, compare_as_pasts}
+use Rattle.ficus_version_laws.proofs.Comparing.{writer, writer_member}
 use Rattle.ficus_version_laws.proofs.Latest.{shown_once}
 use Rattle.ficus_version_laws.proofs.Pigeonhole.{at_most_marks}
 

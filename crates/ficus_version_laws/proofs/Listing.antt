@@ -1,5 +1,5 @@
 -- The vectors of the shown versions count together what is known of a file.
-use Rattle.std.proofs.Common.{◌≡◌, ◌⊎◌, inl, inr, ℕ, ◌+◌, ◌<◌, ◌≤◌, max, List, [], ◌∷◌, length, arith, sym, subst}
+use Rattle.std.proofs.Common.{◌≡◌, ◌⊎◌, inl, inr, ℕ, List, [], ◌∷◌, length, arith, sym, subst}
 use Rattle.std.specs.Prelude.{Contains}
 use Rattle.ficus_ids.specs.ListLaws.{here, there, here_or_there, not_inside_none}
 use Rattle.ficus_ids.specs.declared.id.Id.{Id}
@@ -9,11 +9,9 @@ use Rattle.ficus_model.specs.Known.{HasSeen, Knows}
 use Rattle.ficus_model.specs.Known.HasSeen.{Itself}
 use Rattle.ficus_model.specs.Versions.{IsVersion, IsShown}
 use Rattle.ficus_model.specs.Vectors.{Counts, IsVectorOf}
-use Rattle.ficus_laws.proofs.Seen.{seen_through}
 use Rattle.ficus_laws.proofs.Knowledge.{knows_past}
-use Rattle.ficus_version_laws.specs.Listed.{Item, IsItemOf, IsShownItem, IsListed, AreShown, join_all}
+use Rattle.ficus_version_laws.specs.Listed.{Item, IsShownItem, AreShown, join_all}
 use Rattle.ficus_version_laws.proofs.Counting.{IsFirstPart, counts_same, counts_none, counts_join, counts_decide}
-use Rattle.ficus_laws.proofs.Past.{past_earlier}
 use Rattle.ficus_version_laws.proofs.Past.{version_within, seen_own}
 use Rattle.ficus_version_laws.proofs.Comparing.{IsVersionBy, IsSeenVersion, seen_version_later, seen_first_part, seen_from_count, writer, vector_counts}
 use Rattle.ficus_version_laws.proofs.Latest.{none_seen}

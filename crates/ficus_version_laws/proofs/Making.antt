@@ -1,5 +1,5 @@
 -- What a Make leaves of the versions.
-use Rattle.std.proofs.Common.{◌≡◌, ◌≢◌, ◌⊎◌, inl, inr, ℕ, List, [], ◌∷◌, ◌++◌, length, Some, refl}
+use Rattle.std.proofs.Common.{◌≡◌, ◌≢◌, ℕ, List, [], ◌∷◌, ◌++◌, length, Some, refl}
 use Rattle.ficus_ids.specs.ListLaws.{not_inside_none}
 use Rattle.ficus_ids.specs.declared.id.Id.{Id}
 use Rattle.ficus_ids.specs.declared.kind.Kind.{Kind}
@@ -11,7 +11,7 @@ use Rattle.ficus_model.specs.Known.{Knows}
 use Rattle.ficus_model.specs.Lawful.{Volume, IsLawful}
 use Rattle.ficus_model.specs.Live.{IsFile}
 use Rattle.ficus_model.specs.Versions.{made_file, IsVersion}
-use Rattle.ficus_model.specs.Vectors.{IsCovered, IsCoverOf}
+use Rattle.ficus_model.specs.Vectors.{IsCoverOf}
 use Rattle.ficus_laws.specs.Updates.{next_number}
 use Rattle.ficus_version_laws.specs.Listed.{AreShown, advanced}
 use Rattle.ficus_version_laws.proofs.Counting.{counts_none}

@@ -1,20 +1,20 @@
 -- What the lists of versions and the covers tell of conflicts and orphans.
-use Rattle.std.proofs.Common.{◌≡◌, ◌≢◌, ◌↔◌, ◌⊎◌, inl, inr, ℕ, List, sym, ap, ◌∙◌, subst}
+use Rattle.std.proofs.Common.{◌≡◌, ◌↔◌, ◌⊎◌, inl, inr, ℕ, List, sym, ap, ◌∙◌, subst}
 use Rattle.std.specs.Prelude.{Contains}
 use Rattle.ficus_ids.specs.declared.id.Id.{Id}
 use Rattle.ficus_model.specs.declared.event.Event.{Event}
 use Rattle.ficus_model.specs.Known.{Knows}
 use Rattle.ficus_model.specs.Live.{HasName, IsFile}
 use Rattle.ficus_model.specs.Lawful.{Volume, IsLawful}
-use Rattle.ficus_model.specs.Versions.{bytes_of, HasBytes, IsShown, IsUncovered, ShowsBytes, IsInConflict}
+use Rattle.ficus_model.specs.Versions.{bytes_of, HasBytes, IsShown, ShowsBytes, IsInConflict}
 use Rattle.ficus_model.specs.Vectors.{IsCoverOf}
 use Rattle.ficus_model.specs.View.{IsFilled, HasUnseen, IsOrphan}
 use Rattle.ficus_laws.proofs.Issued.{made_once}
 use Rattle.ficus_laws.proofs.Past.{update_same}
-use Rattle.ficus_version_laws.specs.Listed.{Item, IsShownItem, IsListed, AreShown}
-use Rattle.ficus_version_laws.specs.Covers.{HasCover, HasBeyond, HasTwoTexts}
+use Rattle.ficus_version_laws.specs.Listed.{Item, AreShown}
+use Rattle.ficus_version_laws.specs.Covers.{HasBeyond, HasTwoTexts}
 use Rattle.ficus_version_laws.proofs.Comparing.{writer}
-use Rattle.ficus_version_laws.proofs.Listing.{IsKnownVersion, IsSeenByListed, seen_by_listed}
+use Rattle.ficus_version_laws.proofs.Listing.{seen_by_listed}
 use Rattle.ficus_version_laws.proofs.Covering.{cover_seen, covered_from_cover, cover_from_covered}
 use Rattle.ficus_version_laws.proofs.Objects.{version_file}
 
@@ -70,8 +70,8 @@ module _ (volume : Volume) (H : List Event) (lawful : IsLawful volume H) (replic
         item = listed.item;
         inside = listed.inside;
         beyond = λ below. (
-          let c = cover_seen (covered_from_cover volume H lawful listed.shown.shown.version listed.shown.is.vector d below) listed.seen.seen in
-          u.uncovered.uncovered c.cover c.covering c.known c.past);
+            let c = cover_seen (covered_from_cover volume H lawful listed.shown.shown.version listed.shown.is.vector d below) listed.seen.seen in
+            u.uncovered.uncovered c.cover c.covering c.known c.past);
       }
 
   pub beyond_unseen : HasBeyond volume.members versions cover → HasUnseen H (Knows H replica) file

@@ -1,21 +1,20 @@
 -- What taking an answer leaves of the versions.
-use Rattle.std.proofs.Common.{◌≡◌, ◌⊎◌, inl, inr, ℕ, ◌+◌, ◌<◌, List, [], ◌∷◌, ◌++◌, length, arith, sym}
+use Rattle.std.proofs.Common.{◌≡◌, ◌⊎◌, inl, inr, ℕ, ◌+◌, ◌<◌, List, [], ◌∷◌, ◌++◌, length, arith}
 use Rattle.ficus_ids.specs.declared.id.Id.{Id}
 use Rattle.ficus_model.specs.declared.event.Event.{Event}
 use Rattle.ficus_model.specs.declared.event.Event.TheVariants.{Update, Accept}
 use Rattle.ficus_model.specs.declared.event.Op.{Op}
 use Rattle.ficus_model.specs.Events.{IsOf, IsUpdate, through}
-use Rattle.ficus_model.specs.Known.{Knows, HasInPast}
+use Rattle.ficus_model.specs.Known.{Knows}
 use Rattle.ficus_model.specs.Lawful.{Volume, IsLawful}
-use Rattle.ficus_model.specs.Versions.{IsVersion, IsShown}
+use Rattle.ficus_model.specs.Versions.{IsShown}
 use Rattle.ficus_laws.specs.Updates.{Joined, next_number}
-use Rattle.ficus_laws.proofs.Positions.{AgreeBelow, agree_back, agree_more, agree_before, of_within, of_from_before}
+use Rattle.ficus_laws.proofs.Positions.{agree_back, agree_more, agree_before, of_within, of_from_before}
 use Rattle.ficus_laws.proofs.Updates.{update_cases, update_within}
 use Rattle.ficus_laws.proofs.Seen.{seen_within}
 use Rattle.ficus_laws.proofs.Knowledge.{knows_within}
 use Rattle.ficus_laws.proofs.Accept.{accept_knows, accept_keeps, accept_brings}
 use Rattle.ficus_version_laws.specs.Listed.{Item, AreShown, IsShownInEither, IsLatestOfBoth, AreMerged}
-use Rattle.ficus_laws.proofs.Past.{agree_past, agree_version}
 use Rattle.ficus_laws.proofs.Views.{KnownBelow}
 use Rattle.ficus_version_laws.proofs.Latest.{VersionsWithin, shown_same, are_shown_same, agree_shown, agree_are_shown, joined_shown, shown_joined, are_shown_merged}
 

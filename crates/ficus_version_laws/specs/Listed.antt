@@ -1,5 +1,5 @@
 -- Lists of the shown versions of a file: what they have, and how they are merged and advanced.
-use Rattle.std.specs.Prelude.{◌≡◌, ◌↔◌, ◌⊎◌, ℕ, max, List, [], ◌∷◌, Contains}
+use Rattle.std.specs.Prelude.{◌↔◌, ◌⊎◌, ℕ, max, List, [], ◌∷◌, Contains}
 use Rattle.ficus_ids.specs.declared.id.Id.{Id}
 use Rattle.ficus_model.specs.declared.event.Event.{Event}
 use Rattle.ficus_model.specs.Known.{HasInPast}

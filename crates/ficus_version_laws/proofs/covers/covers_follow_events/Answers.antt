@@ -1,5 +1,3 @@
-use Rattle.std.proofs.Common.{◌≢◌, List, ℕ, None, Some}
-use Rattle.ficus_ids.specs.declared.id.Id.{Id}
 use Rattle.ficus_model.specs.declared.event.Event.TheVariants.{Update}
 use Rattle.ficus_model.specs.declared.event.Op.TheVariants.{Move}
 use Rattle.ficus_version_laws.proofs.Covering.{cover_accept, cover_covered, covers_all, coverings_back, cover_kept, cover_was}

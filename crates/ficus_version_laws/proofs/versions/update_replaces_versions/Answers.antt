@@ -1,4 +1,3 @@
-use Rattle.std.proofs.Common.{subst, sym}
 use Rattle.ficus_model.specs.declared.event.Event.TheVariants.{Update}
 use Rattle.ficus_version_laws.proofs.Advancing.{are_shown_kept, other_back, end_shown, shown_is_end, advanced_shown}
 use Rattle.ficus_version_laws.proofs.Orphaned.{one_no_conflict}
