@@ -20,8 +20,11 @@ module _ (volume : Volume) (H : List Event) (lawful : IsLawful volume H) (U : �
   written : {position : ℕ} → IsShown H U file position → (mark : ℕ) × (mark < volume.members) × IsBy position mark
   written {position} s =
       let v = s.version in
-      let m = writer_member volume H lawful v in
-      (v.number.replica - 1, omega (arith, m.at_least, m.at_most), record { shown = s; own = subst (λ by. IsOf H position by) (omega (arith, m.at_least)) (writer v) })
+      let m = writer_member volume H lawful v in (
+        v.number.replica - 1,
+        omega (arith, m.at_least, m.at_most),
+        record { shown = s; own = subst (λ by. IsOf H position by) (omega (arith, m.at_least)) (writer v) },
+      )
 
   one : (position mark again : ℕ) → IsBy position mark → IsBy position again → mark ≡ again
   one position mark again a b = let e = of_same a.own b.own in omega arith
@@ -29,4 +32,6 @@ module _ (volume : Volume) (H : List Event) (lawful : IsLawful volume H) (U : �
   pub few_shown : (positions : List ℕ) → ((position : ℕ) → Contains positions position → IsShown H U file position) →
       AllPairs (λ position other. position ≢ other) positions → length positions ≤ volume.members
   few_shown positions shown apart =
-      at_most_marks IsBy one volume.members positions (λ position inside. written (shown position inside)) (λ i j d l m mark a b. apart i j d l m (shown_once a.shown b.shown a.own b.own))
+      at_most_marks IsBy one volume.members positions
+      (λ position inside. written (shown position inside))
+      (λ i j d l m mark a b. apart i j d l m (shown_once a.shown b.shown a.own b.own))

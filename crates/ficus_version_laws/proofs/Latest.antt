@@ -62,7 +62,8 @@ pub shown_once : {H : List Event} {U : ℕ → Type 0} {file : Id} {position oth
     IsShown H U file position → IsShown H U file other → IsOf H position replica → IsOf H other replica → position ≡ other
 shown_once {H} {U} {file} {position} {other} {replica} s t o p = go (cases_order position other)
   where
-    later : {late early : ℕ} → IsShown H U file late → IsShown H U file early → IsOf H late replica → IsOf H early replica → early < late → (early ≡ late) ⊎ HasInPast H late early → ⊥
+    later : {late early : ℕ} → IsShown H U file late → IsShown H U file early → IsOf H late replica →
+        IsOf H early replica → early < late → (early ≡ late) ⊎ HasInPast H late early → ⊥
     later a b q r l (inl e) = omega arith
     later {late} a b q r l (inr p) = b.latest late a.version a.known p
 
@@ -132,7 +133,8 @@ module _ {H : List Event} {U V : ℕ → Type 0} {file : Id} where
     pub are_shown_merged : AreShown H (Joined U V) file merged
     are_shown_merged = record { each = λ item inside. each item ((m.items item).0 inside); all = all }
       where
-        latest : {W : ℕ → Type 0} {position : ℕ} {item : Item} → IsShown H W file position → IsItemOf H file position item →
+        latest : {W : ℕ → Type 0} {position : ℕ} {item : Item} → IsShown H W file position →
+            IsItemOf H file position item →
             IsKept volume.members versions others item → (late : ℕ) → IsShownInEither H U H V file late → HasInPast H late position → ⊥
         latest s i k late (inl t) p = let w = a.all late t in k.latest w.item (inl w.inside) ((under s t i w.is).1 p)
         latest s i k late (inr t) p = let w = b.all late t in k.latest w.item (inr w.inside) ((under s t i w.is).1 p)
@@ -141,17 +143,45 @@ module _ {H : List Event} {U V : ℕ → Type 0} {file : Id} where
         each item k = go k.from
           where
             go : IsOfEither versions others item → IsShownItem H (Joined U V) file item
-            go (inl inside) = let s = a.each item inside in record { position = s.position; shown = shown_joined (record { shown = inl s.shown; latest = latest s.shown s.is k }); is = s.is }
-            go (inr inside) = let s = b.each item inside in record { position = s.position; shown = shown_joined (record { shown = inr s.shown; latest = latest s.shown s.is k }); is = s.is }
+            go (inl inside) =
+                let s = a.each item inside in
+                record {
+                  position = s.position;
+                  shown = shown_joined (record { shown = inl s.shown; latest = latest s.shown s.is k });
+                  is = s.is;
+                }
+            go (inr inside) =
+                let s = b.each item inside in
+                record {
+                  position = s.position;
+                  shown = shown_joined (record { shown = inr s.shown; latest = latest s.shown s.is k });
+                  is = s.is;
+                }
 
         kept : {position : ℕ} {item : Item} → IsShown H (Joined U V) file position → IsItemOf H file position item →
             (over : Item) → IsOfEither versions others over → IsUnder volume.members item.vector over.vector → ⊥
-        kept s i over (inl inside) u = let t = a.each over inside in s.latest t.position t.shown.version (inl t.shown.known) ((under s t.shown i t.is).0 u)
-        kept s i over (inr inside) u = let t = b.each over inside in s.latest t.position t.shown.version (inr t.shown.known) ((under s t.shown i t.is).0 u)
+        kept s i over (inl inside) u =
+            let t = a.each over inside in
+            s.latest t.position t.shown.version (inl t.shown.known) ((under s t.shown i t.is).0 u)
+        kept s i over (inr inside) u =
+            let t = b.each over inside in
+            s.latest t.position t.shown.version (inr t.shown.known) ((under s t.shown i t.is).0 u)
 
         all : (position : ℕ) → IsShown H (Joined U V) file position → IsListed H file merged position
         all position s = go (joined_shown s).shown
           where
             go : IsShownInEither H U H V file position → IsListed H file merged position
-            go (inl t) = let w = a.all position t in record { item = w.item; inside = (m.items w.item).1 (record { from = inl w.inside; latest = kept s w.is }); is = w.is }
-            go (inr t) = let w = b.all position t in record { item = w.item; inside = (m.items w.item).1 (record { from = inr w.inside; latest = kept s w.is }); is = w.is }
+            go (inl t) =
+                let w = a.all position t in
+                record {
+                  item = w.item;
+                  inside = (m.items w.item).1 (record { from = inl w.inside; latest = kept s w.is });
+                  is = w.is;
+                }
+            go (inr t) =
+                let w = b.all position t in
+                record {
+                  item = w.item;
+                  inside = (m.items w.item).1 (record { from = inr w.inside; latest = kept s w.is });
+                  is = w.is;
+                }

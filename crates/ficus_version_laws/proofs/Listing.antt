@@ -33,7 +33,11 @@ pub known_first_part : {H : List Event} {U : ℕ → Type 0} {file : Id} {replic
     IsFirstPart (IsVersionBy H file replica) (IsKnownVersion H U file replica)
 known_first_part closed = record {
   part = λ number p. record { version = p.version; own = p.own };
-  down = λ earlier number p t l. record { version = t.version; own = t.own; known = closed number earlier p.known (seen_own p.own t.own l) };
+  down = λ earlier number p t l. record {
+    version = t.version;
+    own = t.own;
+    known = closed number earlier p.known (seen_own p.own t.own l);
+  };
 }
 
 -- a version event of the file by the replica that a shown version of the list has seen
@@ -47,7 +51,12 @@ listed_first_part : {H : List Event} {U : ℕ → Type 0} {file : Id} {versions 
     IsFirstPart (IsVersionBy H file replica) (IsSeenByListed H U file versions replica)
 listed_first_part = record {
   part = λ number p. record { version = p.seen.version; own = p.seen.own };
-  down = λ earlier number p t l. record { item = p.item; inside = p.inside; shown = p.shown; seen = seen_first_part.down earlier number p.seen t l };
+  down = λ earlier number p t l. record {
+    item = p.item;
+    inside = p.inside;
+    shown = p.shown;
+    seen = seen_first_part.down earlier number p.seen t l;
+  };
 }
 
 -- the join of the vectors counts what the versions of the list have seen
@@ -56,43 +65,71 @@ listed_counts : {H : List Event} {U : ℕ → Type 0} {file : Id} (versions : Li
     Counts (IsSeenByListed H U file versions replica) (length H) (join_all versions replica)
 listed_counts {H} [] replica each = counts_none (length H) (λ number l p. not_inside_none p.item p.inside)
 listed_counts {H} {U} {file} (item ∷ items) replica each =
-    counts_same (counts_join seen_first_part listed_first_part (vector_counts first.shown.version first.is.vector replica) (listed_counts items replica (λ other inside. each other (there item other items inside)))) (λ number l p. add p) (λ number l p. split p)
+    counts_same
+    (counts_join seen_first_part listed_first_part
+    (vector_counts first.shown.version first.is.vector replica)
+    (listed_counts items replica (λ other inside. each other (there item other items inside))))
+    (λ number l p. add p) (λ number l p. split p)
   where
     first : IsShownItem H U file item
     first = each item (here item items)
 
-    add : {number : ℕ} → IsSeenVersion H file first.position replica number ⊎ IsSeenByListed H U file items replica number → IsSeenByListed H U file (item ∷ items) replica number
+    add : {number : ℕ} →
+        IsSeenVersion H file first.position replica number ⊎ IsSeenByListed H U file items replica number →
+        IsSeenByListed H U file (item ∷ items) replica number
     add (inl s) = record { item = item; inside = here item items; shown = first; seen = s }
     add (inr p) = record { item = p.item; inside = there item p.item items p.inside; shown = p.shown; seen = p.seen }
 
-    split : {number : ℕ} → IsSeenByListed H U file (item ∷ items) replica number → IsSeenVersion H file first.position replica number ⊎ IsSeenByListed H U file items replica number
+    split : {number : ℕ} → IsSeenByListed H U file (item ∷ items) replica number →
+        IsSeenVersion H file first.position replica number ⊎ IsSeenByListed H U file items replica number
     split {number} p = go (here_or_there item p.item items p.inside)
       where
-        go : (p.item ≡ item) ⊎ Contains items p.item → IsSeenVersion H file first.position replica number ⊎ IsSeenByListed H U file items replica number
-        go (inl e) = inl (seen_version_later (seen_from_count p.shown.shown.version first.shown.version p.shown.is.vector (subst (λ same. IsVectorOf H file first.position same.vector) (sym e) first.is.vector) (writer p.shown.shown.version) (omega arith)) p.seen)
+        go : (p.item ≡ item) ⊎ Contains items p.item →
+            IsSeenVersion H file first.position replica number ⊎ IsSeenByListed H U file items replica number
+        go (inl e) = inl
+            (seen_version_later
+            (seen_from_count p.shown.shown.version first.shown.version p.shown.is.vector
+            (subst (λ same. IsVectorOf H file first.position same.vector) (sym e) first.is.vector)
+            (writer p.shown.shown.version) (omega arith)) p.seen)
         go (inr inside) = inr (record { item = p.item; inside = inside; shown = p.shown; seen = p.seen })
 
 -- a version of the file that is known is seen by one of the list
 pub seen_by_listed : {H : List Event} {U : ℕ → Type 0} {file : Id} {versions : List Item} {replica number : ℕ} →
     AreShown H U file versions → IsKnownVersion H U file replica number →
     IsSeenByListed H U file versions replica number
-seen_by_listed {H} {U} {file} {versions} {replica} {number} a p = go (counts_decide number (listed_counts versions replica a.each) (version_within p.version))
+seen_by_listed {H} {U} {file} {versions} {replica} {number} a p = go
+    (counts_decide number (listed_counts versions replica a.each) (version_within p.version))
   where
-    by_item : {position : ℕ} → IsShown H U file position → HasSeen H position number → IsSeenByListed H U file versions replica number
+    by_item : {position : ℕ} → IsShown H U file position → HasSeen H position number →
+        IsSeenByListed H U file versions replica number
     by_item {position} s seen =
         let i = a.all position s in
-        record { item = i.item; inside = i.inside; shown = record { position = position; shown = s; is = i.is }; seen = record { version = p.version; own = p.own; seen = seen } }
+        record {
+          item = i.item;
+          inside = i.inside;
+          shown = record { position = position; shown = s; is = i.is };
+          seen = record { version = p.version; own = p.own; seen = seen };
+        }
 
     go : IsSeenByListed H U file versions replica number ⊎ (IsSeenByListed H U file versions replica number → ⊥) →
         IsSeenByListed H U file versions replica number
     go (inl found) = found
-    go (inr missing) = absurd (none_seen U (λ position s seen. missing (by_item s seen)) (length H) number (omega arith) p.version p.known (Itself p.own))
+    go (inr missing) = absurd
+        (none_seen U
+        (λ position s seen. missing (by_item s seen)) (length H) number (omega arith) p.version
+        p.known (Itself p.own))
 
 -- so the join of their vectors counts what is known of the file
 pub known_counts : {H : List Event} {U : ℕ → Type 0} {file : Id} {versions : List Item} → IsClosed H U →
     AreShown H U file versions → (replica : ℕ) →
     Counts (IsKnownVersion H U file replica) (length H) (join_all versions replica)
-known_counts {H} {U} {file} {versions} closed a replica = counts_same (listed_counts versions replica a.each) (λ number l p. known p) (λ number l p. seen_by_listed a p)
+known_counts {H} {U} {file} {versions} closed a replica = counts_same
+    (listed_counts versions replica a.each) (λ number l p. known p)
+    (λ number l p. seen_by_listed a p)
   where
     known : {number : ℕ} → IsSeenByListed H U file versions replica number → IsKnownVersion H U file replica number
-    known {number} p = record { version = p.seen.version; own = p.seen.own; known = closed p.shown.position number p.shown.shown.known p.seen.seen }
+    known {number} p = record {
+      version = p.seen.version;
+      own = p.seen.own;
+      known = closed p.shown.position number p.shown.shown.known p.seen.seen;
+    }

@@ -27,8 +27,14 @@ made_file_of number Max differs = refl
 made_file_of number Keep differs = refl
 
 -- the Make of a file is a version of it
-pub made_version : {H : List Event} {U : ℕ → Type 0} {file : Id} (f : IsFile H U file) → IsVersion H file f.made.position
-made_version {file = file} f = record { number = file; op = Make f.made.dir f.made.name f.kind; update = f.made.update; versions = made_file_of file f.kind f.other }
+pub made_version : {H : List Event} {U : ℕ → Type 0} {file : Id} (f : IsFile H U file) →
+    IsVersion H file f.made.position
+made_version {file = file} f = record {
+  number = file;
+  op = Make f.made.dir f.made.name f.kind;
+  update = f.made.update;
+  versions = made_file_of file f.kind f.other;
+}
 
 module _ (volume : Volume) (H : List Event) (replica : ℕ) (lawful : IsLawful volume H) where
   -- of the object that the next update would make no version is shown
@@ -39,11 +45,19 @@ module _ (volume : Volume) (H : List Event) (replica : ℕ) (lawful : IsLawful v
   }
 
   pub none_covered : IsCoverOf H (Knows H replica) (next_number replica H) (λ by. 0)
-  none_covered = record { counts = λ by. counts_none (length H) (λ number l p. next_not_covered volume H replica replica lawful p.covering p.known) }
+  none_covered = record {
+    counts = λ by. counts_none (length H)
+        (λ number l p. next_not_covered volume H replica replica lawful p.covering p.known);
+  }
 
   module _ (dir : Id) (name : List ℕ) (kind : Kind) where
-    pub make_shown : kind ≢ Dir → AreShown (H ++ Update replica (Make dir name kind) ∷ []) (Knows (H ++ Update replica (Make dir name kind) ∷ []) replica) (next_number replica H) (advanced replica [] [])
+    pub make_shown : kind ≢ Dir → AreShown (H ++ Update replica (Make dir name kind) ∷ [])
+        (Knows (H ++ Update replica (Make dir name kind) ∷ []) replica) (next_number replica H) (advanced replica [] [])
     make_shown differs = advanced_shown H replica (Make dir name kind) (made_file_of (next_number replica H) kind differs) none_shown
 
-    pub make_covered : IsCoverOf (H ++ Update replica (Make dir name kind) ∷ []) (Knows (H ++ Update replica (Make dir name kind) ∷ []) replica) (next_number replica H) (λ by. 0)
-    make_covered = cover_kept H (Update replica (Make dir name kind)) replica (coverings_back H replica (Make dir name kind) (none_is (next_number replica H))) none_covered
+    pub make_covered : IsCoverOf (H ++ Update replica (Make dir name kind) ∷ [])
+        (Knows (H ++ Update replica (Make dir name kind) ∷ []) replica) (next_number replica H) (λ by. 0)
+    make_covered = cover_kept H
+        (Update replica (Make dir name kind)) replica
+        (coverings_back H replica (Make dir name kind) (none_is (next_number replica H)))
+        none_covered

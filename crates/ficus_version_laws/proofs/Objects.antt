@@ -34,7 +34,8 @@ none_is file e = cc
 
 -- Who knows an update of a lawful history knows the object that it writes or covers.
 module _ (volume : Volume) (H : List Event) (lawful : IsLawful volume H) (reader : ℕ) where
-  may : {position : ℕ} {number : Id} {op : Op} → IsUpdate H position number op → MayUpdate volume (before position H) number.replica op
+  may : {position : ℕ} {number : Id} {op : Op} → IsUpdate H position number op →
+      MayUpdate volume (before position H) number.replica op
   may {position} {number} {op} u = lawful.each position (Update number.replica op) u.at
 
   more : {position : ℕ} {number : Id} {op : Op} → IsUpdate H position number op → Knows H reader position →
@@ -45,30 +46,50 @@ module _ (volume : Volume) (H : List Event) (lawful : IsLawful volume H) (reader
       version_of number op ≡ Some file → IsFile H (Knows H reader) file
   written {position} {number} {file} (Make dir name kind) u k e =
       let is = made_file_is number file kind e in
-      record { kind = kind; made = record { position = position; dir = dir; name = name; known = k; update = subst (λ id. IsUpdate H position id (Make dir name kind)) is.0 u }; other = is.1 }
+      record {
+        kind = kind;
+        made = record {
+          position = position;
+          dir = dir;
+          name = name;
+          known = k;
+          update = subst (λ id. IsUpdate H position id (Make dir name kind)) is.0 u;
+        };
+        other = is.1;
+      }
   written {file = file} (Link dir name target) u k e = absurd (none_is file e)
   written {file = file} (Remove entries target) u k e = absurd (none_is file e)
   written {file = file} (Move entries dir name target) u k e = absurd (none_is file e)
-  written {file = file} (Write object bytes) u k e = subst (IsFile H (Knows H reader)) (same_Some object file e) (file_within (more u k) (may u).allowed.in_reach.is_file)
-  written {file = file} (Settle object bytes) u k e = subst (IsFile H (Knows H reader)) (same_Some object file e) (file_within (more u k) (may u).allowed.in_reach.is_file)
-  written {file = file} (Resolve object bytes) u k e = subst (IsFile H (Knows H reader)) (same_Some object file e) (file_within (more u k) (may u).allowed.in_reach.is_file)
+  written {file = file} (Write object bytes) u k e = subst (IsFile H (Knows H reader)) (same_Some object file e)
+      (file_within (more u k) (may u).allowed.in_reach.is_file)
+  written {file = file} (Settle object bytes) u k e = subst (IsFile H (Knows H reader)) (same_Some object file e)
+      (file_within (more u k) (may u).allowed.in_reach.is_file)
+  written {file = file} (Resolve object bytes) u k e = subst (IsFile H (Knows H reader)) (same_Some object file e)
+      (file_within (more u k) (may u).allowed.in_reach.is_file)
   written {file = file} (Adopt object dir name) u k e = absurd (none_is file e)
   written {file = file} (Discard object) u k e = absurd (none_is file e)
 
   -- where a version is known, its file is
-  pub version_file : {file : Id} {position : ℕ} → IsVersion H file position → Knows H reader position → IsFile H (Knows H reader) file
+  pub version_file : {file : Id} {position : ℕ} → IsVersion H file position → Knows H reader position →
+      IsFile H (Knows H reader) file
   version_file v k = written v.op v.update k v.versions
 
   abbrev IsKnownObject : Id → Type 0
   IsKnownObject object = (kind : Kind) × IsMade H (Knows H reader) object kind
 
-  removed_object : {position : ℕ} {number object : Id} {entries : List Id} → IsUpdate H position number (Remove entries object) →
+  removed_object : {position : ℕ} {number object : Id} {entries : List Id} →
+      IsUpdate H position number (Remove entries object) →
       Knows H reader position → IsKnownObject object
   removed_object {position} {number} {object} {entries} u k =
       let id = some_inside entries (may u).allowed.names.some in
       let bound = (((may u).allowed.names.all id.0).0 id.1).bound in
-      let target = entered_target volume (before position H) (lawful_before volume H position lawful) bound.live.entered in
-      (target.0, made_within (more u k) (subst (λ o. IsMade (before position H) (Knows (before position H) number.replica) o target.0) bound.leads target.1))
+      let target = entered_target volume (before position H) (lawful_before volume H position lawful) bound.live.entered in (
+        target.0,
+        made_within (more u k)
+            (subst
+            (λ o. IsMade (before position H) (Knows (before position H) number.replica) o target.0)
+            bound.leads target.1),
+      )
 
   covered : {position : ℕ} {number object : Id} (op : Op) → IsUpdate H position number op → Knows H reader position →
       covered_by op ≡ Some object → IsKnownObject object
@@ -90,7 +111,8 @@ module _ (volume : Volume) (H : List Event) (lawful : IsLawful volume H) (reader
   covering_object c k = covered c.op c.update k c.covers
 
 -- the object that the next update would make isn't made yet
-next_not_made : (H : List Event) (replica : ℕ) {U : ℕ → Type 0} {kind : Kind} → IsMade H U (next_number replica H) kind → ⊥
+next_not_made : (H : List Event) (replica : ℕ) {U : ℕ → Type 0} {kind : Kind} →
+    IsMade H U (next_number replica H) kind → ⊥
 next_not_made H replica m = let i = made_issued m in omega (arith, i.at_most)
 
 -- so nothing is known of it

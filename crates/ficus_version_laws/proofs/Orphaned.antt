@@ -19,7 +19,8 @@ use Rattle.ficus_version_laws.proofs.Covering.{cover_seen, covered_from_cover, c
 use Rattle.ficus_version_laws.proofs.Objects.{version_file}
 
 -- an update has one text
-pub bytes_once : {H : List Event} {position : ℕ} {bytes again : List ℕ} → HasBytes H position bytes → HasBytes H position again → bytes ≡ again
+pub bytes_once : {H : List Event} {position : ℕ} {bytes again : List ℕ} → HasBytes H position bytes →
+    HasBytes H position again → bytes ≡ again
 bytes_once b c = sym b.are ∙ ap bytes_of (update_same b.update c.update).1 ∙ c.are
 
 -- a file of which one version is shown isn't in conflict
@@ -59,7 +60,8 @@ conflict_listed {H} {U} {file} {versions} a = (there, back)
       differ = t.differ;
     }
 
-module _ (volume : Volume) (H : List Event) (lawful : IsLawful volume H) (replica : ℕ) {file : Id} {versions : List Item} {cover : ℕ → ℕ}
+module _ (volume : Volume) (H : List Event) (lawful : IsLawful volume H) (replica : ℕ) {file : Id}
+    {versions : List Item} {cover : ℕ → ℕ}
     (a : AreShown H (Knows H replica) file versions) (d : IsCoverOf H (Knows H replica) file cover) where
   -- some version that is known is uncovered exactly where one of the list isn't at most the cover
   pub unseen_beyond : HasUnseen H (Knows H replica) file → HasBeyond volume.members versions cover
@@ -70,7 +72,9 @@ module _ (volume : Volume) (H : List Event) (lawful : IsLawful volume H) (replic
         item = listed.item;
         inside = listed.inside;
         beyond = λ below. (
-            let c = cover_seen (covered_from_cover volume H lawful listed.shown.shown.version listed.shown.is.vector d below) listed.seen.seen in
+            let c = cover_seen
+            (covered_from_cover volume H lawful listed.shown.shown.version listed.shown.is.vector d below)
+            listed.seen.seen in
             u.uncovered.uncovered c.cover c.covering c.known c.past);
       }
 
@@ -83,17 +87,26 @@ module _ (volume : Volume) (H : List Event) (lawful : IsLawful volume H) (replic
         uncovered = record {
           version = s.shown.version;
           known = s.shown.known;
-          uncovered = λ at covering known past. b.beyond (cover_from_covered volume H lawful s.shown.version s.is.vector d (record { cover = at; covering = covering; known = known; past = past }));
+          uncovered = λ at covering known past. b.beyond
+              (cover_from_covered volume H lawful s.shown.version s.is.vector d (record {
+                cover = at;
+                covering = covering;
+                known = known;
+                past = past;
+              }));
         };
       }
 
   -- so a file is an orphan exactly where it has no live name, and a shown version of it isn't covered
-  pub orphan_beyond : IsFile H (Knows H replica) file → IsOrphan H (Knows H replica) file → (HasName H (Knows H replica) file → ⊥) × HasBeyond volume.members versions cover
+  pub orphan_beyond : IsFile H (Knows H replica) file → IsOrphan H (Knows H replica) file →
+      (HasName H (Knows H replica) file → ⊥) × HasBeyond volume.members versions cover
   orphan_beyond is_file o = (o.nameless, go o.kept)
     where
-      go : IsFilled H (Knows H replica) file ⊎ HasUnseen H (Knows H replica) file → HasBeyond volume.members versions cover
+      go : IsFilled H (Knows H replica) file ⊎ HasUnseen H (Knows H replica) file →
+          HasBeyond volume.members versions cover
       go (inl filled) = absurd (is_file.other (made_once is_file.made filled.made))
       go (inr unseen) = unseen_beyond unseen
 
-  pub beyond_orphan : (HasName H (Knows H replica) file → ⊥) × HasBeyond volume.members versions cover → IsOrphan H (Knows H replica) file
+  pub beyond_orphan : (HasName H (Knows H replica) file → ⊥) × HasBeyond volume.members versions cover →
+      IsOrphan H (Knows H replica) file
   beyond_orphan (nameless, beyond) = record { nameless = nameless; kept = inr (beyond_unseen beyond) }

@@ -27,5 +27,6 @@ past_sees p s = record {
 }
 
 -- an event of a replica has seen each earlier one of it
-pub seen_own : {H : List Event} {at old replica : ℕ} → IsOf H at replica → IsOf H old replica → old < at → HasSeen H at old
+pub seen_own : {H : List Event} {at old replica : ℕ} → IsOf H at replica → IsOf H old replica → old < at →
+    HasSeen H at old
 seen_own o p l = Earlier o p l (Itself p)

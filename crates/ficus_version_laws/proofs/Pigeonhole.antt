@@ -14,7 +14,8 @@ counts_bounded (OneMore p s) = let l = counts_bounded s in omega arith
 counts_bounded (AsMany p s) = let l = counts_bounded s in omega arith
 
 -- one more number with the property counts one more
-counts_insert : {P : ℕ → Type 0} {bound count : ℕ} (new : ℕ) → new < bound → (P new → ⊥) → Counts P bound count → Counts (λ number. (number ≡ new) ⊎ P number) bound (suc count)
+counts_insert : {P : ℕ → Type 0} {bound count : ℕ} (new : ℕ) → new < bound → (P new → ⊥) → Counts P bound count →
+    Counts (λ number. (number ≡ new) ⊎ P number) bound (suc count)
 counts_insert new l fresh Nothing = absurd (omega arith)
 counts_insert {P} new l fresh (OneMore {bound = bound} p s) =
     let other : new ≡ bound → ⊥ = λ e. fresh (subst P (sym e) p) in
@@ -29,12 +30,15 @@ counts_insert {P} new l fresh (AsMany {bound = bound} {count = count} q s) = go 
     old e m (inl f) = absurd (omega arith)
     old e m (inr p) = p
 
-    go : (new ≡ bound) ⊎ (new ≡ bound → ⊥) → (new < bound → Counts (λ number. (number ≡ new) ⊎ P number) bound (suc count)) → Counts (λ number. (number ≡ new) ⊎ P number) (suc bound) (suc count)
+    go : (new ≡ bound) ⊎ (new ≡ bound → ⊥) →
+        (new < bound → Counts (λ number. (number ≡ new) ⊎ P number) bound (suc count)) →
+        Counts (λ number. (number ≡ new) ⊎ P number) (suc bound) (suc count)
     go (inl e) more = OneMore (inl (sym e)) (counts_same s (λ number m p. inr p) (λ number m p. old e m p))
     go (inr other) more = AsMany (λ z. none other z) (more (omega arith))
 
 -- Each item of a list has one mark below the bound, and no two have the same.
-module _ {X : Type 0} (Has : X → ℕ → Type 0) (one : (x : X) (mark again : ℕ) → Has x mark → Has x again → mark ≡ again) (bound : ℕ) where
+module _ {X : Type 0} (Has : X → ℕ → Type 0) (one : (x : X) (mark again : ℕ) → Has x mark → Has x again → mark ≡ again)
+    (bound : ℕ) where
   abbrev Differ : X → X → Type 0
   Differ x y = (mark : ℕ) → Has x mark → Has y mark → ⊥
 
@@ -43,9 +47,14 @@ module _ {X : Type 0} (Has : X → ℕ → Type 0) (one : (x : X) (mark again : 
     inside : Contains xs item
     has : Has item mark
 
-  marks : (xs : List X) → ((x : X) → Contains xs x → (mark : ℕ) × (mark < bound) × Has x mark) → AllPairs Differ xs → Counts (IsMarked xs) bound (length xs)
+  marks : (xs : List X) → ((x : X) → Contains xs x → (mark : ℕ) × (mark < bound) × Has x mark) → AllPairs Differ xs →
+      Counts (IsMarked xs) bound (length xs)
   marks [] marked apart = counts_none bound (λ mark l m. not_inside_none m.item m.inside)
-  marks (x ∷ xs) marked apart = counts_same (counts_insert first.0 first.1 fresh (marks xs (λ y inside. marked y (there x y xs inside)) (rest_rises Differ x xs apart))) (λ mark l m. join mark m) (λ mark l m. split mark m (here_or_there x m.item xs m.inside))
+  marks (x ∷ xs) marked apart = counts_same
+      (counts_insert first.0 first.1 fresh
+      (marks xs (λ y inside. marked y (there x y xs inside)) (rest_rises Differ x xs apart)))
+      (λ mark l m. join mark m)
+      (λ mark l m. split mark m (here_or_there x m.item xs m.inside))
     where
       first : (mark : ℕ) × (mark < bound) × Has x mark
       first = marked x (here x xs)
@@ -57,10 +66,12 @@ module _ {X : Type 0} (Has : X → ℕ → Type 0) (one : (x : X) (mark again : 
       join mark (inl e) = record { item = x; inside = here x xs; has = subst (Has x) (sym e) first.2 }
       join mark (inr m) = record { item = m.item; inside = there x m.item xs m.inside; has = m.has }
 
-      split : (mark : ℕ) (m : IsMarked (x ∷ xs) mark) → (m.item ≡ x) ⊎ Contains xs m.item → (mark ≡ first.0) ⊎ IsMarked xs mark
+      split : (mark : ℕ) (m : IsMarked (x ∷ xs) mark) → (m.item ≡ x) ⊎ Contains xs m.item →
+          (mark ≡ first.0) ⊎ IsMarked xs mark
       split mark m (inl e) = inl (one x mark first.0 (subst (λ y. Has y mark) e m.has) first.2)
       split mark m (inr inside) = inr (record { item = m.item; inside = inside; has = m.has })
 
   -- so there are at most as many items
-  pub at_most_marks : (xs : List X) → ((x : X) → Contains xs x → (mark : ℕ) × (mark < bound) × Has x mark) → AllPairs Differ xs → length xs ≤ bound
+  pub at_most_marks : (xs : List X) → ((x : X) → Contains xs x → (mark : ℕ) × (mark < bound) × Has x mark) →
+      AllPairs Differ xs → length xs ≤ bound
   at_most_marks xs marked apart = counts_bounded (marks xs marked apart)

@@ -19,7 +19,8 @@ use Rattle.ficus_laws.proofs.Views.{KnownBelow}
 use Rattle.ficus_version_laws.proofs.Latest.{VersionsWithin, shown_same, are_shown_same, agree_shown, agree_are_shown, joined_shown, shown_joined, are_shown_merged}
 
 -- what is known among the first events lies among them
-pub knows_before : {replica position : ℕ} (H : List Event) (n : ℕ) → Knows (through n H) replica position → position < n + 1
+pub knows_before : {replica position : ℕ} (H : List Event) (n : ℕ) → Knows (through n H) replica position →
+    position < n + 1
 knows_before H n k =
     let w = seen_within k.seen in
     let b = (of_from_before (n + 1) k.own).0 in
@@ -30,7 +31,9 @@ pub update_before_accept : {position : ℕ} {number : Id} {op : Op} (H : List Ev
     IsUpdate (H ++ Accept replica served ∷ []) position number op → position < length H
 update_before_accept {position} {number} {op} H replica served u = go (update_cases (Accept replica served) u)
   where
-    go : IsUpdate H position number op ⊎ ((position ≡ length H) × (Accept replica served ≡ Update number.replica op) × (number ≡ next_number number.replica H)) → position < length H
+    go : IsUpdate H position number op ⊎
+        ((position ≡ length H) × (Accept replica served ≡ Update number.replica op) × (number ≡ next_number number.replica H)) →
+        position < length H
     go (inl was) = update_within was
     go (inr (end, is, next)) = cc
 
@@ -74,11 +77,13 @@ module _ (H : List Event) (replica served server : ℕ) (by_server : IsOf H serv
     to_served : {position : ℕ} → IsShown H Brought file position → IsShown (through served H) Brought file position
     to_served s = agree_shown (agree_back (agree_before (served + 1) H)) brought_below s
 
-    either_of_served : {position : ℕ} → IsShownInEither H Own (through served H) Brought file position → IsShownInEither H Own H Brought file position
+    either_of_served : {position : ℕ} → IsShownInEither H Own (through served H) Brought file position →
+        IsShownInEither H Own H Brought file position
     either_of_served (inl s) = inl s
     either_of_served (inr s) = inr (of_served s)
 
-    either_to_served : {position : ℕ} → IsShownInEither H Own H Brought file position → IsShownInEither H Own (through served H) Brought file position
+    either_to_served : {position : ℕ} → IsShownInEither H Own H Brought file position →
+        IsShownInEither H Own (through served H) Brought file position
     either_to_served (inl s) = inl s
     either_to_served (inr s) = inr (to_served s)
 
@@ -86,7 +91,10 @@ module _ (H : List Event) (replica served server : ℕ) (by_server : IsOf H serv
     pub accept_shown : {position : ℕ} → IsShown after (Knows after replica) file position →
         IsLatestOfBoth H Own (through served H) Brought file position
     accept_shown s =
-        let l = joined_shown (agree_shown (agree_back (agree_more H (Accept replica served ∷ []))) joined_below (shown_same back there s)) in
+        let l = joined_shown
+        (agree_shown
+        (agree_back (agree_more H (Accept replica served ∷ []))) joined_below
+        (shown_same back there s)) in
         record { shown = either_to_served l.shown; latest = λ other t p. l.latest other (either_of_served t) p }
 
     pub shown_accept : {position : ℕ} → IsLatestOfBoth H Own (through served H) Brought file position →
@@ -100,4 +108,7 @@ module _ (H : List Event) (replica served server : ℕ) (by_server : IsOf H serv
         AreShown H Own file versions → AreShown (through served H) Brought file others →
         AreMerged volume.members versions others merged → AreShown after (Knows after replica) file merged
     accept_merges volume lawful a b m =
-        are_shown_same there back (agree_are_shown (agree_more H (Accept replica served ∷ [])) joined_below (are_shown_merged volume lawful a (agree_are_shown (agree_before (served + 1) H) brought_below b) m))
+        are_shown_same there back
+        (agree_are_shown
+        (agree_more H (Accept replica served ∷ [])) joined_below
+        (are_shown_merged volume lawful a (agree_are_shown (agree_before (served + 1) H) brought_below b) m))

@@ -7,8 +7,8 @@ pub fn covers_tell_pasts()
     ensures one { OneCover }
 {}
 
-/// After an Accept the covers of both sides are joined. A Remove and a Discard cover what is known of the file. Any other
-/// operation, a Move too, covers nothing.
+/// After an Accept the covers of both sides are joined. A Remove and a Discard cover what is known of the file.
+/// Any other operation, a Move too, covers nothing.
 pub fn covers_follow_events()
     ensures accepted { AcceptJoinsCovers }
     ensures removed { RemovalCoversShown }

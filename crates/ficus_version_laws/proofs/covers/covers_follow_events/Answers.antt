@@ -18,8 +18,12 @@ returns-clause-kept c = λ H replica op file cover differs. (
 
 pub returns-clause-moved : goal.returns-clause-moved
 returns-clause-moved c = λ H replica entries dir name target file cover. (
-  cover_kept H (Update replica (Move entries dir name target)) replica (coverings_back H replica (Move entries dir name target) (none_is file)),
-  cover_was H (Update replica (Move entries dir name target)) replica (coverings_back H replica (Move entries dir name target) (none_is file)),
+  cover_kept H
+      (Update replica (Move entries dir name target)) replica
+      (coverings_back H replica (Move entries dir name target) (none_is file)),
+  cover_was H
+      (Update replica (Move entries dir name target)) replica
+      (coverings_back H replica (Move entries dir name target) (none_is file)),
 )
 
 pub returns-clause-all : goal.returns-clause-all

@@ -4,7 +4,10 @@ use Rattle.ficus_version_laws.proofs.Comparing.{agree_vector}
 use Rattle.ficus_version_laws.proofs.vectors.vectors_stay.Goals as goal
 
 pub returns-clause-same : goal.returns-clause-same
-returns-clause-same c = λ H later file position vector within. (agree_vector (agree_more H later) within, agree_vector (agree_back (agree_more H later)) within)
+returns-clause-same c = λ H later file position vector within. (
+  agree_vector (agree_more H later) within,
+  agree_vector (agree_back (agree_more H later)) within,
+)
 
 pub returns-clause-one : goal.returns-clause-one
 returns-clause-one c = λ H file position vector again v w replica. counts_once (v.counts replica) (w.counts replica)

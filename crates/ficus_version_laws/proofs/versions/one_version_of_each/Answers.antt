@@ -7,4 +7,5 @@ pub returns-clause-one : goal.returns-clause-one
 returns-clause-one c = λ H reader file position other replica. shown_once
 
 pub returns-clause-few : goal.returns-clause-few
-returns-clause-few c = λ volume H reader file positions lawful shown apart. few_shown volume H lawful (Knows H reader) file positions shown apart
+returns-clause-few c = λ volume H reader file positions lawful shown apart. few_shown volume H lawful (Knows H reader)
+    file positions shown apart
