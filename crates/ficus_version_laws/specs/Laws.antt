@@ -11,7 +11,7 @@ use Rattle.ficus_model.specs.Live.{IsFile, HasName}
 use Rattle.ficus_model.specs.Events.{IsOf, through, actor}
 use Rattle.ficus_model.specs.Known.{Knows}
 use Rattle.ficus_model.specs.Lawful.{Volume, IsLawful}
-use Rattle.ficus_model.specs.Versions.{version_of, bytes_of, covered_by, IsVersion, IsShown, IsInConflict}
+use Rattle.ficus_model.specs.Versions.{version_of, bytes_of, covered_by, IsVersion, IsCovering, IsShown, IsInConflict}
 use Rattle.ficus_model.specs.Vectors.{IsVectorOf, IsCoverOf}
 use Rattle.ficus_model.specs.View.{IsOrphan, HasUnseen}
 use Rattle.ficus_laws.specs.Views.{ShowSameView}
@@ -68,6 +68,24 @@ AcceptMergesVersions = (volume : Volume) (H : List Event) (replica served server
     AreMerged volume.members versions others merged →
     let K = H ++ Accept replica served ∷ [] in
     AreShown K (Knows K replica) file merged
+
+-- where the replica knew each version of a file that the server knew, its list stays
+abbrev pub AcceptKeepsList : Type 0
+AcceptKeepsList = (H : List Event) (replica served server : ℕ) (file : Id) (versions : List Item) →
+    IsOf H served server →
+    ((position : ℕ) → IsVersion H file position → Knows (through served H) server position → Knows H replica position) →
+    AreShown H (Knows H replica) file versions →
+    let K = H ++ Accept replica served ∷ [] in
+    AreShown K (Knows K replica) file versions
+
+-- where the server knew each version that the replica knew, the server's list is taken
+abbrev pub AcceptTakesList : Type 0
+AcceptTakesList = (H : List Event) (replica served server : ℕ) (file : Id) (others : List Item) →
+    IsOf H served server →
+    ((position : ℕ) → IsVersion H file position → Knows H replica position → Knows (through served H) server position) →
+    AreShown (through served H) (Knows (through served H) server) file others →
+    let K = H ++ Accept replica served ∷ [] in
+    AreShown K (Knows K replica) file others
 
 -- after a version event of a file its replica is shown that version and no other
 abbrev pub VersionReplacesAll : Type 0
@@ -151,6 +169,26 @@ AcceptJoinsCovers = (H : List Event) (replica served server : ℕ) (file : Id) (
     IsCoverOf (through served H) (Knows (through served H) server) file other →
     let K = H ++ Accept replica served ∷ [] in
     IsCoverOf K (Knows K replica) file (join cover other)
+
+-- where the replica knew each Remove and Discard of a file that the server knew, its cover stays
+abbrev pub AcceptKeepsCover : Type 0
+AcceptKeepsCover = (H : List Event) (replica served server : ℕ) (file : Id) (cover : ℕ → ℕ) →
+    IsOf H served server →
+    ((position : ℕ) → IsCovering H file position →
+    Knows (through served H) server position → Knows H replica position) →
+    IsCoverOf H (Knows H replica) file cover →
+    let K = H ++ Accept replica served ∷ [] in
+    IsCoverOf K (Knows K replica) file cover
+
+-- where the server knew each Remove and Discard that the replica knew, the server's cover is taken
+abbrev pub AcceptTakesCover : Type 0
+AcceptTakesCover = (H : List Event) (replica served server : ℕ) (file : Id) (other : ℕ → ℕ) →
+    IsOf H served server →
+    ((position : ℕ) → IsCovering H file position →
+    Knows H replica position → Knows (through served H) server position) →
+    IsCoverOf (through served H) (Knows (through served H) server) file other →
+    let K = H ++ Accept replica served ∷ [] in
+    IsCoverOf K (Knows K replica) file other
 
 -- after a Remove or a Discard of a file the cover is joined with the vectors of the shown versions
 abbrev pub RemovalCoversShown : Type 0

@@ -1,11 +1,8 @@
 use Rattle.ficus_model.specs.declared.event.Event.TheVariants.{Update}
 use Rattle.ficus_model.specs.declared.event.Op.TheVariants.{Move}
-use Rattle.ficus_version_laws.proofs.Covering.{cover_accept, cover_covered, covers_all, coverings_back, cover_kept, cover_was}
+use Rattle.ficus_version_laws.proofs.Covering.{cover_covered, covers_all, coverings_back, cover_kept, cover_was}
 use Rattle.ficus_version_laws.proofs.Objects.{none_is}
-use Rattle.ficus_version_laws.proofs.covers.covers_follow_events.Goals as goal
-
-pub returns-clause-accepted : goal.returns-clause-accepted
-returns-clause-accepted c = λ H replica served server file cover other by_server own his. cover_accept by_server own his
+use Rattle.ficus_version_laws.proofs.covers.covers_follow_updates.Goals as goal
 
 pub returns-clause-removed : goal.returns-clause-removed
 returns-clause-removed c = λ H replica op file versions cover is shown cover_is. cover_covered H replica op is shown cover_is
