@@ -9,7 +9,7 @@ use Rattle.ficus_model.specs.declared.event.Op.{Op}
 use Rattle.ficus_model.specs.declared.event.Op.TheVariants.{Make, Move}
 use Rattle.ficus_model.specs.Live.{IsFile, HasName}
 use Rattle.ficus_model.specs.Events.{IsOf, through, actor}
-use Rattle.ficus_model.specs.Known.{Knows}
+use Rattle.ficus_model.specs.Known.{Knows, HasInPast}
 use Rattle.ficus_model.specs.Lawful.{Volume, IsLawful}
 use Rattle.ficus_model.specs.Versions.{version_of, bytes_of, covered_by, IsVersion, IsCovering, IsShown, IsInConflict}
 use Rattle.ficus_model.specs.Vectors.{IsVectorOf, IsCoverOf}
@@ -27,6 +27,13 @@ VectorsTellPasts = (volume : Volume) (H : List Event) (file : Id) (position othe
     IsLawful volume H → IsVersion H file position → IsVersion H file other →
     IsVectorOf H file position vector → IsVectorOf H file other again →
     CompareAsPasts volume.members H position other vector again
+
+-- the count of a version's own replica alone tells whether another version is it or has it in its past
+abbrev pub OwnCountTellsPast : Type 0
+OwnCountTellsPast = (H : List Event) (file : Id) (position other replica : ℕ) (vector again : ℕ → ℕ) →
+    IsVersion H file position → IsVersion H file other → IsOf H position replica →
+    IsVectorOf H file position vector → IsVectorOf H file other again →
+    (vector replica ≤ again replica) ↔ ((position ≡ other) ⊎ HasInPast H other position)
 
 -- a version has one vector
 abbrev pub OneVector : Type 0
