@@ -1,23 +1,24 @@
 -- The laws, as the law functions state them.
-use Rattle.std.specs.Prelude.{◌≡◌, ◌≢◌, ◌↔◌, ◌⊎◌, ℕ, ◌<◌, List, [], ◌∷◌, ◌++◌, length, Some, ◌≤◌, Contains, AllPairs}
+use Rattle.std.specs.Prelude.{◌≡◌, ◌≢◌, ◌↔◌, ◌⊎◌, ℕ, ◌<◌, List, [], ◌∷◌, ◌++◌, length, ◌≤◌, Contains, AllPairs}
 use Rattle.ficus_ids.specs.declared.id.Id.{Id}
 use Rattle.ficus_ids.specs.declared.kind.Kind.{Kind}
 use Rattle.ficus_ids.specs.declared.kind.Kind.TheVariants.{Dir}
 use Rattle.ficus_model.specs.declared.event.Event.{Event}
 use Rattle.ficus_model.specs.declared.event.Event.TheVariants.{Update, Accept}
 use Rattle.ficus_model.specs.declared.event.Op.{Op}
-use Rattle.ficus_model.specs.declared.event.Op.TheVariants.{Make, Move}
+use Rattle.ficus_model.specs.declared.event.Op.TheVariants.{Make}
 use Rattle.ficus_model.specs.Live.{IsFile, HasName}
 use Rattle.ficus_model.specs.Events.{IsOf, through, actor}
 use Rattle.ficus_model.specs.Known.{Knows, HasInPast}
 use Rattle.ficus_model.specs.Lawful.{Volume, IsLawful}
-use Rattle.ficus_model.specs.Versions.{version_of, bytes_of, covered_by, IsVersion, IsCovering, IsShown, IsInConflict}
+use Rattle.ficus_model.specs.Versions.{IsVersion, IsCovering, IsShown, IsInConflict}
 use Rattle.ficus_model.specs.Vectors.{IsVectorOf, IsCoverOf}
 use Rattle.ficus_model.specs.View.{IsOrphan, HasUnseen}
 use Rattle.ficus_laws.specs.Views.{ShowSameView}
 use Rattle.ficus_laws.specs.Updates.{next_number, IsQuiet}
 use Rattle.ficus_version_laws.specs.Compared.{IsAtMost, CompareAsPasts, join}
 use Rattle.ficus_version_laws.specs.Listed.{Item, AreShown, IsLatestOfBoth, AreMerged, join_all, advanced}
+use Rattle.ficus_version_laws.specs.Operations.{Writes, GivesUp}
 use Rattle.ficus_version_laws.specs.Covers.{HasCover, ShowsUncovered, HasBeyond, HasTwoTexts}
 use Rattle.ficus_version_laws.specs.Views.{IsSameFile}
 
@@ -94,31 +95,31 @@ AcceptTakesList = (H : List Event) (replica served server : ℕ) (file : Id) (ot
     let K = H ++ Accept replica served ∷ [] in
     AreShown K (Knows K replica) file others
 
--- after a version event of a file its replica is shown that version and no other
+-- after an update that gives a file a version its replica is shown that version and no other
 abbrev pub VersionReplacesAll : Type 0
-VersionReplacesAll = (H : List Event) (replica : ℕ) (op : Op) (file : Id) (position : ℕ) →
-    version_of (next_number replica H) op ≡ Some file →
+VersionReplacesAll = (H : List Event) (replica : ℕ) (op : Op) (file : Id) (bytes : List ℕ) (position : ℕ) →
+    Writes (next_number replica H) op file bytes →
     let K = H ++ Update replica op ∷ [] in
     IsShown K (Knows K replica) file position ↔ (position ≡ length H)
 
 -- whose vector is the join of those shown before, with one more for the replica
 abbrev pub VersionAdvances : Type 0
-VersionAdvances = (H : List Event) (replica : ℕ) (op : Op) (file : Id) (versions : List Item) →
-    version_of (next_number replica H) op ≡ Some file → AreShown H (Knows H replica) file versions →
+VersionAdvances = (H : List Event) (replica : ℕ) (op : Op) (file : Id) (bytes : List ℕ) (versions : List Item) →
+    Writes (next_number replica H) op file bytes → AreShown H (Knows H replica) file versions →
     let K = H ++ Update replica op ∷ [] in
-    AreShown K (Knows K replica) file (advanced replica (bytes_of op) versions)
+    AreShown K (Knows K replica) file (advanced replica bytes versions)
 
--- after a version event of a file it isn't in conflict
+-- then the file isn't in conflict
 abbrev pub VersionEndsConflict : Type 0
-VersionEndsConflict = (H : List Event) (replica : ℕ) (op : Op) (file : Id) →
-    version_of (next_number replica H) op ≡ Some file →
+VersionEndsConflict = (H : List Event) (replica : ℕ) (op : Op) (file : Id) (bytes : List ℕ) →
+    Writes (next_number replica H) op file bytes →
     let K = H ++ Update replica op ∷ [] in
     IsInConflict K (Knows K replica) file → ⊥
 
--- any other operation leaves the versions of the file
+-- any other update leaves the versions of the file
 abbrev pub OthersKeepVersions : Type 0
 OthersKeepVersions = (H : List Event) (replica : ℕ) (op : Op) (file : Id) (versions : List Item) →
-    version_of (next_number replica H) op ≢ Some file →
+    ((bytes : List ℕ) → Writes (next_number replica H) op file bytes → ⊥) →
     let K = H ++ Update replica op ∷ [] in
     AreShown H (Knows H replica) file versions ↔ AreShown K (Knows K replica) file versions
 
@@ -200,27 +201,20 @@ AcceptTakesCover = (H : List Event) (replica served server : ℕ) (file : Id) (o
 -- after a Remove or a Discard of a file the cover is joined with the vectors of the shown versions
 abbrev pub RemovalCoversShown : Type 0
 RemovalCoversShown = (H : List Event) (replica : ℕ) (op : Op) (file : Id) (versions : List Item) (cover : ℕ → ℕ) →
-    covered_by op ≡ Some file → AreShown H (Knows H replica) file versions → IsCoverOf H (Knows H replica) file cover →
+    GivesUp op file → AreShown H (Knows H replica) file versions → IsCoverOf H (Knows H replica) file cover →
     let K = H ++ Update replica op ∷ [] in
     IsCoverOf K (Knows K replica) file (join cover (join_all versions))
 
--- after a Remove or a Discard of a file none of its known versions is uncovered
+-- then none of its known versions is uncovered
 abbrev pub RemovalCoversAll : Type 0
-RemovalCoversAll = (H : List Event) (replica : ℕ) (op : Op) (file : Id) → covered_by op ≡ Some file →
+RemovalCoversAll = (H : List Event) (replica : ℕ) (op : Op) (file : Id) → GivesUp op file →
     let K = H ++ Update replica op ∷ [] in
     HasUnseen K (Knows K replica) file → ⊥
 
--- any other operation leaves the cover of the file
+-- any other update leaves the cover of the file
 abbrev pub OthersKeepCover : Type 0
-OthersKeepCover = (H : List Event) (replica : ℕ) (op : Op) (file : Id) (cover : ℕ → ℕ) → covered_by op ≢ Some file →
+OthersKeepCover = (H : List Event) (replica : ℕ) (op : Op) (file : Id) (cover : ℕ → ℕ) → (GivesUp op file → ⊥) →
     let K = H ++ Update replica op ∷ [] in
-    IsCoverOf H (Knows H replica) file cover ↔ IsCoverOf K (Knows K replica) file cover
-
--- so a Move leaves every cover
-abbrev pub MoveKeepsCover : Type 0
-MoveKeepsCover = (H : List Event) (replica : ℕ) (entries : List Id) (dir : Id) (name : List ℕ) (target file : Id)
-    (cover : ℕ → ℕ) →
-    let K = H ++ Update replica (Move entries dir name target) ∷ [] in
     IsCoverOf H (Knows H replica) file cover ↔ IsCoverOf K (Knows K replica) file cover
 
 -- a file is in conflict exactly where two versions of its list differ in bytes

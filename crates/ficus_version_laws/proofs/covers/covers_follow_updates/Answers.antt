@@ -1,27 +1,16 @@
 use Rattle.ficus_model.specs.declared.event.Event.TheVariants.{Update}
-use Rattle.ficus_model.specs.declared.event.Op.TheVariants.{Move}
 use Rattle.ficus_version_laws.proofs.Covering.{cover_covered, covers_all, coverings_back, cover_kept, cover_was}
-use Rattle.ficus_version_laws.proofs.Objects.{none_is}
+use Rattle.ficus_version_laws.proofs.Operations.{gives_up_covers, covers_gives_up}
 use Rattle.ficus_version_laws.proofs.covers.covers_follow_updates.Goals as goal
 
 pub returns-clause-removed : goal.returns-clause-removed
-returns-clause-removed c = λ H replica op file versions cover is shown cover_is. cover_covered H replica op is shown cover_is
-
-pub returns-clause-kept : goal.returns-clause-kept
-returns-clause-kept c = λ H replica op file cover differs. (
-  cover_kept H (Update replica op) replica (coverings_back H replica op differs),
-  cover_was H (Update replica op) replica (coverings_back H replica op differs),
-)
-
-pub returns-clause-moved : goal.returns-clause-moved
-returns-clause-moved c = λ H replica entries dir name target file cover. (
-  cover_kept H
-      (Update replica (Move entries dir name target)) replica
-      (coverings_back H replica (Move entries dir name target) (none_is file)),
-  cover_was H
-      (Update replica (Move entries dir name target)) replica
-      (coverings_back H replica (Move entries dir name target) (none_is file)),
-)
+returns-clause-removed c = λ H replica op file versions cover gives_up shown cover_is.
+    cover_covered H replica op (gives_up_covers gives_up) shown cover_is
 
 pub returns-clause-all : goal.returns-clause-all
-returns-clause-all c = λ H replica op file is unseen. covers_all H replica op is unseen
+returns-clause-all c = λ H replica op file gives_up unseen. covers_all H replica op (gives_up_covers gives_up) unseen
+
+pub returns-clause-kept : goal.returns-clause-kept
+returns-clause-kept c = λ H replica op file cover other.
+    let back = coverings_back H replica op {file = file} (λ is. other (covers_gives_up op file is)) in
+    (cover_kept H (Update replica op) replica back, cover_was H (Update replica op) replica back)
