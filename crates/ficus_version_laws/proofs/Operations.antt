@@ -27,7 +27,8 @@ writes_version ByWrite = (refl, refl)
 writes_version BySettle = (refl, refl)
 writes_version ByResolve = (refl, refl)
 
-pub version_writes : (number file : Id) (op : Op) → version_of number op ≡ Some file → Writes number op file (bytes_of op)
+pub version_writes : (number file : Id) (op : Op) → version_of number op ≡ Some file →
+    Writes number op file (bytes_of op)
 version_writes number file (Make dir name kind) e =
     let is = made_file_is number file kind e in
     subst (λ object. Writes number (Make dir name kind) object []) is.0 (ByMake is.1)
