@@ -15,3 +15,4 @@ pub mod Places
 pub mod OpenAsk
 pub mod Past
 pub mod Views
+pub mod Deciding
