@@ -1,0 +1,5 @@
+pub mod Deciding
+pub mod Carrying
+pub mod Hearing
+pub mod Removing
+pub mod Dropping

@@ -1,0 +1,10 @@
+//! The laws of removals: what a replica knows of what others know of a removal, and what that knowledge tells
+//! of entries that are dropped.
+//!
+//! A law is the contract of a function with an empty body. Its lemmas stand in `proofs/`, for the proofs of
+//! the crates above.
+#![tactic(auto)]
+
+mod heard;
+
+pub use heard::{knowledge_has_two_readings, knowledge_is_decided, last_is_heard, own_marks_follow};
