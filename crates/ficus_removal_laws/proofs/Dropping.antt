@@ -12,12 +12,9 @@ use Rattle.ficus_model.specs.Knowledge.{IsInTwo, KnowsThatKnows, KnowsThatAllKno
 use Rattle.ficus_model.specs.Held.{IsDropped}
 use Rattle.ficus_laws.proofs.Positions.{AgreeBelow, agree_back, agree_more, agree_before, agree_at, agree_take, at_within, at_end, at_cases, at_from_before}
 use Rattle.ficus_laws.proofs.Knowledge.{knows_own}
+use Rattle.ficus_removal_laws.specs.Marks.{IsTwoFull}
 use Rattle.ficus_removal_laws.proofs.Carrying.{one_through, one_removed, all_from_before}
 use Rattle.ficus_removal_laws.proofs.Hearing.{two_from_last}
-
--- every member is in the replica's second set
-abbrev pub IsTwoFull : ℕ → List Event → ℕ → Id → Type 0
-IsTwoFull members H replica entry = (member : ℕ) → IsMember members member → IsInTwo members H replica member entry
 
 -- what is dropped is so in each history that has the same events
 pub dropped_at : {n members : ℕ} {H K : List Event} {replica : ℕ} {entry : Id} → AgreeBelow n H K →

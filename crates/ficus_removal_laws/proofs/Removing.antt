@@ -22,6 +22,7 @@ use Rattle.ficus_laws.proofs.Lawful.{lawful_before}
 use Rattle.ficus_laws.proofs.Issued.{next_not_removed}
 use Rattle.ficus_laws.proofs.Places.{within_past}
 use Rattle.ficus_laws.proofs.Shown.{entered_within}
+use Rattle.ficus_removal_laws.specs.Marks.{IsEnteredAs}
 use Rattle.ficus_removal_laws.proofs.Carrying.{knows_through, removed_from_before}
 
 -- where an operation removes an entry, the entry is alive, or the operation is the Discard that enters it
@@ -50,10 +51,6 @@ is_removable H U number id (Discard file) allowed removes = inr (only (here_or_t
     only : (id ≡ number) ⊎ Contains [] id → id ≡ number
     only (inl same) = same
     only (inr none) = absurd (not_inside_none id none)
-
--- the entry with this identifier is entered, as far as U knows
-abbrev pub IsEnteredAs : List Event → (ℕ → Type 0) → Id → Type 0
-IsEnteredAs H U id = (entry : Entry) × IsEntered H U entry × (entry.id ≡ id)
 
 -- In each of these an update of a lawful history removes an entry.
 module _ (volume : Volume) (H : List Event) (lawful : IsLawful volume H) {position : ℕ} {number id : Id} {op : Op}
@@ -85,18 +82,22 @@ module _ (volume : Volume) (H : List Event) (lawful : IsLawful volume H) {positi
   removal_entered {replica} known = go removable
     where
       go : IsRemovable earlier (Knows earlier number.replica) number op id → IsEnteredAs H (Knows H replica) id
-      go (inl (entry, live, same)) = (entry, entered_within (within_past (of_at update.at) known) live.entered, same)
-      go (inr (same, file, is)) = (
-        entry_of number ATTIC (codes "discarded") file,
-        record {
+      go (inl (entry, live, same)) = record {
+        entry = entry;
+        entered = entered_within (within_past (of_at update.at) known) live.entered;
+        named = same;
+      }
+      go (inr (same, file, is)) = record {
+        entry = entry_of number ATTIC (codes "discarded") file;
+        entered = record {
           position = position;
           op = op;
           known = known;
           update = update;
           enters = ap (entered_by number) is;
-        },
-        sym same,
-      )
+        };
+        named = sym same;
+      }
 
   -- whoever knows that its replica knows a removal of the entry knows this one: the replica removes it once
   pub removal_known : {replica : ℕ} → KnowsThatKnows H replica number.replica id → Knows H replica position
