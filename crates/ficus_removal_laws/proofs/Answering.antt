@@ -218,7 +218,7 @@ module _ (volume : Volume) (H : List Event) (replica served server : ℕ) (entry
       IsDropped volume.members H replica entry
   absent_dropped absent o = absent (removed_entered volume H answer.lawful (marked_removed o))
 
-  lawful_there : IsLawful volume answered
+  pub lawful_there : IsLawful volume answered
   lawful_there = lawful_before volume H (served + 1) answer.lawful
 
   pub server_absent_dropped : IsAbsent volume.members answered server entry →
