@@ -1,6 +1,6 @@
 -- When the marks of a row with a dead result are those that the history gives.
-use Rattle.std.proofs.Common.{◌≡◌, ◌≢◌, ◌↔◌, ◌⊎◌, ℕ, Bool, true, false, List, Some, None, Option, refl, sym, ◌∙◌, subst, inl, inr, arith}
-use Rattle.std.specs.Prelude.{◌||◌, ◌==◌, IsTrue}
+use Rattle.std.proofs.Common.{◌≡◌, ◌≢◌, ◌↔◌, ◌⊎◌, ℕ, Bool, true, false, List, Some, None, Option, refl, inl, inr}
+use Rattle.std.specs.Prelude.{◌==◌, IsTrue}
 use Rattle.std.proofs.lemmas.Bool.{cases_eq, or_cases, or_left, or_right, eq-eqb, eqb-true}
 use Rattle.ficus_ids.specs.Marks.{has, IsFull}
 use Rattle.ficus_ids.specs.MarksLaws.{full_or_one_missing}
@@ -15,7 +15,7 @@ use Rattle.ficus_model.specs.Live.{IsRemoved}
 use Rattle.ficus_model.specs.Knowledge.{KnowsThatKnows, KnowsThatAllKnow}
 use Rattle.ficus_model.specs.Held.{IsDropped}
 use Rattle.ficus_removal_laws.specs.Marks.{IsEnteredAs}
-use Rattle.ficus_removal_laws.proofs.Carrying.{one_removed, all_one}
+use Rattle.ficus_removal_laws.proofs.Carrying.{all_one}
 use Rattle.ficus_removal_laws.proofs.Hearing.{one_from_last, one_at_last, two_from_last, two_at_last, one_of_itself, two_of_itself}
 use Rattle.ficus_merge_laws.specs.States.{IsMarked, StandsAs}
 

@@ -1,6 +1,6 @@
 -- The rows of the merge table.
-use Rattle.std.proofs.Common.{◌≡◌, ◌≢◌, ◌↔◌, ◌⊎◌, ℕ, Bool, true, false, List, [], ◌∷◌, ◌++◌, Some, None, Option, MatchBool, refl, sym, ◌∙◌, subst, inl, inr, arith}
-use Rattle.std.specs.Prelude.{◌||◌, IsTrue, nat_le}
+use Rattle.std.proofs.Common.{◌≡◌, ◌⊎◌, ℕ, Bool, true, false, List, [], ◌∷◌, ◌++◌, Some, None, Option, MatchBool, refl, inl, inr}
+use Rattle.std.specs.Prelude.{IsTrue, nat_le}
 use Rattle.std.proofs.lemmas.Bool.{or_cases, or_left, or_right, and_parts, and_from, leb-true, le-leb}
 use Rattle.ficus_ids.specs.Marks.{has, IsFull}
 use Rattle.ficus_ids.specs.MarksLaws.{full_or_one_missing}
@@ -14,7 +14,7 @@ use Rattle.ficus_model.specs.declared.event.Event.TheVariants.{Accept, Collect}
 use Rattle.ficus_model.specs.Events.{IsOf, through}
 use Rattle.ficus_model.specs.Known.{Knows}
 use Rattle.ficus_model.specs.Live.{IsRemoved}
-use Rattle.ficus_model.specs.Lawful.{Volume, IsLawful}
+use Rattle.ficus_model.specs.Lawful.{Volume}
 use Rattle.ficus_model.specs.Knowledge.{KnowsThatKnows, KnowsThatAllKnow}
 use Rattle.ficus_model.specs.Held.{IsDropped}
 use Rattle.ficus_laws.proofs.Lawful.{lawful_more, lawful_member}
@@ -25,7 +25,7 @@ use Rattle.ficus_removal_laws.proofs.Hearing.{one_from_last, one_at_last, two_fr
 use Rattle.ficus_removal_laws.proofs.Removing.{removed_entered}
 use Rattle.ficus_removal_laws.proofs.Dropping.{dropped_more, dropped_cases, dropped_two, dropped_removed}
 use Rattle.ficus_removal_laws.proofs.Answering as answers
-use Rattle.ficus_merge_laws.specs.States.{IsAlive, IsMarked, StandsAs}
+use Rattle.ficus_merge_laws.specs.States.{IsMarked, StandsAs}
 use Rattle.ficus_merge_laws.proofs.Dying.{IsSaid, said_stands, with_itself, with_more, with_other}
 
 everyone_member : (members replica : ℕ) → IsTrue (everyone members replica) → IsMember members replica

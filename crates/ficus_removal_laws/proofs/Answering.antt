@@ -1,29 +1,28 @@
 -- What an answer tells of the marks of an entry, and of the entries that one of both doesn't hold.
-use Rattle.std.proofs.Common.{◌≡◌, ◌≢◌, ◌⊎◌, ℕ, ◌+◌, ◌<◌, ◌≤◌, List, [], ◌∷◌, ◌++◌, length, refl, sym, ◌∙◌, subst, inl, inr, arith}
+use Rattle.std.proofs.Common.{◌≢◌, ◌⊎◌, ℕ, ◌+◌, ◌<◌, ◌≤◌, List, [], ◌∷◌, ◌++◌, ◌∙◌, subst, inl, inr, arith}
 use Rattle.ficus_ids.specs.Members.{IsMember}
 use Rattle.ficus_ids.specs.declared.id.Id.{Id}
 use Rattle.ficus_model.specs.declared.event.Event.{Event}
 use Rattle.ficus_model.specs.declared.event.Event.TheVariants.{Accept}
 use Rattle.ficus_model.specs.Events.{IsOf, before, through}
 use Rattle.ficus_model.specs.Known.{Knows}
-use Rattle.ficus_model.specs.Live.{Entry, IsEntered, IsRemoved}
-use Rattle.ficus_model.specs.Lawful.{Volume, MayCome, IsLawful}
+use Rattle.ficus_model.specs.Live.{IsEntered, IsRemoved}
+use Rattle.ficus_model.specs.Lawful.{Volume, IsLawful}
 use Rattle.ficus_model.specs.Knowledge.{IsHeard, KnowsThatKnows, KnowsThatAllKnow}
 use Rattle.ficus_model.specs.Held.{IsDropped}
-use Rattle.ficus_laws.proofs.Positions.{AgreeBelow, agree_back, agree_more, agree_before, at_from_before, of_within, of_more, of_less, of_before, of_from_before, of_same, of_at}
+use Rattle.ficus_laws.proofs.Positions.{AgreeBelow, agree_back, agree_more, agree_before, of_within, of_more, of_less, of_before, of_from_before, of_same, of_at}
 use Rattle.ficus_laws.proofs.Updates.{agree_update}
 use Rattle.ficus_laws.proofs.Seen.{seen_within}
-use Rattle.ficus_laws.proofs.Knowledge.{knows_within, knows_later, knows_own}
 use Rattle.ficus_laws.proofs.Lawful.{lawful_before, lawful_member}
 use Rattle.ficus_laws.proofs.Shown.{entered_within, removed_within}
 use Rattle.ficus_laws.proofs.OneMore.{within_more}
 use Rattle.ficus_laws.proofs.Accept.{accept_knows, accept_keeps, accept_brings, accept_entered, accept_removed, known_before_served}
-use Rattle.ficus_removal_laws.specs.Marks.{IsOneFull, IsEnteredAs, IsAbsent, IsLaterHeard}
+use Rattle.ficus_removal_laws.specs.Marks.{IsEnteredAs, IsAbsent, IsLaterHeard}
 use Rattle.ficus_removal_laws.specs.Laws.{IsAnswer}
-use Rattle.ficus_removal_laws.proofs.Carrying.{removed_at, removed_later, removed_from_before, one_at, one_more, one_later, one_removed, one_from_before, all_at, all_more}
-use Rattle.ficus_removal_laws.proofs.Hearing.{heard_from, one_from_last, one_at_last, one_of_itself}
+use Rattle.ficus_removal_laws.proofs.Carrying.{removed_at, removed_later, removed_from_before, one_at, one_later, one_removed, one_from_before, all_at}
+use Rattle.ficus_removal_laws.proofs.Hearing.{heard_from}
 use Rattle.ficus_removal_laws.proofs.Removing.{removed_entered}
-use Rattle.ficus_removal_laws.proofs.Dropping.{dropped_two, dropped_one, dropped_removed, dropped_from_before}
+use Rattle.ficus_removal_laws.proofs.Dropping.{dropped_two, dropped_one, dropped_from_before}
 use Rattle.ficus_removal_laws.proofs.Marking.{one_less, all_less, before_of_other}
 
 -- what is known among the first events stands there

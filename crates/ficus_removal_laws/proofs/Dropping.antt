@@ -8,7 +8,7 @@ use Rattle.ficus_model.specs.declared.event.Event.TheVariants.{Collect}
 use Rattle.ficus_model.specs.Events.{IsAt, before}
 use Rattle.ficus_model.specs.Known.{Knows}
 use Rattle.ficus_model.specs.Live.{IsRemoved}
-use Rattle.ficus_model.specs.Knowledge.{IsInTwo, KnowsThatKnows, KnowsThatAllKnow}
+use Rattle.ficus_model.specs.Knowledge.{KnowsThatKnows, KnowsThatAllKnow}
 use Rattle.ficus_model.specs.Held.{IsDropped}
 use Rattle.ficus_laws.proofs.Positions.{AgreeBelow, agree_back, agree_more, agree_before, agree_at, agree_take, at_within, at_end, at_cases, at_from_before}
 use Rattle.ficus_laws.proofs.Knowledge.{knows_own}

@@ -1,5 +1,5 @@
 -- What one more event does to the marks of an entry.
-use Rattle.std.proofs.Common.{◌≡◌, ◌≢◌, ◌↔◌, ◌⊎◌, ℕ, ◌<◌, ◌≤◌, List, [], ◌∷◌, ◌++◌, length, refl, sym, ◌∙◌, subst, inl, inr, arith}
+use Rattle.std.proofs.Common.{◌≡◌, ◌≢◌, ◌⊎◌, ℕ, ◌<◌, ◌≤◌, List, [], ◌∷◌, ◌++◌, length, refl, sym, subst, inl, inr, arith}
 use Rattle.std.specs.Prelude.{Contains}
 use Rattle.std.proofs.lemmas.Bool.{cases_eq}
 use Rattle.std.proofs.lemmas.List.{take_at}
@@ -18,12 +18,12 @@ use Rattle.ficus_laws.specs.Known.{Takes}
 use Rattle.ficus_laws.specs.Updates.{next_number, IsQuiet}
 use Rattle.ficus_laws.proofs.Positions.{agree_back, agree_more, of_cases, of_within, of_end}
 use Rattle.ficus_laws.proofs.Updates.{update_end}
-use Rattle.ficus_laws.proofs.Knowledge.{knows_within, knows_more, knows_end, knows_of_other, knows_less}
-use Rattle.ficus_laws.proofs.Lawful.{lawful_less, lawful_member}
+use Rattle.ficus_laws.proofs.Knowledge.{knows_within, knows_end, knows_of_other, knows_less}
+use Rattle.ficus_laws.proofs.Lawful.{lawful_member}
 use Rattle.ficus_laws.proofs.Shown.{removed_within}
 use Rattle.ficus_laws.proofs.OneMore.{same_quiet}
 use Rattle.ficus_laws.proofs.AfterUpdate.{removed_after, removed_new}
-use Rattle.ficus_removal_laws.specs.Marks.{IsOneFull, LeavesEntry, SameMarks, IsBegun}
+use Rattle.ficus_removal_laws.specs.Marks.{LeavesEntry, SameMarks, IsBegun}
 use Rattle.ficus_removal_laws.proofs.Carrying.{one_at, one_more, one_removed, all_at, all_more, all_one}
 use Rattle.ficus_removal_laws.proofs.Hearing.{one_from_last, one_at_last, two_from_last, two_at_last, one_of_itself, two_of_itself}
 use Rattle.ficus_removal_laws.proofs.Removing.{removal_first, removal_entered}

@@ -4,7 +4,6 @@ use Rattle.ficus_ids.specs.Members.{IsMember}
 use Rattle.ficus_ids.specs.declared.id.Id.{Id}
 use Rattle.ficus_model.specs.declared.event.Event.{Event}
 use Rattle.ficus_model.specs.declared.event.Event.TheVariants.{Update, Ask, Serve, Accept, Collect, Restart}
-use Rattle.ficus_model.specs.Events.{actor}
 use Rattle.ficus_model.specs.Known.{Knows}
 use Rattle.ficus_model.specs.Live.{Entry, removed_by, IsEntered}
 use Rattle.ficus_model.specs.Knowledge.{IsHeard, IsInOne, IsInTwo}
