@@ -16,4 +16,6 @@ pub use dropped::{
 pub use heard::{
     knowledge_has_two_readings, knowledge_is_decided, last_is_heard, own_marks_follow,
 };
-pub use marks::{accept_joins_marks, marks_stay, removal_begins, removals_are_told};
+pub use marks::{
+    accept_joins_marks, marks_stay, removal_begins, removals_are_told, removals_take_effect,
+};
