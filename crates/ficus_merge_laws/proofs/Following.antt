@@ -13,15 +13,15 @@ use Rattle.ficus_model.specs.declared.event.Event.TheVariants.{Update, Ask, Serv
 use Rattle.ficus_model.specs.declared.event.Op.{Op}
 use Rattle.ficus_model.specs.Events.{actor}
 use Rattle.ficus_model.specs.Known.{Knows}
-use Rattle.ficus_model.specs.Live.{Entry, entered_by, removed_by, IsEntered, IsRemoved}
+use Rattle.ficus_model.specs.Live.{entered_by, removed_by, IsEntered, IsRemoved}
 use Rattle.ficus_model.specs.Lawful.{Volume, IsLawful}
 use Rattle.ficus_model.specs.Held.{IsDropped}
-use Rattle.ficus_laws.specs.Updates.{next_number, IsQuiet, SameUpdates}
+use Rattle.ficus_laws.specs.Updates.{next_number, SameUpdates}
 use Rattle.ficus_laws.proofs.Shown.{entered_within, removed_within}
 use Rattle.ficus_laws.proofs.OneMore.{within_more, same_of_other, same_quiet}
 use Rattle.ficus_laws.proofs.AfterUpdate.{entered_after, entered_new, entered_id, removed_after, removed_new}
 use Rattle.ficus_laws.proofs.Issued.{next_not_removed}
-use Rattle.ficus_removal_laws.specs.Marks.{IsTwoFull, IsEnteredAs, IsAbsent, LeavesEntry, SameMarks, IsBegun}
+use Rattle.ficus_removal_laws.specs.Marks.{IsTwoFull, IsEnteredAs, LeavesEntry, SameMarks, IsBegun}
 use Rattle.ficus_removal_laws.proofs.Carrying.{one_removed}
 use Rattle.ficus_removal_laws.proofs.Hearing.{one_from_last, one_at_last, one_of_itself}
 use Rattle.ficus_removal_laws.proofs.Dropping.{dropped_more, dropped_cases, dropped_now}

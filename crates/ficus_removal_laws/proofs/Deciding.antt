@@ -135,9 +135,9 @@ module _ (H : List Event) (at seen : ℕ) (earlier : (old : ℕ) → old < at �
       go : ((event : Event) × IsAt H at event) ⊎ (length H ≤ at) → Decided (HasSeen H at seen)
       go (inl (event, a)) = step event a (cases_eq at seen)
           (last_or_none
-              (HasOwn (actor event))
-              at
-              (λ old h. both_decided (of_decided H old (actor event)) (earlier old h)))
+          (HasOwn (actor event))
+          at
+          (λ old h. both_decided (of_decided H old (actor event)) (earlier old h)))
           (told_decided event a)
       go (inr h) = inr (λ s. omega (arith, seen_within s))
 

@@ -19,9 +19,9 @@ pub heard_from : {H : List Event} {replica peer position : ℕ} → Knows H repl
     (last : ℕ) × IsHeard H replica peer last × (position ≤ last)
 heard_from {H} {replica} {peer} {position} known own =
     go (last_or_none
-        heard
-        (length H)
-        (λ other h. both_decided (knows_decided H replica other) (of_decided H other peer)))
+    heard
+    (length H)
+    (λ other h. both_decided (knows_decided H replica other) (of_decided H other peer)))
   where
     heard : ℕ → Type 0
     heard other = Knows H replica other × IsOf H other peer

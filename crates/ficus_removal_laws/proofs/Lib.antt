@@ -6,3 +6,4 @@ pub mod Dropping
 pub mod Marking
 pub mod Answering
 pub mod Taking
+pub mod Example

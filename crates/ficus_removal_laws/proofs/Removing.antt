@@ -61,7 +61,7 @@ module _ (volume : Volume) (H : List Event) (lawful : IsLawful volume H) {positi
   removable : IsRemovable earlier (Knows earlier number.replica) number op id
   removable =
       let may : MayUpdate volume earlier number.replica op =
-          lawful.each position (Update number.replica op) update.at in
+      lawful.each position (Update number.replica op) update.at in
       is_removable earlier (Knows earlier number.replica) number id op may.allowed removes
 
   -- its replica knew no removal of the entry before

@@ -8,8 +8,8 @@ use Rattle.ficus_model.specs.declared.event.Event.{Event}
 use Rattle.ficus_model.specs.declared.event.Event.TheVariants.{Update}
 use Rattle.ficus_model.specs.declared.event.Op.TheVariants.{Remove, Move, Discard}
 use Rattle.ficus_model.specs.Known.{Knows}
-use Rattle.ficus_model.specs.Live.{Entry, entry_of, entered_by, removed_by, IsLive}
-use Rattle.ficus_model.specs.Lawful.{Volume, MayCome, AreNames, IsLawful}
+use Rattle.ficus_model.specs.Live.{Entry, entry_of, entered_by, IsLive}
+use Rattle.ficus_model.specs.Lawful.{Volume, AreNames, IsLawful}
 use Rattle.ficus_laws.specs.Updates.{next_number, IsIssued}
 use Rattle.ficus_laws.proofs.Lawful.{lawful_less}
 use Rattle.ficus_laws.proofs.Issued.{entered_issued, next_not_removed}
