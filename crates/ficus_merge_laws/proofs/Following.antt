@@ -38,7 +38,8 @@ entered_where same e = record { entry = e.entry; entered = entered_within same.b
 -- In each of these the marks of the entry stay, and the replica doesn't come to know the entry or to drop it.
 module _ {members : ℕ} {H : List Event} {replica : ℕ} {id : Id} (event : Event)
     (same : SameMarks members H (H ++ event ∷ []) replica id)
-    (not_entered : IsEnteredAs (H ++ event ∷ []) (Knows (H ++ event ∷ []) replica) id → IsEnteredAs H (Knows H replica) id)
+    (not_entered : IsEnteredAs (H ++ event ∷ []) (Knows (H ++ event ∷ []) replica) id →
+    IsEnteredAs H (Knows H replica) id)
     (not_dropped : IsDropped members (H ++ event ∷ []) replica id → IsDropped members H replica id) where
   abbrev after : List Event
   after = H ++ event ∷ []
@@ -154,7 +155,8 @@ collect_stands members H replica id state after is_member = by_state state
         IsEnteredAs H (Knows H replica) id
     not_entered e = entered_where (same_quiet H (Collect replica) replica tt) e
 
-    alive : StandsAs members H replica id (Some Live) → StandsAs members (H ++ Collect replica ∷ []) replica id (Some Live)
+    alive : StandsAs members H replica id (Some Live) →
+        StandsAs members (H ++ Collect replica ∷ []) replica id (Some Live)
     alive here = record {
       entered = record {
         entry = here.entered.entry;
@@ -217,7 +219,8 @@ entered_stands volume H replica op id lawful new kept = record {
     is_next = sym new.named ∙ entered_id (next_number replica H) op new.entry new.enters
 
     go : IsRemoved H (Knows H replica) id ⊎ Contains (removed_by (next_number replica H) op) id → ⊥
-    go (inl was) = next_not_removed volume H replica lawful (subst (λ found. IsRemoved H (Knows H replica) found) is_next was)
+    go (inl was) =
+        next_not_removed volume H replica lawful (subst (λ found. IsRemoved H (Knows H replica) found) is_next was)
     go (inr now) = kept now
 
 -- what an update removes is then dead

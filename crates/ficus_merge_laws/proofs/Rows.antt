@@ -1,5 +1,5 @@
 -- The rows of the merge table.
-use Rattle.std.proofs.Common.{◌≡◌, ◌≢◌, ◌⊎◌, ℕ, Bool, true, false, List, [], ◌∷◌, ◌++◌, Some, None, Option, MatchBool, refl, inl, inr}
+use Rattle.std.proofs.Common.{◌≡◌, ◌≢◌, ◌⊎◌, ℕ, Bool, true, false, List, [], ◌∷◌, ◌++◌, Some, None, Option, MatchBool, refl, inl, inr, ⊎_elim}
 use Rattle.std.specs.Prelude.{IsTrue, nat_le}
 use Rattle.std.proofs.lemmas.Bool.{or_cases, or_left, or_right, and_parts, and_from, leb-true, le-leb}
 use Rattle.ficus_ids.specs.Marks.{has, IsFull}
@@ -37,6 +37,16 @@ member_everyone : (members replica : ℕ) → IsMember members replica → IsTru
 member_everyone members replica m =
     let low = le-leb 1 replica m.at_least in
     and_from (nat_le 1 replica) (nat_le replica members) low (le-leb replica members m.at_most)
+
+-- who is in a union is in one of both sets
+from_union : {P : Type 0} (set peers : ℕ → Bool) (peer : ℕ) → (IsTrue (set peer) → P) → (IsTrue (peers peer) → P) →
+    IsTrue (union set peers peer) → P
+from_union set peers peer here there inside = ⊎_elim here there (or_cases (set peer) (peers peer) inside)
+
+to_union : {P Q : Type 0} (set peers : ℕ → Bool) (peer : ℕ) → (P → IsTrue (set peer)) → (Q → IsTrue (peers peer)) →
+    P ⊎ Q → IsTrue (union set peers peer)
+to_union set peers peer here there (inl p) = or_left (set peer) (peers peer) (here p)
+to_union set peers peer here there (inr q) = or_right (set peer) (peers peer) (there q)
 
 -- In each of these an answer is taken.
 module _ (volume : Volume) (H : List Event) (replica served server : ℕ) (id : Id)
@@ -188,40 +198,37 @@ module _ (volume : Volume) (H : List Event) (replica served server : ℕ) (id : 
     removed = answers.removed_kept H replica served server answer.by mine.removed;
     held = not_dropped mine.held;
     first = λ peer differs. (
-      λ inside. first_there (or_cases (has one peer) (has peers_one peer) inside),
+      λ inside. first_there inside,
       λ o. first_back (one_split differs o),
     );
     mine = first_back (inl (one_of_itself mine.removed));
     second = λ peer differs. (
-      λ inside. second_there (or_cases (has two peer) (has peers_two peer) inside),
+      λ inside. second_there inside,
       λ t. second_back (two_split differs t),
     );
-    own = λ inside. second_there (or_cases (has two replica) (has peers_two replica) inside);
+    own = λ inside. second_there inside;
   }
     where
-      first_there : {peer : ℕ} → IsTrue (has one peer) ⊎ IsTrue (has peers_one peer) →
-          KnowsThatKnows after_it replica peer id
-      first_there {peer} (inl inside) =
-          one_more (Accept replica served ∷ []) (one_from_last ((mine.first peer).0 inside))
-      first_there {peer} (inr inside) =
-          answers.one_taken H replica served server answer.by (one_from_last ((theirs.first peer).0 inside))
+      first_there : {peer : ℕ} → IsTrue (union (has one) (has peers_one) peer) → KnowsThatKnows after_it replica peer id
+      first_there {peer} = from_union (has one) (has peers_one) peer
+          (λ inside. one_more (Accept replica served ∷ []) (one_from_last ((mine.first peer).0 inside)))
+          (λ inside. answers.one_taken H replica served server answer.by (one_from_last ((theirs.first peer).0 inside)))
 
       first_back : {peer : ℕ} → OneOfBoth peer → IsTrue (union (has one) (has peers_one) peer)
-      first_back {peer} (inl o) = or_left (has one peer) (has peers_one peer) ((mine.first peer).1 (one_at_last o))
-      first_back {peer} (inr his) =
-          or_right (has one peer) (has peers_one peer) ((theirs.first peer).1 (one_at_last his))
+      first_back {peer} = to_union (has one) (has peers_one) peer
+          (λ o. (mine.first peer).1 (one_at_last o))
+          (λ o. (theirs.first peer).1 (one_at_last o))
 
-      second_there : {peer : ℕ} → IsTrue (has two peer) ⊎ IsTrue (has peers_two peer) →
+      second_there : {peer : ℕ} → IsTrue (union (has two) (has peers_two) peer) →
           KnowsThatAllKnow volume.members after_it replica peer id
-      second_there {peer} (inl inside) =
-          all_more (Accept replica served ∷ []) (two_from_last ((mine.second peer).0 inside))
-      second_there {peer} (inr inside) =
-          answers.two_taken H replica served server answer.by (two_from_last ((theirs.second peer).0 inside))
+      second_there {peer} = from_union (has two) (has peers_two) peer
+          (λ inside. all_more (Accept replica served ∷ []) (two_from_last ((mine.second peer).0 inside)))
+          (λ inside. answers.two_taken H replica served server answer.by (two_from_last ((theirs.second peer).0 inside)))
 
       second_back : {peer : ℕ} → TwoOfBoth peer → IsTrue (union (has two) (has peers_two) peer)
-      second_back {peer} (inl t) = or_left (has two peer) (has peers_two peer) ((mine.second peer).1 (two_at_last t))
-      second_back {peer} (inr his) =
-          or_right (has two peer) (has peers_two peer) ((theirs.second peer).1 (two_at_last his))
+      second_back {peer} = to_union (has two) (has peers_two) peer
+          (λ t. (mine.second peer).1 (two_at_last t))
+          (λ t. (theirs.second peer).1 (two_at_last t))
 
   -- the server has dropped it
   given_up : IsDropped volume.members there server id → {one two : ℕ} → IsMarked volume.members H replica id one two →

@@ -30,7 +30,8 @@ module _ (H : List Event) (replica : ℕ) (entries : List Id) (target : Id) wher
       IsLive H (Knows H replica) entry × (Contains entries entry.id → ⊥)
   remove_live {entry} live = let found = live_after H replica (Remove entries target) live in (go found.0, found.1)
     where
-      go : IsLive H (Knows H replica) entry ⊎ (entered_by (next_number replica H) (Remove entries target) ≡ Some entry) →
+      go : IsLive H (Knows H replica) entry ⊎
+          (entered_by (next_number replica H) (Remove entries target) ≡ Some entry) →
           IsLive H (Knows H replica) entry
       go (inl was) = was
       go (inr new) = absurd (enters_none entry new)
@@ -76,7 +77,8 @@ module _ (H : List Event) (replica : ℕ) (file : Id) where
   abbrev discarded : List Event
   discarded = H ++ Update replica (Discard file) ∷ []
 
-  pub discard_live : {entry : Entry} → IsLive discarded (Knows discarded replica) entry → IsLive H (Knows H replica) entry
+  pub discard_live : {entry : Entry} → IsLive discarded (Knows discarded replica) entry →
+      IsLive H (Knows H replica) entry
   discard_live {entry} live = let found = live_after H replica (Discard file) live in go found.0 found.1
     where
       go : IsLive H (Knows H replica) entry ⊎ (entered_by (next_number replica H) (Discard file) ≡ Some entry) →
@@ -86,7 +88,8 @@ module _ (H : List Event) (replica : ℕ) (file : Id) where
           let id = entered_id (next_number replica H) (Discard file) entry new in
           absurd (kept (subst (Contains (next_number replica H ∷ [])) (sym id) (here (next_number replica H) [])))
 
-  pub live_discard : {entry : Entry} → IsLive H (Knows H replica) entry → IsLive discarded (Knows discarded replica) entry
+  pub live_discard : {entry : Entry} → IsLive H (Knows H replica) entry →
+      IsLive discarded (Knows discarded replica) entry
   live_discard {entry} live =
       live_kept H replica (Discard file) live
       (λ removes. kept (here_or_there (next_number replica H) entry.id [] removes))
