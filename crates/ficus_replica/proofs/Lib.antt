@@ -17,6 +17,5 @@ pub mod Changes
 pub mod Events
 pub mod Asks
 pub mod Merged
-pub mod MergeFits
 pub mod Accepts
 pub mod Pulls
