@@ -15,18 +15,18 @@ use Rattle.ficus_entry.specs.Kill.{HoldsLive, is_live}
 use Rattle.ficus_entry.specs.Changes.{overlaid, IsRemoval, IsSound}
 use Rattle.ficus_entry.proofs.Later.{IsLater, MayBecome, later_self, later_overlaid, later_rises, later_found, live_here, overlaid_more}
 
-contains_at : (entries : List Entry) (i : ℕ) (entry : Entry) → slice_get entries i ≡ Some entry → Contains entries entry
+pub contains_at : (entries : List Entry) (i : ℕ) (entry : Entry) → slice_get entries i ≡ Some entry → Contains entries entry
 contains_at entries i entry at = (i, slice_get_within entries i entry at, get_or_from_slice_get entries i entry entry at)
 
 pub not_missing : (entries : List Entry) (id : Id) (place : ℕ) → HoldsLive entries id → IsPlace entries id place → ⊥
 not_missing entries id place live is_place =
-    none_at_place (λ entry. entry.id) entries id place is_place (record { item = live.entry; inside = contains_at entries live.index live.entry live.at; has_id = live.has_id })
+    none_at_place (λ entry. entry.id) entries id place is_place (record { item = live.entry; inside = live.inside; has_id = live.has_id })
 
 -- the entry that a search finds is the live one
 pub found_is_live : (entries : List Entry) (id : Id) (i : ℕ) (entry : Entry) → IsRising entries → HoldsLive entries id → IsFoundAt entries id i → slice_get entries i ≡ Some entry → (entry.id ≡ id) × (entry.state ≡ Live)
 found_is_live entries id i entry rising live found at =
     let has_id : entry.id ≡ id = ap (λ (e : Entry). e.id) (sym (get_or_from_slice_get entries i entry entry at)) ∙ found.1 entry in
-    let one : entry ≡ live.entry = one_item (λ e. e.id) entries entry live.entry rising (contains_at entries i entry at) (contains_at entries live.index live.entry live.at) (has_id ∙ sym live.has_id) in
+    let one : entry ≡ live.entry = one_item (λ e. e.id) entries entry live.entry rising (contains_at entries i entry at) live.inside (has_id ∙ sym live.has_id) in
     (has_id, ap (λ (e : Entry). e.state) one ∙ live.live)
 
 passes_live : (entry : Entry) → entry.state ≡ Live → is_live entry ≡ true

@@ -1,4 +1,4 @@
-ghost use Rattle.std.specs.Prelude.{◌≡◌, ◌≤◌, ◌<◌, ◌==◌, [], length, slice_get, Some, IfOk, IfErr, OnOk, OnErr};
+ghost use Rattle.std.specs.Prelude.{◌≡◌, ◌↔◌, ◌≤◌, ◌<◌, ◌==◌, [], length, slice_get, Some, IsTrue, IfOk, IfErr, OnOk, OnErr};
 ghost use Rattle.std.specs.Option.{option_copied};
 ghost use Rattle.ficus_entry.specs.Entry.{IsRising, Holds, HoldsUnder, IsFoundAt, IsPlace, AddsEntry, PutsEntry};
 ghost use Rattle.ficus_entry.specs.Kill.{HoldsLive, IsKilled};
@@ -128,6 +128,16 @@ impl Entries {
     {
         let table = self.putting(entry)?;
         self.hold(table)
+    }
+
+    /// Whether a live entry has the identifier.
+    pub fn holds_live(&self, id: Id) -> bool
+        ensures { IsTrue result ↔ HoldsLive self.now id }
+    {
+        match self.get(id) {
+            Some(entry) => entry.is_live(),
+            None => false,
+        }
     }
 
     /// Removes the live entry with the identifier: it becomes dead, and `by` is known to know of it. Takes no

@@ -1,14 +1,22 @@
 -- What a node stands for.
-use Rattle.std.specs.Prelude.{◌≡◌, ℕ, List, [], ◌∷◌, ◌++◌, length}
+use Rattle.std.specs.Prelude.{◌≡◌, ℕ, List, [], ◌∷◌, ◌++◌, length, Option, Some, None}
 use Rattle.ficus_persistent.specs.declared.list.Node.{Node}
-use Rattle.ficus_persistent.specs.declared.list.Node.TheVariants.{Leaf, Fork}
+use Rattle.ficus_persistent.specs.declared.list.Sides.{Sides}
+use Rattle.ficus_persistent.specs.declared.list.Node.TheVariants.{Empty, One, Fork}
 
 -- the items in order
 abbrev pub items : {T : Type 0} → Node T → List T
-items Leaf = []
+items Empty = []
+items (One item) = item.value ∷ []
 items (Fork branch) = branch.value.left ++ branch.value.item ∷ branch.value.right
 
 -- the count that the node stores is right
 abbrev pub HasCount : {T : Type 0} → Node T → Type 0
-HasCount Leaf = Unit {0}
+HasCount Empty = Unit {0}
+HasCount (One item) = Unit {0}
 HasCount (Fork branch) = branch.value.count ≡ length (branch.value.left ++ branch.value.item ∷ branch.value.right)
+
+-- an item of the list with what stands on its two sides, or nothing where the list is empty
+abbrev pub AreSides : {T : Type 0} → List T → Option (Sides T) → Type 0
+AreSides list None = list ≡ []
+AreSides list (Some sides) = list ≡ sides.left ++ sides.item ∷ sides.right

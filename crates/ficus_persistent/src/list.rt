@@ -3,6 +3,7 @@ ghost use Rattle.std.specs.Prelude.{slice_get, slice_set, Some, IfOk, OnOk, Bool
 ghost use Rattle.std.specs.List.{insert, remove};
 ghost use Rattle.std.specs.List.Sorted.{IsPartitionedBy};
 ghost use Rattle.ficus_persistent.specs.Cut.{IsCutAt};
+ghost use Rattle.ficus_persistent.specs.Node.{AreSides};
 
 use ficus_ids::Memory;
 use std::alloc::Global;
@@ -35,7 +36,9 @@ pub struct PersistentList<T> {
 #[cycle(list)]
 #[derive(Drop)]
 enum Node<T> {
-    Leaf,
+    Empty,
+    // In place of a branch without sides, half of all nodes, which would take half as much again.
+    One(Rc<T>),
     Fork(Rc<Branch<T>>),
 }
 
@@ -47,6 +50,14 @@ struct Branch<T> {
     right: PersistentList<T>,
     count: u32,
     height: u8,
+}
+
+// An item with what stands on its two sides.
+#[derive(Drop)]
+struct Sides<T> {
+    left: PersistentList<T>,
+    item: T,
+    right: PersistentList<T>,
 }
 
 impl<T> Model for PersistentList<T> {
@@ -72,7 +83,7 @@ impl<T: Item> PersistentList<T> {
     pub fn new() -> PersistentList<T>
         ensures { result ≡ [] }
     {
-        PersistentList { node: Node::Leaf }
+        PersistentList { node: Node::Empty }
     }
 
     /// How many items there are.
@@ -80,7 +91,8 @@ impl<T: Item> PersistentList<T> {
         ensures { result ≡ length self.now }
     {
         match &self.node {
-            Node::Leaf => 0,
+            Node::Empty => 0,
+            Node::One(_) => 1,
             Node::Fork(branch) => branch.count as usize,
         }
     }
@@ -90,15 +102,16 @@ impl<T: Item> PersistentList<T> {
         ensures { IsTrue result ↔ (self.now ≡ []) }
     {
         match &self.node {
-            Node::Leaf => true,
-            Node::Fork(_) => false,
+            Node::Empty => true,
+            Node::One(_) | Node::Fork(_) => false,
         }
     }
 
     /// How many nodes lie one below the other.
     pub fn height(&self) -> u8 {
         match &self.node {
-            Node::Leaf => 0,
+            Node::Empty => 0,
+            Node::One(_) => 1,
             Node::Fork(branch) => branch.height,
         }
     }
@@ -108,7 +121,13 @@ impl<T: Item> PersistentList<T> {
         ensures { IfOk result (λ list. list ≡ self.now) }
     {
         match &self.node {
-            Node::Leaf => Ok(PersistentList { node: Node::Leaf }),
+            Node::Empty => Ok(PersistentList { node: Node::Empty }),
+            Node::One(item) => {
+                let item = item.clone()?;
+                Ok(PersistentList {
+                    node: Node::One(item),
+                })
+            }
             Node::Fork(branch) => {
                 let branch = branch.clone()?;
                 Ok(PersistentList {
@@ -124,7 +143,8 @@ impl<T: Item> PersistentList<T> {
         ensures { slice_get self.now index ≡ Some result.now }
     {
         match &self.node {
-            Node::Leaf => unreachable!(),
+            Node::Empty => unreachable!(),
+            Node::One(item) => item.as_ref(),
             Node::Fork(branch) => {
                 let before = branch.left.len();
                 if index < before {
@@ -146,7 +166,8 @@ impl<T: Item> PersistentList<T> {
     {
         let _whole = self.len();
         match &self.node {
-            Node::Leaf => 0,
+            Node::Empty => 0,
+            Node::One(item) => usize::from(cut.is_before(item.as_ref())),
             Node::Fork(branch) => {
                 let branch = branch.as_ref();
                 if cut.is_before(&branch.item) {
@@ -164,7 +185,11 @@ impl<T: Item> PersistentList<T> {
             ≡ map (λ item. item.now) gathered.old.items ++ self.now) }
     {
         match &self.node {
-            Node::Leaf => Ok(()),
+            Node::Empty => Ok(()),
+            Node::One(item) => {
+                gathered.push(item.as_ref())?;
+                Ok(())
+            }
             Node::Fork(branch) => {
                 let branch = branch.as_ref();
                 branch.left.gather(gathered)?;
@@ -180,12 +205,19 @@ impl<T: Item> PersistentList<T> {
         ensures { IfOk result (λ list. list ≡ insert self.now index item) }
     {
         match &self.node {
-            Node::Leaf => PersistentList::join(
+            Node::Empty => PersistentList::join(
                 alloc,
                 PersistentList::new(),
                 item,
                 PersistentList::new(),
             ),
+            Node::One(_) => {
+                if index == 0 {
+                    PersistentList::join(alloc, PersistentList::new(), item, self.copy()?)
+                } else {
+                    PersistentList::join(alloc, self.copy()?, item, PersistentList::new())
+                }
+            }
             Node::Fork(branch) => {
                 let branch = branch.as_ref();
                 let before = branch.left.len();
@@ -206,7 +238,19 @@ impl<T: Item> PersistentList<T> {
         ensures { IfOk result (λ list. list ≡ slice_set self.now index item) }
     {
         match &self.node {
-            Node::Leaf => Ok(PersistentList::new()),
+            Node::Empty => Ok(PersistentList::new()),
+            Node::One(_) => {
+                if index == 0 {
+                    PersistentList::join(
+                        alloc,
+                        PersistentList::new(),
+                        item,
+                        PersistentList::new(),
+                    )
+                } else {
+                    self.copy()
+                }
+            }
             Node::Fork(branch) => {
                 let branch = branch.as_ref();
                 let before = branch.left.len();
@@ -229,7 +273,8 @@ impl<T: Item> PersistentList<T> {
         ensures { IfOk result (λ list. list ≡ remove self.now index) }
     {
         match &self.node {
-            Node::Leaf => unreachable!(),
+            Node::Empty => unreachable!(),
+            Node::One(_) => Ok(PersistentList::new()),
             Node::Fork(branch) => {
                 let branch = branch.as_ref();
                 let before = branch.left.len();
@@ -282,6 +327,12 @@ impl<T: Item> PersistentList<T> {
     ) -> Result<PersistentList<T>, Memory>
         ensures { IfOk result (λ list. list ≡ left ++ item ∷ right) }
     {
+        if left.is_empty() && right.is_empty() {
+            let item = Rc::new(alloc, item)?;
+            return Ok(PersistentList {
+                node: Node::One(item),
+            });
+        }
         let Ok(count) = u32::try_from(left.len().saturating_add(right.len()).saturating_add(1))
         else {
             return Err(Memory);
@@ -330,27 +381,19 @@ impl<T: Item> PersistentList<T> {
     ) -> Result<PersistentList<T>, Memory>
         ensures { IfOk result (λ list. list ≡ left.now ++ item ∷ right) }
     {
-        let Node::Fork(outer) = &left.node else {
+        let Some(outer) = left.opened()? else {
             return PersistentList::join(alloc, left.copy()?, item, right);
         };
-        let outer = outer.as_ref();
         if outer.left.height() >= outer.right.height() {
-            let below = PersistentList::join(alloc, outer.right.copy()?, item, right)?;
-            return PersistentList::join(alloc, outer.left.copy()?, outer.item.copied()?, below);
+            let below = PersistentList::join(alloc, outer.right, item, right)?;
+            return PersistentList::join(alloc, outer.left, outer.item, below);
         }
-        let middle = &outer.right;
-        let Node::Fork(inner) = &middle.node else {
+        let Some(inner) = outer.right.opened()? else {
             return PersistentList::join(alloc, left.copy()?, item, right);
         };
-        let inner = inner.as_ref();
-        let first = PersistentList::join(
-            alloc,
-            outer.left.copy()?,
-            outer.item.copied()?,
-            inner.left.copy()?,
-        )?;
-        let second = PersistentList::join(alloc, inner.right.copy()?, item, right)?;
-        PersistentList::join(alloc, first, inner.item.copied()?, second)
+        let first = PersistentList::join(alloc, outer.left, outer.item, inner.left)?;
+        let second = PersistentList::join(alloc, inner.right, item, right)?;
+        PersistentList::join(alloc, first, inner.item, second)
     }
 
     // The same as `join`, where the right side is too high.
@@ -362,26 +405,40 @@ impl<T: Item> PersistentList<T> {
     ) -> Result<PersistentList<T>, Memory>
         ensures { IfOk result (λ list. list ≡ left ++ item ∷ right.now) }
     {
-        let Node::Fork(outer) = &right.node else {
+        let Some(outer) = right.opened()? else {
             return PersistentList::join(alloc, left, item, right.copy()?);
         };
-        let outer = outer.as_ref();
         if outer.right.height() >= outer.left.height() {
-            let below = PersistentList::join(alloc, left, item, outer.left.copy()?)?;
-            return PersistentList::join(alloc, below, outer.item.copied()?, outer.right.copy()?);
+            let below = PersistentList::join(alloc, left, item, outer.left)?;
+            return PersistentList::join(alloc, below, outer.item, outer.right);
         }
-        let middle = &outer.left;
-        let Node::Fork(inner) = &middle.node else {
+        let Some(inner) = outer.left.opened()? else {
             return PersistentList::join(alloc, left, item, right.copy()?);
         };
-        let inner = inner.as_ref();
-        let first = PersistentList::join(alloc, left, item, inner.left.copy()?)?;
-        let second = PersistentList::join(
-            alloc,
-            inner.right.copy()?,
-            outer.item.copied()?,
-            outer.right.copy()?,
-        )?;
-        PersistentList::join(alloc, first, inner.item.copied()?, second)
+        let first = PersistentList::join(alloc, left, item, inner.left)?;
+        let second = PersistentList::join(alloc, inner.right, outer.item, outer.right)?;
+        PersistentList::join(alloc, first, inner.item, second)
+    }
+
+    // The item at the top, with what stands on its two sides, or `None` exactly where the list is empty.
+    fn opened(&self) -> Result<Option<Sides<T>>, Memory>
+        ensures { IfOk result (AreSides self.now) }
+    {
+        match &self.node {
+            Node::Empty => Ok(None),
+            Node::One(item) => Ok(Some(Sides {
+                left: PersistentList::new(),
+                item: item.as_ref().copied()?,
+                right: PersistentList::new(),
+            })),
+            Node::Fork(branch) => {
+                let branch = branch.as_ref();
+                Ok(Some(Sides {
+                    left: branch.left.copy()?,
+                    item: branch.item.copied()?,
+                    right: branch.right.copy()?,
+                }))
+            }
+        }
     }
 }

@@ -1,11 +1,12 @@
-use Rattle.std.proofs.Common.{◌≡◌, ◌+◌, vec_len, vec_capacity, ◌++◌, ◌∷◌, [], length, arith, rules, sym, ap, ◌∙◌, refl, subst}
+use Rattle.std.proofs.Common.{◌≡◌, ◌+◌, vec_len, vec_capacity, set, ◌++◌, ◌∷◌, [], length, arith, rules, sym, ap, ◌∙◌, refl, subst}
 use Rattle.ficus_entry.specs.declared.entry.Entry.{Entry}
 use Rattle.ficus_entry.specs.declared.entry.State.TheVariants.{Dead}
 use Rattle.ficus_entry.specs.Entry.{IsRising, IsFoundAt}
 use Rattle.ficus_entry.specs.Kill.{IsKilled}
 use Rattle.ficus_entry.specs.Changes.{overlaid, IsSound}
-use Rattle.ficus_entry.proofs.Killed.{not_missing, found_is_live, room_for_kill, sound_killed, rising_view}
+use Rattle.ficus_entry.proofs.Killed.{not_missing, contains_at, found_is_live, room_for_kill, sound_killed, rising_view}
 use Rattle.ficus_entry.proofs.Later.{overlaid_more}
+use Rattle.ficus_entry.proofs.Noted.{set_puts}
 use Rattle.ficus_entry.proofs.entries.Entries.kill.Goals as goal
 use Rattle.ficus_entry.proofs.entries.Entries.kill.Goals.{After-push_reserved}
 
@@ -39,14 +40,19 @@ unfolding made
 returns-clause-killed c =
     let was = found_is_live c.args.self.now c.args.id c.in-Ok.index c.at.result.now c.search.ensures.rising c.requires.live c.in-Ok.ensures.found c.at.ensures in
     let same : c.in-Ok-copy.entry ≡ c.at.result.now = cc in
+    let view = c.args.self.now in
+    let i = c.in-Ok.index in
+    let id : (made c).id ≡ c.args.id = ap (λ (e : Entry). e.id) same ∙ was.0 in
+    let found : IsFoundAt view (made c).id i = rw id c.in-Ok.ensures.found in
+    let new : overlaid c.push_reserved.new.self.items c.self.inside.table.list ≡ set view i (made c) =
+    rw c.push_reserved.ensures.items (overlaid_more c.self.inside.changed.items (record { index = i; entry = made c }) c.self.inside.table.list ∙ rw c.self.view_is refl) in
     record {
-      index = c.in-Ok.index;
       entry = c.in-Ok-copy.entry;
       one = c.with.result;
       two = c.empty-2.result;
-      at = rw same c.at.ensures;
-      has_id = ap (λ (e : Entry). e.id) same ∙ was.0;
+      inside = rw same (contains_at view i c.at.result.now c.at.ensures);
+      has_id = id;
       only = λ replica. c.with.ensures replica ∙ rw (c.empty.ensures replica) refl;
       none = c.empty-2.ensures;
-      is = rw (c.push_reserved.ensures.items) (overlaid_more c.self.inside.changed.items (record { index = c.in-Ok.index; entry = made c }) c.self.inside.table.list ∙ rw c.self.view_is refl);
+      puts = rw new (set_puts view (made c) i found c.search.ensures.rising);
     }

@@ -12,11 +12,11 @@ pub returns-then-is_before-clause-point : goal.returns-then-is_before-clause-poi
 returns-then-is_before-clause-point g t c =
     let b = c.as_ref-branch.result.now in
     let e : c.args.self.now ≡ b.left ++ b.item ∷ b.right = grind arith in
-    rw (e, c.len.ensures) (cut_right b.left b.item b.right (g.C.Cut.is_before c.args.cut.now) (rw e at c.requires) c.partition_point.result (sym c.is_before.ensures ∙ c.if-is_before.true) c.partition_point.ensures.point)
+    rw (e, c.len.ensures) (cut_right b.left b.item b.right (g.C.Cut.is_before c.args.cut.now) (rw e at c.requires) c.partition_point.result (sym c.is_before-in-Fork.ensures ∙ c.if-is_before.true) c.partition_point.ensures.point)
 
 pub returns-else-is_before-clause-point : goal.returns-else-is_before-clause-point
 returns-else-is_before-clause-point g t c =
     let b = c.as_ref-branch.result.now in
     let e : c.args.self.now ≡ b.left ++ b.item ∷ b.right = grind arith in
     let i = c.partition_point-else-is_before in
-    rw e (cut_left b.left b.item b.right (g.C.Cut.is_before c.args.cut.now) (rw e at c.requires) i.result i.ensures.within (sym c.is_before.ensures ∙ c.if-is_before.false) i.ensures.point)
+    rw e (cut_left b.left b.item b.right (g.C.Cut.is_before c.args.cut.now) (rw e at c.requires) i.result i.ensures.within (sym c.is_before-in-Fork.ensures ∙ c.if-is_before.false) i.ensures.point)

@@ -4,7 +4,7 @@ use Rattle.ficus_persistent.proofs.Around.{set_in_left, set_in_middle, set_in_ri
 use Rattle.ficus_persistent.proofs.list.PersistentList.+put.Goals as goal
 
 pub returns-in_ok-copy-in-Fork : goal.returns-in_ok-copy-in-Fork
-returns-in_ok-copy-in-Fork g t c = IfOk-weaker c.join.result _ _ (λ tree is. grind (arith, set_in_left)) c.join.ensures
+returns-in_ok-copy-in-Fork g t c = IfOk-weaker c.join-then-index-before.result _ _ (λ tree is. grind (arith, set_in_left)) c.join-then-index-before.ensures
 
 pub returns-in_ok-copy-in-Fork-3 : goal.returns-in_ok-copy-in-Fork-3
 returns-in_ok-copy-in-Fork-3 g t c = IfOk-weaker c.join-then-index-before-2-2.result _ _ (λ tree is. grind (arith, set_in_middle)) c.join-then-index-before-2-2.ensures
