@@ -11,7 +11,7 @@ use Rattle.ficus_model.specs.Knowledge.{IsHeard, IsInOne, IsInTwo, KnowsThatKnow
 use Rattle.ficus_laws.proofs.Positions.{agree_back, agree_before, of_before}
 use Rattle.ficus_laws.proofs.Seen.{seen_before, seen_within}
 use Rattle.ficus_laws.proofs.Knowledge.{knows_within, knows_own}
-use Rattle.ficus_removal_laws.proofs.Deciding.{HasLast, NoneBelow, both_decided, last_or_none, of_decided, knows_decided}
+use Rattle.ficus_laws.proofs.Deciding.{HasLast, NoneBelow, both_decided, last_or_none, of_decided, knows_decided}
 use Rattle.ficus_removal_laws.proofs.Carrying.{one_at, removed_at, removed_later, one_later}
 
 -- who knows an event of a peer has heard a last one

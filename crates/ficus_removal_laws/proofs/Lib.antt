@@ -1,4 +1,3 @@
-pub mod Deciding
 pub mod Carrying
 pub mod Hearing
 pub mod Removing

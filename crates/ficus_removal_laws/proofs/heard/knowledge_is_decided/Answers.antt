@@ -1,4 +1,4 @@
-use Rattle.ficus_removal_laws.proofs.Deciding.{knows_decided}
+use Rattle.ficus_laws.proofs.Deciding.{knows_decided}
 use Rattle.ficus_removal_laws.proofs.heard.knowledge_is_decided.Goals as goal
 
 pub returns : goal.returns
