@@ -8,7 +8,8 @@ use Rattle.ficus_model.specs.Events.{IsAt, is_update_of, before, through, count_
 use Rattle.ficus_model.specs.Vectors.{Counts, IsVectorOf, IsCoverOf}
 use Rattle.ficus_model.specs.Vectors.Counts.{Nothing, OneMore, AsMany}
 use Rattle.ficus_laws.proofs.Positions.{through_is, of_same}
-use Rattle.ficus_laws.proofs.Updates.{count_update, count_before}
+use Rattle.ficus_laws.proofs.Counts.{counted_before}
+use Rattle.ficus_laws.proofs.Updates.{count_update}
 use Rattle.ficus_version_laws.proofs.Comparing.{IsVersionBy, writer}
 
 -- one more update is counted through a version event of the replica
@@ -32,7 +33,7 @@ versions_fit {H} {replica = replica} h (OneMore {bound = bound} {count = count} 
     subst (λ n. suc count ≤ count_of replica (before n H)) next fits
 versions_fit {H} {replica = replica} h (AsMany {bound = bound} none s) =
     let rest = versions_fit h s in
-    let more = count_before replica H bound (suc bound) (omega arith) in
+    let more = counted_before (is_update_of replica) H bound (suc bound) (omega arith) in
     omega (arith, rest, more)
 
 counts_fit : {H : List Event} {file : Id} {replica : ℕ} {P : ℕ → Type 0} {bound count : ℕ} →
