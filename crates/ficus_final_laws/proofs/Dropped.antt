@@ -57,8 +57,10 @@ module _ (volume : Volume) (H : List Event) (lawful : IsLawful volume H) where
       go (inl h) =
           let there = agree_update (agree_back (agree_before n H)) h update in
           removal_known volume (before n H) (lawful_before volume H n lawful) there removes o
-      go (inr h) = absurd (removal_first volume H lawful update removes
-          (removed_from_before n (subst (λ L. IsRemoved L (Knows L number.replica) id) (sym (agree_take (agree_before removal H) h)) was)))
+      go (inr h) =
+          let same = sym (agree_take (agree_before removal H) h) in
+          let there = subst (λ L. IsRemoved L (Knows L number.replica) id) same was in
+          absurd (removal_first volume H lawful update removes (removed_from_before n there))
 
   -- so where it is known that a member knows that all know, the member knew every removal
   removals_known : (position : ℕ) {replica member : ℕ} {id : Id} → IsMember volume.members member →
@@ -69,7 +71,8 @@ module _ (volume : Volume) (H : List Event) (lawful : IsLawful volume H) where
     known = t.known;
     own = own.1;
     removed = one_removed (each member m);
-    all = λ {removal} {number} {op} update removes. removal_is_known (t.position + 1) update removes (each number.replica (issuer_member volume H lawful update));
+    all = λ update removes.
+        removal_is_known (t.position + 1) update removes (each _ (issuer_member volume H lawful update));
   }
     where
       own : (t.position < position) × IsOf H t.position member
@@ -82,8 +85,9 @@ module _ (volume : Volume) (H : List Event) (lawful : IsLawful volume H) where
           subst (λ L. KnowsThatKnows L member peer id) (agree_take (agree_before position H) l) (t.all peer p)
 
   -- what is dropped once a replica has collected, was full before
-  full_before : (position : ℕ) {replica member : ℕ} {id : Id} → IsDropped volume.members (through position H) replica id →
-      IsMember volume.members member → KnowsThatAllKnow volume.members (before position H) replica member id
+  full_before : (position : ℕ) {replica member : ℕ} {id : Id} →
+      IsDropped volume.members (through position H) replica id → IsMember volume.members member →
+      KnowsThatAllKnow volume.members (before position H) replica member id
   full_before position {replica} {member} {id} d m =
       let h = (at_from_before (position + 1) d.collect).0 in
       let through_is = agree_take {position = d.position} (agree_before (position + 1) H) (omega arith) in

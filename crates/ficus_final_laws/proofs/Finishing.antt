@@ -24,6 +24,7 @@ use Rattle.ficus_laws.proofs.Views.{same_updates, file_within, uncovered_within}
 use Rattle.ficus_laws.proofs.Deciding.{Decided, knows_decided}
 use Rattle.ficus_version_laws.proofs.Objects.{version_file}
 use Rattle.ficus_removal_laws.specs.Marks.{IsEnteredAs}
+use Rattle.ficus_removal_laws.proofs.Carrying.{removed_from_before}
 use Rattle.ficus_removal_laws.proofs.Dropping.{dropped_removed}
 use Rattle.ficus_removal_laws.proofs.Removing.{removed_entered}
 use Rattle.ficus_final_laws.specs.Uses.{IsUse, IsAlive}
@@ -221,7 +222,8 @@ module _ (volume : Volume) (H : List Event) (lawful : IsLawful volume H) {replic
 
       there : IsUpdate H found.entered.position object found.entered.op
       there =
-          let u = agree_update (agree_before position H) (known_before H position found.entered.known) found.entered.update in
+          let h = known_before H position found.entered.known in
+          let u = agree_update (agree_before position H) h found.entered.update in
           subst (λ id. IsUpdate H found.entered.position id found.entered.op) found.named u
 
   pub knows_all_of : {member : ℕ} → IsMember volume.members member → KnowsAllOf H position member object
@@ -235,8 +237,8 @@ module _ (volume : Volume) (H : List Event) (lawful : IsLawful volume H) {replic
 pub final : (volume : Volume) (H : List Event) → IsLawful volume H → IsFinal volume.members H
 final volume H lawful = record {
   versions = λ replica position version object done v. use_known volume H lawful done (version_use v);
-  nameless = λ replica position member object done m n. n.live.not_removed
-      (removed_within (within_known (λ at k. knows_later position k))
-      (removed_within (known_within H position member) (entry_removed volume H lawful done m n.live.entered (inl n.leads))));
+  nameless = λ replica position member object done m n.
+      let then_removed = entry_removed volume H lawful done m n.live.entered (inl n.leads) in
+      n.live.not_removed (removed_from_before position then_removed);
   removed = λ replica member entry d m. dropped_removed d m;
 }

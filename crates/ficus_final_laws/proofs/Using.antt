@@ -42,7 +42,9 @@ pub orphan_alive : {H : List Event} {U : ℕ → Type 0} {object : Id} → IsOrp
 orphan_alive {H} {U} {object} orphan = go orphan.kept
   where
     go : IsFilled H U object ⊎ HasUnseen H U object → IsAlive H U object
-    go (inl filled) = inl (record { entry = filled.inside.entry; live = filled.inside.live; touches = inr filled.inside.in_dir })
+    go (inl filled) =
+        let inside = filled.inside in
+        inl (record { entry = inside.entry; live = inside.live; touches = inr inside.in_dir })
     go (inr unseen) = inr unseen
 
 -- what is in reach is alive, but for the root: by the last step of how it is reached
@@ -71,13 +73,15 @@ module _ {H : List Event} {U : ℕ → Type 0} {object : Id} (no_root : object �
   writes_alive ByResolve allowed = inr (reach_alive no_root allowed.in_reach.reached)
 
   -- the entry that is entered leads to what was alive, and lies in what was in reach
-  entry_alive : {number dir target : Id} {name : List ℕ} {entry : Entry} → Some (entry_of number dir name target) ≡ Some entry →
-      IsInReach H U dir → ((target ≡ object) → (number ≡ object) ⊎ IsAlive H U object) → Touches entry object →
+  entry_alive : {number dir target : Id} {name : List ℕ} {entry : Entry} →
+      Some (entry_of number dir name target) ≡ Some entry → IsInReach H U dir →
+      ((target ≡ object) → (number ≡ object) ⊎ IsAlive H U object) → Touches entry object →
       (number ≡ object) ⊎ IsAlive H U object
   entry_alive {number} {dir} {target} {name} {entry} enters reached leads (inl touches) =
       leads (ap (λ (found : Entry). found.target) (same_Some (entry_of number dir name target) entry enters) ∙ touches)
   entry_alive {number} {dir} {target} {name} {entry} enters reached leads (inr touches) =
-      let in_dir = ap (λ (found : Entry). found.dir) (same_Some (entry_of number dir name target) entry enters) ∙ touches in
+      let is = same_Some (entry_of number dir name target) entry enters in
+      let in_dir = ap (λ (found : Entry). found.dir) is ∙ touches in
       inr (reach_alive no_root (subst (IsInReach H U) in_dir reached))
 
   alive_as : {number target : Id} → IsAlive H U target → target ≡ object → (number ≡ object) ⊎ IsAlive H U object
@@ -118,6 +122,9 @@ user_sees volume H object position lawful member used = go used.uses
     go : (version_of used.number used.op ≡ Some object) ⊎ EntersTouching used.number used.op object →
         (used.number ≡ object) ⊎ IsAlive (before position H) (Knows (before position H) used.number.replica) object
     go (inl version) =
-        writes_alive (not_root object member) (not_attic object member) (version_writes used.number object used.op version) may.allowed
+        writes_alive (not_root object member) (not_attic object member)
+        (version_writes used.number object used.op version)
+        may.allowed
     go (inr entered) =
-        enters_alive (not_root object member) (not_attic object member) used.number used.op entered.entry may.allowed entered.enters entered.touches
+        enters_alive (not_root object member) (not_attic object member) used.number used.op entered.entry
+        may.allowed entered.enters entered.touches
