@@ -1,5 +1,5 @@
 -- What a removal keeps.
-use Rattle.std.proofs.Common.{◌≡◌, ◌≢◌, ℕ, ◌+◌, ◌-◌, ◌<◌, ◌≤◌, Bool, true, false, List, [], ◌∷◌, ◌++◌, length, get_or, slice_get, Some, set, take, ◌∙◌, refl, sym, ap, subst, arith, cond}
+use Rattle.std.proofs.Common.{◌≡◌, ℕ, ◌+◌, ◌<◌, ◌≤◌, true, false, List, [], ◌∷◌, ◌++◌, length, get_or, slice_get, Some, set, take, ◌∙◌, sym, ap, subst, arith, cond}
 use Rattle.std.specs.Prelude.{All, count_by, Contains}
 use Rattle.std.proofs.lemmas.Option.{slice_get_within, get_or_from_slice_get, slice_get-get_or}
 use Rattle.std.proofs.lemmas.List.Sums.{sum_by-set, get_or-le-sum_by, count_by-le-length}
@@ -10,10 +10,10 @@ use Rattle.ficus_entry.specs.declared.entry.Entry.{Entry}
 use Rattle.ficus_entry.specs.declared.entry.State.{State}
 use Rattle.ficus_entry.specs.declared.entry.State.TheVariants.{Live}
 use Rattle.ficus_entry.specs.declared.entries.Changed.{Changed}
-use Rattle.ficus_entry.specs.Entry.{IsRising, IsPlace, IsFoundAt, Holds}
+use Rattle.ficus_entry.specs.Entry.{IsRising, IsPlace, IsFoundAt}
 use Rattle.ficus_entry.specs.Kill.{HoldsLive, is_live}
 use Rattle.ficus_entry.specs.Changes.{overlaid, IsRemoval, IsSound}
-use Rattle.ficus_entry.proofs.Later.{IsLater, MayBecome, later_self, later_overlaid, later_rises, later_found, live_here, overlaid_more}
+use Rattle.ficus_entry.proofs.Later.{IsLater, later_self, later_overlaid, later_rises, later_found, live_here, overlaid_more}
 
 pub contains_at : (entries : List Entry) (i : ℕ) (entry : Entry) → slice_get entries i ≡ Some entry → Contains entries entry
 contains_at entries i entry at = (i, slice_get_within entries i entry at, get_or_from_slice_get entries i entry entry at)

@@ -1,5 +1,5 @@
 -- What a list of entries has become by removals.
-use Rattle.std.proofs.Common.{◌≡◌, ◌≢◌, ℕ, zero, suc, ◌+◌, ◌-◌, ◌<◌, ◌≤◌, false, List, [], ◌∷◌, ◌++◌, length, get_or, slice_get, Some, set, take, ◌∙◌, refl, sym, ap, subst, arith, inl, inr}
+use Rattle.std.proofs.Common.{◌≡◌, ◌≢◌, ℕ, zero, suc, ◌+◌, ◌<◌, false, List, [], ◌∷◌, ◌++◌, length, get_or, slice_get, Some, set, take, ◌∙◌, refl, sym, ap, subst, arith, inl, inr}
 use Rattle.std.specs.Prelude.{All, Contains}
 use Rattle.std.proofs.lemmas.Bool.{cases_eq}
 use Rattle.std.proofs.lemmas.List.{length-set, get_or-set_same, get_or-set_other, take_more}
@@ -8,11 +8,11 @@ use Rattle.std.proofs.lemmas.Option.{slice_get_within, get_or_from_slice_get}
 use Rattle.ficus_ids.specs.declared.id.Id.{Id}
 use Rattle.ficus_entry.specs.declared.entry.Entry.{Entry}
 use Rattle.ficus_entry.specs.declared.entry.State.{State}
-use Rattle.ficus_entry.specs.declared.entry.State.TheVariants.{Live, Dead}
+use Rattle.ficus_entry.specs.declared.entry.State.TheVariants.{Live}
 use Rattle.ficus_entry.specs.declared.entries.Changed.{Changed}
 use Rattle.ficus_entry.specs.Entry.{IsRising, IsPlace, IsFoundAt}
 use Rattle.ficus_entry.specs.Kill.{is_live}
-use Rattle.ficus_entry.specs.Changes.{overlaid, IsRemoval, IsSound}
+use Rattle.ficus_entry.specs.Changes.{overlaid, IsRemoval}
 
 -- what the entry may become: the same, or dead
 pub record MayBecome (old new : Entry) : Type 0 where

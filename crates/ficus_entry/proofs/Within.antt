@@ -1,5 +1,5 @@
 -- Which links note what lies in a directory.
-use Rattle.std.proofs.Common.{◌≡◌, ℕ, ◌+◌, ◌*◌, ◌<◌, ◌≤◌, List, [], ◌∷◌, length, get_or, ◌∙◌, refl, sym, ap, arith, slice_get, Some, None, Ok, Err, Bool, inl, inr, ◌⊎◌, ◌↔◌, subst}
+use Rattle.std.proofs.Common.{◌≡◌, ℕ, ◌+◌, ◌<◌, ◌≤◌, List, [], ◌∷◌, get_or, ◌∙◌, refl, sym, ap, arith, slice_get, Some, None, Ok, Err, Bool, inl, inr, ◌⊎◌, ◌↔◌, subst}
 use Rattle.std.specs.Prelude.{Contains, Option, Result, IfOk, IfSome, IfNone, IsTrue}
 use Rattle.std.specs.Option.{MatchOption, is_some}
 use Rattle.std.specs.List.{fold}

@@ -1,13 +1,9 @@
 -- What a cut through one side of a fork says of the whole.
-use Rattle.std.proofs.Common.{◌≡◌, ℕ, ◌+◌, ◌-◌, ◌<◌, ◌≤◌, Bool, true, false, List, [], ◌∷◌, ◌++◌, length, get_or, ◌∙◌, refl, sym, ap, arith, length-append, inl, inr, ◌⊎◌}
+use Rattle.std.proofs.Common.{◌≡◌, ℕ, ◌+◌, ◌-◌, ◌<◌, ◌≤◌, Bool, true, false, List, ◌∷◌, ◌++◌, length, get_or, refl, arith, length-append, inl, inr}
 use Rattle.std.specs.List.Sorted.{IsPartitionedBy}
-use Rattle.std.proofs.lemmas.Bool.{cases_lt}
+use Rattle.std.proofs.lemmas.Bool.{cases_lt, false_from_ne_true}
 use Rattle.std.proofs.lemmas.List.{get_or_append_left, get_or-append_right}
 use Rattle.ficus_persistent.specs.Cut.{IsCutAt}
-
-not_true : (b : Bool) → (b ≡ true → ⊥) → b ≡ false
-not_true true never = absurd (never refl)
-not_true false never = refl
 
 module _ {X : Type 0} (left : List X) (item : X) (right : List X) where
   pub long : length (left ++ item ∷ right) ≡ length left + 1 + length right
@@ -34,7 +30,7 @@ module _ {X : Type 0} (left : List X) (item : X) (right : List X) where
     -- where the item fails the test, all behind it do
     tail_fails : test item ≡ false → (k : ℕ) (d : X) → length left ≤ k → k < length (left ++ item ∷ right) → test (get_or (left ++ item ∷ right) k d) ≡ false
     tail_fails fails k d from to =
-        not_true (test (get_or (left ++ item ∷ right) k d)) (λ passes. let item_passes : test item ≡ true = rw (at_item d) at (parted (length left) k d from to passes) in cc (item_passes, fails))
+        false_from_ne_true (test (get_or (left ++ item ∷ right) k d)) (λ passes. let item_passes : test item ≡ true = rw (at_item d) at (parted (length left) k d from to passes) in cc (item_passes, fails))
 
     -- where it passes, all in front of it do
     front_passes : test item ≡ true → (k : ℕ) (d : X) → k ≤ length left → test (get_or (left ++ item ∷ right) k d) ≡ true

@@ -1,5 +1,5 @@
 -- What a node stands for.
-use Rattle.std.specs.Prelude.{◌≡◌, ℕ, List, [], ◌∷◌, ◌++◌, length, Option, Some, None}
+use Rattle.std.specs.Prelude.{◌≡◌, List, [], ◌∷◌, ◌++◌, length, Option, Some, None}
 use Rattle.ficus_persistent.specs.declared.list.Node.{Node}
 use Rattle.ficus_persistent.specs.declared.list.Sides.{Sides}
 use Rattle.ficus_persistent.specs.declared.list.Node.TheVariants.{Empty, One, Fork}

@@ -241,12 +241,7 @@ impl<T: Item> PersistentList<T> {
             Node::Empty => Ok(PersistentList::new()),
             Node::One(_) => {
                 if index == 0 {
-                    PersistentList::join(
-                        alloc,
-                        PersistentList::new(),
-                        item,
-                        PersistentList::new(),
-                    )
+                    PersistentList::join(alloc, PersistentList::new(), item, PersistentList::new())
                 } else {
                     self.copy()
                 }

@@ -1,4 +1,3 @@
-use Rattle.std.proofs.Common.{◌≡◌}
 use Rattle.std.proofs.lemmas.Result.{IfOk-weaker}
 use Rattle.ficus_ids.specs.RisingLaws.{Contains-insert}
 use Rattle.ficus_entry.proofs.Noted.{insert_ordered}

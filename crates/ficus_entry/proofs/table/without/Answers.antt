@@ -1,4 +1,3 @@
-use Rattle.std.proofs.Common.{◌≡◌}
 use Rattle.std.proofs.lemmas.Result.{IfOk-weaker}
 use Rattle.ficus_entry.proofs.Noted.{remove_ordered, remove_keeps}
 use Rattle.ficus_entry.proofs.table.without.Goals as goal

@@ -1,4 +1,4 @@
-use Rattle.std.proofs.Common.{◌≡◌, ◌-◌, ◌+◌, ◌<◌, length, get_or, sym, ◌∙◌, arith, rules}
+use Rattle.std.proofs.Common.{◌≡◌, ◌-◌, ◌+◌, ◌<◌, length, sym, ◌∙◌, arith}
 use Rattle.ficus_entry.proofs.Later.{overlaid_here, overlaid_elsewhere, length_overlaid}
 use Rattle.ficus_entry.proofs.entries.Entries.at.Goals as goal
 

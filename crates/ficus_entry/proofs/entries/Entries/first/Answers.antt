@@ -1,5 +1,4 @@
 use Rattle.std.specs.Prelude.{Contains}
-use Rattle.std.proofs.Common.{◌≡◌}
 use Rattle.ficus_entry.specs.Changes.{overlaid}
 use Rattle.ficus_entry.proofs.Killed.{later_view}
 use Rattle.ficus_entry.proofs.Later.{live_stays}

@@ -1,4 +1,4 @@
-use Rattle.std.proofs.Common.{◌≡◌, ◌≤◌, length, vec_capacity, arith}
+use Rattle.std.proofs.Common.{◌≤◌, length, vec_capacity, arith}
 use Rattle.ficus_entry.proofs.Killed.{sound_fresh, rising_view}
 use Rattle.ficus_entry.proofs.entries.Entries.hold.Goals as goal
 

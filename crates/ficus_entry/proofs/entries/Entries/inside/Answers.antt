@@ -1,4 +1,4 @@
-use Rattle.std.specs.Prelude.{List, Contains, ◌&&◌, nat_eq}
+use Rattle.std.specs.Prelude.{◌&&◌, nat_eq}
 use Rattle.std.specs.Cmp.Rules.{comparing}
 use Rattle.std.specs.List.{dedup}
 use Rattle.std.specs.Ordering.{eq_by_cmp}

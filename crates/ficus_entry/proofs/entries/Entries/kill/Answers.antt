@@ -1,8 +1,7 @@
-use Rattle.std.proofs.Common.{◌≡◌, ◌+◌, vec_len, vec_capacity, set, ◌++◌, ◌∷◌, [], length, arith, rules, sym, ap, ◌∙◌, refl, subst}
+use Rattle.std.proofs.Common.{◌≡◌, ◌+◌, vec_len, vec_capacity, set, ap, ◌∙◌, refl}
 use Rattle.ficus_entry.specs.declared.entry.Entry.{Entry}
 use Rattle.ficus_entry.specs.declared.entry.State.TheVariants.{Dead}
-use Rattle.ficus_entry.specs.Entry.{IsRising, IsFoundAt}
-use Rattle.ficus_entry.specs.Kill.{IsKilled}
+use Rattle.ficus_entry.specs.Entry.{IsFoundAt}
 use Rattle.ficus_entry.specs.Changes.{overlaid, IsSound}
 use Rattle.ficus_entry.proofs.Killed.{not_missing, contains_at, found_is_live, room_for_kill, sound_killed, rising_view}
 use Rattle.ficus_entry.proofs.Later.{overlaid_more}

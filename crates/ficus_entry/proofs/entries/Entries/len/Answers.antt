@@ -1,4 +1,4 @@
-use Rattle.std.proofs.Common.{◌≡◌, sym, ◌∙◌}
+use Rattle.std.proofs.Common.{sym, ◌∙◌}
 use Rattle.ficus_entry.proofs.Killed.{rising_view}
 use Rattle.ficus_entry.proofs.Later.{length_overlaid}
 use Rattle.ficus_entry.proofs.entries.Entries.len.Goals as goal

@@ -1,6 +1,5 @@
-use Rattle.std.proofs.Common.{◌≡◌, arith}
+use Rattle.std.proofs.Common.{arith}
 use Rattle.ficus_entry.specs.Inside.{HasLiveInside}
-use Rattle.ficus_entry.specs.Place.{rank_of}
 use Rattle.ficus_entry.proofs.Within.{MatchOption-weaker, is_some_where, between_ranks, rank_live, digest_small}
 use Rattle.ficus_entry.proofs.entries.Entries.live_inside.Goals as goal
 

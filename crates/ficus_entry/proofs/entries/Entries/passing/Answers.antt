@@ -1,4 +1,4 @@
-use Rattle.std.proofs.Common.{◌≡◌, ◌∙◌, sym, subst}
+use Rattle.std.proofs.Common.{◌∙◌, sym, subst}
 use Rattle.std.proofs.lemmas.Bool.{false≢true}
 use Rattle.ficus_ids.specs.RisingLaws.{one_item}
 use Rattle.ficus_entry.proofs.entries.Entries.passing.Goals as goal

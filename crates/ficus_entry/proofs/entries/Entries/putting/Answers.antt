@@ -1,6 +1,5 @@
 use Rattle.std.specs.Prelude.{List}
-use Rattle.std.specs.List.{insert}
-use Rattle.std.proofs.Common.{◌≡◌, slice_set, subst}
+use Rattle.std.proofs.Common.{subst}
 use Rattle.std.proofs.lemmas.Result.{IfOk-weaker}
 use Rattle.ficus_entry.specs.declared.entry.Entry.{Entry}
 use Rattle.ficus_entry.specs.Entry.{PutsEntry}

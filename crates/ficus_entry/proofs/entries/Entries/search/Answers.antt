@@ -1,4 +1,3 @@
-use Rattle.std.proofs.Common.{◌≡◌}
 use Rattle.std.proofs.lemmas.Result.{IfOk-weaker, MatchResult-weaker}
 use Rattle.ficus_entry.proofs.Killed.{rising_view, later_view}
 use Rattle.ficus_entry.proofs.Later.{later_found, later_place}

@@ -1,4 +1,4 @@
-use Rattle.std.proofs.Common.{◌≡◌, ◌<◌, length, get_or, take, sym, ◌∙◌, arith, rules}
+use Rattle.std.proofs.Common.{◌≡◌, get_or, take, sym, arith}
 use Rattle.std.specs.Prelude.{All}
 use Rattle.std.proofs.lemmas.Grind.{common_steps}
 use Rattle.ficus_entry.specs.declared.entries.Changed.{Changed}

@@ -1,4 +1,3 @@
-use Rattle.std.proofs.Common.{◌≡◌}
 use Rattle.ficus_ids.specs.RisingLaws.{IsRisingBy-insert}
 use Rattle.ficus_entry.proofs.Noted.{insert_noted}
 use Rattle.ficus_entry.proofs.table.Table.insert.Goals as goal

@@ -1,4 +1,4 @@
-use Rattle.std.proofs.Common.{◌≡◌, ap, ◌∙◌, arith}
+use Rattle.std.proofs.Common.{ap, ◌∙◌}
 use Rattle.ficus_entry.specs.declared.place.Link.{Link}
 use Rattle.ficus_entry.proofs.Noted.{set_rises, set_noted, id_at}
 use Rattle.ficus_entry.proofs.table.Table.put.Goals as goal

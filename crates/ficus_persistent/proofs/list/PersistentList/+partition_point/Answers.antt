@@ -1,5 +1,5 @@
 use Rattle.std.proofs.Common.{◌≡◌, ◌∷◌, ◌++◌, sym, ◌∙◌, arith}
-use Rattle.ficus_persistent.proofs.Sides.{long, left_parted, right_parted, cut_left, cut_right}
+use Rattle.ficus_persistent.proofs.Sides.{long, right_parted, cut_left, cut_right}
 use Rattle.ficus_persistent.proofs.list.PersistentList.+partition_point.Goals as goal
 
 pub partition_point-requires : goal.partition_point-requires
