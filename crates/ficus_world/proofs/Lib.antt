@@ -1,9 +1,1 @@
-pub mod Runs
-pub mod Replaced
-pub mod LastPart
-pub mod MovesStand
-pub mod SoundWorlds
-pub mod Refusals
-pub mod Starts
-pub mod Agreement
-pub mod OneRun
+

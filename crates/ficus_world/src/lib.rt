@@ -3,7 +3,7 @@
 
 mod fresh;
 mod laws;
-mod record;
+mod member;
 mod step;
 #[cfg(test)]
 mod tests;
