@@ -1,5 +1,5 @@
 -- What an image asks of what a replica saves.
-use Rattle.std.specs.Prelude.{◌≡◌, ℕ, ◌+◌, ◌^◌, ◌<◌, ◌≤◌, All}
+use Rattle.std.specs.Prelude.{◌≡◌, ℕ, ◌+◌, ◌^◌, ◌<◌, ◌≤◌, List, All}
 use Rattle.ficus_ids.specs.Members.{IsCount, IsMember}
 use Rattle.ficus_ids.specs.declared.id.Id.{Id}
 use Rattle.ficus_entry.specs.declared.entry.Entry.{Entry}
@@ -11,10 +11,14 @@ abbrev pub IsOfPast : ℕ → ℕ → Id → Type 0
 IsOfPast me next id = id.replica ≡ me → id.number < next
 
 -- each identifier in the entry that is of this replica is of an update that it has made
-pub record HasOwnPast (me next : ℕ) (entry : Entry) : Type 0 where
+pub record IsEntryOfPast (me next : ℕ) (entry : Entry) : Type 0 where
   pub id : IsOfPast me next entry.id
   pub dir : IsOfPast me next entry.dir
   pub target : IsOfPast me next entry.target
+
+-- the entries hold no identifier of this replica's own of an update that it hasn't made
+pub record HasOwnPast (me next : ℕ) (entries : List Entry) : Type 0 where
+  pub each : All (IsEntryOfPast me next) entries
 
 pub record FitsImage (saved : Saved) : Type 0 where
   pub members : IsCount saved.members
@@ -26,5 +30,5 @@ pub record FitsImage (saved : Saved) : Type 0 where
   pub next_at_most : saved.next ≤ saved.ids + 1
   pub used : saved.used ≤ saved.bytes
   pub generation : saved.generation < 2 ^ 63
-  pub tables : All (FitsTables saved.members) saved.entries
-  pub past : All (HasOwnPast saved.me saved.next) saved.entries
+  pub tables : FitsTables saved.members saved.entries
+  pub past : HasOwnPast saved.me saved.next saved.entries

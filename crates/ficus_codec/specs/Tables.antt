@@ -1,10 +1,11 @@
 -- What tables ask of the entries in them.
-use Rattle.std.specs.Prelude.{◌≡◌, ◌⊎◌, ℕ, ◌≤◌, IsTrue}
+use Rattle.std.specs.Prelude.{◌≡◌, ◌⊎◌, ℕ, ◌≤◌, List, All, IsTrue}
 use Rattle.ficus_ids.specs.Marks.{has, HasMembersOnly}
 use Rattle.ficus_ids.specs.Members.{IsMember}
 use Rattle.ficus_ids.specs.Name.{IsName}
 use Rattle.ficus_ids.specs.declared.id.Id.{Id}
 use Rattle.ficus_ids.specs.declared.id.TheConstants.{ROOT, ATTIC}
+use Rattle.ficus_entry.specs.Entry.{IsRising}
 use Rattle.ficus_entry.specs.declared.entry.Entry.{Entry}
 use Rattle.ficus_entry.specs.declared.entry.State.{State}
 use Rattle.ficus_entry.specs.declared.entry.State.TheVariants.{Live, Dead}
@@ -15,24 +16,36 @@ pub record IsIssuable (members : ℕ) (id : Id) : Type 0 where
   pub at_least : 1 ≤ id.number
   pub at_most : id.number ≤ 100000
 
--- an entry may lie in it
-abbrev pub IsPlace : ℕ → Id → Type 0
-IsPlace members dir = IsIssuable members dir ⊎ (dir ≡ ROOT) ⊎ (dir ≡ ATTIC)
+-- entries may lie in it
+abbrev pub MayHoldEntries : ℕ → Id → Type 0
+MayHoldEntries members dir = IsIssuable members dir ⊎ (dir ≡ ROOT) ⊎ (dir ≡ ATTIC)
 
--- sets hold members alone, and somebody knows of each removal
+-- the sets of a removed entry hold members alone, and somebody knows of the removal
+pub record FitsMarks (members one two : ℕ) : Type 0 where
+  pub first : HasMembersOnly one members
+  pub second : HasMembersOnly two members
+  pub somebody : ℕ
+  pub knows : IsTrue (has one somebody)
+
 abbrev pub FitsState : ℕ → State → Type 0
 FitsState members Live = Unit {0}
-FitsState members (Dead one two) = HasMembersOnly one members × HasMembersOnly two members × (replica : ℕ) × IsTrue (has one replica)
+FitsState members (Dead one two) = FitsMarks members one two
 
 -- nothing in the attic is alive
 abbrev pub FitsAttic : Id → State → Type 0
 FitsAttic dir Live = dir ≡ ATTIC → ⊥
 FitsAttic dir (Dead one two) = Unit {0}
 
-pub record FitsTables (members : ℕ) (entry : Entry) : Type 0 where
+-- the entry may stand in tables
+pub record FitsEntry (members : ℕ) (entry : Entry) : Type 0 where
   pub id : IsIssuable members entry.id
-  pub dir : IsPlace members entry.dir
+  pub dir : MayHoldEntries members entry.dir
   pub name : IsName entry.name
   pub target : IsIssuable members entry.target
   pub state : FitsState members entry.state
   pub attic : FitsAttic entry.dir entry.state
+
+-- the entries are those of tables: their identifiers rise strictly, and each of them fits
+pub record FitsTables (members : ℕ) (entries : List Entry) : Type 0 where
+  pub rising : IsRising entries
+  pub each : All (FitsEntry members) entries

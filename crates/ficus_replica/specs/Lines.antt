@@ -5,12 +5,12 @@ use Rattle.std.specs.declared.cmp.Ordering.{Ordering}
 use Rattle.std.specs.declared.cmp.Ordering.TheVariants.{Less}
 use Rattle.ficus_ids.specs.Id.{id_cmp}
 use Rattle.ficus_ids.specs.declared.id.Id.{Id}
-use Rattle.ficus_ids.specs.declared.kind.Kind.{Kind}
 use Rattle.ficus_ids.specs.declared.kind.Kind.TheVariants.{Dir}
 use Rattle.ficus_model.specs.ShownNames.{IsShownAs}
 use Rattle.ficus_names.specs.Listing.{shown_cmp}
 use Rattle.ficus_names.specs.declared.listing.Line.{Line}
 use Rattle.ficus_names.specs.declared.listing.ShownName.{ShownName}
+use Rattle.ficus_replica.specs.View.{View, IsBoundIn}
 
 -- the line that shows a name of a directory: it leads to a directory, which is in no conflict
 abbrev pub line_of : Id → ShownName → Line
@@ -21,9 +21,9 @@ abbrev pub line_cmp : Line → Line → Ordering
 line_cmp a b = ordering_then (id_cmp a.dir b.dir) (shown_cmp a.shown b.shown)
 
 -- a line shows a name of its directory, with the kind of its object
-pub record IsLine (binds : Id → List ℕ → Id → Type 0) (kinds : Id → Kind → Type 0) (line : Line) : Type 0 where
-  pub shown : IsShownAs (binds line.dir) line.shown.name line.shown.target line.shown.suffixed
-  pub kind : kinds line.shown.target line.kind
+pub record IsShownLine (view : View) (line : Line) : Type 0 where
+  pub shown : IsShownAs (IsBoundIn view line.dir) line.shown.name line.shown.target line.shown.suffixed
+  pub kind : view.kinds line.shown.target line.kind
   pub conflict : line.conflict ≡ false
 
 -- the line of this name and object in this directory
@@ -35,7 +35,8 @@ pub record HasLine (lines : List Line) (dir : Id) (name : List ℕ) (target : Id
   pub leads : line.shown.target ≡ target
 
 -- the lines are the shown names of each directory that `shows` has, by directory, then by name, then by object
-pub record AreLines (binds : Id → List ℕ → Id → Type 0) (kinds : Id → Kind → Type 0) (shows : Id → Type 0) (lines : List Line) : Type 0 where
-  pub each : (line : Line) → Contains lines line → shows line.dir × IsLine binds kinds line
-  pub all : (dir target : Id) (name : List ℕ) → shows dir → binds dir name target → HasLine lines dir name target
+pub record AreLines (view : View) (shows : Id → Type 0) (lines : List Line) : Type 0 where
+  pub each : (line : Line) → Contains lines line → shows line.dir × IsShownLine view line
+  pub all : (dir target : Id) (name : List ℕ) → shows dir → IsBoundIn view dir name target →
+      HasLine lines dir name target
   pub ordered : AllPairs (λ a b. line_cmp a b ≡ Less) lines

@@ -1,20 +1,24 @@
 -- What it means that a replica stands for a history.
-use Rattle.std.specs.Prelude.{◌≡◌, ◌↔◌, ℕ, ◌+◌, List, Bool, false, ◌==◌, Option, Some, None, Contains, count_by}
+use Rattle.std.specs.Prelude.{◌≡◌, ◌↔◌, ℕ, ◌+◌, List, ◌∷◌, [], ◌++◌, Bool, false, ◌==◌, Option, Some, None, Contains, count_by}
 use Rattle.ficus_ids.specs.declared.id.Id.{Id}
-use Rattle.ficus_ids.specs.declared.kind.Kind.{Kind}
 use Rattle.ficus_ids.specs.declared.kind.Kind.TheVariants.{Dir}
 use Rattle.ficus_model.specs.declared.event.Event.{Event}
 use Rattle.ficus_model.specs.declared.event.Event.TheVariants.{Update, Ask, Serve, Accept, Collect, Restart}
+use Rattle.ficus_model.specs.declared.event.Op.{Op}
+use Rattle.ficus_model.specs.declared.event.Op.TheVariants.{Make}
 use Rattle.ficus_model.specs.Events.{count_of, through}
 use Rattle.ficus_model.specs.Known.{Knows}
-use Rattle.ficus_model.specs.Lawful.{Volume, IsOpenAsk}
-use Rattle.ficus_model.specs.Live.{IsLive, IsMade}
+use Rattle.ficus_model.specs.Lawful.{Volume, IsOpenAsk, MayCome}
+use Rattle.ficus_model.specs.Live.{IsLive}
+use Rattle.ficus_laws.specs.Updates.{HasUpdate}
+use Rattle.ficus_entry.specs.Entry.{IsRising}
 use Rattle.ficus_entry.specs.declared.entry.Entry.{Entry}
 use Rattle.ficus_entry.specs.declared.entry.State.{State}
 use Rattle.ficus_entry.specs.declared.entry.State.TheVariants.{Live, Dead}
 use Rattle.ficus_codec.specs.declared.saved.Saved.{Saved}
 use Rattle.ficus_replica.specs.declared.replica.Asked.{Asked}
 use Rattle.ficus_replica.specs.declared.replica.Replica.{Replica}
+use Rattle.ficus_replica.specs.View.{without_state}
 
 -- an event of the replica after which it saves
 abbrev pub is_saved : ℕ → Event → Bool
@@ -32,8 +36,21 @@ generation_of replica H = count_by (is_saved replica) H
 -- The entry, as the replica holds it: a live one is alive in what it knows. No operation removes entries yet, so
 -- none is held as removed.
 abbrev pub IsHeldAs : List Event → ℕ → Entry → State → Type 0
-IsHeldAs H replica entry Live = IsLive H (Knows H replica) (record { id = entry.id; dir = entry.dir; name = entry.name; target = entry.target })
+IsHeldAs H replica entry Live = IsLive H (Knows H replica) (without_state entry)
 IsHeldAs H replica entry (Dead one two) = ⊥
+
+-- the entries are those that the replica holds after the history, by identifier
+pub record AreHeldBy (H : List Event) (replica : ℕ) (entries : List Entry) : Type 0 where
+  pub rising : IsRising entries
+  pub each : (entry : Entry) → Contains entries entry ↔ IsHeldAs H replica entry entry.state
+
+-- the operation makes a directory
+abbrev pub MakesDirectory : Op → Type 0
+MakesDirectory (Make dir name kind) = kind ≡ Dir
+
+-- so far each known update makes a directory
+pub record MakeDirectories (H : List Event) (U : ℕ → Type 0) : Type 0 where
+  pub each : (number : Id) (op : Op) → HasUpdate H U number op → MakesDirectory op
 
 -- what the replica saves after the history
 pub record IsSavedOf (volume : Volume) (H : List Event) (replica : ℕ) (saved : Saved) : Type 0 where
@@ -44,16 +61,34 @@ pub record IsSavedOf (volume : Volume) (H : List Event) (replica : ℕ) (saved :
   pub next : saved.next ≡ count_of replica H + 1
   pub used : saved.used ≡ 0
   pub generation : saved.generation ≡ generation_of replica H
-  pub entries : (entry : Entry) → Contains saved.entries entry ↔ IsHeldAs H replica entry entry.state
-  -- no file is kept yet
-  pub directories : (object : Id) (kind : Kind) → IsMade H (Knows H replica) object kind → kind ≡ Dir
+  pub entries : AreHeldBy H replica saved.entries
+  pub directories : MakeDirectories H (Knows H replica)
+
+-- what a replica saves that has heard of nothing
+abbrev pub fresh_saved : ℕ → ℕ → ℕ → ℕ → Saved
+fresh_saved me members ids bytes = record {
+  me = me;
+  members = members;
+  ids = ids;
+  bytes = bytes;
+  next = 1;
+  used = 0;
+  generation = 0;
+  entries = [];
+}
 
 -- the ask that the replica waits for an answer to
 abbrev pub IsOpenAskOf : List Event → ℕ → Option Asked → Type 0
 IsOpenAskOf H replica None = (position to : ℕ) → IsOpenAsk H position replica to → ⊥
-IsOpenAskOf H replica (Some asked) = (position : ℕ) × IsOpenAsk H position replica asked.to × (asked.number ≡ generation_of replica (through position H))
+IsOpenAskOf H replica (Some asked) =
+    (position : ℕ) × IsOpenAsk H position replica asked.to × (asked.number ≡ generation_of replica (through position H))
 
 -- the replica stands for the history
 pub record StandsFor (volume : Volume) (H : List Event) (number : ℕ) (replica : Replica) : Type 0 where
   pub saved : IsSavedOf volume H number replica.saved
   pub ask : IsOpenAskOf H number replica.ask
+
+-- the event may come, and the new replica stands for the history with it
+pub record StandsAfter (volume : Volume) (H : List Event) (r : ℕ) (event : Event) (new : Replica) : Type 0 where
+  pub lawful : MayCome volume H event
+  pub stands : StandsFor volume (H ++ event ∷ []) r new

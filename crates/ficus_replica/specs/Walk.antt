@@ -1,28 +1,48 @@
--- Walks along paths. `binds dir name target` says that a live entry of the directory has the name and leads to
--- the object; `directory` says which objects are directories.
-use Rattle.std.specs.Prelude.{◌≡◌, ℕ, List, [], ◌∷◌, ◌++◌, Result, Ok, Err}
+-- Walks along paths, over what is shown.
+use Rattle.std.specs.Prelude.{◌≡◌, ℕ, ◌-◌, List, [], ◌∷◌, length, take, Option, Some, None, Result}
+use Rattle.std.specs.List.{last_or}
 use Rattle.ficus_ids.specs.declared.id.Id.{Id}
 use Rattle.ficus_ids.specs.declared.id.TheConstants.{ROOT}
 use Rattle.ficus_ids.specs.declared.refusal.Refusal.{Refusal}
 use Rattle.ficus_ids.specs.declared.refusal.Refusal.TheVariants.{NotDir}
+use Rattle.ficus_path.specs.declared.path.Base.{Base}
+use Rattle.ficus_path.specs.declared.path.Base.TheVariants.{Root}
 use Rattle.ficus_path.specs.declared.path.Part.{Part}
 use Rattle.ficus_path.specs.declared.path.Path.{Path}
 use Rattle.ficus_names.specs.Find.{FindAnswer}
+use Rattle.ficus_replica.specs.Rule.{Then, Where, Gives}
+use Rattle.ficus_replica.specs.View.{View, IsBoundIn, IsDirectoryIn}
 
--- A walk from an object along parts answers an object or a refusal: for each part the object so far has to be a
--- directory, and then the name is looked up in it.
-pub data WalkAnswer (binds : Id → List ℕ → Id → Type 0) (directory : Id → Type 0) : Id → List Part → Result Id Refusal → Type 0 where
-  Arrives : {object : Id} → WalkAnswer binds directory object [] (Ok object)
-  NoDirectory : {object : Id} {part : Part} {parts : List Part} → (directory object → ⊥) → WalkAnswer binds directory object (part ∷ parts) (Err NotDir)
-  Refuses : {object : Id} {part : Part} {parts : List Part} {refusal : Refusal} → directory object → FindAnswer (binds object) part.name part.target (Err refusal) → WalkAnswer binds directory object (part ∷ parts) (Err refusal)
-  Step : {object next : Id} {part : Part} {parts : List Part} {answer : Result Id Refusal} → directory object → FindAnswer (binds object) part.name part.target (Ok next) → WalkAnswer binds directory next parts answer → WalkAnswer binds directory object (part ∷ parts) answer
+-- the object at which a walk begins
+abbrev pub BaseRule : View → Base → Result Id Refusal → Type 0
+BaseRule view Root = Gives ROOT
 
--- a walk along a path whose object has to be a directory
-pub data DirectoryAnswer (binds : Id → List ℕ → Id → Type 0) (directory : Id → Type 0) (parts : List Part) : Result Id Refusal → Type 0 where
-  Arrives : {object : Id} → WalkAnswer binds directory ROOT parts (Ok object) → directory object → DirectoryAnswer binds directory parts (Ok object)
-  NoDirectory : {object : Id} → WalkAnswer binds directory ROOT parts (Ok object) → (directory object → ⊥) → DirectoryAnswer binds directory parts (Err NotDir)
-  Refused : {refusal : Refusal} → WalkAnswer binds directory ROOT parts (Err refusal) → DirectoryAnswer binds directory parts (Err refusal)
+-- for each part the object so far has to be a directory, and then the part is looked up in it
+abbrev pub PartsRule : View → List Part → Id → Result Id Refusal → Type 0
+PartsRule view [] object = Gives object
+PartsRule view (part ∷ parts) object =
+    Where (IsDirectoryIn view object) NotDir (
+    Then (FindAnswer (IsBoundIn view object) part.name part.target) (PartsRule view parts))
 
--- the parts of a new path: those of its parent, and its last one
-pub record Splits (path : Path) (parent : List Part) (last : Part) : Type 0 where
-  pub is : path.parts ≡ parent ++ last ∷ []
+-- the object to which parts lead from a base
+abbrev pub WalkRule : View → Base → List Part → Result Id Refusal → Type 0
+WalkRule view base parts = Then (BaseRule view base) (PartsRule view parts)
+
+-- the same where that object has to be a directory
+abbrev pub DirectoryRule : View → Base → List Part → Result Id Refusal → Type 0
+DirectoryRule view base parts =
+    Then (WalkRule view base parts) (λ object.
+    Where (IsDirectoryIn view object) NotDir (Gives object))
+
+-- the directory of a new path: the walk without the last part
+abbrev pub ParentRule : View → Path → Result Id Refusal → Type 0
+ParentRule view path = DirectoryRule view path.base (take (length path.parts - 1) path.parts)
+
+-- the name of the part, where there is one
+abbrev pub name_of : Option Part → List ℕ
+name_of None = []
+name_of (Some part) = part.name
+
+-- the name of the last part
+abbrev pub last_name : Path → List ℕ
+last_name path = name_of (last_or None path.parts)

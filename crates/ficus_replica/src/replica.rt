@@ -1,4 +1,4 @@
-ghost use Rattle.std.specs.Prelude.{◌≡◌, ◌≤◌, List, ◌∷◌, [], ◌++◌, None};
+ghost use Rattle.std.specs.Prelude.{◌≡◌, ◌+◌, ◌-◌, ◌^◌, ◌<◌, ◌≤◌, List, ◌∷◌, [], ◌++◌, None};
 
 use ficus_codec::Saved;
 use ficus_entry::Entries;
@@ -35,7 +35,7 @@ impl Replica {
     ghost use Rattle.ficus_model.specs.Lawful.{Volume};
     ghost use Rattle.ficus_model.specs.declared.event.Event.{Event};
     ghost use Rattle.ficus_model.specs.declared.event.Event.TheVariants.{Restart};
-    ghost use Rattle.ficus_replica.specs.SavedOf.{IsSavedOf, StandsFor};
+    ghost use Rattle.ficus_replica.specs.SavedOf.{IsSavedOf, StandsFor, fresh_saved};
 
     /// A replica that has heard of nothing. Takes no memory.
     pub fn fresh(alloc: Global, me: u8, members: Members, ids: u32, bytes: u32) -> Replica
@@ -43,7 +43,7 @@ impl Replica {
         requires ids_at_least { 1 ≤ ids }
         requires ids_at_most { ids ≤ 100000 }
         requires bytes { bytes ≤ 4194304 }
-        ensures saved { result.saved ≡ record { me = me; members = members; ids = ids; bytes = bytes; next = 1; used = 0; generation = 0; entries = [] } }
+        ensures saved { result.saved ≡ fresh_saved me members ids bytes }
         ensures ask { result.ask ≡ None }
         ensures fits { FitsImage result.saved }
         ensures stands { StandsFor (record { members = members; ids = ids; bytes = bytes }) [] me result }
@@ -69,5 +69,21 @@ impl Replica {
             → StandsFor volume (H ++ Restart saved.me ∷ []) saved.me result }
     {
         Replica { saved, ask: None }
+    }
+    /// What is saved next, with these entries and no further update.
+    pub(crate) fn saved_with(&self, entries: Entries) -> Saved
+        requires { self.now.saved.generation < 2 ^ 63 - 1 }
+        ensures { result ≡ record self.now.saved { generation = self.now.saved.generation + 1; entries = entries } }
+    {
+        Saved {
+            me: self.saved.me,
+            members: self.saved.members,
+            ids: self.saved.ids,
+            bytes: self.saved.bytes,
+            next: self.saved.next,
+            used: self.saved.used,
+            generation: self.saved.generation + 1,
+            entries,
+        }
     }
 }

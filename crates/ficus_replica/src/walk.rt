@@ -1,36 +1,71 @@
-ghost use Rattle.ficus_ids.specs.declared.id.TheConstants.{ROOT};
-
 use crate::Replica;
 use ficus_ids::{Id, ROOT, Refusal};
 use ficus_names::find;
-use ficus_path::Part;
+use ficus_path::{Base, Part, Path};
 
 impl Replica {
-    ghost use Rattle.std.specs.Prelude.{◌≡◌, ◌↔◌, IsTrue};
-    ghost use Rattle.ficus_names.specs.Binds.{BindsIn};
-    ghost use Rattle.ficus_replica.specs.AnswerOf.{Taken};
-    ghost use Rattle.ficus_replica.specs.Held.{HeldDirectory};
-    ghost use Rattle.ficus_replica.specs.Walk.{WalkAnswer};
+    ghost use Rattle.std.specs.Prelude.{◌≡◌, ◌↔◌, IsTrue, None};
+    ghost use Rattle.ficus_path.specs.Path.{IsEntry};
+    ghost use Rattle.ficus_replica.specs.View.{IsTakenIn, tables_view};
+    ghost use Rattle.ficus_replica.specs.Walk.{BaseRule, WalkRule, DirectoryRule, ParentRule};
 
-    /// The object at which a walk from the root along the parts arrives, or the refusal that it meets first.
-    pub(crate) fn walk(&self, parts: &[Part]) -> Result<Id, Refusal>
-        ensures { WalkAnswer (BindsIn self.now.saved.entries) HeldDirectory ROOT parts.now result }
+    /// The object to which the parts lead from the base, or the refusal that comes first.
+    pub(crate) fn walk(&self, base: Base, parts: &[Part]) -> Result<Id, Refusal>
+        ensures { WalkRule (tables_view self.now) base parts.now result }
     {
-        let mut object = ROOT;
+        let mut object = self.begin(base)?;
         for part in parts {
             object = find(&self.saved.entries, object, part)?;
         }
         Ok(object)
     }
 
+    // The object at which a walk begins.
+    fn begin(&self, base: Base) -> Result<Id, Refusal>
+        ensures { BaseRule (tables_view self.now) base result }
+    {
+        match base {
+            Base::Root => Ok(ROOT),
+        }
+    }
+
+    /// The directory to which the parts lead. No file is kept yet, so each object is a directory.
+    pub(crate) fn directory(&self, base: Base, parts: &[Part]) -> Result<Id, Refusal>
+        ensures { DirectoryRule (tables_view self.now) base parts.now result }
+    {
+        self.walk(base, parts)
+    }
+
+    /// The directory of a path that names an entry.
+    pub(crate) fn parent(&self, path: &Path) -> Result<Id, Refusal>
+        requires { IsEntry path.now }
+        ensures { ParentRule (tables_view self.now) path.now result }
+    {
+        let parts = path.parts.items();
+        self.directory(path.base, &parts[..parts.len() - 1])
+    }
+
     /// Whether a live entry of the directory has the name of a part without a target.
     pub(crate) fn has_name(&self, dir: Id, part: &Part) -> bool
         requires { part.now.target ≡ None }
-        ensures { IsTrue result ↔ Taken (BindsIn self.now.saved.entries) dir part.now.name }
+        ensures { IsTrue result ↔ IsTakenIn (tables_view self.now) dir part.now.name }
     {
         match find(&self.saved.entries, dir, part) {
             Ok(_) => true,
             Err(refusal) => refusal != Refusal::NoEntry,
         }
     }
+}
+
+ghost use Rattle.std.specs.Prelude.{◌≡◌, Some};
+ghost use Rattle.std.specs.List.{last_or};
+ghost use Rattle.ficus_path.specs.Path.{IsEntry as NamesEntry};
+
+/// The last part of a path that names an entry.
+pub(crate) fn last_part(path: &Path) -> &Part
+    requires { NamesEntry path.now }
+    ensures { last_or None path.now.parts ≡ Some result.now }
+{
+    let parts = path.parts.items();
+    &parts[parts.len() - 1]
 }

@@ -1,40 +1,18 @@
-ghost use Rattle.std.specs.Prelude.{◌≡◌, ◌≢◌, ◌-◌, ◌^◌, ◌<◌, ℕ, List, All, IfOk, IsTrue, ◌↔◌};
+ghost use Rattle.std.specs.Prelude.{◌-◌, ◌^◌, ◌<◌, ℕ, List, IfOk, IsTrue, ◌↔◌};
 
 use crate::{Asked, Replica};
 use ficus_entry::{Entries, Entry};
-use ficus_ids::{Id, Memory, Refusal};
+use ficus_ids::{Id, Refusal};
 use ficus_recon_dir::merge_entries;
 use std::alloc::Global;
 
 impl Replica {
-    ghost use Rattle.ficus_codec.specs.Saved.{FitsImage, HasOwnPast, IsOfPast};
+    ghost use Rattle.ficus_codec.specs.Saved.{FitsImage, IsEntryOfPast, IsOfPast};
     ghost use Rattle.ficus_codec.specs.Tables.{FitsTables};
-    ghost use Rattle.ficus_ids.specs.Members.{IsMember};
     ghost use Rattle.ficus_model.specs.Lawful.{Volume, IsLawful};
     ghost use Rattle.ficus_model.specs.declared.event.Event.{Event};
-    ghost use Rattle.ficus_model.specs.declared.event.Event.TheVariants.{Ask};
-    ghost use Rattle.ficus_replica.specs.Gives.{AskGives, AcceptGives, FitsPast};
+    ghost use Rattle.ficus_replica.specs.Accept.{AcceptGives, AcceptStands, FitsPast, IsServed};
     ghost use Rattle.ficus_replica.specs.SavedOf.{StandsFor};
-    ghost use Rattle.ficus_replica.specs.Stands.{StandsAfter, AcceptStands, IsServed};
-
-    /// Asks another member for its state. The answer to an earlier ask is no longer taken.
-    pub fn ask(&self, to: u8) -> Result<Replica, Memory>
-        requires member { IsMember self.now.saved.members to }
-        requires other { to ≢ self.now.saved.me }
-        requires fits { FitsImage self.now.saved }
-        requires generation { self.now.saved.generation < 2 ^ 63 - 1 }
-        ensures gives { IfOk result (AskGives self.now to) }
-        ensures fits { IfOk result (λ replica. FitsImage replica.saved) }
-        ensures stands { (volume : Volume) (H : List Event) → IsLawful volume H → StandsFor volume H self.now.saved.me self.now
-            → IfOk result (StandsAfter volume H self.now.saved.me (Ask self.now.saved.me to)) }
-    {
-        let saved = self.saved_with(self.saved.entries.copy()?);
-        let number = saved.generation;
-        Ok(Replica {
-            saved,
-            ask: Some(Asked { to, number }),
-        })
-    }
 
     /// Takes the entries that a peer served in answer to an ask. Refused, in this order: `Stale` exactly where
     /// the open ask isn't of this peer and number; `BadMessage` exactly where the entries hold an identifier
@@ -47,12 +25,14 @@ impl Replica {
         entries: &Entries,
     ) -> Result<Replica, Refusal>
         requires fits { FitsImage self.now.saved }
-        requires tables { All (FitsTables self.now.saved.members) entries.now }
+        requires tables { FitsTables self.now.saved.members entries.now }
         requires generation { self.now.saved.generation < 2 ^ 63 - 1 }
         ensures gives { AcceptGives self.now from number entries.now result }
         ensures fits { IfOk result (λ replica. FitsImage replica.saved) }
-        ensures stands { (volume : Volume) (H : List Event) (serve : ℕ) → IsLawful volume H → StandsFor volume H self.now.saved.me self.now
-            → IsServed H self.now.saved.me from number entries.now serve → AcceptStands volume H self.now.saved.me serve result }
+        ensures stands { (volume : Volume) (H : List Event) (serve : ℕ) → IsLawful volume H
+            → StandsFor volume H self.now.saved.me self.now
+            → IsServed H self.now.saved.me from number entries.now serve
+            → AcceptStands volume H self.now.saved.me serve result }
     {
         if self.ask != Some(Asked { to: from, number }) {
             return Err(Refusal::Stale);
@@ -87,7 +67,7 @@ impl Replica {
 
     // Whether it has issued each identifier of its own in the entry.
     fn has_issued_in(&self, entry: &Entry) -> bool
-        ensures { IsTrue result ↔ HasOwnPast self.now.saved.me self.now.saved.next entry.now }
+        ensures { IsTrue result ↔ IsEntryOfPast self.now.saved.me self.now.saved.next entry.now }
     {
         self.has_issued(entry.id) && self.has_issued(entry.dir) && self.has_issued(entry.target)
     }

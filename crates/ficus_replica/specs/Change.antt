@@ -1,0 +1,44 @@
+-- The changes of a replica: what each answers, what it gives, and what it is for the history.
+use Rattle.std.specs.Prelude.{◌≡◌, ℕ, List, ◌∷◌, [], ◌++◌, Result, Ok, Err}
+use Rattle.ficus_ids.specs.declared.kind.Kind.{Kind}
+use Rattle.ficus_ids.specs.declared.refusal.Refusal.{Refusal}
+use Rattle.ficus_model.specs.declared.event.Event.{Event}
+use Rattle.ficus_model.specs.declared.event.Event.TheVariants.{Update}
+use Rattle.ficus_model.specs.declared.event.Op.{Op}
+use Rattle.ficus_model.specs.Lawful.{Volume}
+use Rattle.ficus_path.specs.declared.path.Path.{Path}
+use Rattle.ficus_replica.specs.declared.replica.Next.{Next}
+use Rattle.ficus_replica.specs.declared.replica.Replica.{Replica}
+use Rattle.ficus_replica.specs.Effect.{Applied}
+use Rattle.ficus_replica.specs.Make.{MakeRule}
+use Rattle.ficus_replica.specs.Rule.{UnlessMemory}
+use Rattle.ficus_replica.specs.SavedOf.{StandsAfter}
+use Rattle.ficus_replica.specs.View.{View, tables_view, history_view}
+
+pub data Change : Type 0 where
+  Make : Path → Kind → Change
+
+-- which operation the change is, or why it is refused
+abbrev pub ChangeRule : View → Change → Result Op Refusal → Type 0
+ChangeRule view (Make path kind) = MakeRule view path kind
+
+-- the operation is the rule's, over what the replica holds; what is saved is what it makes of it, and no more
+pub record Changed (old : Replica) (change : Change) (next : Next) : Type 0 where
+  pub answer : ChangeRule (tables_view old) change (Ok next.op)
+  pub applied : Applied old.saved next.op next.replica.saved
+  pub ask : next.replica.ask ≡ old.ask
+
+-- what a change gives, over what the replica holds
+abbrev pub ChangeGives : Replica → Change → Result Next Refusal → Type 0
+ChangeGives old change (Ok next) = Changed old change next
+ChangeGives old change (Err refusal) = UnlessMemory (ChangeRule (tables_view old) change) (Err refusal)
+
+-- the operation is the rule's after the history; it may come, and the next replica stands for the history with it
+pub record ChangedAfter (volume : Volume) (H : List Event) (r : ℕ) (change : Change) (next : Next) : Type 0 where
+  pub answer : ChangeRule (history_view volume H r) change (Ok next.op)
+  pub after : StandsAfter volume H r (Update r next.op) next.replica
+
+-- what a change of replica r gives after the history
+abbrev pub ChangeStands : Volume → List Event → ℕ → Change → Result Next Refusal → Type 0
+ChangeStands volume H r change (Ok next) = ChangedAfter volume H r change next
+ChangeStands volume H r change (Err refusal) = UnlessMemory (ChangeRule (history_view volume H r) change) (Err refusal)

@@ -1,0 +1,11 @@
+-- `tree`: what it answers.
+use Rattle.std.specs.Prelude.{Result}
+use Rattle.ficus_ids.specs.declared.refusal.Refusal.{Refusal}
+use Rattle.ficus_replica.specs.Lines.{AreLines}
+use Rattle.ficus_replica.specs.Rule.{Tells}
+use Rattle.ficus_replica.specs.Told.{Told, Lines}
+use Rattle.ficus_replica.specs.View.{View, IsReachedIn}
+
+-- the shown names of each directory that is reached from the root
+abbrev pub TreeRule : View → Result Told Refusal → Type 0
+TreeRule view = Tells Lines (AreLines view (IsReachedIn view))

@@ -1,0 +1,32 @@
+use crate::{Asked, Replica};
+use ficus_ids::Memory;
+
+impl Replica {
+    ghost use Rattle.std.specs.Prelude.{◌≢◌, ◌-◌, ◌^◌, ◌<◌, List, IfOk};
+    ghost use Rattle.ficus_codec.specs.Saved.{FitsImage};
+    ghost use Rattle.ficus_ids.specs.Members.{IsMember};
+    ghost use Rattle.ficus_model.specs.Lawful.{Volume};
+    ghost use Rattle.ficus_model.specs.declared.event.Event.{Event};
+    ghost use Rattle.ficus_model.specs.declared.event.Event.TheVariants.{Ask};
+    ghost use Rattle.ficus_replica.specs.Ask.{AskGives};
+    ghost use Rattle.ficus_replica.specs.SavedOf.{StandsFor, StandsAfter};
+
+    /// Asks another member for its state. The answer to an earlier ask is no longer taken.
+    pub fn ask(&self, to: u8) -> Result<Replica, Memory>
+        requires member { IsMember self.now.saved.members to }
+        requires other { to ≢ self.now.saved.me }
+        requires fits { FitsImage self.now.saved }
+        requires generation { self.now.saved.generation < 2 ^ 63 - 1 }
+        ensures gives { IfOk result (AskGives self.now to) }
+        ensures fits { IfOk result (λ replica. FitsImage replica.saved) }
+        ensures stands { (volume : Volume) (H : List Event) → StandsFor volume H self.now.saved.me self.now
+            → IfOk result (StandsAfter volume H self.now.saved.me (Ask self.now.saved.me to)) }
+    {
+        let saved = self.saved_with(self.saved.entries.copy()?);
+        let number = saved.generation;
+        Ok(Replica {
+            saved,
+            ask: Some(Asked { to, number }),
+        })
+    }
+}

@@ -1,0 +1,55 @@
+use crate::walk::last_part;
+use crate::{Next, Replica};
+use ficus_ids::{Kind, Refusal};
+use ficus_model::Op;
+use ficus_path::Path;
+
+impl Replica {
+    ghost use Rattle.std.specs.Prelude.{◌≡◌, ◌-◌, ◌^◌, ◌<◌, List, IfOk};
+    ghost use Rattle.ficus_codec.specs.Saved.{FitsImage};
+    ghost use Rattle.ficus_model.specs.Lawful.{Volume, IsLawful};
+    ghost use Rattle.ficus_model.specs.declared.event.Event.{Event};
+    ghost use Rattle.ficus_path.specs.Path.{IsNew};
+    ghost use Rattle.ficus_replica.specs.Change.{ChangeGives, ChangeStands, Make as MakeChange};
+    ghost use Rattle.ficus_replica.specs.Make.{MakeRule};
+    ghost use Rattle.ficus_replica.specs.Rule.{UnlessMemory};
+    ghost use Rattle.ficus_replica.specs.SavedOf.{StandsFor};
+    ghost use Rattle.ficus_replica.specs.View.{tables_view};
+
+    /// Makes an object at a new path and enters it there. Refused, in this order: as the walk to the parent
+    /// is; `Exists` exactly where a live entry of the parent has the name; `Spent` exactly where the replica
+    /// has made all its updates. So far every object is a directory.
+    pub fn make(&self, path: &Path, kind: Kind) -> Result<Next, Refusal>
+        requires new { IsNew path.now }
+        requires kind { kind ≡ Kind.Dir }
+        requires fits { FitsImage self.now.saved }
+        requires generation { self.now.saved.generation < 2 ^ 63 - 1 }
+        ensures gives { ChangeGives self.now (MakeChange path.now kind) result }
+        ensures fits { IfOk result (λ next. FitsImage next.replica.saved) }
+        // Where it stands for a lawful history, so does the next replica, with the update.
+        ensures stands { (volume : Volume) (H : List Event) → IsLawful volume H
+            → StandsFor volume H self.now.saved.me self.now
+            → ChangeStands volume H self.now.saved.me (MakeChange path.now kind) result }
+    {
+        let op = self.make_op(path, kind)?;
+        let next = self.applied(op)?;
+        Ok(next)
+    }
+
+    // What a `make` does.
+    fn make_op(&self, path: &Path, kind: Kind) -> Result<Op, Refusal>
+        requires { IsNew path.now }
+        ensures { UnlessMemory (MakeRule (tables_view self.now) path.now kind) result }
+    {
+        let dir = self.parent(path)?;
+        let last = last_part(path);
+        if self.has_name(dir, last) {
+            return Err(Refusal::Exists);
+        }
+        if self.is_spent() {
+            return Err(Refusal::Spent);
+        }
+        let name = last.name.copy()?;
+        Ok(Op::Make { dir, name, kind })
+    }
+}

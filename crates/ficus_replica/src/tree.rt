@@ -1,0 +1,31 @@
+use crate::Replica;
+use crate::lines::add_lines;
+use ficus_ids::{Memory, ROOT};
+use ficus_names::{Directories, Line};
+use ficus_reach::reached;
+use std::alloc::Global;
+
+impl Replica {
+    ghost use Rattle.std.specs.Prelude.{Ok, List, IfOk};
+    ghost use Rattle.ficus_model.specs.Lawful.{Volume};
+    ghost use Rattle.ficus_model.specs.declared.event.Event.{Event};
+    ghost use Rattle.ficus_replica.specs.Look.{LookGives, LookStands, Tree};
+    ghost use Rattle.ficus_replica.specs.SavedOf.{StandsFor};
+    ghost use Rattle.ficus_replica.specs.Told.{vec_lines};
+
+    /// The shown names of every directory that is reached from the root, by directory, then as in `list`.
+    pub fn tree(&self, alloc: Global) -> Result<Vec<Line>, Memory>
+        ensures gives { IfOk result (λ lines. LookGives self.now Tree (Ok (vec_lines lines))) }
+        ensures stands { (volume : Volume) (H : List Event) → StandsFor volume H self.now.saved.me self.now
+            → IfOk result (λ lines. LookStands volume H self.now.saved.me Tree (Ok (vec_lines lines))) }
+    {
+        let entries = &self.saved.entries;
+        let directories = Directories::new(alloc, entries)?;
+        let reached = reached(alloc, entries, &[ROOT])?;
+        let mut lines = Vec::new(alloc);
+        for dir in &reached {
+            add_lines(&mut lines, *dir, directories.shown(alloc, *dir)?)?;
+        }
+        Ok(lines)
+    }
+}
