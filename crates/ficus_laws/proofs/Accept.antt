@@ -19,13 +19,16 @@ use Rattle.ficus_laws.proofs.Shown.{within_chain, within_joined_right, entered_w
 use Rattle.ficus_laws.proofs.OneMore.{within_more, same_accept, same_seen}
 
 -- what was served is served after the ask that it answers
-pub ask_before_serve : (volume : Volume) (H : List Event) {served replica : ℕ} → IsLawful volume H → (answer : AnswersOpenAsk H served replica) → answer.ask < served
+pub ask_before_serve : (volume : Volume) (H : List Event) {served replica : ℕ} → IsLawful volume H →
+    (answer : AnswersOpenAsk H served replica) → answer.ask < served
 ask_before_serve volume H {served} lawful answer =
     (at_from_before served (lawful.each served (Serve answer.server answer.ask) answer.served).asked).0
 
 -- nobody asks itself
-pub server_differs : (volume : Volume) (H : List Event) {served replica : ℕ} → IsLawful volume H → (answer : AnswersOpenAsk H served replica) → replica ≢ answer.server
-server_differs volume H {replica = replica} lawful answer = (lawful.each answer.ask (Ask replica answer.server) answer.open_ask.ask).differ
+pub server_differs : (volume : Volume) (H : List Event) {served replica : ℕ} → IsLawful volume H →
+    (answer : AnswersOpenAsk H served replica) → replica ≢ answer.server
+server_differs volume H {replica = replica} lawful answer =
+    (lawful.each answer.ask (Ask replica answer.server) answer.open_ask.ask).differ
 
 -- Where the answer at a position may be taken, each event of the server that the replica has heard of is earlier:
 -- the replica got it through an Accept, none came after the ask, and the ask was served later.
@@ -41,16 +44,19 @@ module _ (volume : Volume) (H : List Event) (served replica : ℕ) (lawful : IsL
       go (inr (inl h)) = h
       go (inr (inr h)) = absurd (answer.open_ask.latest position (Accept by serve) h a own)
 
-  seen_before_served : {at position : ℕ} → HasSeen H at position → IsOf H at replica → IsOf H position answer.server → position < served
+  seen_before_served : {at position : ℕ} → HasSeen H at position → IsOf H at replica → IsOf H position answer.server →
+      position < served
   seen_before_served (Itself o) own his = absurd (server_differs volume H lawful answer (of_same own his))
-  seen_before_served (Earlier {old = old} o p l s) own his = seen_before_served s (subst (λ r. IsOf H old r) (of_same o own) p) his
+  seen_before_served (Earlier {old = old} o p l s) own his =
+      seen_before_served s (subst (λ r. IsOf H old r) (of_same o own) p) his
   seen_before_served (Heard a l s) own his =
       let h = accept_before_ask a (of_same (of_at a) own) in
       let w = seen_within s in
       let b = ask_before_serve volume H lawful answer in
       omega arith
 
-  pub known_before_served : {position : ℕ} → Knows H replica position → IsOf H position answer.server → position < served
+  pub known_before_served : {position : ℕ} → Knows H replica position → IsOf H position answer.server →
+      position < served
   known_before_served k his = seen_before_served k.seen k.own his
 
 -- What a replica knows once it has taken what this server served at this position.
@@ -59,10 +65,12 @@ module _ (H : List Event) (replica served server : ℕ) (by_server : IsOf H serv
   after = H ++ Accept replica served ∷ []
 
   -- of the positions before, it knows what it knew and what the server knew when it served
-  pub accept_knows : {position : ℕ} → Knows after replica position → position < length H → Knows H replica position ⊎ Knows (through served H) server position
+  pub accept_knows : {position : ℕ} → Knows after replica position → position < length H →
+      Knows H replica position ⊎ Knows (through served H) server position
   accept_knows {position} k h = go (knows_accept served k)
     where
-      go : Knows H replica position ⊎ ((position ≡ length H) ⊎ HasSeen H served position) → Knows H replica position ⊎ Knows (through served H) server position
+      go : Knows H replica position ⊎ ((position ≡ length H) ⊎ HasSeen H served position) →
+          Knows H replica position ⊎ Knows (through served H) server position
       go (inl was) = inl was
       go (inr (inl end)) = absurd (omega arith)
       go (inr (inr seen)) = inr (seen_knows by_server seen)
@@ -80,46 +88,62 @@ module _ (H : List Event) (replica served server : ℕ) (by_server : IsOf H serv
   within_after = within_chain within_served (same_accept H replica served).there
 
   -- what is entered and removed then was so at one of the two
-  pub accept_entered : {entry : Entry} → IsEntered after (Knows after replica) entry → IsEntered H (Knows H replica) entry ⊎ IsEntered (through served H) (Knows (through served H) server) entry
+  pub accept_entered : {entry : Entry} → IsEntered after (Knows after replica) entry →
+      IsEntered H (Knows H replica) entry ⊎ IsEntered (through served H) (Knows (through served H) server) entry
   accept_entered {entry} e = go (entered_either (entered_within (same_accept H replica served).back e))
     where
-      go : IsEntered H (Knows H replica) entry ⊎ IsEntered H (HasSeen H served) entry → IsEntered H (Knows H replica) entry ⊎ IsEntered (through served H) (Knows (through served H) server) entry
+      go : IsEntered H (Knows H replica) entry ⊎ IsEntered H (HasSeen H served) entry →
+          IsEntered H (Knows H replica) entry ⊎ IsEntered (through served H) (Knows (through served H) server) entry
       go (inl own) = inl own
       go (inr his) = inr (entered_within (same_seen H served server by_server).there his)
 
-  pub accept_removed : {id : Id} → IsRemoved after (Knows after replica) id → IsRemoved H (Knows H replica) id ⊎ IsRemoved (through served H) (Knows (through served H) server) id
+  pub accept_removed : {id : Id} → IsRemoved after (Knows after replica) id →
+      IsRemoved H (Knows H replica) id ⊎ IsRemoved (through served H) (Knows (through served H) server) id
   accept_removed {id} r = go (removed_either (removed_within (same_accept H replica served).back r))
     where
-      go : IsRemoved H (Knows H replica) id ⊎ IsRemoved H (HasSeen H served) id → IsRemoved H (Knows H replica) id ⊎ IsRemoved (through served H) (Knows (through served H) server) id
+      go : IsRemoved H (Knows H replica) id ⊎ IsRemoved H (HasSeen H served) id →
+          IsRemoved H (Knows H replica) id ⊎ IsRemoved (through served H) (Knows (through served H) server) id
       go (inl own) = inl own
       go (inr his) = inr (removed_within (same_seen H served server by_server).there his)
 
-  pub accept_made : {object : Id} {kind : Kind} → IsMade after (Knows after replica) object kind → IsMade H (Knows H replica) object kind ⊎ IsMade (through served H) (Knows (through served H) server) object kind
+  pub accept_made : {object : Id} {kind : Kind} → IsMade after (Knows after replica) object kind →
+      IsMade H (Knows H replica) object kind ⊎ IsMade (through served H) (Knows (through served H) server) object kind
   accept_made {object} {kind} m = go (made_either (made_within (same_accept H replica served).back m))
     where
-      go : IsMade H (Knows H replica) object kind ⊎ IsMade H (HasSeen H served) object kind → IsMade H (Knows H replica) object kind ⊎ IsMade (through served H) (Knows (through served H) server) object kind
+      go : IsMade H (Knows H replica) object kind ⊎ IsMade H (HasSeen H served) object kind →
+          IsMade H (Knows H replica) object kind ⊎
+          IsMade (through served H) (Knows (through served H) server) object kind
       go (inl own) = inl own
       go (inr his) = inr (made_within (same_seen H served server by_server).there his)
 
-  pub made_accept : {object : Id} {kind : Kind} → IsMade H (Knows H replica) object kind ⊎ IsMade (through served H) (Knows (through served H) server) object kind → IsMade after (Knows after replica) object kind
+  pub made_accept : {object : Id} {kind : Kind} →
+      IsMade H (Knows H replica) object kind ⊎ IsMade (through served H) (Knows (through served H) server) object kind →
+      IsMade after (Knows after replica) object kind
   made_accept (inl own) = made_within (within_more H (Accept replica served ∷ []) replica) own
   made_accept (inr his) = made_within within_after his
 
   -- what is alive then was entered at one of the two and is removed at neither
-  pub accept_live : {entry : Entry} → IsLive after (Knows after replica) entry → IsLiveJoined H (Knows H replica) (through served H) (Knows (through served H) server) entry
+  pub accept_live : {entry : Entry} → IsLive after (Knows after replica) entry →
+      IsLiveJoined H (Knows H replica) (through served H) (Knows (through served H) server) entry
   accept_live {entry} l = record {
     entered = accept_entered l.entered;
     kept = λ r. l.not_removed (removed_within (within_more H (Accept replica served ∷ []) replica) r);
     kept_there = λ r. l.not_removed (removed_within within_after r);
   }
 
-  pub live_accept : {entry : Entry} → IsLiveJoined H (Knows H replica) (through served H) (Knows (through served H) server) entry → IsLive after (Knows after replica) entry
+  pub live_accept : {entry : Entry} →
+      IsLiveJoined H (Knows H replica) (through served H) (Knows (through served H) server) entry →
+      IsLive after (Knows after replica) entry
   live_accept {entry} l = record { entered = entered l.entered; not_removed = λ r. removed (accept_removed r) }
     where
-      entered : IsEntered H (Knows H replica) entry ⊎ IsEntered (through served H) (Knows (through served H) server) entry → IsEntered after (Knows after replica) entry
+      entered : IsEntered H (Knows H replica) entry ⊎
+          IsEntered (through served H) (Knows (through served H) server) entry →
+          IsEntered after (Knows after replica) entry
       entered (inl own) = entered_within (within_more H (Accept replica served ∷ []) replica) own
       entered (inr his) = entered_within within_after his
 
-      removed : IsRemoved H (Knows H replica) entry.id ⊎ IsRemoved (through served H) (Knows (through served H) server) entry.id → ⊥
+      removed : IsRemoved H (Knows H replica) entry.id ⊎
+          IsRemoved (through served H) (Knows (through served H) server) entry.id →
+          ⊥
       removed (inl own) = l.kept own
       removed (inr his) = l.kept_there his

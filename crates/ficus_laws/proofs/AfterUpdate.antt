@@ -1,83 +1,122 @@
 -- What a replica is shown after an update of its own.
-use Rattle.std.proofs.Common.{◌≡◌, ℕ, List, [], ◌∷◌, ◌++◌, Option, Some, None, refl, sym, ap, subst, ◌∙◌, inl, inr, ◌⊎◌, arith}
-use Rattle.std.specs.Prelude.{Contains}
+use Rattle.std.proofs.Common.{◌≡◌, ℕ, List, [], ◌∷◌, ◌++◌, Some, None, refl, sym, ap, subst, ◌∙◌, inl, inr, ◌⊎◌, arith}
+use Rattle.std.specs.Prelude.{Contains, codes}
+use Rattle.std.proofs.lemmas.Option.{same_Some}
+use Rattle.ficus_ids.specs.declared.id.TheConstants.{ATTIC}
 use Rattle.ficus_ids.specs.declared.id.Id.{Id}
 use Rattle.ficus_ids.specs.declared.kind.Kind.{Kind}
 use Rattle.ficus_model.specs.declared.event.Event.{Event}
 use Rattle.ficus_model.specs.declared.event.Event.TheVariants.{Update}
 use Rattle.ficus_model.specs.declared.event.Op.{Op}
-use Rattle.ficus_model.specs.declared.event.Op.TheVariants.{Make}
+use Rattle.ficus_model.specs.declared.event.Op.TheVariants.{Make, Link, Remove, Move, Write, Settle, Resolve, Adopt, Discard}
 use Rattle.ficus_model.specs.Known.{Knows}
-use Rattle.ficus_model.specs.Live.{Entry, entered_by, removed_by, IsEntered, IsRemoved, IsLive, IsMade}
+use Rattle.ficus_model.specs.Live.{Entry, entry_of, entered_by, removed_by, IsEntered, IsRemoved, IsLive, IsMade}
 use Rattle.ficus_laws.specs.Updates.{next_number, made_entry, HasUpdate}
 use Rattle.ficus_laws.proofs.Shown.{entered_from, removed_from, entered_has, removed_has, entered_within, removed_within, made_within}
 use Rattle.ficus_laws.proofs.OneMore.{within_more, has_end, has_after_update}
 
+pub enters_none : (entry : Entry) → None ≡ Some entry → ⊥
+enters_none entry e = cc
+
 -- an entry has the number of the update that enters it
 pub entered_id : (number : Id) (op : Op) (entry : Entry) → entered_by number op ≡ Some entry → entry.id ≡ number
-entered_id number (Make dir name kind) entry e = sym (ap id_of e)
-  where
-    id_of : Option Entry → Id
-    id_of None = number
-    id_of (Some other) = other.id
+entered_id number (Make dir name kind) entry e =
+    sym (ap (λ (found : Entry). found.id) (same_Some (entry_of number dir name number) entry e))
+entered_id number (Link dir name target) entry e =
+    sym (ap (λ (found : Entry). found.id) (same_Some (entry_of number dir name target) entry e))
+entered_id number (Remove entries target) entry e = absurd (enters_none entry e)
+entered_id number (Move entries dir name target) entry e =
+    sym (ap (λ (found : Entry). found.id) (same_Some (entry_of number dir name target) entry e))
+entered_id number (Write file bytes) entry e = absurd (enters_none entry e)
+entered_id number (Settle file bytes) entry e = absurd (enters_none entry e)
+entered_id number (Resolve file bytes) entry e = absurd (enters_none entry e)
+entered_id number (Adopt file dir name) entry e =
+    sym (ap (λ (found : Entry). found.id) (same_Some (entry_of number dir name file) entry e))
+entered_id number (Discard file) entry e =
+    sym (ap (λ (found : Entry). found.id) (same_Some (entry_of number ATTIC (codes "discarded") file) entry e))
 
 -- In each of these a replica has done one more operation.
 module _ (H : List Event) (replica : ℕ) (op : Op) where
   abbrev after : List Event
   after = H ++ Update replica op ∷ []
 
-  pub entered_after : {entry : Entry} → IsEntered after (Knows after replica) entry → IsEntered H (Knows H replica) entry ⊎ (entered_by (next_number replica H) op ≡ Some entry)
+  pub entered_after : {entry : Entry} → IsEntered after (Knows after replica) entry →
+      IsEntered H (Knows H replica) entry ⊎ (entered_by (next_number replica H) op ≡ Some entry)
   entered_after {entry} e = go (has_after_update op (entered_has e))
     where
-      go : HasUpdate H (Knows H replica) entry.id e.op ⊎ ((entry.id ≡ next_number replica H) × (e.op ≡ op)) → IsEntered H (Knows H replica) entry ⊎ (entered_by (next_number replica H) op ≡ Some entry)
+      go : HasUpdate H (Knows H replica) entry.id e.op ⊎ ((entry.id ≡ next_number replica H) × (e.op ≡ op)) →
+          IsEntered H (Knows H replica) entry ⊎ (entered_by (next_number replica H) op ≡ Some entry)
       go (inl was) = inl (entered_from entry was e.enters)
-      go (inr (next, same)) = inr (ap (λ number. entered_by number op) (sym next) ∙ ap (entered_by entry.id) (sym same) ∙ e.enters)
+      go (inr (next, same)) =
+          inr (ap (λ number. entered_by number op) (sym next) ∙ ap (entered_by entry.id) (sym same) ∙ e.enters)
 
-  pub entered_new : (entry : Entry) → entered_by (next_number replica H) op ≡ Some entry → IsEntered after (Knows after replica) entry
+  pub entered_new : (entry : Entry) → entered_by (next_number replica H) op ≡ Some entry →
+      IsEntered after (Knows after replica) entry
   entered_new entry new =
       let id = entered_id (next_number replica H) op entry new in
       entered_from entry (rw id (has_end H replica op)) (subst (λ number. entered_by number op ≡ Some entry) (sym id) new)
 
-  pub removed_after : {id : Id} → IsRemoved after (Knows after replica) id → IsRemoved H (Knows H replica) id ⊎ Contains (removed_by op) id
+  pub removed_after : {id : Id} → IsRemoved after (Knows after replica) id →
+      IsRemoved H (Knows H replica) id ⊎ Contains (removed_by (next_number replica H) op) id
   removed_after {id} r = go (has_after_update op (removed_has r))
     where
-      go : HasUpdate H (Knows H replica) r.number r.op ⊎ ((r.number ≡ next_number replica H) × (r.op ≡ op)) → IsRemoved H (Knows H replica) id ⊎ Contains (removed_by op) id
+      go : HasUpdate H (Knows H replica) r.number r.op ⊎ ((r.number ≡ next_number replica H) × (r.op ≡ op)) →
+          IsRemoved H (Knows H replica) id ⊎ Contains (removed_by (next_number replica H) op) id
       go (inl was) = inl (removed_from id was r.removes)
-      go (inr (next, same)) = inr (subst (λ done. Contains (removed_by done) id) same r.removes)
+      go (inr (next, same)) =
+          let removes = subst (λ number. Contains (removed_by number r.op) id) next r.removes in
+          inr (subst (λ done. Contains (removed_by (next_number replica H) done) id) same removes)
 
-  pub removed_new : (id : Id) → Contains (removed_by op) id → IsRemoved after (Knows after replica) id
+  pub removed_new : (id : Id) → Contains (removed_by (next_number replica H) op) id →
+      IsRemoved after (Knows after replica) id
   removed_new id new = removed_from id (has_end H replica op) new
 
   -- what is alive then was alive and isn't removed, or it is new
-  pub live_after : {entry : Entry} → IsLive after (Knows after replica) entry → (IsLive H (Knows H replica) entry ⊎ (entered_by (next_number replica H) op ≡ Some entry)) × (Contains (removed_by op) entry.id → ⊥)
+  pub live_after : {entry : Entry} → IsLive after (Knows after replica) entry →
+      (IsLive H (Knows H replica) entry ⊎ (entered_by (next_number replica H) op ≡ Some entry)) ×
+      (Contains (removed_by (next_number replica H) op) entry.id → ⊥)
   live_after {entry} l = (go (entered_after l.entered), λ removed. l.not_removed (removed_new entry.id removed))
     where
-      go : IsEntered H (Knows H replica) entry ⊎ (entered_by (next_number replica H) op ≡ Some entry) → IsLive H (Knows H replica) entry ⊎ (entered_by (next_number replica H) op ≡ Some entry)
-      go (inl was) = inl (record { entered = was; not_removed = λ r. l.not_removed (removed_within (within_more H (Update replica op ∷ []) replica) r) })
+      go : IsEntered H (Knows H replica) entry ⊎ (entered_by (next_number replica H) op ≡ Some entry) →
+          IsLive H (Knows H replica) entry ⊎ (entered_by (next_number replica H) op ≡ Some entry)
+      go (inl was) =
+          inl (record { entered = was; not_removed = λ r. l.not_removed (removed_within (within_more H (Update replica op ∷ []) replica) r) })
       go (inr new) = inr new
 
-  still_not_removed : (id : Id) → (IsRemoved H (Knows H replica) id → ⊥) → (Contains (removed_by op) id → ⊥) → IsRemoved after (Knows after replica) id → ⊥
+  still_not_removed : (id : Id) → (IsRemoved H (Knows H replica) id → ⊥) →
+      (Contains (removed_by (next_number replica H) op) id → ⊥) → IsRemoved after (Knows after replica) id → ⊥
   still_not_removed id before now r = go (removed_after r)
     where
-      go : IsRemoved H (Knows H replica) id ⊎ Contains (removed_by op) id → ⊥
+      go : IsRemoved H (Knows H replica) id ⊎ Contains (removed_by (next_number replica H) op) id → ⊥
       go (inl was) = before was
       go (inr new) = now new
 
-  pub live_kept : {entry : Entry} → IsLive H (Knows H replica) entry → (Contains (removed_by op) entry.id → ⊥) → IsLive after (Knows after replica) entry
+  pub live_kept : {entry : Entry} → IsLive H (Knows H replica) entry →
+      (Contains (removed_by (next_number replica H) op) entry.id → ⊥) → IsLive after (Knows after replica) entry
   live_kept {entry} l kept = record {
     entered = entered_within (within_more H (Update replica op ∷ []) replica) l.entered;
     not_removed = still_not_removed entry.id l.not_removed kept;
   }
 
-  pub live_new : (entry : Entry) → entered_by (next_number replica H) op ≡ Some entry → (IsRemoved H (Knows H replica) entry.id → ⊥) → (Contains (removed_by op) entry.id → ⊥) → IsLive after (Knows after replica) entry
-  live_new entry new fresh kept = record { entered = entered_new entry new; not_removed = still_not_removed entry.id fresh kept }
+  pub live_new : (entry : Entry) → entered_by (next_number replica H) op ≡ Some entry →
+      (IsRemoved H (Knows H replica) entry.id → ⊥) → (Contains (removed_by (next_number replica H) op) entry.id → ⊥) →
+      IsLive after (Knows after replica) entry
+  live_new entry new fresh kept =
+      record { entered = entered_new entry new; not_removed = still_not_removed entry.id fresh kept }
 
   -- what is made then was made, or it is new
-  pub made_after : {object : Id} {kind : Kind} → IsMade after (Knows after replica) object kind → IsMade H (Knows H replica) object kind ⊎ ((object ≡ next_number replica H) × (dir : Id) × (name : List ℕ) × (op ≡ Make dir name kind))
-  made_after {object} {kind} m = go (has_after_update op (record { position = m.position; known = m.known; update = m.update }))
+  pub made_after : {object : Id} {kind : Kind} → IsMade after (Knows after replica) object kind →
+      IsMade H (Knows H replica) object kind ⊎
+      ((object ≡ next_number replica H) × (dir : Id) × (name : List ℕ) × (op ≡ Make dir name kind))
+  made_after {object} {kind} m =
+      go (has_after_update op (record { position = m.position; known = m.known; update = m.update }))
     where
-      go : HasUpdate H (Knows H replica) object (Make m.dir m.name kind) ⊎ ((object ≡ next_number replica H) × (Make m.dir m.name kind ≡ op)) → IsMade H (Knows H replica) object kind ⊎ ((object ≡ next_number replica H) × (dir : Id) × (name : List ℕ) × (op ≡ Make dir name kind))
-      go (inl was) = inl (record { position = was.position; dir = m.dir; name = m.name; known = was.known; update = was.update })
+      go : HasUpdate H (Knows H replica) object (Make m.dir m.name kind) ⊎
+          ((object ≡ next_number replica H) × (Make m.dir m.name kind ≡ op)) →
+          IsMade H (Knows H replica) object kind ⊎
+          ((object ≡ next_number replica H) × (dir : Id) × (name : List ℕ) × (op ≡ Make dir name kind))
+      go (inl was) =
+          inl (record { position = was.position; dir = m.dir; name = m.name; known = was.known; update = was.update })
       go (inr (next, same)) = inr (next, m.dir, m.name, sym same)
 
 -- A Make enters its entry, makes its object and removes nothing.
@@ -88,30 +127,39 @@ module _ (H : List Event) (replica : ℕ) (dir : Id) (name : List ℕ) (kind : K
   abbrev once_made : List Event
   once_made = H ++ Update replica make ∷ []
 
-  removes_none : (id : Id) → Contains (removed_by make) id → ⊥
+  removes_none : (id : Id) → Contains (removed_by (next_number replica H) make) id → ⊥
   removes_none id removes = omega arith
 
-  pub make_live : {entry : Entry} → IsLive once_made (Knows once_made replica) entry → IsLive H (Knows H replica) entry ⊎ (entry ≡ made_entry replica H dir name)
+  pub make_live : {entry : Entry} → IsLive once_made (Knows once_made replica) entry →
+      IsLive H (Knows H replica) entry ⊎ (entry ≡ made_entry replica H dir name)
   make_live {entry} l = go (live_after H replica make l).0
     where
-      go : IsLive H (Knows H replica) entry ⊎ (entered_by (next_number replica H) make ≡ Some entry) → IsLive H (Knows H replica) entry ⊎ (entry ≡ made_entry replica H dir name)
+      go : IsLive H (Knows H replica) entry ⊎ (entered_by (next_number replica H) make ≡ Some entry) →
+          IsLive H (Knows H replica) entry ⊎ (entry ≡ made_entry replica H dir name)
       go (inl was) = inl was
       go (inr new) = inr (let e : Some (made_entry replica H dir name) ≡ Some entry = new in cc)
 
   pub make_kept : {entry : Entry} → IsLive H (Knows H replica) entry → IsLive once_made (Knows once_made replica) entry
   make_kept {entry} l = live_kept H replica make l (removes_none entry.id)
 
-  pub make_new : (IsRemoved H (Knows H replica) (next_number replica H) → ⊥) → IsLive once_made (Knows once_made replica) (made_entry replica H dir name)
-  make_new fresh = live_new H replica make (made_entry replica H dir name) refl fresh (removes_none (next_number replica H))
+  pub make_new : (IsRemoved H (Knows H replica) (next_number replica H) → ⊥) →
+      IsLive once_made (Knows once_made replica) (made_entry replica H dir name)
+  make_new fresh =
+      live_new H replica make (made_entry replica H dir name) refl fresh (removes_none (next_number replica H))
 
-  pub make_made : {object : Id} {made : Kind} → IsMade once_made (Knows once_made replica) object made → IsMade H (Knows H replica) object made ⊎ ((object ≡ next_number replica H) × (made ≡ kind))
+  pub make_made : {object : Id} {made : Kind} → IsMade once_made (Knows once_made replica) object made →
+      IsMade H (Knows H replica) object made ⊎ ((object ≡ next_number replica H) × (made ≡ kind))
   make_made {object} {made} m = go (made_after H replica make m)
     where
-      go : IsMade H (Knows H replica) object made ⊎ ((object ≡ next_number replica H) × (dir : Id) × (name : List ℕ) × (make ≡ Make dir name made)) → IsMade H (Knows H replica) object made ⊎ ((object ≡ next_number replica H) × (made ≡ kind))
+      go : IsMade H (Knows H replica) object made ⊎
+          ((object ≡ next_number replica H) × (dir : Id) × (name : List ℕ) × (make ≡ Make dir name made)) →
+          IsMade H (Knows H replica) object made ⊎ ((object ≡ next_number replica H) × (made ≡ kind))
       go (inl was) = inl was
-      go (inr (next, other, called, same)) = inr (next, (let e : Make dir name kind ≡ Make other called made = same in cc))
+      go (inr (next, other, called, same)) =
+          inr (next, (let e : Make dir name kind ≡ Make other called made = same in cc))
 
-  pub make_made_kept : {object : Id} {made : Kind} → IsMade H (Knows H replica) object made → IsMade once_made (Knows once_made replica) object made
+  pub make_made_kept : {object : Id} {made : Kind} → IsMade H (Knows H replica) object made →
+      IsMade once_made (Knows once_made replica) object made
   make_made_kept m = made_within (within_more H (Update replica make ∷ []) replica) m
 
   pub make_made_new : IsMade once_made (Knows once_made replica) (next_number replica H) kind

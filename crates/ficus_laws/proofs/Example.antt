@@ -32,7 +32,8 @@ unfolding start made
 small_is = refl
 
 place : HasPlace [] (Knows [] 2) ROOT (codes "a")
-place = record { directory = inl refl; reached = Base refl; free = λ t. absurd (omega (arith, update_within t.1.live.entered.update)) }
+place =
+    record { parent = record { directory = inl refl; reached = Base (inl refl) }; free = λ t. absurd (omega (arith, update_within t.1.live.entered.update)) }
 
 first : IsMember 2 1
 first = record { at_least = omega arith; at_most = omega arith }
@@ -42,7 +43,8 @@ second = record { at_least = omega arith; at_most = omega arith }
 
 start_lawful : IsLawful small_volume start
 unfolding start made
-start_lawful = lawful_more small_volume [] (Update 2 made) (lawful_none small_volume) (record { member = second; left = omega arith; allowed = place })
+start_lawful =
+    lawful_more small_volume [] (Update 2 made) (lawful_none small_volume) (record { member = second; left = omega arith; bytes = tt; allowed = place })
 
 entry_lives : IsLive start (Knows start 2) small_entry
 unfolding start made
@@ -53,7 +55,13 @@ unfolding start
 knows_nothing k = knows_none (knows_of_other {H = []} (Update 2 made) (omega arith) k)
 
 pub small_lawful : IsLawful small_volume small_history
-small_lawful = subst (IsLawful small_volume) small_is (lawful_pulled start 1 2 small_volume first second (omega arith) start_lawful)
+small_lawful =
+    subst (IsLawful small_volume) small_is (lawful_pulled start 1 2 small_volume first second (omega arith) start_lawful)
 
 pub small_brought : IsLive small_history (Knows small_history 1) small_entry
-small_brought = subst (λ H. IsLive H (Knows H 1) small_entry) small_is (live_pulled start 1 2 (record { entered = inr entry_lives.entered; kept = λ r. knows_nothing r.known; kept_there = entry_lives.not_removed }))
+small_brought =
+    subst (λ H. IsLive H (Knows H 1) small_entry) small_is (live_pulled start 1 2 (record {
+      entered = inr entry_lives.entered;
+      kept = λ r. knows_nothing r.known;
+      kept_there = entry_lives.not_removed;
+    }))

@@ -13,29 +13,37 @@ pub lawful_none : (volume : Volume) → IsLawful volume []
 lawful_none volume = record { each = λ position event a. absurd (omega (arith, at_within a)) }
 
 -- what may come after a history may come after one with the same events
-may_come_after : (volume : Volume) {H K : List Event} (event : Event) → H ≡ K → MayCome volume H event → MayCome volume K event
+may_come_after : (volume : Volume) {H K : List Event} (event : Event) → H ≡ K → MayCome volume H event →
+    MayCome volume K event
 may_come_after volume event same may = subst (λ L. MayCome volume L event) same may
 
 -- one more event that may come leaves a history lawful
-pub lawful_more : (volume : Volume) (H : List Event) (event : Event) → IsLawful volume H → MayCome volume H event → IsLawful volume (H ++ event ∷ [])
+pub lawful_more : (volume : Volume) (H : List Event) (event : Event) → IsLawful volume H → MayCome volume H event →
+    IsLawful volume (H ++ event ∷ [])
 lawful_more volume H event lawful may = record { each = λ position found a. go (at_cases event a) }
   where
-    go : {position : ℕ} {found : Event} → IsAt H position found ⊎ ((position ≡ length H) × (found ≡ event)) → MayCome volume (before position (H ++ event ∷ [])) found
+    go : {position : ℕ} {found : Event} → IsAt H position found ⊎ ((position ≡ length H) × (found ≡ event)) →
+        MayCome volume (before position (H ++ event ∷ [])) found
     go {position} {found} (inl was) =
         let h = at_within was in
         may_come_after volume found (agree_take (agree_more H (event ∷ [])) (omega arith)) (lawful.each position found was)
-    go {position} {found} (inr (end, is)) = may_come_after volume found (sym (take_at H (event ∷ []) position (sym end))) (rw is may)
+    go {position} {found} (inr (end, is)) =
+        may_come_after volume found (sym (take_at H (event ∷ []) position (sym end))) (rw is may)
 
 -- the first events of a lawful history are lawful
 pub lawful_before : (volume : Volume) (H : List Event) (n : ℕ) → IsLawful volume H → IsLawful volume (before n H)
 lawful_before volume H n lawful = record { each = λ position event a. each (at_from_before n a) }
   where
-    each : {position : ℕ} {event : Event} → (position < n) × IsAt H position event → MayCome volume (before position (before n H)) event
-    each {position} {event} (h, was) = may_come_after volume event (sym (agree_take (agree_before n H) (omega arith))) (lawful.each position event was)
+    each : {position : ℕ} {event : Event} → (position < n) × IsAt H position event →
+        MayCome volume (before position (before n H)) event
+    each {position} {event} (h, was) =
+        may_come_after volume event (sym (agree_take (agree_before n H) (omega arith))) (lawful.each position event was)
 
 -- so are those before the last event, which may come after them
-pub lawful_less : (volume : Volume) (H : List Event) (event : Event) → IsLawful volume (H ++ event ∷ []) → IsLawful volume H × MayCome volume H event
-lawful_less volume H event lawful = (less, may_come_after volume event (take_at H (event ∷ []) (length H) refl) (lawful.each (length H) event (at_end H event)))
+pub lawful_less : (volume : Volume) (H : List Event) (event : Event) → IsLawful volume (H ++ event ∷ []) →
+    IsLawful volume H × MayCome volume H event
+lawful_less volume H event lawful =
+    (less, may_come_after volume event (take_at H (event ∷ []) (length H) refl) (lawful.each (length H) event (at_end H event)))
   where
     less : IsLawful volume H
     less = record {
@@ -44,7 +52,8 @@ lawful_less volume H event lawful = (less, may_come_after volume event (take_at 
           may_come_after volume found (sym (agree_take (agree_more H (event ∷ [])) (omega arith))) (lawful.each position found (at_more (event ∷ []) a));
     }
 
-member_of : (volume : Volume) (H : List Event) (event : Event) → MayCome volume H event → IsMember volume.members (actor event)
+member_of : (volume : Volume) (H : List Event) (event : Event) → MayCome volume H event →
+    IsMember volume.members (actor event)
 member_of volume H (Update by op) may = may.member
 member_of volume H (Ask by to) may = may.member
 member_of volume H (Serve by ask) may = may.member
@@ -53,5 +62,7 @@ member_of volume H (Collect by) may = may
 member_of volume H (Restart by) may = may
 
 -- every event of a lawful history is a member's
-pub lawful_member : (volume : Volume) (H : List Event) {position replica : ℕ} → IsLawful volume H → IsOf H position replica → IsMember volume.members replica
-lawful_member volume H {position} {replica} lawful own = subst (λ by. IsMember volume.members by) own.of (member_of volume (before position H) own.event (lawful.each position own.event own.at))
+pub lawful_member : (volume : Volume) (H : List Event) {position replica : ℕ} → IsLawful volume H →
+    IsOf H position replica → IsMember volume.members replica
+lawful_member volume H {position} {replica} lawful own =
+    subst (λ by. IsMember volume.members by) own.of (member_of volume (before position H) own.event (lawful.each position own.event own.at))

@@ -1,4 +1,5 @@
 pub mod Positions
+pub mod Counts
 pub mod Updates
 pub mod Seen
 pub mod Knowledge
@@ -12,3 +13,5 @@ pub mod Pull
 pub mod Example
 pub mod Places
 pub mod OpenAsk
+pub mod Past
+pub mod Views

@@ -9,7 +9,8 @@ use Rattle.ficus_model.specs.Lawful.{ClosesAsk, IsOpenAsk}
 use Rattle.ficus_laws.proofs.Positions.{at_within, at_same, at_more, at_end, at_cases}
 
 -- at most one ask of a replica is open
-pub open_once : {H : List Event} {position again replica to other : ℕ} → IsOpenAsk H position replica to → IsOpenAsk H again replica other → (position ≡ again) × (to ≡ other)
+pub open_once : {H : List Event} {position again replica to other : ℕ} → IsOpenAsk H position replica to →
+    IsOpenAsk H again replica other → (position ≡ again) × (to ≡ other)
 open_once {H} {position} {again} {replica} {to} {other} o p = go (cases_order position again)
   where
     same : position ≡ again → to ≡ other
@@ -21,21 +22,26 @@ open_once {H} {position} {again} {replica} {to} {other} o p = go (cases_order po
     go (inr (inr h)) = absurd (p.latest position (Ask replica to) h o.ask refl)
 
 -- an event that closes no ask of the replica changes nothing
-pub open_kept : {H : List Event} {position replica to : ℕ} (event : Event) → (ClosesAsk replica event → ⊥) → IsOpenAsk H position replica to → IsOpenAsk (H ++ event ∷ []) position replica to
+pub open_kept : {H : List Event} {position replica to : ℕ} (event : Event) → (ClosesAsk replica event → ⊥) →
+    IsOpenAsk H position replica to → IsOpenAsk (H ++ event ∷ []) position replica to
 open_kept {H} {position} {replica} {to} event none o = record { ask = at_more (event ∷ []) o.ask; latest = latest }
   where
-    latest : (later : ℕ) (found : Event) → position < later → IsAt (H ++ event ∷ []) later found → ClosesAsk replica found → ⊥
+    latest : (later : ℕ) (found : Event) → position < later → IsAt (H ++ event ∷ []) later found →
+        ClosesAsk replica found → ⊥
     latest later found h a closes = go (at_cases event a)
       where
         go : IsAt H later found ⊎ ((later ≡ length H) × (found ≡ event)) → ⊥
         go (inl was) = o.latest later found h was closes
         go (inr (end, is)) = none (subst (ClosesAsk replica) is closes)
 
-pub open_before : {H : List Event} {position replica to : ℕ} (event : Event) → (ClosesAsk replica event → ⊥) → IsOpenAsk (H ++ event ∷ []) position replica to → IsOpenAsk H position replica to
+pub open_before : {H : List Event} {position replica to : ℕ} (event : Event) → (ClosesAsk replica event → ⊥) →
+    IsOpenAsk (H ++ event ∷ []) position replica to → IsOpenAsk H position replica to
 open_before {H} {position} {replica} {to} event none o = go (at_cases event o.ask)
   where
-    go : IsAt H position (Ask replica to) ⊎ ((position ≡ length H) × (Ask replica to ≡ event)) → IsOpenAsk H position replica to
-    go (inl was) = record { ask = was; latest = λ later found h a closes. o.latest later found h (at_more (event ∷ []) a) closes }
+    go : IsAt H position (Ask replica to) ⊎ ((position ≡ length H) × (Ask replica to ≡ event)) →
+        IsOpenAsk H position replica to
+    go (inl was) =
+        record { ask = was; latest = λ later found h a closes. o.latest later found h (at_more (event ∷ []) a) closes }
     go (inr (end, is)) = absurd (none (subst (ClosesAsk replica) is refl))
 
 -- after an event that closes asks none is open but the event itself
@@ -45,9 +51,11 @@ open_end H replica to = record {
   latest = λ later found h a closes. omega (arith, at_within a, length_push H (Ask replica to));
 }
 
-pub open_last : {position replica to : ℕ} (H : List Event) (event : Event) → ClosesAsk replica event → IsOpenAsk (H ++ event ∷ []) position replica to → (position ≡ length H) × (event ≡ Ask replica to)
+pub open_last : {position replica to : ℕ} (H : List Event) (event : Event) → ClosesAsk replica event →
+    IsOpenAsk (H ++ event ∷ []) position replica to → (position ≡ length H) × (event ≡ Ask replica to)
 open_last {position} {replica} {to} H event closes o = go (at_cases event o.ask)
   where
-    go : IsAt H position (Ask replica to) ⊎ ((position ≡ length H) × (Ask replica to ≡ event)) → (position ≡ length H) × (event ≡ Ask replica to)
+    go : IsAt H position (Ask replica to) ⊎ ((position ≡ length H) × (Ask replica to ≡ event)) →
+        (position ≡ length H) × (event ≡ Ask replica to)
     go (inl was) = absurd (o.latest (length H) event (at_within was) (at_end H event) closes)
     go (inr (end, is)) = (end, sym is)

@@ -25,4 +25,5 @@ pub record IsTold (H : List Event) (event : Event) (position : ℕ) : Type 0 whe
 -- what a replica knows once the event has come after the history: what it knew, and, where the event is its
 -- own, the event's position and what it is told
 abbrev pub IsKnownAfter : List Event → Event → ℕ → ℕ → Type 0
-IsKnownAfter H event replica position = Knows H replica position ⊎ ((actor event ≡ replica) × ((position ≡ length H) ⊎ IsTold H event position))
+IsKnownAfter H event replica position =
+    Knows H replica position ⊎ ((actor event ≡ replica) × ((position ≡ length H) ⊎ IsTold H event position))

@@ -11,7 +11,7 @@ use Rattle.ficus_model.specs.declared.event.Op.{Op}
 use Rattle.ficus_model.specs.declared.event.Op.TheVariants.{Make}
 use Rattle.ficus_model.specs.Events.{IsOf, IsUpdate, through, actor, count_of}
 use Rattle.ficus_model.specs.Known.{Knows}
-use Rattle.ficus_model.specs.Live.{Entry, IsLive, IsRemoved, IsBound, IsMade, IsDirectory}
+use Rattle.ficus_model.specs.Live.{Entry, entry_of, IsLive, IsRemoved, IsBound, IsMade, IsDirectory}
 use Rattle.ficus_model.specs.Reached.{IsInTree}
 use Rattle.ficus_model.specs.Lawful.{Volume, MayCome, IsLawful}
 use Rattle.ficus_laws.specs.Accepts.{IsLiveJoined}
@@ -26,28 +26,45 @@ pub record ShowSame (H : List Event) (U : ℕ → Type 0) (K : List Event) (V : 
 
 -- one more event leaves a history lawful exactly where it may come
 abbrev pub LawfulBySteps : Type 0
-LawfulBySteps = (volume : Volume) (H : List Event) (event : Event) → IsLawful volume (H ++ event ∷ []) ↔ (IsLawful volume H × MayCome volume H event)
+LawfulBySteps =
+    (volume : Volume) (H : List Event) (event : Event) →
+    IsLawful volume (H ++ event ∷ []) ↔ (IsLawful volume H × MayCome volume H event)
 
 -- a number names one update
 abbrev pub NumbersNameOne : Type 0
-NumbersNameOne = (H : List Event) (position again : ℕ) (number : Id) (op other : Op) → IsUpdate H position number op → IsUpdate H again number other → (position ≡ again) × (op ≡ other)
+NumbersNameOne =
+    (H : List Event) (position again : ℕ) (number : Id) (op other : Op) → IsUpdate H position number op →
+    IsUpdate H again number other → (position ≡ again) × (op ≡ other)
 
 -- an identifier names one entry, whoever is shown it
 abbrev pub IdsNameOneEntry : Type 0
-IdsNameOneEntry = (H : List Event) (replica reader : ℕ) (entry other : Entry) → IsLive H (Knows H replica) entry → IsLive H (Knows H reader) other → entry.id ≡ other.id → entry ≡ other
+IdsNameOneEntry =
+    (H : List Event) (replica reader : ℕ) (entry other : Entry) → IsLive H (Knows H replica) entry →
+    IsLive H (Knows H reader) other → entry.id ≡ other.id → entry ≡ other
 
 -- what is alive lies in a directory and names an object that is made
 abbrev pub EntriesHavePlaces : Type 0
-EntriesHavePlaces = (volume : Volume) (H : List Event) (replica : ℕ) (entry : Entry) → IsLawful volume H → IsLive H (Knows H replica) entry →
+EntriesHavePlaces =
+    (volume : Volume) (H : List Event) (replica : ℕ) (entry : Entry) → IsLawful volume H →
+    IsLive H (Knows H replica) entry →
     IsDirectory H (Knows H replica) entry.dir × (kind : Kind) × IsMade H (Knows H replica) entry.target kind
+
+-- an object was made by a member
+abbrev pub ObjectsAreMembers : Type 0
+ObjectsAreMembers = (volume : Volume) (H : List Event) (replica : ℕ) (object : Id) (kind : Kind) → IsLawful volume H →
+    IsMade H (Knows H replica) object kind → IsMember volume.members object.replica
 
 -- an event of another replica, and one that is no update and takes nothing, changes nothing of what a replica is shown
 abbrev pub KeepsShown : Type 0
-KeepsShown = (H : List Event) (event : Event) (replica : ℕ) → (actor event ≢ replica) ⊎ IsQuiet event → ShowSame H (Knows H replica) (H ++ event ∷ []) (Knows (H ++ event ∷ []) replica)
+KeepsShown =
+    (H : List Event) (event : Event) (replica : ℕ) → (actor event ≢ replica) ⊎ IsQuiet event →
+    ShowSame H (Knows H replica) (H ++ event ∷ []) (Knows (H ++ event ∷ []) replica)
 
 -- after a Make one more entry is alive for its replica
 abbrev pub MakeEnters : Type 0
-MakeEnters = (volume : Volume) (H : List Event) (replica : ℕ) (dir : Id) (name : List ℕ) (kind : Kind) (entry : Entry) → IsLawful volume H →
+MakeEnters =
+    (volume : Volume) (H : List Event) (replica : ℕ) (dir : Id) (name : List ℕ) (kind : Kind) (entry : Entry) →
+    IsLawful volume H →
     let K = H ++ Update replica (Make dir name kind) ∷ [] in
     IsLive K (Knows K replica) entry ↔ (IsLive H (Knows H replica) entry ⊎ (entry ≡ made_entry replica H dir name))
 
@@ -55,11 +72,14 @@ MakeEnters = (volume : Volume) (H : List Event) (replica : ℕ) (dir : Id) (name
 abbrev pub MakeMakes : Type 0
 MakeMakes = (H : List Event) (replica : ℕ) (dir : Id) (name : List ℕ) (kind : Kind) (object : Id) (made : Kind) →
     let K = H ++ Update replica (Make dir name kind) ∷ [] in
-    IsMade K (Knows K replica) object made ↔ (IsMade H (Knows H replica) object made ⊎ ((object ≡ next_number replica H) × (made ≡ kind)))
+    IsMade K (Knows K replica) object made ↔
+    (IsMade H (Knows H replica) object made ⊎ ((object ≡ next_number replica H) × (made ≡ kind)))
 
 -- where an answer may be taken, its replica has heard of no event of the server from the Serve on
 abbrev pub AnswersAreNewer : Type 0
-AnswersAreNewer = (volume : Volume) (H : List Event) (replica served server position : ℕ) → IsLawful volume H → MayCome volume H (Accept replica served) → IsOf H served server →
+AnswersAreNewer =
+    (volume : Volume) (H : List Event) (replica served server position : ℕ) → IsLawful volume H →
+    MayCome volume H (Accept replica served) → IsOf H served server →
     Knows H replica position → IsOf H position server → position < served
 
 -- after an Accept its replica knows, of the earlier positions, what it knew and what the server knew through the Serve
@@ -72,13 +92,15 @@ AcceptJoinsKnown = (H : List Event) (replica served server position : ℕ) → I
 abbrev pub AcceptJoinsLive : Type 0
 AcceptJoinsLive = (H : List Event) (replica served server : ℕ) (entry : Entry) → IsOf H served server →
     let K = H ++ Accept replica served ∷ [] in
-    IsLive K (Knows K replica) entry ↔ IsLiveJoined H (Knows H replica) (through served H) (Knows (through served H) server) entry
+    IsLive K (Knows K replica) entry ↔
+    IsLiveJoined H (Knows H replica) (through served H) (Knows (through served H) server) entry
 
 -- and made what was made for one of the two
 abbrev pub AcceptJoinsMade : Type 0
 AcceptJoinsMade = (H : List Event) (replica served server : ℕ) (object : Id) (kind : Kind) → IsOf H served server →
     let K = H ++ Accept replica served ∷ [] in
-    IsMade K (Knows K replica) object kind ↔ (IsMade H (Knows H replica) object kind ⊎ IsMade (through served H) (Knows (through served H) server) object kind)
+    IsMade K (Knows K replica) object kind ↔
+    (IsMade H (Knows H replica) object kind ⊎ IsMade (through served H) (Knows (through served H) server) object kind)
 
 -- two members, one of which pulls from the other after a lawful history
 pub record IsPull (volume : Volume) (H : List Event) (replica server : ℕ) : Type 0 where
@@ -89,20 +111,29 @@ pub record IsPull (volume : Volume) (H : List Event) (replica server : ℕ) : Ty
 
 -- what a pull leaves
 pub record IsPulled (H : List Event) (replica server : ℕ) (K : List Event) : Type 0 where
-  pub known : (position : ℕ) → position < length H → Knows K replica position ↔ (Knows H replica position ⊎ Knows H server position)
-  pub live : (entry : Entry) → IsLive K (Knows K replica) entry ↔ IsLiveJoined H (Knows H replica) H (Knows H server) entry
-  pub made : (object : Id) (kind : Kind) → IsMade K (Knows K replica) object kind ↔ (IsMade H (Knows H replica) object kind ⊎ IsMade H (Knows H server) object kind)
-  pub others_know : (other position : ℕ) → other ≢ replica → position < length H → Knows K other position ↔ Knows H other position
+  pub known : (position : ℕ) → position < length H →
+      Knows K replica position ↔ (Knows H replica position ⊎ Knows H server position)
+  pub live : (entry : Entry) →
+      IsLive K (Knows K replica) entry ↔ IsLiveJoined H (Knows H replica) H (Knows H server) entry
+  pub made : (object : Id) (kind : Kind) →
+      IsMade K (Knows K replica) object kind ↔
+      (IsMade H (Knows H replica) object kind ⊎ IsMade H (Knows H server) object kind)
+  pub others_know : (other position : ℕ) → other ≢ replica → position < length H →
+      Knows K other position ↔ Knows H other position
   pub others_shown : (other : ℕ) → other ≢ replica → ShowSame H (Knows H other) K (Knows K other)
   pub counts : (other : ℕ) → count_of other K ≡ count_of other H
 
 -- both replicas know the same updates
 abbrev pub KnowSameUpdates : List Event → ℕ → ℕ → Type 0
-KnowSameUpdates H replica other = (position : ℕ) (number : Id) (op : Op) → IsUpdate H position number op → Knows H replica position ↔ Knows H other position
+KnowSameUpdates H replica other =
+    (position : ℕ) (number : Id) (op : Op) → IsUpdate H position number op →
+    Knows H replica position ↔ Knows H other position
 
 -- what a replica knows to be removed is never alive for it again
 abbrev pub NoReturn : Type 0
-NoReturn = (H later : List Event) (replica : ℕ) (entry : Entry) → IsRemoved H (Knows H replica) entry.id → IsLive (H ++ later) (Knows (H ++ later) replica) entry → ⊥
+NoReturn =
+    (H later : List Event) (replica : ℕ) (entry : Entry) → IsRemoved H (Knows H replica) entry.id →
+    IsLive (H ++ later) (Knows (H ++ later) replica) entry → ⊥
 
 -- a history of two members: the second makes a file, and the first asks it and takes its answer
 abbrev pub small_volume : Volume
@@ -112,4 +143,4 @@ abbrev pub small_history : List Event
 small_history = Update 2 (Make ROOT (codes "a") Plain) ∷ Ask 1 2 ∷ Serve 2 1 ∷ Accept 1 2 ∷ []
 
 abbrev pub small_entry : Entry
-small_entry = record { id = record { replica = 2; number = 1 }; dir = ROOT; name = codes "a"; target = record { replica = 2; number = 1 } }
+small_entry = entry_of (record { replica = 2; number = 1 }) ROOT (codes "a") (record { replica = 2; number = 1 })

@@ -18,7 +18,8 @@ pub record IsIssued (H : List Event) (id : Id) : Type 0 where
 
 -- the entry that a Make would enter as the next update of a replica
 abbrev pub made_entry : ℕ → List Event → Id → List ℕ → Entry
-made_entry replica H dir name = record { id = next_number replica H; dir = dir; name = name; target = next_number replica H }
+made_entry replica H dir name =
+    record { id = next_number replica H; dir = dir; name = name; target = next_number replica H }
 
 -- a known update has this number and does this
 pub record HasUpdate (H : List Event) (U : ℕ → Type 0) (number : Id) (op : Op) : Type 0 where

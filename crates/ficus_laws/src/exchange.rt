@@ -18,7 +18,8 @@ pub fn accept_joins()
 /// A replica asks another, which serves, and it takes the answer: each of the three may come. Afterwards
 /// the replica knows what either knew, and nothing has changed for the others.
 pub fn pull_joins()
-    ensures lawful { (volume : Volume) (H : List Event) (replica server : ℕ) → IsPull volume H replica server → IsLawful volume (pulled H replica server) }
+    ensures lawful { (volume : Volume) (H : List Event) (replica server : ℕ) → IsPull volume H replica server
+        → IsLawful volume (pulled H replica server) }
     ensures joined { (H : List Event) (replica server : ℕ) → IsPulled H replica server (pulled H replica server) }
 {}
 

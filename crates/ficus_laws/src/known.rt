@@ -9,10 +9,12 @@ ghost use Rattle.ficus_laws.specs.Known.{IsKnownAfter};
 /// the replica there knew through that position.
 pub fn known_by_steps()
     ensures none { (replica position : ℕ) → Knows [] replica position → ⊥ }
-    ensures one_more { (H : List Event) (event : Event) (replica position : ℕ) → Knows (H ++ event ∷ []) replica position ↔ IsKnownAfter H event replica position }
+    ensures one_more { (H : List Event) (event : Event) (replica position : ℕ)
+        → Knows (H ++ event ∷ []) replica position ↔ IsKnownAfter H event replica position }
 {}
 
 /// What an event has seen is what its replica knew through it.
 pub fn known_is_seen()
-    ensures { (H : List Event) (at replica seen : ℕ) → IsOf H at replica → (HasSeen H at seen ↔ Knows (through at H) replica seen) }
+    ensures { (H : List Event) (at replica seen : ℕ) → IsOf H at replica
+        → (HasSeen H at seen ↔ Knows (through at H) replica seen) }
 {}

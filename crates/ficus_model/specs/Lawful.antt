@@ -1,15 +1,17 @@
 -- Which event may come after a history, and which histories are lawful.
-use Rattle.std.specs.Prelude.{◌≡◌, ◌≢◌, ℕ, ◌<◌, List}
+use Rattle.std.specs.Prelude.{◌≡◌, ◌≢◌, ◌↔◌, ℕ, ◌+◌, ◌<◌, ◌≤◌, List, [], length, Contains}
 use Rattle.ficus_ids.specs.Members.{IsMember}
 use Rattle.ficus_ids.specs.declared.id.Id.{Id}
 use Rattle.ficus_model.specs.declared.event.Event.{Event}
 use Rattle.ficus_model.specs.declared.event.Event.TheVariants.{Update, Ask, Serve, Accept, Collect, Restart}
 use Rattle.ficus_model.specs.declared.event.Op.{Op}
-use Rattle.ficus_model.specs.declared.event.Op.TheVariants.{Make}
+use Rattle.ficus_model.specs.declared.event.Op.TheVariants.{Make, Link, Remove, Move, Write, Settle, Resolve, Adopt, Discard}
 use Rattle.ficus_model.specs.Events.{IsAt, before, count_of}
 use Rattle.ficus_model.specs.Known.{Knows}
-use Rattle.ficus_model.specs.Live.{IsDirectory, IsTaken}
-use Rattle.ficus_model.specs.Reached.{IsInTree}
+use Rattle.ficus_model.specs.Live.{Entry, IsLive, IsBound, IsBoundBy, IsTaken, IsDirectory, IsFile, HasInside}
+use Rattle.ficus_model.specs.Reached.{IsReachedFrom}
+use Rattle.ficus_model.specs.Versions.{IsInConflict, written_of}
+use Rattle.ficus_model.specs.View.{IsOrphan, IsReachedDirectory, IsReachedFile}
 
 -- the fixed numbers of a volume: its members, the most updates of one replica over its life, and the most
 -- bytes that one replica writes over its life
@@ -18,15 +20,108 @@ pub record Volume : Type 0 where
   pub ids : ℕ
   pub bytes : ℕ
 
--- in this directory, where what U knows is known, a new entry of this name may be entered
+-- in this directory, which is in reach, a new entry of this name may be entered
 pub record HasPlace (H : List Event) (U : ℕ → Type 0) (dir : Id) (name : List ℕ) : Type 0 where
-  pub directory : IsDirectory H U dir
-  pub reached : IsInTree H U dir
+  pub parent : IsReachedDirectory H U dir
   pub free : IsTaken H U dir name → ⊥
+
+-- a live entry in a directory in reach names the object
+pub record IsNamedInReach (H : List Event) (U : ℕ → Type 0) (object : Id) : Type 0 where
+  pub dir : Id
+  pub name : List ℕ
+  pub parent : IsReachedDirectory H U dir
+  pub bound : IsBound H U dir name object
+
+-- the entries are all live ones of one directory in reach that have one name and lead to the object, and there are some
+pub record AreNames (H : List Event) (U : ℕ → Type 0) (entries : List Id) (object : Id) : Type 0 where
+  pub dir : Id
+  pub name : List ℕ
+  pub parent : IsReachedDirectory H U dir
+  pub all : (id : Id) → Contains entries id ↔ IsBoundBy H U id dir name object
+  pub some : entries ≢ []
+
+-- a live entry that isn't among these leads to the object
+pub record HasOtherName (H : List Event) (U : ℕ → Type 0) (entries : List Id) (object : Id) : Type 0 where
+  pub entry : Entry
+  pub live : IsLive H U entry
+  pub leads : entry.target ≡ object
+  pub beside : Contains entries entry.id → ⊥
+
+-- where the object is a directory, the place isn't reached from it
+abbrev pub StaysOutside : List Event → (ℕ → Type 0) → Id → Id → Type 0
+StaysOutside H U object dir = IsDirectory H U object → IsReachedFrom H U object dir → ⊥
+
+-- a file in reach gets one more name
+pub record MayLink (H : List Event) (U : ℕ → Type 0) (dir : Id) (name : List ℕ) (target : Id) : Type 0 where
+  pub place : HasPlace H U dir name
+  pub is_file : IsFile H U target
+  pub named : IsNamedInReach H U target
+
+-- an object loses these names: of a directory in which something lives another name is left
+pub record MayRemove (H : List Event) (U : ℕ → Type 0) (entries : List Id) (target : Id) : Type 0 where
+  pub names : AreNames H U entries target
+  pub left : IsDirectory H U target → HasInside H U target → HasOtherName H U entries target
+
+-- an object has another name in place of these, a directory none below itself
+pub record MayMove (H : List Event) (U : ℕ → Type 0)
+    (entries : List Id) (dir : Id) (name : List ℕ) (target : Id) : Type 0 where
+  pub names : AreNames H U entries target
+  pub place : HasPlace H U dir name
+  pub outside : StaysOutside H U target dir
+
+-- a file in reach that isn't in conflict is written
+pub record MayWrite (H : List Event) (U : ℕ → Type 0) (object : Id) : Type 0 where
+  pub in_reach : IsReachedFile H U object
+  pub settled : IsInConflict H U object → ⊥
+
+-- a file in reach that is in conflict is settled or resolved
+pub record MaySettle (H : List Event) (U : ℕ → Type 0) (object : Id) : Type 0 where
+  pub in_reach : IsReachedFile H U object
+  pub conflict : IsInConflict H U object
+
+-- an orphan gets a name, a directory none below itself
+pub record MayAdopt (H : List Event) (U : ℕ → Type 0) (object dir : Id) (name : List ℕ) : Type 0 where
+  pub orphan : IsOrphan H U object
+  pub place : HasPlace H U dir name
+  pub outside : StaysOutside H U object dir
+
+-- an orphan that is a file is given up
+pub record MayDiscard (H : List Event) (U : ℕ → Type 0) (object : Id) : Type 0 where
+  pub orphan : IsOrphan H U object
+  pub is_file : IsFile H U object
 
 -- the operation may be done where what U knows is known
 abbrev pub IsAllowed : List Event → (ℕ → Type 0) → Op → Type 0
 IsAllowed H U (Make dir name kind) = HasPlace H U dir name
+IsAllowed H U (Link dir name target) = MayLink H U dir name target
+IsAllowed H U (Remove entries target) = MayRemove H U entries target
+IsAllowed H U (Move entries dir name target) = MayMove H U entries dir name target
+IsAllowed H U (Write file bytes) = MayWrite H U file
+IsAllowed H U (Settle file bytes) = MaySettle H U file
+IsAllowed H U (Resolve file bytes) = MaySettle H U file
+IsAllowed H U (Adopt file dir name) = MayAdopt H U file dir name
+IsAllowed H U (Discard file) = MayDiscard H U file
+
+-- the most bytes of one file
+abbrev pub most_file_bytes : ℕ
+most_file_bytes = 16384
+
+-- the replica may write these bytes: they fit a file, and it has so many left
+pub record FitsBytes (volume : Volume) (H : List Event) (by : ℕ) (bytes : List ℕ) : Type 0 where
+  pub one_file : length bytes ≤ most_file_bytes
+  pub left : written_of by H + length bytes ≤ volume.bytes
+
+-- the bytes of an operation that writes may be written
+abbrev pub HasBytesLeft : Volume → List Event → ℕ → Op → Type 0
+HasBytesLeft volume H by (Make dir name kind) = Unit {0}
+HasBytesLeft volume H by (Link dir name target) = Unit {0}
+HasBytesLeft volume H by (Remove entries target) = Unit {0}
+HasBytesLeft volume H by (Move entries dir name target) = Unit {0}
+HasBytesLeft volume H by (Write file bytes) = FitsBytes volume H by bytes
+HasBytesLeft volume H by (Settle file bytes) = FitsBytes volume H by bytes
+HasBytesLeft volume H by (Resolve file bytes) = FitsBytes volume H by bytes
+HasBytesLeft volume H by (Adopt file dir name) = Unit {0}
+HasBytesLeft volume H by (Discard file) = Unit {0}
 
 -- an event after which an answer to an earlier ask is no longer taken
 abbrev pub ClosesAsk : ℕ → Event → Type 0
@@ -49,10 +144,11 @@ pub record AnswersOpenAsk (H : List Event) (serve replica : ℕ) : Type 0 where
   pub served : IsAt H serve (Serve server ask)
   pub open_ask : IsOpenAsk H ask replica server
 
--- an update of a member that has updates left, and that may be done by what the member knows
+-- an update of a member that has updates and bytes left, and that may be done by what the member knows
 pub record MayUpdate (volume : Volume) (H : List Event) (by : ℕ) (op : Op) : Type 0 where
   pub member : IsMember volume.members by
   pub left : count_of by H < volume.ids
+  pub bytes : HasBytesLeft volume H by op
   pub allowed : IsAllowed H (Knows H by) op
 
 -- one member asks another

@@ -4,4 +4,10 @@ pub mod Known
 pub mod Live
 pub mod Reached
 pub mod ShownNames
+pub mod Versions
+pub mod Vectors
+pub mod View
 pub mod Lawful
+pub mod Knowledge
+pub mod Held
+pub mod Final

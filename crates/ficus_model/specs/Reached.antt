@@ -15,6 +15,10 @@ pub record Leads (H : List Event) (U : ℕ → Type 0) (dir object : Id) : Type 
   pub name : List ℕ
   pub bound : IsBound H U dir name object
 
+-- reached from this object
+abbrev pub IsReachedFrom : List Event → (ℕ → Type 0) → Id → Id → Type 0
+IsReachedFrom H U start object = IsReached (Leads H U) (λ base. base ≡ start) object
+
 -- reached from the root
 abbrev pub IsInTree : List Event → (ℕ → Type 0) → Id → Type 0
-IsInTree H U object = IsReached (Leads H U) (λ base. base ≡ ROOT) object
+IsInTree H U object = IsReachedFrom H U ROOT object

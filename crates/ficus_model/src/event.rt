@@ -1,4 +1,4 @@
-use ficus_ids::{Id, Kind, Name};
+use ficus_ids::{Id, Kind, Listed, Name};
 
 /// One atomic action of one replica. A history is a list of events; a position is a place in it, from 0.
 /// Reconciliation is pairwise and one-sided, as in Ficus (Guy, Popek and Page 1993).
@@ -18,10 +18,57 @@ pub enum Event {
     Restart { by: u8 },
 }
 
-/// What an update does.
+/// What an update does. An entry that it enters has the update's number as its identifier.
 #[derive(Debug, Drop)]
 pub enum Op {
-    /// Makes an object of a kind and enters it in a directory under a name. The entry and the object have
-    /// the update's number as their identifier.
-    Make { dir: Id, name: Name, kind: Kind },
+    /// Makes an object of a kind and enters it in a directory under a name. The object has the update's
+    /// number as its identifier, as the entry has.
+    Make {
+        dir: Id,
+        name: Name,
+        kind: Kind,
+    },
+    /// Enters a file in a directory under one more name.
+    Link {
+        dir: Id,
+        name: Name,
+        target: Id,
+    },
+    /// Removes the entries of one directory that have one name and lead to the target.
+    Remove {
+        entries: Listed<Id>,
+        target: Id,
+    },
+    /// Removes such entries, and enters their target in a directory under a name.
+    Move {
+        entries: Listed<Id>,
+        dir: Id,
+        name: Name,
+        target: Id,
+    },
+    /// Gives a file that isn't in conflict new bytes.
+    Write {
+        file: Id,
+        bytes: Listed<u8>,
+    },
+    /// Ends a file's conflict by bytes that a user chose.
+    Settle {
+        file: Id,
+        bytes: Listed<u8>,
+    },
+    /// Ends a file's conflict by the bytes that the resolver of its kind gives.
+    Resolve {
+        file: Id,
+        bytes: Listed<u8>,
+    },
+    /// Enters an orphan in a directory under a name.
+    Adopt {
+        file: Id,
+        dir: Id,
+        name: Name,
+    },
+    /// Gives up an orphan that is a file.
+    Discard {
+        file: Id,
+    },
 }

@@ -1,30 +1,28 @@
--- The lines of directories, one directory after the other.
-use Rattle.std.proofs.Common.{◌≡◌, ◌⊎◌, ℕ, ◌-◌, ◌<◌, List, [], ◌∷◌, ◌++◌, length, get_or, map, Err, refl, sym, ap, subst, ◌∙◌, inl, inr, arith}
+-- The lines of directories: one directory after the other, over views that show the same, and one list of them only.
+use Rattle.std.proofs.Common.{◌≡◌, ◌⊎◌, ◌↔◌, ℕ, ◌-◌, ◌<◌, List, [], ◌∷◌, ◌++◌, length, get_or, map, refl, sym, ap, subst, ◌∙◌, inl, inr, arith}
 use Rattle.std.specs.Prelude.{AllPairs, Contains}
+use Rattle.std.specs.Cmp.{IsTotalOrder}
 use Rattle.std.specs.declared.cmp.Ordering.{Ordering}
 use Rattle.std.specs.declared.cmp.Ordering.TheVariants.{Less, Equal}
 use Rattle.std.specs.Ordering.{ordering_then}
 use Rattle.std.proofs.Math.ListN.{get_or-append}
 use Rattle.std.proofs.lemmas.Bool.{cases_lt}
+use Rattle.std.proofs.lemmas.Cmp.{then_total, on_total, tied_itself}
 use Rattle.std.proofs.lemmas.List.{get_or-map, length-map, length-append, get_or-append_right}
 use Rattle.std.proofs.lemmas.List.Elements.{All-contains, Contains-append_cases, Contains-append_left, Contains-append_right, Contains-get_or}
 use Rattle.ficus_ids.specs.Id.{id_cmp}
-use Rattle.ficus_ids.specs.IdLaws.{id_cmp-self}
-use Rattle.ficus_ids.specs.ListLaws.{here, there, here_or_there, not_inside_none}
+use Rattle.ficus_ids.specs.IdLaws.{id_cmp-self, id_cmp_total}
+use Rattle.ficus_ids.specs.ListLaws.{here, there, here_or_there, not_inside_none, same_rising}
 use Rattle.ficus_ids.specs.declared.id.Id.{Id}
-use Rattle.ficus_ids.specs.declared.refusal.Refusal.{Refusal}
-use Rattle.ficus_ids.specs.declared.refusal.Refusal.TheVariants.{Memory}
 use Rattle.ficus_model.specs.ShownNames.{IsShownAs}
-use Rattle.ficus_path.specs.declared.path.Path.{Path}
-use Rattle.ficus_names.specs.Binds.{BindsIn}
 use Rattle.ficus_names.specs.Listing.{shown_cmp, IsListing}
+use Rattle.ficus_names.specs.ListingLaws.{shown_cmp_total, IsShownAs-along, one_suffix}
 use Rattle.ficus_names.specs.declared.listing.Line.{Line}
 use Rattle.ficus_names.specs.declared.listing.ShownName.{ShownName}
-use Rattle.ficus_replica.specs.declared.replica.Replica.{Replica}
-use Rattle.ficus_replica.specs.AnswerOf.{ListAnswer}
-use Rattle.ficus_replica.specs.Gives.{ListGives}
-use Rattle.ficus_replica.specs.Held.{HeldDirectory, HeldKind}
-use Rattle.ficus_replica.specs.Lines.{line_of, line_cmp, IsLine, HasLine, AreLines}
+use Rattle.ficus_replica.specs.Lines.{line_of, line_cmp, IsShownLine, HasLine, AreLines}
+use Rattle.ficus_replica.specs.View.{View, SameView, IsBoundIn}
+use Rattle.ficus_replica.proofs.Tables.{HasDirectoriesOnly}
+use Rattle.ficus_replica.proofs.Views.{HasOneKind, bound_same, bound_there, same_back}
 
 into_map : {X Y : Type 0} (f : X → Y) (xs : List X) (x : X) → Contains xs x → Contains (map f xs) (f x)
 into_map f [] x inside = absurd (not_inside_none x inside)
@@ -61,27 +59,31 @@ at_one first second one below = rw (one, below) refl
 at_lower : (first second : Ordering) → first ≡ Less → ordering_then first second ≡ Less
 at_lower first second lower = rw lower refl
 
-module _ (binds : Id → List ℕ → Id → Type 0) where
-  pub no_lines : AreLines binds HeldKind (λ dir. ⊥) []
+module _ (view : View) where
+  abbrev binds : Id → List ℕ → Id → Type 0
+  binds = IsBoundIn view
+
+  pub no_lines : AreLines view (λ dir. ⊥) []
   no_lines = record {
     each = λ line listed. absurd (not_inside_none line listed);
     all = λ dir target name none. absurd none;
     ordered = λ i j d before within. absurd (omega arith);
   }
 
-  module _ (dir : Id) (names : List ShownName) (listing : IsListing (binds dir) names) where
+  module _ (directories : HasDirectoriesOnly view) (dir : Id) (names : List ShownName) (listing : IsListing (IsBoundIn view dir) names) where
     abbrev own : List Line
     own = map (line_of dir) names
 
     own_dir : (line : Line) → Contains own line → line.dir ≡ dir
     own_dir line listed = sym (ap (λ (l : Line). l.dir) (from_map (line_of dir) names line listed).2)
 
-    own_is : (line : Line) → Contains own line → IsLine binds HeldKind line
+    own_is : (line : Line) → Contains own line → IsShownLine view line
     own_is line listed =
         let found = from_map (line_of dir) names line listed in
-        subst (IsLine binds HeldKind) found.2 (record {
-          shown = All-contains (λ (item : ShownName). IsShownAs (binds dir) item.name item.target item.suffixed) names found.0 listing.shown found.1;
-          kind = refl;
+        let shown = All-contains (λ (item : ShownName). IsShownAs (binds dir) item.name item.target item.suffixed) names found.0 listing.shown found.1 in
+        subst (IsShownLine view) found.2 (record {
+          shown = shown;
+          kind = directories.kind dir found.0.target found.0.name shown.bound;
           conflict = refl;
         })
 
@@ -97,9 +99,9 @@ module _ (binds : Id → List ℕ → Id → Type 0) where
         (at_one (id_cmp dir dir) (shown_cmp (get_or names i d.shown) (get_or names j d.shown)) (id_cmp-self dir) (listing.rising i j d.shown before inside))
 
     -- the lines of further directories, all above those so far, go behind
-    pub lines_more : (shows more : Id → Type 0) (lines : List Line) → AreLines binds HeldKind shows lines → ((other : Id) → shows other → id_cmp other dir ≡ Less) → ((other : Id) → shows other → more other) → more dir → ((other : Id) → more other → shows other ⊎ (other ≡ dir)) → AreLines binds HeldKind more (lines ++ own)
+    pub lines_more : (shows more : Id → Type 0) (lines : List Line) → AreLines view shows lines → ((other : Id) → shows other → id_cmp other dir ≡ Less) → ((other : Id) → shows other → more other) → more dir → ((other : Id) → more other → shows other ⊎ (other ≡ dir)) → AreLines view more (lines ++ own)
     lines_more shows more lines are below kept new either = record {
-      each = λ line listed. elim (Contains-append_cases lines own line listed) as (λ _. more line.dir × IsLine binds HeldKind line) [
+      each = λ line listed. elim (Contains-append_cases lines own line listed) as (λ _. more line.dir × IsShownLine view line) [
         | inl earlier ↦ let is = are.each line earlier in (kept line.dir is.0, is.1)
         | inr mine ↦ (subst more (sym (own_dir line mine)) new, own_is line mine)
       ];
@@ -116,10 +118,49 @@ module _ (binds : Id → List ℕ → Id → Type 0) where
     }
 
     -- the lines of one directory
-    pub lines_of_one : AreLines binds HeldKind (λ shown. shown ≡ dir) own
+    pub lines_of_one : AreLines view (λ shown. shown ≡ dir) own
     lines_of_one = lines_more (λ other. ⊥) (λ other. other ≡ dir) [] no_lines (λ other none. absurd none) (λ other none. absurd none) refl (λ other is. inr is)
 
--- the answer to a refusal, whichever it is
-pub list_refused : (replica : Replica) (path : Path) (refusal : Refusal) → ListAnswer (BindsIn replica.saved.entries) HeldDirectory HeldKind path (Err refusal) → ListGives replica path (Err refusal)
-list_refused replica path Memory answer = tt
-list_refused replica path refusal answer = answer
+line_total : IsTotalOrder line_cmp
+line_total = then_total (on_total (λ (line : Line). line.dir) id_cmp_total) (on_total (λ (line : Line). line.shown) shown_cmp_total)
+
+module _ {one other : View} (same : SameView one other) where
+  line_shown : {line : Line} → IsShownLine one line → IsShownLine other line
+  line_shown {line} is = record {
+    shown = IsShownAs-along (bound_same same line.dir) line.shown is.shown;
+    kind = (same.kinds line.shown.target line.kind).0 is.kind;
+    conflict = is.conflict;
+  }
+
+  -- views that show the same have the same lines
+  pub lines_along : {shows more : Id → Type 0} {lines : List Line} → ((dir : Id) → shows dir ↔ more dir) → AreLines one shows lines → AreLines other more lines
+  lines_along either are = record {
+    each = λ line listed. let is = are.each line listed in ((either line.dir).0 is.0, line_shown is.1);
+    all = λ dir target name shown bound. are.all dir target name ((either dir).1 shown) (bound_there (same_back same) bound);
+    ordered = are.ordered;
+  }
+
+module _ {view : View} (kinds : HasOneKind view) {shows : Id → Type 0} where
+  line_inside : (lines others : List Line) → AreLines view shows lines → AreLines view shows others → (line : Line) → Contains lines line → Contains others line
+  line_inside lines others are are_too line inside =
+      let own = are.each line inside in
+      let found = are_too.all line.dir line.shown.target line.shown.name own.0 own.1.shown.bound in
+      let his = (are_too.each found.line found.listed).1 in
+      let in_dir : IsShownAs (IsBoundIn view line.dir) found.line.shown.name found.line.shown.target found.line.shown.suffixed = subst (λ dir. IsShownAs (IsBoundIn view dir) found.line.shown.name found.line.shown.target found.line.shown.suffixed) found.in_dir his.shown in
+      let suffixed = one_suffix line.shown.suffixed found.line.shown.suffixed own.1.shown in_dir found.named found.leads in
+      let kind = kinds.one line.shown.target line.kind found.line.kind own.1.kind (subst (λ target. view.kinds target found.line.kind) found.leads his.kind) in
+      let conflict = his.conflict ∙ sym own.1.conflict in
+      let one : found.line ≡ line = λ i. record {
+        dir = found.in_dir i;
+        shown = record { name = found.named i; target = found.leads i; suffixed = suffixed i };
+        kind = (sym kind) i;
+        conflict = conflict i;
+      } in
+      subst (Contains others) one found.listed
+
+  -- there is one list of lines
+  pub lines_once : (lines others : List Line) → AreLines view shows lines → AreLines view shows others → lines ≡ others
+  lines_once lines others are are_too =
+      same_rising (λ a b. line_cmp a b ≡ Less) (λ line below. cc (below, tied_itself line_total line)) line_total.trans lines others are.ordered are_too.ordered
+      (line_inside lines others are are_too)
+      (line_inside others lines are_too are)

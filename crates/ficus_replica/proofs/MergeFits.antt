@@ -15,8 +15,8 @@ use Rattle.ficus_entry.specs.declared.entry.State.{State}
 use Rattle.ficus_entry.specs.declared.entry.State.TheVariants.{Live, Dead}
 use Rattle.ficus_recon_dir.specs.Merge.{MergesEntries}
 use Rattle.ficus_recon_dir.specs.Table.{everyone, with, union, HasMarks, IsDead, Merges, MergesEntry}
-use Rattle.ficus_codec.specs.Saved.{HasOwnPast}
-use Rattle.ficus_codec.specs.Tables.{FitsState, FitsAttic, FitsTables}
+use Rattle.ficus_codec.specs.Saved.{IsEntryOfPast}
+use Rattle.ficus_codec.specs.Tables.{FitsState, FitsAttic, FitsEntry}
 
 module _ (r members : ℕ) (me : IsMember members r) where
   -- sets of members
@@ -62,10 +62,10 @@ module _ (r members : ℕ) (me : IsMember members r) where
 
   -- the sets of a dead state that fits
   known_one : (one two : ℕ) → FitsState members (Dead one two) → IsKnownBy (has one)
-  known_one one two fits = record { of = record { each = fits.0 }; one = fits.2; inside = fits.3 }
+  known_one one two fits = record { of = record { each = fits.first }; one = fits.somebody; inside = fits.knows }
 
   of_two : (one two : ℕ) → FitsState members (Dead one two) → OfMembers (has two)
-  of_two one two fits = record { each = fits.1 }
+  of_two one two fits = record { each = fits.second }
 
   same_members : (marks : ℕ) (set : ℕ → Bool) → OfMembers set → ((replica : ℕ) → has marks replica ≡ set replica) → HasMembersOnly marks members
   same_members marks set of same replica inside = of.each replica (sym (same replica) ∙ inside)
@@ -90,7 +90,12 @@ module _ (r members : ℕ) (me : IsMember members r) where
   fits_dead : (kept after : State) (one two : ℕ → Bool) → IsKnownBy one → OfMembers two → IsDead r members one two (Some after) → FitsAfter kept after
   fits_dead kept Live one two known of dead = absurd dead
   fits_dead kept (Dead first second) one two known of marks = record {
-    fits = (same_members first one known.of marks.one_as_said, second_fits one two first second of marks, known.one, marks.one_as_said known.one ∙ known.inside);
+    fits = record {
+      first = same_members first one known.of marks.one_as_said;
+      second = second_fits one two first second of marks;
+      somebody = known.one;
+      knows = marks.one_as_said known.one ∙ known.inside;
+    };
     live = λ live. cc;
   }
 
@@ -128,9 +133,9 @@ module _ (r members : ℕ) (me : IsMember members r) where
   attic_after dir kept (Dead one two) fits live = tt
 
   -- an entry that is kept, in its new state
-  tables_after : (kept after : Entry) → FitsTables members kept → after ≡ record kept { state = after.state } → FitsAfter kept.state after.state → FitsTables members after
+  tables_after : (kept after : Entry) → FitsEntry members kept → after ≡ record kept { state = after.state } → FitsAfter kept.state after.state → FitsEntry members after
   tables_after kept after fits is state =
-      let P : Entry → Type 0 = FitsTables members in
+      let P : Entry → Type 0 = FitsEntry members in
       subst P (sym is) (record {
         id = fits.id;
         dir = fits.dir;
@@ -140,16 +145,16 @@ module _ (r members : ℕ) (me : IsMember members r) where
         attic = attic_after kept.dir kept.state after.state fits.attic state.live;
       })
 
-  past_after : (next : ℕ) (kept after : Entry) → HasOwnPast r next kept → after ≡ record kept { state = after.state } → HasOwnPast r next after
+  past_after : (next : ℕ) (kept after : Entry) → IsEntryOfPast r next kept → after ≡ record kept { state = after.state } → IsEntryOfPast r next after
   past_after next kept after past is =
-      let P : Entry → Type 0 = HasOwnPast r next in
+      let P : Entry → Type 0 = IsEntryOfPast r next in
       subst P (sym is) (record { id = past.id; dir = past.dir; target = past.target })
 
   module _ (next : ℕ) where
     -- an entry of a replica's tables
     record FitsReplica (entry : Entry) : Type 0 where
-      tables : FitsTables members entry
-      past : HasOwnPast r next entry
+      tables : FitsEntry members entry
+      past : IsEntryOfPast r next entry
 
     replica_mine : (mine : Entry) (theirs : Option Entry) (after : Entry) → FitsReplica mine → IfSome theirs FitsReplica → MergesEntry r members (Some mine) theirs (Some after) → FitsReplica after
     replica_mine mine None after fits fits_other row = record {
@@ -181,11 +186,11 @@ module _ (r members : ℕ) (me : IsMember members r) where
         replica_after at_r.0 at_peer.0 entry (held_fits mine entry.id at_r.0 all_mine at_r.1) (held_fits theirs entry.id at_peer.0 all_theirs at_peer.1)
         (merges.each entry.id at_r.0 at_peer.0 (Some entry) at_r.1 at_peer.1 (inside, refl))) merged (All-contains_itself merged)
 
-    replicas : (entries : List Entry) → All (FitsTables members) entries → All (HasOwnPast r next) entries → All FitsReplica entries
+    replicas : (entries : List Entry) → All (FitsEntry members) entries → All (IsEntryOfPast r next) entries → All FitsReplica entries
     replicas entries tables past k d within = record { tables = tables k d within; past = past k d within }
 
     -- What the merge of tables that fit holds fits.
-    pub merged_tables : (mine theirs merged : List Entry) → All (FitsTables members) mine → All (HasOwnPast r next) mine → All (FitsTables members) theirs → All (HasOwnPast r next) theirs → MergesEntries r members mine theirs merged → All (FitsTables members) merged × All (HasOwnPast r next) merged
+    pub merged_tables : (mine theirs merged : List Entry) → All (FitsEntry members) mine → All (IsEntryOfPast r next) mine → All (FitsEntry members) theirs → All (IsEntryOfPast r next) theirs → MergesEntries r members mine theirs merged → All (FitsEntry members) merged × All (IsEntryOfPast r next) merged
     merged_tables mine theirs merged tables past tables_theirs past_theirs merges =
         let all = merged_replica mine theirs merged (replicas mine tables past) (replicas theirs tables_theirs past_theirs) merges in
         (λ k d within. (all k d within).tables, λ k d within. (all k d within).past)

@@ -1,29 +1,25 @@
 -- What a replica saves, after one more event.
-use Rattle.std.proofs.Common.{◌≡◌, ◌≢◌, ◌↔◌, ℕ, ◌+◌, ◌<◌, ◌≤◌, List, [], ◌∷◌, ◌++◌, Option, true, false, cond, refl, sym, ap, subst, ◌∙◌, arith, rules}
-use Rattle.std.specs.Prelude.{Contains}
-use Rattle.std.proofs.lemmas.List.{take-take}
-use Rattle.std.proofs.lemmas.List.Sums.{sum_by_push, sum_by-take-le}
-use Rattle.ficus_ids.specs.declared.id.Id.{Id}
-use Rattle.ficus_ids.specs.declared.kind.Kind.{Kind}
-use Rattle.ficus_ids.specs.declared.kind.Kind.TheVariants.{Dir}
+use Rattle.std.proofs.Common.{◌≡◌, ◌≢◌, ◌↔◌, ℕ, ◌+◌, ◌<◌, ◌≤◌, List, [], ◌∷◌, ◌++◌, length, true, false, cond, refl, sym, ap, subst, ◌∙◌, arith, rules}
+use Rattle.std.specs.Prelude.{Contains, ◌==◌, if◌then◌else◌}
+use Rattle.std.proofs.lemmas.List.Sums.{sum_by_push}
+use Rattle.ficus_ids.specs.RisingLaws.{same_items}
 use Rattle.ficus_model.specs.declared.event.Event.{Event}
 use Rattle.ficus_model.specs.declared.event.Event.TheVariants.{Update, Ask, Serve, Accept, Collect, Restart}
 use Rattle.ficus_model.specs.declared.event.Op.{Op}
-use Rattle.ficus_model.specs.Events.{IsAt, before, through, actor, count_of}
+use Rattle.ficus_model.specs.Events.{actor, is_update_of, count_of}
 use Rattle.ficus_model.specs.Known.{Knows}
-use Rattle.ficus_model.specs.Live.{IsMade}
 use Rattle.ficus_model.specs.Lawful.{Volume}
+use Rattle.ficus_model.specs.Versions.{bytes_of, written_in, written_of}
 use Rattle.ficus_entry.specs.declared.entry.Entry.{Entry}
 use Rattle.ficus_entry.specs.declared.entry.State.{State}
 use Rattle.ficus_entry.specs.declared.entry.State.TheVariants.{Live, Dead}
 use Rattle.ficus_codec.specs.declared.saved.Saved.{Saved}
 use Rattle.ficus_laws.specs.Updates.{SameUpdates}
-use Rattle.ficus_laws.proofs.Positions.{through_is}
-use Rattle.ficus_laws.proofs.Shown.{live_same, made_within, same_back}
-use Rattle.ficus_replica.specs.declared.replica.Asked.{Asked}
-use Rattle.ficus_replica.specs.declared.replica.Replica.{Replica}
-use Rattle.ficus_replica.specs.SavedOf.{is_saved, generation_of, IsHeldAs, IsSavedOf}
-use Rattle.ficus_replica.specs.Gives.{HasSaved}
+use Rattle.ficus_laws.proofs.Counts.{counted_one, counted_none}
+use Rattle.ficus_laws.proofs.Shown.{live_same, same_back}
+use Rattle.ficus_laws.proofs.Updates.{count_no_update}
+use Rattle.ficus_replica.specs.SavedOf.{is_saved, generation_of, IsHeldAs, AreHeldBy, MakesDirectories, IsSavedOf}
+use Rattle.ficus_replica.proofs.Directories.{directories_within}
 
 pub saved_of_other : (r : ℕ) (event : Event) → actor event ≢ r → is_saved r event ≡ false
 saved_of_other r (Update by op) n = grind arith
@@ -42,63 +38,88 @@ ask_is_saved r to = search rules
 pub accept_is_saved : (r serve : ℕ) → is_saved r (Accept r serve) ≡ true
 accept_is_saved r serve = search rules
 
-generation_push : (r : ℕ) (H : List Event) (event : Event) → generation_of r (H ++ event ∷ []) ≡ generation_of r H + cond (is_saved r event) 1 0
-generation_push r H event = sum_by_push (λ x. cond (is_saved r x) 1 0) H event
-
 pub generation_saved : (r : ℕ) (H : List Event) (event : Event) → is_saved r event ≡ true → generation_of r (H ++ event ∷ []) ≡ generation_of r H + 1
-generation_saved r H event is = generation_push r H event ∙ ap (λ b. generation_of r H + cond b 1 0) is
+generation_saved r H event is = counted_one (is_saved r) H event is
 
-generation_kept : (r : ℕ) (H : List Event) (event : Event) → is_saved r event ≡ false → generation_of r (H ++ event ∷ []) ≡ generation_of r H
-generation_kept r H event n = let p : generation_of r (H ++ event ∷ []) ≡ generation_of r H + 0 = generation_push r H event ∙ ap (λ b. generation_of r H + cond b 1 0) n in omega arith
+written_none : (r : ℕ) (event : Event) → is_update_of r event ≡ false → written_in r event ≡ 0
+written_none r (Update by op) none = rw none refl
+written_none r (Ask by to) none = refl
+written_none r (Serve by ask) none = refl
+written_none r (Accept by serve) none = refl
+written_none r (Collect by) none = refl
+written_none r (Restart by) none = refl
 
--- each save has a generation above those of the earlier ones
-pub generation_rises : {event : Event} {position earlier : ℕ} (r : ℕ) (H : List Event) → is_saved r event ≡ true → IsAt H position event → earlier < position → generation_of r (through earlier H) < generation_of r (through position H)
-generation_rises {event} {position} {earlier} r H saved a h =
-    let fewer : generation_of r (before (earlier + 1) (before position H)) ≤ generation_of r (before position H) = sum_by-take-le (λ x. cond (is_saved r x) 1 0) (before position H) (earlier + 1) in
-    let same : before (earlier + 1) (before position H) ≡ through earlier H = take-take (earlier + 1) position H (omega arith) in
-    let last : generation_of r (through position H) ≡ generation_of r (before position H) + 1 = ap (generation_of r) (through_is a) ∙ generation_saved r (before position H) event saved in
-    let le : generation_of r (through earlier H) ≤ generation_of r (before position H) = subst (λ K. generation_of r K ≤ generation_of r (before position H)) same fewer in
-    omega arith
+pub written_kept : (r : ℕ) (H : List Event) (event : Event) → is_update_of r event ≡ false → written_of r (H ++ event ∷ []) ≡ written_of r H
+written_kept r H event none = omega (arith, sum_by_push (written_in r) H event, written_none r event none)
+
+pub written_more : (r : ℕ) (H : List Event) (op : Op) → written_of r (H ++ Update r op ∷ []) ≡ written_of r H + length (bytes_of op)
+written_more r H op =
+    let own : written_in r (Update r op) ≡ length (bytes_of op) = search rules in
+    sum_by_push (written_in r) H (Update r op) ∙ ap (λ more. written_of r H + more) own
 
 -- where the same updates are known, the same is held
-pub held_same : {H K : List Event} {r : ℕ} (entry : Entry) (state : State) → SameUpdates H (Knows H r) K (Knows K r) → IsHeldAs H r entry state → IsHeldAs K r entry state
+held_same : {H K : List Event} {r : ℕ} (entry : Entry) (state : State) → SameUpdates H (Knows H r) K (Knows K r) → IsHeldAs H r entry state → IsHeldAs K r entry state
 held_same entry Live same held = live_same same held
 held_same entry (Dead one two) same held = held
 
-pub entries_kept : {volume : Volume} {H K : List Event} {r : ℕ} {saved : Saved} → SameUpdates H (Knows H r) K (Knows K r) → IsSavedOf volume H r saved → (entry : Entry) → Contains saved.entries entry ↔ IsHeldAs K r entry entry.state
-entries_kept same was entry = (
-  λ inside. held_same entry entry.state same ((was.entries entry).0 inside),
-  λ held. (was.entries entry).1 (held_same entry entry.state (same_back same) held),
-)
-
-pub directories_kept : {volume : Volume} {H K : List Event} {r : ℕ} {saved : Saved} → SameUpdates H (Knows H r) K (Knows K r) → IsSavedOf volume H r saved → (object : Id) (kind : Kind) → IsMade K (Knows K r) object kind → kind ≡ Dir
-directories_kept same was object kind made = was.directories object kind (made_within same.back made)
-
--- an event that brings no update and no save leaves what is saved
-pub saved_kept : {volume : Volume} {H : List Event} {r : ℕ} {saved : Saved} (event : Event) → SameUpdates H (Knows H r) (H ++ event ∷ []) (Knows (H ++ event ∷ []) r) → count_of r (H ++ event ∷ []) ≡ count_of r H → is_saved r event ≡ false → IsSavedOf volume H r saved → IsSavedOf volume (H ++ event ∷ []) r saved
-saved_kept {H = H} {r = r} event same counted no_save was = record {
-  me = was.me;
-  members = was.members;
-  ids = was.ids;
-  bytes = was.bytes;
-  next = was.next ∙ ap (λ count. count + 1) (sym counted);
-  used = was.used;
-  generation = was.generation ∙ sym (generation_kept r H event no_save);
-  entries = entries_kept same was;
-  directories = directories_kept same was;
+pub held_along : {H K : List Event} {r : ℕ} {entries : List Entry} → SameUpdates H (Knows H r) K (Knows K r) → AreHeldBy H r entries → AreHeldBy K r entries
+held_along same held = record {
+  rising = held.rising;
+  each = λ entry. (
+    λ inside. held_same entry entry.state same ((held.each entry).0 inside),
+    λ now. (held.each entry).1 (held_same entry entry.state (same_back same) now),
+  );
 }
 
--- An event after which the replica saves: what it saves then stands for the longer history where its entries and
--- its objects do.
-pub saves : {volume : Volume} {H : List Event} {r updates : ℕ} {old new : Replica} {held : List Entry} {asked : Option Asked} (event : Event) → IsSavedOf volume H r old.saved → HasSaved old new updates held asked → is_saved r event ≡ true → count_of r (H ++ event ∷ []) ≡ count_of r H + updates → ((entry : Entry) → Contains held entry ↔ IsHeldAs (H ++ event ∷ []) r entry entry.state) → ((object : Id) (kind : Kind) → IsMade (H ++ event ∷ []) (Knows (H ++ event ∷ []) r) object kind → kind ≡ Dir) → IsSavedOf volume (H ++ event ∷ []) r new.saved
-saves {H = H} {r = r} {updates = updates} {new = new} {held = held} event was now saved counted entries directories = record {
-  me = now.me ∙ was.me;
-  members = now.members ∙ was.members;
-  ids = now.ids ∙ was.ids;
-  bytes = now.bytes ∙ was.bytes;
-  next = omega (arith, now.next, was.next, counted);
-  used = now.used ∙ was.used;
-  generation = omega (arith, now.generation, was.generation, generation_saved r H event saved);
-  entries = λ entry. (λ inside. (entries entry).0 (rw now.entries at inside), λ is. rw now.entries ((entries entry).1 is));
-  directories = directories;
+-- entries that are held are one list
+pub held_once : {H : List Event} {r : ℕ} {entries others : List Entry} → AreHeldBy H r entries → AreHeldBy H r others → entries ≡ others
+held_once {entries = entries} {others = others} held held_too =
+    same_items (λ (e : Entry). e.id) entries others held.rising held_too.rising (λ entry. (
+      λ inside. (held_too.each entry).1 ((held.each entry).0 inside),
+      λ inside. (held.each entry).1 ((held_too.each entry).0 inside),
+    ))
+
+-- a history has one saved record
+pub saved_once : {volume : Volume} {H : List Event} {r : ℕ} {one other : Saved} → IsSavedOf volume H r one → IsSavedOf volume H r other → one ≡ other
+saved_once is is_too = λ i. record {
+  me = (is.me ∙ sym is_too.me) i;
+  members = (is.members ∙ sym is_too.members) i;
+  ids = (is.ids ∙ sym is_too.ids) i;
+  bytes = (is.bytes ∙ sym is_too.bytes) i;
+  next = (is.next ∙ sym is_too.next) i;
+  used = (is.used ∙ sym is_too.used) i;
+  generation = (is.generation ∙ sym is_too.generation) i;
+  entries = (held_once is.entries is_too.entries) i;
 }
+
+module _ {volume : Volume} {H K : List Event} {r : ℕ} {old : Saved} (is : IsSavedOf volume H r old) where
+  -- what is saved after more events, by its counts and its entries
+  pub saved_then : {next used generation : ℕ} {entries : List Entry} → next ≡ count_of r K + 1 → used ≡ written_of r K → generation ≡ generation_of r K → AreHeldBy K r entries → MakesDirectories K (Knows K r) → IsSavedOf volume K r (record old { next = next; used = used; generation = generation; entries = entries })
+  saved_then next used generation entries directories = record {
+    me = is.me;
+    members = is.members;
+    ids = is.ids;
+    bytes = is.bytes;
+    next = next;
+    used = used;
+    generation = generation;
+    entries = entries;
+    directories = directories;
+  }
+
+module _ {volume : Volume} {H : List Event} {r : ℕ} {old : Saved} (event : Event) (same : SameUpdates H (Knows H r) (H ++ event ∷ []) (Knows (H ++ event ∷ []) r)) (none : is_update_of r event ≡ false) (is : IsSavedOf volume H r old) where
+  -- an event that is no update of the replica's and brings it none: only the generation may change
+  pub saved_quietly : (generation : ℕ) → generation ≡ generation_of r (H ++ event ∷ []) → IsSavedOf volume (H ++ event ∷ []) r (record old { generation = generation })
+  saved_quietly generation counted =
+      saved_then is
+      (is.next ∙ ap (λ count. count + 1) (sym (count_no_update r H event none)))
+      (is.used ∙ sym (written_kept r H event none))
+      counted (held_along same is.entries) (directories_within same.back is.directories)
+
+  -- an event after which it doesn't save changes nothing
+  pub saved_kept : is_saved r event ≡ false → IsSavedOf volume (H ++ event ∷ []) r old
+  saved_kept no_save = saved_quietly old.generation (is.generation ∙ sym (counted_none (is_saved r) H event no_save))
+
+  -- and one after which it does changes the generation
+  pub saved_again : is_saved r event ≡ true → IsSavedOf volume (H ++ event ∷ []) r (record old { generation = old.generation + 1 })
+  saved_again saved = saved_quietly (old.generation + 1) (ap (λ generation. generation + 1) is.generation ∙ sym (generation_saved r H event saved))

@@ -1,4 +1,4 @@
--- The lines of all directories that are reached, one directory after the other.
+-- `tree`: the lines of all directories that are reached, one directory after the other.
 use Rattle.std.proofs.Common.{◌≡◌, ◌↔◌, ℕ, ◌+◌, ◌<◌, ◌≤◌, List, [], ◌∷◌, ◌++◌, length, get_or, take, map, refl, sym, subst, ◌∙◌, inl, inr, arith}
 use Rattle.std.specs.Prelude.{Contains}
 use Rattle.std.specs.declared.cmp.Ordering.TheVariants.{Less}
@@ -10,36 +10,39 @@ use Rattle.ficus_ids.specs.ListLaws.{here, here_or_there, not_inside_none}
 use Rattle.ficus_ids.specs.declared.id.Id.{Id}
 use Rattle.ficus_ids.specs.declared.id.TheConstants.{ROOT}
 use Rattle.ficus_model.specs.Reached.{IsReached}
-use Rattle.ficus_entry.specs.declared.entry.Entry.{Entry}
-use Rattle.ficus_names.specs.Binds.{BindsIn}
 use Rattle.ficus_names.specs.Listing.{IsListing}
 use Rattle.ficus_names.specs.declared.listing.Line.{Line}
 use Rattle.ficus_names.specs.declared.listing.ShownName.{ShownName}
 use Rattle.ficus_reach.specs.Leads.{LeadsIn}
 use Rattle.ficus_reach.specs.ReachedLaws.{IsReached-along}
-use Rattle.ficus_replica.specs.AnswerOf.{TreeAnswer}
-use Rattle.ficus_replica.specs.Held.{HeldKind}
+use Rattle.ficus_replica.specs.declared.replica.Replica.{Replica}
 use Rattle.ficus_replica.specs.Lines.{line_of, AreLines}
-use Rattle.ficus_replica.proofs.Listings.{no_lines, lines_more}
+use Rattle.ficus_replica.specs.Rule.{Once, Along}
+use Rattle.ficus_replica.specs.Told.{Lines}
+use Rattle.ficus_replica.specs.Tree.{TreeRule}
+use Rattle.ficus_replica.specs.View.{View, SameView, IsBoundIn, LeadsWithin, IsReachedIn, without_state, held_live, tables_view}
+use Rattle.ficus_replica.proofs.Listings.{no_lines, lines_more, lines_along, lines_once}
+use Rattle.ficus_replica.proofs.Rules.{tells_once, tells_along}
+use Rattle.ficus_replica.proofs.Tables.{HasDirectoriesOnly, held_as_live}
+use Rattle.ficus_replica.proofs.Views.{HasOneKind, same_itself, reached_same}
 
-module _ (binds : Id → List ℕ → Id → Type 0) where
-  lines_along : (shows more : Id → Type 0) (lines : List Line) → ((dir : Id) → shows dir ↔ more dir) → AreLines binds HeldKind shows lines → AreLines binds HeldKind more lines
-  lines_along shows more lines same are = record {
-    each = λ line listed. let is = are.each line listed in ((same line.dir).0 is.0, is.1);
-    all = λ dir target name shown bound. are.all dir target name ((same dir).1 shown) bound;
-    ordered = are.ordered;
-  }
+pub tree_once : {view : View} → HasOneKind view → Once (TreeRule view)
+tree_once kinds = tells_once Lines (lines_once kinds)
 
+pub tree_along : {one other : View} → SameView one other → Along (TreeRule one) (TreeRule other)
+tree_along same = tells_along Lines (λ lines are. lines_along same (reached_same same) are)
+
+module _ (view : View) where
   -- the lines of the first objects
   abbrev pub AreFirst : List Id → ℕ → List Line → Type 0
-  AreFirst objects index lines = AreLines binds HeldKind (Contains (take index objects)) lines
+  AreFirst objects index lines = AreLines view (Contains (take index objects)) lines
 
   pub first_none : (objects : List Id) (lines : List Line) → lines ≡ [] → AreFirst objects 0 lines
   first_none objects lines none =
       let nothing : (dir : Id) → ⊥ ↔ Contains [] dir = λ dir. (λ no. absurd no, λ inside. not_inside_none dir inside) in
-      rw none (lines_along (λ dir. ⊥) (Contains []) [] nothing (no_lines binds))
+      rw none (lines_along (same_itself view) nothing (no_lines view))
 
-  module _ (objects : List Id) (rising : IsRisingBy (λ id. id) objects) (index : ℕ) (d : Id) (within : index < length objects) where
+  module _ (directories : HasDirectoriesOnly view) (objects : List Id) (rising : IsRisingBy (λ id. id) objects) (index : ℕ) (d : Id) (within : index < length objects) where
     abbrev next : Id
     next = get_or objects index d
 
@@ -50,10 +53,10 @@ module _ (binds : Id → List ℕ → Id → Type 0) where
         subst (λ (o : Id). id_cmp o next ≡ Less) at (rising.each place index d before within)
 
     -- those of the next object go behind
-    pub first_more : (lines : List Line) (names : List ShownName) → IsListing (binds next) names → AreFirst objects index lines → AreFirst objects (index + 1) (lines ++ map (line_of next) names)
+    pub first_more : (lines : List Line) (names : List ShownName) → IsListing (IsBoundIn view next) names → AreFirst objects index lines → AreFirst objects (index + 1) (lines ++ map (line_of next) names)
     first_more lines names listing are =
         let more : take (index + 1) objects ≡ take index objects ++ next ∷ [] = take_more objects index d within in
-        rw more (lines_more binds next names listing (Contains (take index objects)) (Contains (take index objects ++ next ∷ [])) lines are below_next
+        rw more (lines_more view directories next names listing (Contains (take index objects)) (Contains (take index objects ++ next ∷ [])) lines are below_next
         (λ other earlier. Contains-append_left (take index objects) (next ∷ []) other earlier)
         (Contains-push (take index objects) next)
         (λ other inside. elim (Contains-push_cases (take index objects) next other inside) [
@@ -61,15 +64,18 @@ module _ (binds : Id → List ℕ → Id → Type 0) where
           | inr is ↦ inr (sym is)
         ]))
 
-module _ (entries : List Entry) where
-  abbrev leads : Id → Id → Type 0
-  leads dir object = (name : List ℕ) × BindsIn entries dir name object
+module _ (replica : Replica) where
+  leads_from : (dir object : Id) → LeadsIn replica.saved.entries dir object → LeadsWithin (tables_view replica) dir object
+  leads_from dir object way = (way.entry.name, record {
+    entry = without_state way.entry;
+    live = subst (Contains replica.saved.entries) (held_as_live way.entry way.live) way.inside;
+    in_dir = way.in_dir;
+    named = refl;
+    leads = way.leads;
+  })
 
-  leads_from : (dir object : Id) → LeadsIn entries dir object → leads dir object
-  leads_from dir object way = (way.entry.name, record { entry = way.entry; inside = way.inside; live = way.live; in_dir = way.in_dir; named = refl; leads = way.leads })
-
-  leads_into : (dir object : Id) → leads dir object → LeadsIn entries dir object
-  leads_into dir object (name, bound) = record { entry = bound.entry; inside = bound.inside; live = bound.live; in_dir = bound.in_dir; leads = bound.leads }
+  leads_into : (dir object : Id) → LeadsWithin (tables_view replica) dir object → LeadsIn replica.saved.entries dir object
+  leads_into dir object (name, bound) = record { entry = held_live bound.entry; inside = bound.live; live = refl; in_dir = bound.in_dir; leads = bound.leads }
 
   root_is : (object : Id) → Contains (ROOT ∷ []) object → object ≡ ROOT
   root_is object inside = elim (here_or_there ROOT object [] inside) [ inl is ↦ is | inr later ↦ absurd (not_inside_none object later) ]
@@ -78,11 +84,11 @@ module _ (entries : List Entry) where
   root_inside object is = subst (Contains (ROOT ∷ [])) (sym is) (here ROOT [])
 
   -- the lines of all objects that are reached from the root
-  pub first_all : (objects : List Id) (index : ℕ) (lines : List Line) → ((object : Id) → Contains objects object ↔ IsReached (LeadsIn entries) (Contains (ROOT ∷ [])) object) → length objects ≤ index → AreFirst (BindsIn entries) objects index lines → TreeAnswer (BindsIn entries) HeldKind lines
+  pub first_all : (objects : List Id) (index : ℕ) (lines : List Line) → ((object : Id) → Contains objects object ↔ IsReached (LeadsIn replica.saved.entries) (Contains (ROOT ∷ [])) object) → length objects ≤ index → AreFirst (tables_view replica) objects index lines → AreLines (tables_view replica) (IsReachedIn (tables_view replica)) lines
   first_all objects index lines reached past are =
       let whole : take index objects ≡ objects = take_all index objects past in
-      let all : AreLines (BindsIn entries) HeldKind (Contains objects) lines = subst (λ dirs. AreLines (BindsIn entries) HeldKind (Contains dirs) lines) whole are in
-      lines_along (BindsIn entries) (Contains objects) (IsReached leads (λ base. base ≡ ROOT)) lines (λ dir. (
+      let all : AreLines (tables_view replica) (Contains objects) lines = subst (λ dirs. AreLines (tables_view replica) (Contains dirs) lines) whole are in
+      lines_along (same_itself (tables_view replica)) (λ dir. (
         λ inside. IsReached-along leads_from root_is ((reached dir).0 inside),
         λ in_tree. (reached dir).1 (IsReached-along leads_into root_inside in_tree),
       )) all

@@ -1,42 +1,85 @@
--- A walk, part by part, where each object is a directory; and which names are taken.
-use Rattle.std.proofs.Common.{◌≡◌, ◌↔◌, ℕ, ◌+◌, ◌<◌, ◌≤◌, List, ◌∷◌, Result, Ok, Err, length, get_or, drop, Bool, not, IsTrue, sym, ap, ◌∙◌}
-use Rattle.std.proofs.lemmas.List.{drop_all, drop_more}
-use denote.Enum.Bare.{sameb}
+-- Walks: each has one answer, the same over views that show the same, and ends in what is shown.
+use Rattle.std.proofs.Common.{◌≡◌, ℕ, ◌+◌, ◌<◌, ◌≤◌, List, [], ◌∷◌, length, drop, get_or, Option, Some, None, Bool, not, Result, Ok, Err, refl, sym, ap, subst, ◌∙◌, inl, inr, ◌⊎◌, ◌↔◌}
+use Rattle.std.specs.Prelude.{IsTrue}
 use Rattle.ficus_ids.specs.declared.id.Id.{Id}
+use Rattle.ficus_ids.specs.declared.id.TheConstants.{ROOT}
+use Rattle.ficus_ids.specs.declared.kind.Kind.TheVariants.{Dir}
 use Rattle.ficus_ids.specs.declared.refusal.Refusal.{Refusal}
-use Rattle.ficus_ids.specs.declared.refusal.Refusal.TheVariants.{NoEntry, Ambiguous}
-use Rattle.ficus_ids.specs.contracts.refusal.Refusal.{the_type}
+use Rattle.ficus_ids.specs.declared.refusal.Refusal.TheVariants.{NotDir}
+use Rattle.ficus_model.specs.Reached.IsReached.{Base, Through}
+use Rattle.ficus_path.specs.declared.path.Base.{Base as PathBase}
+use Rattle.ficus_path.specs.declared.path.Base.TheVariants.{Root}
 use Rattle.ficus_path.specs.declared.path.Part.{Part}
-use Rattle.ficus_names.specs.Find.{FindsOnly, FindAnswer}
-use Rattle.ficus_replica.specs.AnswerOf.{Taken}
-use Rattle.ficus_replica.specs.Held.{HeldDirectory}
-use Rattle.ficus_replica.specs.Walk.{WalkAnswer, Arrives, Refuses, Step}
+use Rattle.ficus_path.specs.declared.path.Path.{Path}
+use Rattle.ficus_names.specs.Find.{FindAnswer}
+use Rattle.ficus_names.specs.FindLaws.{one_answer, FindAnswer-along}
+use Rattle.ficus_replica.specs.Rule.{Then, Where, Gives, Once, Along}
+use Rattle.ficus_replica.specs.View.{View, SameView, IsBoundIn, IsDirectoryIn, IsReachedIn}
+use Rattle.ficus_replica.specs.Walk.{BaseRule, PartsRule, WalkRule, DirectoryRule, ParentRule}
+use Rattle.ficus_replica.proofs.Rules.{then_once, where_once, gives_once, then_along, where_along, gives_along}
+use Rattle.ficus_replica.proofs.Views.{bound_same, directory_same}
 
-module _ (binds : Id → List ℕ → Id → Type 0) where
-  -- what the rest of the parts leads to from the object reached, all of them lead to from the start
-  pub record Reaches (start : Id) (parts : List Part) (object : Id) (rest : List Part) : Type 0 where
-    pub leads : (answer : Result Id Refusal) → WalkAnswer binds HeldDirectory object rest answer → WalkAnswer binds HeldDirectory start parts answer
+base_once : (view : View) (base : PathBase) → Once (BaseRule view base)
+base_once view Root = gives_once _
 
-  pub reaches_start : (start : Id) (parts : List Part) → Reaches start parts start parts
-  reaches_start start parts = record { leads = λ answer walk. walk }
+parts_once : (view : View) (parts : List Part) (object : Id) → Once (PartsRule view parts object)
+parts_once view [] object = gives_once _
+parts_once view (part ∷ parts) object = where_once _ _ (then_once (one_answer (IsBoundIn view object) part.name part.target) (parts_once view parts))
 
-  module _ {start object : Id} {parts : List Part} (index : ℕ) (part : Part) (within : index < length parts) (is : part ≡ get_or parts index part) (reaches : Reaches start parts object (drop index parts)) where
-    next_part : drop index parts ≡ part ∷ drop (index + 1) parts
-    next_part = drop_more parts index part within ∙ ap (λ p. p ∷ drop (index + 1) parts) (sym is)
+pub walk_once : (view : View) (base : PathBase) (parts : List Part) → Once (WalkRule view base parts)
+walk_once view base parts = then_once (base_once view base) (parts_once view parts)
 
-    pub reaches_part : (next : Id) → FindAnswer (binds object) part.name part.target (Ok next) → Reaches start parts next (drop (index + 1) parts)
-    reaches_part next found = record {
-      leads = λ answer walk. reaches.leads answer (rw next_part (Step tt found walk));
-    }
+pub directory_once : (view : View) (base : PathBase) (parts : List Part) → Once (DirectoryRule view base parts)
+directory_once view base parts = then_once (walk_once view base parts) (λ object. where_once _ _ (gives_once _))
 
-    pub refused_part : (refusal : Refusal) → FindAnswer (binds object) part.name part.target (Err refusal) → WalkAnswer binds HeldDirectory start parts (Err refusal)
-    refused_part refusal found = reaches.leads (Err refusal) (rw next_part (Refuses tt found))
+pub parent_once : (view : View) (path : Path) → Once (ParentRule view path)
+parent_once view path = directory_once view path.base _
 
-  pub reaches_end : {start object : Id} {parts : List Part} (index : ℕ) → length parts ≤ index → Reaches start parts object (drop index parts) → WalkAnswer binds HeldDirectory start parts (Ok object)
-  reaches_end {start} {object} {parts} index past reaches = reaches.leads (Ok object) (rw (drop_all index parts past) Arrives)
+module _ {one other : View} (same : SameView one other) where
+  base_along : (base : PathBase) → Along (BaseRule one base) (BaseRule other base)
+  base_along Root = gives_along ROOT
 
-  -- a name is taken unless it is refused as leading nowhere
-  pub taken_by_refusal : (dir : Id) (name : List ℕ) (refusal : Refusal) (taken : Bool) → FindsOnly (binds dir) name (Err refusal) → taken ≡ not (sameb the_type refusal NoEntry) → IsTrue taken ↔ Taken binds dir name
-  taken_by_refusal dir name NoEntry taken found is = (λ truth. cc, λ bound. absurd (found bound.0 bound.1))
-  taken_by_refusal dir name Ambiguous taken found is = (λ truth. (found.one, found.bound_one), λ bound. is)
-  taken_by_refusal dir name other taken found is = absurd found
+  parts_along : (parts : List Part) (object : Id) → Along (PartsRule one parts object) (PartsRule other parts object)
+  parts_along [] object = gives_along object
+  parts_along (part ∷ parts) object = where_along NotDir (directory_same same object) (then_along (FindAnswer-along (bound_same same object) part.name part.target) (λ next found. parts_along parts next))
+
+  pub walk_along : (base : PathBase) (parts : List Part) → Along (WalkRule one base parts) (WalkRule other base parts)
+  walk_along base parts = then_along (base_along base) (λ object begun. parts_along parts object)
+
+  pub directory_along : (base : PathBase) (parts : List Part) → Along (DirectoryRule one base parts) (DirectoryRule other base parts)
+  directory_along base parts = then_along (walk_along base parts) (λ object walked. where_along NotDir (directory_same same object) (gives_along object))
+
+  pub parent_along : (path : Path) → Along (ParentRule one path) (ParentRule other path)
+  parent_along path = directory_along path.base _
+
+-- what is found under a name is bound to it
+pub found_bound : (binds : List ℕ → Id → Type 0) (name : List ℕ) (target : Option Id) (object : Id) → FindAnswer binds name target (Ok object) → binds name object
+found_bound binds name None object found = found.bound
+found_bound binds name (Some target) object found = subst (binds name) (sym found.1) found.0
+
+module _ (view : View) where
+  -- what a walk leads to is reached as its start is
+  parts_reach : (parts : List Part) (object target : Id) → PartsRule view parts object (Ok target) → IsReachedIn view object → IsReachedIn view target
+  parts_reach [] object target is reached = subst (IsReachedIn view) (sym is) reached
+  parts_reach (part ∷ parts) object target (directory, (next, found, rest)) reached =
+      parts_reach parts next target rest (Through reached (part.name, found_bound (IsBoundIn view object) part.name part.target next found))
+
+  pub base_reached : (base : PathBase) (object : Id) → BaseRule view base (Ok object) → IsReachedIn view object
+  base_reached Root object is = Base is
+
+  pub walk_reached : (base : PathBase) (parts : List Part) (object : Id) → WalkRule view base parts (Ok object) → IsReachedIn view object
+  walk_reached base parts object (start, begun, rest) = parts_reach parts start object rest (base_reached base start begun)
+
+  -- a directory that is walked to
+  pub record IsWalkedTo (dir : Id) : Type 0 where
+    pub directory : IsDirectoryIn view dir
+    pub reached : IsReachedIn view dir
+
+  pub directory_walked : (base : PathBase) (parts : List Part) (dir : Id) → DirectoryRule view base parts (Ok dir) → IsWalkedTo dir
+  directory_walked base parts dir (object, walk, (directory, is)) = record {
+    directory = subst (IsDirectoryIn view) (sym is) directory;
+    reached = subst (IsReachedIn view) (sym is) (walk_reached base parts object walk);
+  }
+
+  pub parent_walked : (path : Path) (dir : Id) → ParentRule view path (Ok dir) → IsWalkedTo dir
+  parent_walked path dir walk = directory_walked path.base _ dir walk

@@ -12,7 +12,7 @@ use Rattle.ficus_entry.specs.declared.entry.Entry.{Entry}
 use Rattle.ficus_recon_dir.specs.Merge.{MergesEntries}
 use Rattle.ficus_codec.specs.Saved.{HasOwnPast}
 use Rattle.ficus_replica.specs.declared.replica.Replica.{Replica}
-use Rattle.ficus_replica.specs.SavedOf.{AreHeldBy, MakeDirectories, StandsAfter, generation_of}
+use Rattle.ficus_replica.specs.SavedOf.{AreHeldBy, MakesDirectories, StandsAfter, generation_of}
 
 -- the open ask is of this peer and number
 abbrev pub IsOpen : Replica → ℕ → ℕ → Type 0
@@ -49,7 +49,7 @@ pub record IsServed (H : List Event) (r s number : ℕ) (tables : List Entry) (s
   pub served : IsAt H serve (Serve s ask)
   pub numbered : number ≡ generation_of r (through ask H)
   pub entries : AreHeldBy (through serve H) s tables
-  pub directories : MakeDirectories (through serve H) (Knows (through serve H) s)
+  pub directories : MakesDirectories (through serve H) (Knows (through serve H) s)
 
 -- what was served is taken where the history allows it, and is stale where it doesn't
 abbrev pub AcceptStands : Volume → List Event → ℕ → ℕ → Result Replica Refusal → Type 0

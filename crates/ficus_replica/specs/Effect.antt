@@ -1,10 +1,10 @@
 -- What an operation makes of what a replica saves.
-use Rattle.std.specs.Prelude.{◌≡◌, ◌↔◌, ◌⊎◌, ℕ, ◌+◌, Bool, false, ◌==◌, List, Some, Contains}
+use Rattle.std.specs.Prelude.{◌≡◌, ◌↔◌, ◌⊎◌, ℕ, ◌+◌, Bool, false, ◌==◌, List, length, Some, IfSome, Contains}
 use Rattle.ficus_ids.specs.Name.{IsName}
 use Rattle.ficus_ids.specs.declared.id.Id.{Id}
 use Rattle.ficus_model.specs.declared.event.Op.{Op}
-use Rattle.ficus_model.specs.declared.event.Op.TheVariants.{Make}
 use Rattle.ficus_model.specs.Live.{Entry as ModelEntry, entered_by, removed_by}
+use Rattle.ficus_model.specs.Versions.{bytes_of}
 use Rattle.ficus_entry.specs.Entry.{IsRising}
 use Rattle.ficus_entry.specs.declared.entry.Entry.{Entry}
 use Rattle.ficus_entry.specs.declared.entry.State.{State}
@@ -17,13 +17,9 @@ use Rattle.ficus_replica.specs.View.{held_live, without_state}
 abbrev pub next_id : Saved → Id
 next_id saved = record { replica = saved.me; number = saved.next }
 
--- how many bytes the operation writes
-abbrev pub written_by : Op → ℕ
-written_by (Make dir name kind) = 0
-
 -- the name that the operation enters is one
-abbrev pub NamesFit : Op → Type 0
-NamesFit (Make dir name kind) = IsName name
+abbrev pub EntersName : Saved → Op → Type 0
+EntersName old op = IfSome (entered_by (next_id old) op) (λ entry. IsName entry.name)
 
 -- the entry is held as live, or the operation enters it
 abbrev pub IsLiveOrEntered : Saved → Op → ModelEntry → Type 0
@@ -32,12 +28,12 @@ IsLiveOrEntered old op entry = Contains old.entries (held_live entry) ⊎ (enter
 -- it is there, and the operation doesn't remove it
 pub record StaysLive (old : Saved) (op : Op) (entry : ModelEntry) : Type 0 where
   pub present : IsLiveOrEntered old op entry
-  pub kept : Contains (removed_by op) entry.id → ⊥
+  pub kept : Contains (removed_by (next_id old) op) entry.id → ⊥
 
 -- it is there, and the operation removes it: this replica alone is known to know of it
 pub record BecomesDead (old : Saved) (op : Op) (entry : ModelEntry) (one two : ℕ) : Type 0 where
   pub present : IsLiveOrEntered old op entry
-  pub removed : Contains (removed_by op) entry.id
+  pub removed : Contains (removed_by (next_id old) op) entry.id
   pub known : StandFor one (λ replica. replica == old.me)
   pub known_of_all : StandFor two (λ replica. false)
 
@@ -53,7 +49,7 @@ pub record Applied (old : Saved) (op : Op) (new : Saved) : Type 0 where
   pub each : (entry : Entry) → Contains entries entry ↔ IsHeldAfter old op entry entry.state
   pub saved : new ≡ record old {
     next = old.next + 1;
-    used = old.used + written_by op;
+    used = old.used + length (bytes_of op);
     generation = old.generation + 1;
     entries = entries;
   }

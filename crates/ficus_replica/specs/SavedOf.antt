@@ -5,11 +5,12 @@ use Rattle.ficus_ids.specs.declared.kind.Kind.TheVariants.{Dir}
 use Rattle.ficus_model.specs.declared.event.Event.{Event}
 use Rattle.ficus_model.specs.declared.event.Event.TheVariants.{Update, Ask, Serve, Accept, Collect, Restart}
 use Rattle.ficus_model.specs.declared.event.Op.{Op}
-use Rattle.ficus_model.specs.declared.event.Op.TheVariants.{Make}
+use Rattle.ficus_model.specs.declared.event.Op.TheVariants.{Make, Link, Remove, Move, Write, Settle, Resolve, Adopt, Discard}
 use Rattle.ficus_model.specs.Events.{count_of, through}
 use Rattle.ficus_model.specs.Known.{Knows}
 use Rattle.ficus_model.specs.Lawful.{Volume, IsOpenAsk, MayCome}
 use Rattle.ficus_model.specs.Live.{IsLive}
+use Rattle.ficus_model.specs.Versions.{written_of}
 use Rattle.ficus_laws.specs.Updates.{HasUpdate}
 use Rattle.ficus_entry.specs.Entry.{IsRising}
 use Rattle.ficus_entry.specs.declared.entry.Entry.{Entry}
@@ -47,9 +48,17 @@ pub record AreHeldBy (H : List Event) (replica : ℕ) (entries : List Entry) : T
 -- the operation makes a directory
 abbrev pub MakesDirectory : Op → Type 0
 MakesDirectory (Make dir name kind) = kind ≡ Dir
+MakesDirectory (Link dir name target) = ⊥
+MakesDirectory (Remove entries target) = ⊥
+MakesDirectory (Move entries dir name target) = ⊥
+MakesDirectory (Write file bytes) = ⊥
+MakesDirectory (Settle file bytes) = ⊥
+MakesDirectory (Resolve file bytes) = ⊥
+MakesDirectory (Adopt file dir name) = ⊥
+MakesDirectory (Discard file) = ⊥
 
--- so far each known update makes a directory
-pub record MakeDirectories (H : List Event) (U : ℕ → Type 0) : Type 0 where
+-- each known update makes a directory: no command does anything else yet
+pub record MakesDirectories (H : List Event) (U : ℕ → Type 0) : Type 0 where
   pub each : (number : Id) (op : Op) → HasUpdate H U number op → MakesDirectory op
 
 -- what the replica saves after the history
@@ -59,18 +68,18 @@ pub record IsSavedOf (volume : Volume) (H : List Event) (replica : ℕ) (saved :
   pub ids : saved.ids ≡ volume.ids
   pub bytes : saved.bytes ≡ volume.bytes
   pub next : saved.next ≡ count_of replica H + 1
-  pub used : saved.used ≡ 0
+  pub used : saved.used ≡ written_of replica H
   pub generation : saved.generation ≡ generation_of replica H
   pub entries : AreHeldBy H replica saved.entries
-  pub directories : MakeDirectories H (Knows H replica)
+  pub directories : MakesDirectories H (Knows H replica)
 
 -- what a replica saves that has heard of nothing
-abbrev pub fresh_saved : ℕ → ℕ → ℕ → ℕ → Saved
-fresh_saved me members ids bytes = record {
-  me = me;
-  members = members;
-  ids = ids;
-  bytes = bytes;
+abbrev pub fresh_saved : Volume → ℕ → Saved
+fresh_saved volume replica = record {
+  me = replica;
+  members = volume.members;
+  ids = volume.ids;
+  bytes = volume.bytes;
   next = 1;
   used = 0;
   generation = 0;

@@ -11,7 +11,8 @@ use ficus_model::Op;
 impl Replica {
     ghost use Rattle.std.specs.Prelude.{◌↔◌, ◌+◌, ◌-◌, ◌^◌, ◌<◌, ◌≤◌, IsTrue};
     ghost use Rattle.ficus_codec.specs.Saved.{FitsImage};
-    ghost use Rattle.ficus_replica.specs.Effect.{Applied, NamesFit, next_id};
+    ghost use Rattle.ficus_replica.specs.Effect.{Applied, EntersName, next_id};
+    ghost use Rattle.ficus_replica.specs.SavedOf.{MakesDirectory};
     ghost use Rattle.ficus_replica.specs.View.{tables_view};
 
     /// Whether it has made all the updates that it may make.
@@ -21,19 +22,21 @@ impl Replica {
         self.saved.next > self.saved.ids
     }
 
-    /// The replica once the operation is done, and the operation.
+    /// The replica once the operation is done, and the operation. So far it makes a directory.
     pub(crate) fn applied(&self, op: Op) -> Result<Next, Memory>
+        requires makes { MakesDirectory op }
         requires fits { FitsImage self.now.saved }
         requires left { self.now.saved.next ≤ self.now.saved.ids }
         requires generation { self.now.saved.generation < 2 ^ 63 - 1 }
         ensures applied { IfOk result (λ next. Applied self.now.saved op next.replica.saved) }
         ensures op { IfOk result (λ next. next.op ≡ op) }
         ensures ask { IfOk result (λ next. next.replica.ask ≡ self.now.ask) }
-        ensures names { NamesFit op }
+        ensures name { EntersName self.now.saved op }
     {
         let mut entries = self.saved.entries.copy()?;
         match &op {
             Op::Make { dir, name, .. } => entries.insert(new_entry(self.next_id(), *dir, name)?)?,
+            _ => unreachable!(),
         }
         Ok(Next {
             replica: Replica {

@@ -43,7 +43,7 @@ impl Replica {
         requires ids_at_least { 1 ≤ ids }
         requires ids_at_most { ids ≤ 100000 }
         requires bytes { bytes ≤ 4194304 }
-        ensures saved { result.saved ≡ fresh_saved me members ids bytes }
+        ensures saved { result.saved ≡ fresh_saved (record { members = members; ids = ids; bytes = bytes }) me }
         ensures ask { result.ask ≡ None }
         ensures fits { FitsImage result.saved }
         ensures stands { StandsFor (record { members = members; ids = ids; bytes = bytes }) [] me result }

@@ -1,7 +1,6 @@
 use Rattle.std.proofs.Common.{rules, Ok, Err, None}
 use Rattle.ficus_ids.specs.declared.refusal.Refusal.TheVariants.{Stale, BadMessage}
-use Rattle.ficus_replica.proofs.GivesStand.{accept_gives_stands}
-use Rattle.ficus_replica.proofs.Reconciles.{accepted_fits}
+use Rattle.ficus_replica.proofs.Accepts.{accept_gives_stands, accepted_fits}
 use Rattle.ficus_replica.proofs.replica.Replica.accept.Goals as goal
 
 pub returns-then-ne-clause-gives : goal.returns-then-ne-clause-gives

@@ -1,5 +1,5 @@
 use Rattle.std.proofs.Common.{rules}
-use Rattle.ficus_replica.proofs.AsksStand.{ask_gives_stands}
+use Rattle.ficus_replica.proofs.Asks.{ask_gives_stands}
 use Rattle.ficus_replica.proofs.replica.Replica.ask.Goals as goal
 
 pub returns-clause-gives : goal.returns-clause-gives
@@ -7,4 +7,4 @@ returns-clause-gives c = search rules
 
 pub returns-clause-stands : goal.returns-clause-stands
 returns-clause-stands c =
-    λ volume H lawful stands. ask_gives_stands volume c.args.to c.args.self.now _ H c.requires.fits c.requires.member c.requires.other (returns-clause-gives c) stands
+    λ volume H stands. ask_gives_stands volume c.args.to c.args.self.now _ H c.requires.fits c.requires.member c.requires.other (returns-clause-gives c) stands

@@ -1,5 +1,6 @@
-use Rattle.ficus_replica.proofs.EventsStand.{fresh_stands}
+use Rattle.std.proofs.Common.{[]}
+use Rattle.ficus_replica.proofs.Events.{fresh_stands, no_restarts}
 use Rattle.ficus_replica.proofs.replica.Replica.fresh.Goals as goal
 
 pub returns-clause-stands : goal.returns-clause-stands
-returns-clause-stands c = fresh_stands _ c.args.me _ (rw c.new.ensures at c.open.ensures.saved) c.open.ensures.ask
+returns-clause-stands c = rw (c.open.ensures.saved, c.new.ensures, c.open.ensures.ask) (fresh_stands [] c.args.me no_restarts _)

@@ -1,5 +1,5 @@
 use Rattle.std.proofs.Common.{refl}
-use Rattle.ficus_replica.proofs.EventsStand.{restart_stands}
+use Rattle.ficus_replica.proofs.Events.{restart_stands}
 use Rattle.ficus_replica.proofs.replica.Replica.open.Goals as goal
 
 pub returns-clause-stands : goal.returns-clause-stands

@@ -1,0 +1,145 @@
+-- A replica stands for a history from its start on, also after each event that leaves alone what it saves.
+use Rattle.std.proofs.Common.{◌≡◌, ◌≢◌, ℕ, ◌+◌, ◌≤◌, List, [], ◌∷◌, ◌++◌, Option, Some, None, cond, refl, sym, ap, ◌∙◌, subst, inl, inr, ◌⊎◌, arith}
+use Rattle.std.specs.Prelude.{Bool, false, All, map, count_by, sum_by}
+use Rattle.std.proofs.lemmas.List.Elements.{All-map, All-weaker}
+use Rattle.std.proofs.lemmas.List.Sums.{sum_by-le}
+use Rattle.std.proofs.lemmas.Option.{get_or_from_slice_get}
+use Rattle.ficus_ids.specs.ListLaws.{not_inside_none}
+use Rattle.ficus_model.specs.declared.event.Event.{Event}
+use Rattle.ficus_model.specs.declared.event.Event.TheVariants.{Update, Ask, Serve, Accept, Collect, Restart}
+use Rattle.ficus_model.specs.Events.{IsAt, actor, is_update_of, count_of}
+use Rattle.ficus_model.specs.Lawful.{Volume, ClosesAsk}
+use Rattle.ficus_model.specs.Versions.{written_in, written_of}
+use Rattle.ficus_entry.specs.declared.entry.Entry.{Entry}
+use Rattle.ficus_entry.specs.declared.entry.State.{State}
+use Rattle.ficus_entry.specs.declared.entry.State.TheVariants.{Live, Dead}
+use Rattle.ficus_codec.specs.declared.saved.Saved.{Saved}
+use Rattle.ficus_laws.proofs.Positions.{at_within}
+use Rattle.ficus_laws.proofs.Updates.{is_update_of_other}
+use Rattle.ficus_laws.proofs.OneMore.{same_of_other, same_quiet}
+use Rattle.ficus_replica.specs.declared.replica.Asked.{Asked}
+use Rattle.ficus_replica.specs.declared.replica.Replica.{Replica}
+use Rattle.ficus_replica.specs.SavedOf.{is_saved, generation_of, IsHeldAs, AreHeldBy, IsSavedOf, IsOpenAskOf, StandsFor, fresh_saved}
+use Rattle.ficus_replica.proofs.OpenAsks.{open_kept, open_none}
+use Rattle.ficus_replica.proofs.Saves.{saved_of_other, saved_kept, saved_once}
+
+abbrev pub IsServe : Event → Type 0
+IsServe (Serve by ask) = Unit {0}
+IsServe (Update by op) = ⊥
+IsServe (Ask by to) = ⊥
+IsServe (Accept by serve) = ⊥
+IsServe (Collect by) = ⊥
+IsServe (Restart by) = ⊥
+
+closed_by_own : (r : ℕ) (event : Event) → ClosesAsk r event → actor event ≡ r
+closed_by_own r (Update by op) closes = absurd closes
+closed_by_own r (Ask by to) closes = closes
+closed_by_own r (Serve by ask) closes = absurd closes
+closed_by_own r (Accept by serve) closes = closes
+closed_by_own r (Collect by) closes = absurd closes
+closed_by_own r (Restart by) closes = closes
+
+serve_stands : (volume : Volume) (H : List Event) (r : ℕ) (replica : Replica) (event : Event) → StandsFor volume H r replica → IsServe event → StandsFor volume (H ++ event ∷ []) r replica
+serve_stands volume H r replica (Serve by ask) stands is =
+    let event = Serve by ask in
+    record {
+      saved = saved_kept event (same_quiet H event r tt) refl stands.saved refl;
+      ask = open_kept H r replica.ask event (λ closes. closes) stands.ask;
+    }
+serve_stands volume H r replica (Update by op) stands is = absurd is
+serve_stands volume H r replica (Ask by to) stands is = absurd is
+serve_stands volume H r replica (Accept by serve) stands is = absurd is
+serve_stands volume H r replica (Collect by) stands is = absurd is
+serve_stands volume H r replica (Restart by) stands is = absurd is
+
+-- what another replica does, and what a replica serves, leaves it as it is
+pub quiet_stands : (volume : Volume) (H : List Event) (r : ℕ) (replica : Replica) (event : Event) → StandsFor volume H r replica → (actor event ≢ r) ⊎ IsServe event → StandsFor volume (H ++ event ∷ []) r replica
+quiet_stands volume H r replica event stands (inl other) = record {
+  saved = saved_kept event (same_of_other H event r other) (is_update_of_other r event other) stands.saved (saved_of_other r event other);
+  ask = open_kept H r replica.ask event (λ closes. other (closed_by_own r event closes)) stands.ask;
+}
+quiet_stands volume H r replica event stands (inr serve) = serve_stands volume H r replica event stands serve
+
+-- what is saved is kept by a restart, and there is no open ask after it
+pub restart_stands : (volume : Volume) (H : List Event) (r : ℕ) (saved : Saved) (new : Replica) → IsSavedOf volume H r saved → new.saved ≡ saved → new.ask ≡ None → StandsFor volume (H ++ Restart r ∷ []) r new
+restart_stands volume H r saved new was same none =
+    let event = Restart r in
+    record {
+      saved = rw same (saved_kept event (same_quiet H event r tt) refl was refl);
+      ask = rw none (open_none H r event refl (λ to is. cc));
+    }
+
+abbrev pub IsRestart : Event → Type 0
+IsRestart (Restart by) = Unit {0}
+IsRestart (Update by op) = ⊥
+IsRestart (Ask by to) = ⊥
+IsRestart (Serve by ask) = ⊥
+IsRestart (Accept by serve) = ⊥
+IsRestart (Collect by) = ⊥
+
+pub restarts_alone : (replicas : List ℕ) → All IsRestart (map (λ by. Restart by) replicas)
+restarts_alone replicas = All-map IsRestart (λ by. Restart by) replicas (λ k d within. tt)
+
+restart_at : {H : List Event} {position : ℕ} {event : Event} → All IsRestart H → IsAt H position event → IsRestart event
+restart_at {H} {position} {event} restarts a = subst IsRestart (get_or_from_slice_get H position event event a.is) (restarts position event (at_within a))
+
+-- a measure that is nothing for each restart
+not_measured : (measure : Event → ℕ) (event : Event) → ((by : ℕ) → measure (Restart by) ≡ 0) → IsRestart event → measure event ≤ 0
+not_measured measure (Restart by) none is = omega (arith, none by)
+not_measured measure (Update by op) none is = absurd is
+not_measured measure (Ask by to) none is = absurd is
+not_measured measure (Serve by ask) none is = absurd is
+not_measured measure (Accept by serve) none is = absurd is
+not_measured measure (Collect by) none is = absurd is
+
+module _ (H : List Event) (r : ℕ) (restarts : All IsRestart H) where
+  nothing_summed : (measure : Event → ℕ) → ((by : ℕ) → measure (Restart by) ≡ 0) → sum_by measure H ≡ 0
+  nothing_summed measure none = omega (arith, sum_by-le measure 0 H (All-weaker IsRestart (λ x. measure x ≤ 0) (λ event is. not_measured measure event none is) H restarts))
+
+  count_fresh : count_of r H ≡ 0
+  count_fresh = nothing_summed (λ event. cond (is_update_of r event) 1 0) (λ by. refl)
+
+  generation_fresh : generation_of r H ≡ 0
+  generation_fresh = nothing_summed (λ event. cond (is_saved r event) 1 0) (λ by. refl)
+
+  written_fresh : written_of r H ≡ 0
+  written_fresh = nothing_summed (written_in r) (λ by. refl)
+
+  none_held : (entry : Entry) (state : State) → IsHeldAs H r entry state → ⊥
+  none_held entry Live held = restart_at restarts held.entered.update.at
+  none_held entry (Dead one two) held = held
+
+  -- a replica that has heard of nothing stands for each history in which replicas have started and done nothing else
+  pub fresh_stands : (volume : Volume) → StandsFor volume H r (record { saved = fresh_saved volume r; ask = None })
+  fresh_stands volume = record {
+    saved = record {
+      me = refl;
+      members = refl;
+      ids = refl;
+      bytes = refl;
+      next = ap (λ count. count + 1) (sym count_fresh);
+      used = sym written_fresh;
+      generation = sym generation_fresh;
+      entries = record {
+        rising = record { each = λ i j d before within. absurd (omega arith) };
+        each = λ entry. (λ inside. absurd (not_inside_none entry inside), λ held. absurd (none_held entry entry.state held));
+      };
+      directories = record { each = λ number op has. absurd (restart_at restarts has.update.at) };
+    };
+    ask = λ position to open_ask. restart_at restarts open_ask.ask;
+  }
+
+-- the history without events is one
+pub no_restarts : All IsRestart []
+no_restarts k d within = absurd (omega arith)
+
+no_ask : (r : ℕ) (asked : Option Asked) → IsOpenAskOf [] r asked → asked ≡ None
+no_ask r None none = refl
+no_ask r (Some asked) waits = absurd (restart_at no_restarts waits.1.ask)
+
+-- so whatever stands for no events stands for the restarts too
+pub restarted_stands : (volume : Volume) (H : List Event) (r : ℕ) (replica : Replica) → All IsRestart H → StandsFor volume [] r replica → StandsFor volume H r replica
+restarted_stands volume H r replica restarts stands =
+    let saved = saved_once stands.saved (fresh_stands [] r no_restarts volume).saved in
+    let fresh = fresh_stands H r restarts volume in
+    record { saved = rw saved fresh.saved; ask = rw (no_ask r replica.ask stands.ask) fresh.ask }
