@@ -45,7 +45,9 @@ use Rattle.ficus_replica.proofs.OpenAsks.{open_none}
 use Rattle.ficus_replica.proofs.Saves.{accept_is_saved, ask_is_saved, generation_saved, saved_then, written_kept}
 use Rattle.ficus_replica.proofs.Tables.{held_as_live}
 
-open_is : (H : List Event) (r from ask number : ℕ) (asked : Option Asked) → IsOpenAsk H ask r from → number ≡ generation_of r (through ask H) → IsOpenAskOf H r asked → asked ≡ Some (record { to = from; number = number })
+open_is : (H : List Event) (r from ask number : ℕ) (asked : Option Asked) → IsOpenAsk H ask r from →
+    number ≡ generation_of r (through ask H) → IsOpenAskOf H r asked →
+    asked ≡ Some (record { to = from; number = number })
 open_is H r from ask number None open_ask is none = absurd (none ask from open_ask)
 open_is H r from ask number (Some asked) open_ask is waits =
     let once = open_once waits.1 open_ask in
@@ -53,7 +55,8 @@ open_is H r from ask number (Some asked) open_ask is waits =
     ap₂ (λ (to : ℕ) (n : ℕ). Some (record { to = to; number = n })) once.1 same
 
 -- what was served where its taking may come answers the open ask, which is the one that it was served for
-taken_ask : (volume : Volume) (H : List Event) (r from number : ℕ) (tables : List Entry) (serve : ℕ) → (served : IsServed H r from number tables serve) → MayAccept volume H r serve → IsOpenAsk H served.ask r from
+taken_ask : (volume : Volume) (H : List Event) (r from number : ℕ) (tables : List Entry) (serve : ℕ) →
+    (served : IsServed H r from number tables serve) → MayAccept volume H r serve → IsOpenAsk H served.ask r from
 taken_ask volume H r from number tables serve served may =
     let answer = may.answer in
     let e : Serve answer.server answer.ask ≡ Serve from served.ask = at_same answer.served served.served in
@@ -62,12 +65,16 @@ taken_ask volume H r from number tables serve served may =
     subst (λ position. IsOpenAsk H position r from) ask (subst (λ to. IsOpenAsk H answer.ask r to) server answer.open_ask)
 
 -- so no answer that may be taken is stale
-pub taken_open : (volume : Volume) (H : List Event) (r from number : ℕ) (tables : List Entry) (serve : ℕ) (old : Replica) → StandsFor volume H r old → IsServed H r from number tables serve → MayAccept volume H r serve → IsOpen old from number
+pub taken_open : (volume : Volume) (H : List Event) (r from number : ℕ) (tables : List Entry) (serve : ℕ)
+    (old : Replica) →
+    StandsFor volume H r old → IsServed H r from number tables serve → MayAccept volume H r serve →
+    IsOpen old from number
 taken_open volume H r from number tables serve old stands served may =
     open_is H r from served.ask number old.ask (taken_ask volume H r from number tables serve served may) served.numbered stands.ask
 
 -- asks of a replica with one number are one ask
-one_ask : {H : List Event} {r to other position again : ℕ} → IsAt H position (Ask r to) → IsAt H again (Ask r other) → generation_of r (through position H) ≡ generation_of r (through again H) → position ≡ again
+one_ask : {H : List Event} {r to other position again : ℕ} → IsAt H position (Ask r to) → IsAt H again (Ask r other) →
+    generation_of r (through position H) ≡ generation_of r (through again H) → position ≡ again
 one_ask {H} {r} {to} {other} {position} {again} a b same = go (cases_order position again)
   where
     go : (position ≡ again) ⊎ ((position < again) ⊎ (again < position)) → position ≡ again
@@ -76,7 +83,10 @@ one_ask {H} {r} {to} {other} {position} {again} a b same = go (cases_order posit
     go (inr (inr h)) = absurd (omega (arith, counted_rises (is_saved r) a (ask_is_saved r to) h))
 
 -- and an answer to the open ask may be taken
-pub open_taken : (volume : Volume) (H : List Event) (r from number : ℕ) (tables : List Entry) (serve : ℕ) (old : Replica) → IsLawful volume H → StandsFor volume H r old → IsServed H r from number tables serve → IsOpen old from number → MayAccept volume H r serve
+pub open_taken : (volume : Volume) (H : List Event) (r from number : ℕ) (tables : List Entry) (serve : ℕ)
+    (old : Replica) →
+    IsLawful volume H → StandsFor volume H r old → IsServed H r from number tables serve → IsOpen old from number →
+    MayAccept volume H r serve
 open_taken volume H r from number tables serve old lawful stands served open_ask =
     let waits : IsOpenAskOf H r (Some (record { to = from; number = number })) = subst (IsOpenAskOf H r) open_ask stands.ask in
     let ask = one_ask waits.1.ask served.asked (sym waits.2 ∙ served.numbered) in
@@ -92,11 +102,13 @@ state_live H r entry (Dead one two) held = absurd held
 held_are_live : (H : List Event) (r : ℕ) (entries : List Entry) → AreHeldBy H r entries → AreLive entries
 held_are_live H r entries held = record { each = λ entry inside. state_live H r entry entry.state ((held.each entry).0 inside) }
 
-held_is_live : (H : List Event) (r : ℕ) (entry : Entry) → IsHeldAs H r entry entry.state → IsLive H (Knows H r) (without_state entry)
+held_is_live : (H : List Event) (r : ℕ) (entry : Entry) → IsHeldAs H r entry entry.state →
+    IsLive H (Knows H r) (without_state entry)
 held_is_live H r entry held = subst (IsHeldAs H r entry) (state_live H r entry entry.state held) held
 
 -- what is held under one identifier is one entry
-entry_once : (H : List Event) (r : ℕ) (entry other : Entry) → IsHeldAs H r entry entry.state → IsHeldAs H r other other.state → entry.id ≡ other.id → entry ≡ other
+entry_once : (H : List Event) (r : ℕ) (entry other : Entry) → IsHeldAs H r entry entry.state →
+    IsHeldAs H r other other.state → entry.id ≡ other.id → entry ≡ other
 entry_once H r entry other held held_other same =
     let one : without_state entry ≡ without_state other = entered_once (held_is_live H r entry held).entered (held_is_live H r other held_other).entered same in
     let state : entry.state ≡ Live = state_live H r entry entry.state held in
@@ -105,29 +117,39 @@ entry_once H r entry other held held_other same =
 
 -- In each of these the replica takes what this server served at this position.
 module _ (H : List Event) (r serve server : ℕ) (by_server : IsOf H serve server)
-    (makes : MakesDirectories H (Knows H r)) (makes_there : MakesDirectories (through serve H) (Knows (through serve H) server)) where
+    (makes : MakesDirectories H (Knows H r))
+        (makes_there : MakesDirectories (through serve H) (Knows (through serve H) server)) where
   abbrev after : List Event
   after = H ++ Accept r serve ∷ []
 
   mine_kept : (entry : Entry) (state : State) → IsHeldAs H r entry state → IsHeldAs after r entry state
-  mine_kept entry Live held = live_accept H r serve server by_server (record { entered = inl held.entered; kept = directories_keep makes; kept_there = directories_keep makes_there })
+  mine_kept entry Live held =
+      live_accept H r serve server by_server
+      (record { entered = inl held.entered; kept = directories_keep makes; kept_there = directories_keep makes_there })
   mine_kept entry (Dead one two) held = held
 
-  theirs_brought : (entry : Entry) (state : State) → IsHeldAs (through serve H) server entry state → IsHeldAs after r entry state
-  theirs_brought entry Live held = live_accept H r serve server by_server (record { entered = inr held.entered; kept = directories_keep makes; kept_there = directories_keep makes_there })
+  theirs_brought : (entry : Entry) (state : State) → IsHeldAs (through serve H) server entry state →
+      IsHeldAs after r entry state
+  theirs_brought entry Live held =
+      live_accept H r serve server by_server
+      (record { entered = inr held.entered; kept = directories_keep makes; kept_there = directories_keep makes_there })
   theirs_brought entry (Dead one two) held = held
 
   -- what is held then was held at one of the two
-  held_after : (entry : Entry) (state : State) → IsHeldAs after r entry state → IsHeldAs H r entry state ⊎ IsHeldAs (through serve H) server entry state
+  held_after : (entry : Entry) (state : State) → IsHeldAs after r entry state →
+      IsHeldAs H r entry state ⊎ IsHeldAs (through serve H) server entry state
   held_after entry Live held = go (accept_live H r serve server by_server held).entered
     where
-      go : IsEntered H (Knows H r) (without_state entry) ⊎ IsEntered (through serve H) (Knows (through serve H) server) (without_state entry) → IsHeldAs H r entry Live ⊎ IsHeldAs (through serve H) server entry Live
+      go : IsEntered H (Knows H r) (without_state entry) ⊎ IsEntered (through serve H) (Knows (through serve H) server)
+          (without_state entry) →
+          IsHeldAs H r entry Live ⊎ IsHeldAs (through serve H) server entry Live
       go (inl own) = inl (record { entered = own; not_removed = directories_keep makes })
       go (inr his) = inr (record { entered = his; not_removed = directories_keep makes_there })
   held_after entry (Dead one two) held = absurd held
 
   -- entries of both with one identifier are one
-  one_at_both : (mine theirs : List Entry) → AreHeldBy H r mine → AreHeldBy (through serve H) server theirs → AreOne mine theirs
+  one_at_both : (mine theirs : List Entry) → AreHeldBy H r mine → AreHeldBy (through serve H) server theirs →
+      AreOne mine theirs
   one_at_both mine theirs own his = record {
     same = λ entry other at_r at_server same. entry_once after r entry other
         (mine_kept entry entry.state ((own.each entry).0 at_r))
@@ -136,49 +158,64 @@ module _ (H : List Event) (r serve server : ℕ) (by_server : IsOf H serve serve
   }
 
   -- the merged entries are what is held
-  accepted_entries : (members : ℕ) (mine theirs merged : List Entry) → AreHeldBy H r mine → AreHeldBy (through serve H) server theirs → IsRising merged → MergesEntries r members mine theirs merged → AreHeldBy after r merged
+  accepted_entries : (members : ℕ) (mine theirs merged : List Entry) → AreHeldBy H r mine →
+      AreHeldBy (through serve H) server theirs → IsRising merged → MergesEntries r members mine theirs merged →
+      AreHeldBy after r merged
   accepted_entries members mine theirs merged own his rising merges = record {
     rising = rising;
     each = λ entry. (λ inside. into entry ((both entry).0 inside), λ held. (both entry).1 (out entry (held_after entry entry.state held)));
   }
     where
       both : (found : Entry) → Contains merged found ↔ (Contains mine found ⊎ Contains theirs found)
-      both = merged_entries r members mine theirs merged (held_are_live H r mine own) (held_are_live (through serve H) server theirs his) (one_at_both mine theirs own his) merges
+      both = merged_entries r members mine theirs merged (held_are_live H r mine own)
+          (held_are_live (through serve H) server theirs his) (one_at_both mine theirs own his) merges
 
       into : (entry : Entry) → Contains mine entry ⊎ Contains theirs entry → IsHeldAs after r entry entry.state
       into entry (inl at_r) = mine_kept entry entry.state ((own.each entry).0 at_r)
       into entry (inr at_server) = theirs_brought entry entry.state ((his.each entry).0 at_server)
 
-      out : (entry : Entry) → IsHeldAs H r entry entry.state ⊎ IsHeldAs (through serve H) server entry entry.state → Contains mine entry ⊎ Contains theirs entry
+      out : (entry : Entry) → IsHeldAs H r entry entry.state ⊎ IsHeldAs (through serve H) server entry entry.state →
+          Contains mine entry ⊎ Contains theirs entry
       out entry (inl at_r) = inl ((own.each entry).1 at_r)
       out entry (inr at_server) = inr ((his.each entry).1 at_server)
 
 -- where both knew directories only, the replica does after it has taken what was served
-directories_accepted : (H : List Event) (r serve server : ℕ) → IsOf H serve server → MakesDirectories H (Knows H r) → MakesDirectories (through serve H) (Knows (through serve H) server) → MakesDirectories (H ++ Accept r serve ∷ []) (Knows (H ++ Accept r serve ∷ []) r)
-directories_accepted H r serve server by_server makes makes_there = record { each = λ number op u. go number op (has_either ((same_accept H r serve).back.has number op u)) }
+directories_accepted : (H : List Event) (r serve server : ℕ) → IsOf H serve server → MakesDirectories H (Knows H r) →
+    MakesDirectories (through serve H) (Knows (through serve H) server) →
+    MakesDirectories (H ++ Accept r serve ∷ []) (Knows (H ++ Accept r serve ∷ []) r)
+directories_accepted H r serve server by_server makes makes_there =
+    record { each = λ number op u. go number op (has_either ((same_accept H r serve).back.has number op u)) }
   where
-    go : (number : Id) (op : Op) → HasUpdate H (Knows H r) number op ⊎ HasUpdate H (HasSeen H serve) number op → MakesDirectory op
+    go : (number : Id) (op : Op) → HasUpdate H (Knows H r) number op ⊎ HasUpdate H (HasSeen H serve) number op →
+        MakesDirectory op
     go number op (inl own) = makes.each number op own
     go number op (inr his) = makes_there.each number op ((same_seen H serve server by_server).there.has number op his)
 
 -- What is taken of what was served: the new replica stands for the history with the Accept.
-pub accepted_stands : (volume : Volume) (H : List Event) (r from number : ℕ) (tables : List Entry) (serve : ℕ) (old new : Replica) → StandsFor volume H r old → IsServed H r from number tables serve → Accepted old from number tables new → StandsFor volume (H ++ Accept r serve ∷ []) r new
+pub accepted_stands : (volume : Volume) (H : List Event) (r from number : ℕ) (tables : List Entry) (serve : ℕ)
+    (old new : Replica) →
+    StandsFor volume H r old → IsServed H r from number tables serve → Accepted old from number tables new →
+    StandsFor volume (H ++ Accept r serve ∷ []) r new
 accepted_stands volume H r from number tables serve old new stands served accepted =
     let accept = Accept r serve in
     let was = stands.saved in
     let by_server = of_at served.served in
-    let merges : MergesEntries r old.saved.members old.saved.entries tables accepted.merged = subst (λ me. MergesEntries me old.saved.members old.saved.entries tables accepted.merged) was.me accepted.merges in
+    let merges : MergesEntries r old.saved.members old.saved.entries tables accepted.merged =
+        subst (λ me. MergesEntries me old.saved.members old.saved.entries tables accepted.merged) was.me accepted.merges
+        in
     subst (StandsFor volume (H ++ accept ∷ []) r) (sym accepted.replica) (record {
       saved = saved_then was
           (omega (arith, was.next, count_no_update r H accept refl))
           (was.used ∙ sym (written_kept r H accept refl))
           (omega (arith, was.generation, generation_saved r H accept (accept_is_saved r serve)))
-          (accepted_entries H r serve from by_server was.directories served.directories old.saved.members old.saved.entries tables accepted.merged was.entries served.entries accepted.rising merges)
+          (accepted_entries H r serve from by_server was.directories served.directories old.saved.members
+              old.saved.entries tables accepted.merged was.entries served.entries accepted.rising merges)
           (directories_accepted H r serve from by_server was.directories served.directories);
       ask = open_none H r accept refl (λ to is. cc);
     })
 
-module _ (volume : Volume) (H : List Event) (r serve : ℕ) (me next : ℕ) (me_is : me ≡ r) (next_is : next ≡ count_of r H + 1) where
+module _ (volume : Volume) (H : List Event) (r serve : ℕ) (me next : ℕ) (me_is : me ≡ r)
+    (next_is : next ≡ count_of r H + 1) where
   -- what a replica has issued by a position is of its past
   issued_past : (id : Id) → IsIssued (through serve H) id → IsOfPast me next id
   issued_past id issued own =
@@ -191,7 +228,8 @@ module _ (volume : Volume) (H : List Event) (r serve : ℕ) (me next : ℕ) (me_
   directory_past id (inl root) = λ own. let number : id.number ≡ 0 = ap (λ (i : Id). i.number) root in omega arith
   directory_past id (inr made) = issued_past id (made_issued made)
 
-  entry_past : (from : ℕ) (entry : Entry) → IsLawful volume H → IsHeldAs (through serve H) from entry entry.state → IsEntryOfPast me next entry
+  entry_past : (from : ℕ) (entry : Entry) → IsLawful volume H → IsHeldAs (through serve H) from entry entry.state →
+      IsEntryOfPast me next entry
   entry_past from entry lawful held =
       let live = held_is_live (through serve H) from entry held in
       let past = lawful_before volume H (serve + 1) lawful in
@@ -202,28 +240,39 @@ module _ (volume : Volume) (H : List Event) (r serve : ℕ) (me next : ℕ) (me_
       }
 
 -- what is served names no update of the replica that it hasn't made
-pub served_fits : (volume : Volume) (H : List Event) (r from number : ℕ) (tables : List Entry) (serve : ℕ) (old : Replica) → IsLawful volume H → StandsFor volume H r old → IsServed H r from number tables serve → FitsPast old tables
+pub served_fits : (volume : Volume) (H : List Event) (r from number : ℕ) (tables : List Entry) (serve : ℕ)
+    (old : Replica) →
+    IsLawful volume H → StandsFor volume H r old → IsServed H r from number tables serve → FitsPast old tables
 served_fits volume H r from number tables serve old lawful stands served = record {
   each = All-weaker (Contains tables) (IsEntryOfPast old.saved.me old.saved.next)
-      (λ entry inside. entry_past volume H r serve old.saved.me old.saved.next stands.saved.me stands.saved.next from entry lawful ((served.entries.each entry).0 inside))
+      (λ entry inside. entry_past volume H r serve old.saved.me old.saved.next stands.saved.me stands.saved.next from
+          entry lawful ((served.entries.each entry).0 inside))
       tables (All-contains_itself tables);
 }
 
 -- so what was served is taken exactly where the history allows it
-pub accept_gives_stands : (volume : Volume) (H : List Event) (r from number : ℕ) (tables : List Entry) (serve : ℕ) (old : Replica) (result : Result Replica Refusal) → IsLawful volume H → StandsFor volume H r old → IsServed H r from number tables serve → AcceptGives old from number tables result → AcceptStands volume H r serve result
+pub accept_gives_stands : (volume : Volume) (H : List Event) (r from number : ℕ) (tables : List Entry) (serve : ℕ)
+    (old : Replica) (result : Result Replica Refusal) →
+    IsLawful volume H → StandsFor volume H r old → IsServed H r from number tables serve →
+    AcceptGives old from number tables result → AcceptStands volume H r serve result
 accept_gives_stands volume H r from number tables serve old (Ok new) lawful stands served gives = record {
   lawful = open_taken volume H r from number tables serve old lawful stands served gives.open_ask;
   stands = accepted_stands volume H r from number tables serve old new stands served gives;
 }
 accept_gives_stands volume H r from number tables serve old (Err Memory) lawful stands served gives = tt
-accept_gives_stands volume H r from number tables serve old (Err Stale) lawful stands served gives = λ may. gives (taken_open volume H r from number tables serve old stands served may)
-accept_gives_stands volume H r from number tables serve old (Err BadMessage) lawful stands served gives = gives.1 (served_fits volume H r from number tables serve old lawful stands served)
+accept_gives_stands volume H r from number tables serve old (Err Stale) lawful stands served gives =
+    λ may. gives (taken_open volume H r from number tables serve old stands served may)
+accept_gives_stands volume H r from number tables serve old (Err BadMessage) lawful stands served gives =
+    gives.1 (served_fits volume H r from number tables serve old lawful stands served)
 accept_gives_stands volume H r from number tables serve old (Err other) lawful stands served gives = absurd gives
 
 -- what is saved then fits an image
-pub accepted_fits : (from number : ℕ) (entries : List Entry) (old new : Replica) → FitsImage old.saved → FitsTables old.saved.members entries → old.saved.generation < 2 ^ 63 - 1 → Accepted old from number entries new → FitsImage new.saved
+pub accepted_fits : (from number : ℕ) (entries : List Entry) (old new : Replica) → FitsImage old.saved →
+    FitsTables old.saved.members entries → old.saved.generation < 2 ^ 63 - 1 → Accepted old from number entries new →
+    FitsImage new.saved
 accepted_fits from number entries old new fits tables generation accepted =
-    let merged = merged_tables old.saved.me old.saved.members fits.me old.saved.next old.saved.entries entries accepted.merged fits.tables.each fits.past.each tables.each accepted.past.each accepted.merges in
+    let merged = merged_tables old.saved.me old.saved.members fits.me old.saved.next old.saved.entries entries
+        accepted.merged fits.tables.each fits.past.each tables.each accepted.past.each accepted.merges in
     subst (λ (replica : Replica). FitsImage replica.saved) (sym accepted.replica) (record {
       members = fits.members;
       me = fits.me;

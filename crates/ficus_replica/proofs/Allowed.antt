@@ -1,5 +1,5 @@
 -- What the history shows of a place, and what it allows there.
-use Rattle.std.proofs.Common.{◌≡◌, ◌<◌, ℕ, List, Ok, refl, inl, inr}
+use Rattle.std.proofs.Common.{◌≡◌, ◌<◌, ℕ, List}
 use Rattle.ficus_ids.specs.declared.id.Id.{Id}
 use Rattle.ficus_model.specs.declared.event.Event.{Event}
 use Rattle.ficus_model.specs.declared.event.Op.{Op}
@@ -7,11 +7,9 @@ use Rattle.ficus_model.specs.Events.{count_of}
 use Rattle.ficus_model.specs.Known.{Knows}
 use Rattle.ficus_model.specs.Lawful.{Volume, IsAllowed, HasBytesLeft, HasPlace}
 use Rattle.ficus_model.specs.Live.{IsBound, IsTaken}
-use Rattle.ficus_path.specs.declared.path.Path.{Path}
 use Rattle.ficus_laws.proofs.Shown.{reached_within, tree_in_reach}
 use Rattle.ficus_replica.specs.View.{IsBoundIn, IsTakenIn, history_view}
-use Rattle.ficus_replica.specs.Walk.{ParentRule}
-use Rattle.ficus_replica.proofs.Walks.{parent_walked}
+use Rattle.ficus_replica.proofs.Walks.{IsWalkedTo}
 
 -- the operation may be done after the history, by a member that is left updates and bytes
 pub record MayBeDone (volume : Volume) (H : List Event) (r : ℕ) (op : Op) : Type 0 where
@@ -20,20 +18,21 @@ pub record MayBeDone (volume : Volume) (H : List Event) (r : ℕ) (op : Op) : Ty
   pub allowed : IsAllowed H (Knows H r) op
 
 module _ (volume : Volume) (H : List Event) (r : ℕ) where
-  bound_in : {dir target : Id} {name : List ℕ} → IsBound H (Knows H r) dir name target → IsBoundIn (history_view volume H r) dir name target
+  bound_in : {dir target : Id} {name : List ℕ} → IsBound H (Knows H r) dir name target →
+      IsBoundIn (history_view volume H r) dir name target
   bound_in bound = record { entry = bound.entry; live = bound.live; in_dir = bound.in_dir; named = bound.named; leads = bound.leads }
 
-  bound_of : {dir target : Id} {name : List ℕ} → IsBoundIn (history_view volume H r) dir name target → IsBound H (Knows H r) dir name target
+  bound_of : {dir target : Id} {name : List ℕ} → IsBoundIn (history_view volume H r) dir name target →
+      IsBound H (Knows H r) dir name target
   bound_of bound = record { entry = bound.entry; live = bound.live; in_dir = bound.in_dir; named = bound.named; leads = bound.leads }
 
   -- a name that isn't taken, in a directory that a walk leads to, is a place for a new entry
-  pub new_place : (path : Path) (dir : Id) (name : List ℕ) → ParentRule (history_view volume H r) path (Ok dir) → (IsTakenIn (history_view volume H r) dir name → ⊥) → HasPlace H (Knows H r) dir name
-  new_place path dir name walk free =
-      let walked = parent_walked (history_view volume H r) path dir walk in
-      record {
-        parent = record {
-          directory = walked.directory;
-          reached = tree_in_reach (reached_within (λ from to leads. record { name = leads.0; bound = bound_of leads.1 }) walked.reached);
-        };
-        free = λ taken. free (taken.0, bound_in taken.1);
-      }
+  pub new_place : (dir : Id) (name : List ℕ) → IsWalkedTo (history_view volume H r) dir →
+      (IsTakenIn (history_view volume H r) dir name → ⊥) → HasPlace H (Knows H r) dir name
+  new_place dir name walked free = record {
+    parent = record {
+      directory = walked.directory;
+      reached = tree_in_reach (reached_within (λ from to leads. record { name = leads.0; bound = bound_of leads.1 }) walked.reached);
+    };
+    free = λ taken. free (taken.0, bound_in taken.1);
+  }

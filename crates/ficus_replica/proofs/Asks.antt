@@ -15,7 +15,8 @@ use Rattle.ficus_replica.proofs.OpenAsks.{through_end}
 use Rattle.ficus_replica.proofs.Saves.{ask_is_saved, generation_saved, saved_again}
 
 -- once it has asked, a replica stands for the history with the ask
-pub asks_stands : (volume : Volume) (H : List Event) (r to : ℕ) (old new : Replica) → StandsFor volume H r old → AskGives old to new → StandsFor volume (H ++ Ask r to ∷ []) r new
+pub asks_stands : (volume : Volume) (H : List Event) (r to : ℕ) (old new : Replica) → StandsFor volume H r old →
+    AskGives old to new → StandsFor volume (H ++ Ask r to ∷ []) r new
 asks_stands volume H r to old new stands asks =
     subst (StandsFor volume (H ++ Ask r to ∷ []) r) (sym asks) (record {
       saved = saved_again (Ask r to) (same_quiet H (Ask r to) r tt) refl stands.saved (ask_is_saved r to);
@@ -29,7 +30,9 @@ asks_stands volume H r to old new stands asks =
         ∙ ap (generation_of r) (sym (through_end H (Ask r to)))
 
 -- and the ask may come
-pub ask_gives_stands : (volume : Volume) (to : ℕ) (old new : Replica) (H : List Event) → FitsImage old.saved → IsMember old.saved.members to → to ≢ old.saved.me → AskGives old to new → StandsFor volume H old.saved.me old → StandsAfter volume H old.saved.me (Ask old.saved.me to) new
+pub ask_gives_stands : (volume : Volume) (to : ℕ) (old new : Replica) (H : List Event) → FitsImage old.saved →
+    IsMember old.saved.members to → to ≢ old.saved.me → AskGives old to new → StandsFor volume H old.saved.me old →
+    StandsAfter volume H old.saved.me (Ask old.saved.me to) new
 ask_gives_stands volume to old new H fits peer differs gives stands = record {
   lawful = record { member = member_of old.saved.me fits.me; other = member_of to peer; differ = λ same. differs (sym same) };
   stands = asks_stands volume H old.saved.me to old new stands gives;

@@ -25,24 +25,30 @@ use Rattle.ficus_replica.proofs.Views.{stands_same}
 pub change_once : (view : View) (change : Change) → Once (ChangeRule view change)
 change_once view (Make path kind) = make_once view path kind
 
-pub change_along : {one other : View} → SameView one other → (change : Change) → Along (ChangeRule one change) (ChangeRule other change)
+pub change_along : {one other : View} → SameView one other → (change : Change) →
+    Along (ChangeRule one change) (ChangeRule other change)
 change_along same (Make path kind) = make_along same path kind
 
 -- so far each change makes a directory
 abbrev pub IsOfDirectory : Change → Type 0
 IsOfDirectory (Make path kind) = kind ≡ Dir
 
-change_directory : (view : View) (change : Change) (op : Op) → IsOfDirectory change → ChangeRule view change (Ok op) → MakesDirectory op
+change_directory : (view : View) (change : Change) (op : Op) → IsOfDirectory change → ChangeRule view change (Ok op) →
+    MakesDirectory op
 change_directory view (Make path kind) op dir rule = make_directory view path kind op dir rule
 
-change_may : (volume : Volume) (H : List Event) (r : ℕ) (change : Change) (op : Op) → ChangeRule (history_view volume H r) change (Ok op) → MayBeDone volume H r op
+change_may : (volume : Volume) (H : List Event) (r : ℕ) (change : Change) (op : Op) →
+    ChangeRule (history_view volume H r) change (Ok op) → MayBeDone volume H r op
 change_may volume H r (Make path kind) op rule = make_may volume H r path kind op rule
 
-change_ready : (old : Replica) (change : Change) (op : Op) → FitsImage old.saved → ChangeRule (tables_view old) change (Ok op) → EntersName old.saved op → FitsSaved old.saved op
+change_ready : (old : Replica) (change : Change) (op : Op) → FitsImage old.saved →
+    ChangeRule (tables_view old) change (Ok op) → EntersName old.saved op → FitsSaved old.saved op
 change_ready old (Make path kind) op fits rule name = make_fits old path kind op fits rule name
 
 -- In each of these a replica stands for a lawful history.
-module _ {volume : Volume} {H : List Event} {r : ℕ} {old : Replica} (lawful : IsLawful volume H) (member : IsMember volume.members r) (stands : StandsFor volume H r old) (change : Change) (directory : IsOfDirectory change) where
+module _ {volume : Volume} {H : List Event} {r : ℕ} {old : Replica} (lawful : IsLawful volume H)
+    (member : IsMember volume.members r) (stands : StandsFor volume H r old) (change : Change)
+    (directory : IsOfDirectory change) where
   changed_after : (next : Next) → Changed old change next → ChangedAfter volume H r change next
   changed_after next changed =
       let answer = change_along (stands_same stands) change (Ok next.op) changed.answer in
@@ -63,15 +69,21 @@ module _ {volume : Volume} {H : List Event} {r : ℕ} {old : Replica} (lawful : 
   change_stands (Err refusal) gives = memory_along (change_along (stands_same stands) change) (Err refusal) gives
 
 -- so it does over every lawful history for which the replica stands
-pub change_holds : (old : Replica) (change : Change) (result : Result Next Refusal) → IsOfDirectory change → FitsImage old.saved → ChangeGives old change result → (volume : Volume) (H : List Event) → IsLawful volume H → StandsFor volume H old.saved.me old → ChangeStands volume H old.saved.me change result
+pub change_holds : (old : Replica) (change : Change) (result : Result Next Refusal) → IsOfDirectory change →
+    FitsImage old.saved → ChangeGives old change result → (volume : Volume) (H : List Event) → IsLawful volume H →
+    StandsFor volume H old.saved.me old → ChangeStands volume H old.saved.me change result
 change_holds old change result directory fits gives volume H lawful stands =
     change_stands lawful (subst (λ members. IsMember members old.saved.me) stands.saved.members fits.me) stands change directory result gives
 
 -- the operation that the rule gives, done
-pub change_done : (old : Replica) (change : Change) (op : Op) (next : Next) → ChangeRule (tables_view old) change (Ok op) → next.op ≡ op → Applied old.saved op next.replica.saved → next.replica.ask ≡ old.ask → Changed old change next
+pub change_done : (old : Replica) (change : Change) (op : Op) (next : Next) →
+    ChangeRule (tables_view old) change (Ok op) → next.op ≡ op → Applied old.saved op next.replica.saved →
+    next.replica.ask ≡ old.ask → Changed old change next
 change_done old change op next rule is applied ask = record { answer = rw is rule; applied = rw is applied; ask = ask }
 
 -- the replica after a change fits an image
-pub change_fits : (old : Replica) (change : Change) (next : Next) → FitsImage old.saved → old.saved.generation < 2 ^ 63 - 1 → EntersName old.saved next.op → Changed old change next → FitsImage next.replica.saved
+pub change_fits : (old : Replica) (change : Change) (next : Next) → FitsImage old.saved →
+    old.saved.generation < 2 ^ 63 - 1 → EntersName old.saved next.op → Changed old change next →
+    FitsImage next.replica.saved
 change_fits old change next fits generation name changed =
     applied_fits fits (change_ready old change next.op fits changed.answer name) generation changed.applied

@@ -3,6 +3,7 @@ use Rattle.std.proofs.Common.{◌≡◌, ◌↔◌, ◌⊎◌, ℕ, ◌+◌, ◌
 use Rattle.std.specs.Prelude.{All, Contains, IsTrue, ◌==◌}
 use Rattle.std.proofs.lemmas.Bool.{eqb-true}
 use Rattle.std.proofs.lemmas.List.Elements.{All-contains, All-contains_itself, All-weaker}
+use Rattle.std.proofs.lemmas.Option.{same_Some}
 use Rattle.ficus_ids.specs.Marks.{has, HasMembersOnly}
 use Rattle.ficus_ids.specs.Members.{IsMember}
 use Rattle.ficus_ids.specs.Name.{IsName}
@@ -34,7 +35,8 @@ use Rattle.ficus_replica.proofs.Directories.{removes_none}
 use Rattle.ficus_replica.proofs.Saves.{saved_then, generation_saved, update_is_saved, written_more}
 
 -- In each of these a replica that stands for a history does one more operation, which makes a directory.
-module _ {volume : Volume} {H : List Event} {r : ℕ} {old : Saved} (op : Op) (lawful : IsLawful volume H) (is : IsSavedOf volume H r old) (makes : MakesDirectory op) where
+module _ {volume : Volume} {H : List Event} {r : ℕ} {old : Saved} (op : Op) (lawful : IsLawful volume H)
+    (is : IsSavedOf volume H r old) (makes : MakesDirectory op) where
   abbrev after : List Event
   after = H ++ Update r op ∷ []
 
@@ -61,7 +63,8 @@ module _ {volume : Volume} {H : List Event} {r : ℕ} {old : Saved} (op : Op) (l
   not_removed_here : (id : Id) → Contains (removed_by (next_id old) op) id → ⊥
   not_removed_here id removed = removes_none (next_id old) op id makes removed
 
-  held_now : (entry : Entry) (state : State) → entry.state ≡ state → IsHeldAfter old op entry state ↔ IsHeldAs after r entry state
+  held_now : (entry : Entry) (state : State) → entry.state ≡ state →
+      IsHeldAfter old op entry state ↔ IsHeldAs after r entry state
   held_now entry Live live = (
     λ stays. becomes_live (without_state entry) stays.present,
     λ held. record { present = was_live (without_state entry) held; kept = not_removed_here entry.id },
@@ -75,7 +78,8 @@ module _ {volume : Volume} {H : List Event} {r : ℕ} {old : Saved} (op : Op) (l
   directories_now : MakesDirectories after (Knows after r)
   directories_now = record { each = λ number done has. go number done (has_after_update op has) }
     where
-      go : (number : Id) (done : Op) → HasUpdate H (Knows H r) number done ⊎ ((number ≡ next_number r H) × (done ≡ op)) → MakesDirectory done
+      go : (number : Id) (done : Op) →
+          HasUpdate H (Knows H r) number done ⊎ ((number ≡ next_number r H) × (done ≡ op)) → MakesDirectory done
       go number done (inl was) = is.directories.each number done was
       go number done (inr (next, same)) = subst MakesDirectory (sym same) makes
 
@@ -89,7 +93,9 @@ module _ {volume : Volume} {H : List Event} {r : ℕ} {old : Saved} (op : Op) (l
       (record { rising = applied.rising; each = λ entry. both entry (applied.each entry) (held_now entry entry.state refl) })
       directories_now)
     where
-      both : (entry : Entry) → Contains applied.entries entry ↔ IsHeldAfter old op entry entry.state → IsHeldAfter old op entry entry.state ↔ IsHeldAs after r entry entry.state → Contains applied.entries entry ↔ IsHeldAs after r entry entry.state
+      both : (entry : Entry) → Contains applied.entries entry ↔ IsHeldAfter old op entry entry.state →
+          IsHeldAfter old op entry entry.state ↔ IsHeldAs after r entry entry.state →
+          Contains applied.entries entry ↔ IsHeldAs after r entry entry.state
       both entry one two = (λ inside. two.0 (one.0 inside), λ held. one.1 (two.1 held))
 
 -- what an operation enters may stand in the replica's tables
@@ -100,6 +106,12 @@ pub record EntersWell (old : Saved) (op : Op) (entry : ModelEntry) : Type 0 wher
   pub target : IsIssuable old.members entry.target
   pub target_past : IsOfPast old.me (old.next + 1) entry.target
   pub attic : entry.dir ≡ ATTIC → Contains (removed_by (next_id old) op) entry.id
+
+-- an operation enters one entry
+pub enters_one : (old : Saved) (op : Op) (entry : ModelEntry) → entered_by (next_id old) op ≡ Some entry →
+    EntersWell old op entry → (other : ModelEntry) → entered_by (next_id old) op ≡ Some other → EntersWell old op other
+enters_one old op entry enters well other enters_other =
+    subst (EntersWell old op) (same_Some entry other (sym enters ∙ enters_other)) well
 
 -- the replica has an update and so many bytes left, and what is entered may stand in its tables
 pub record FitsSaved (old : Saved) (op : Op) : Type 0 where
@@ -165,7 +177,8 @@ module _ {old : Saved} {op : Op} (fits : FitsImage old) (ready : FitsSaved old o
         attic = well.attic;
       }
 
-  fits_marks : (one two : ℕ) → StandFor one (λ replica. replica == old.me) → StandFor two (λ replica. false) → FitsMarks old.members one two
+  fits_marks : (one two : ℕ) → StandFor one (λ replica. replica == old.me) → StandFor two (λ replica. false) →
+      FitsMarks old.members one two
   fits_marks one two known known_of_all = record {
     first = λ replica inside. subst (IsMember old.members) (sym (eqb-true replica old.me (sym (known replica) ∙ inside))) fits.me;
     second = λ replica inside. let never : false ≡ true = sym (known_of_all replica) ∙ inside in cc;
@@ -173,18 +186,21 @@ module _ {old : Saved} {op : Op} (fits : FitsImage old) (ready : FitsSaved old o
     knows = known old.me ∙ search rules;
   }
 
-  fits_then : (entry : Entry) (state : State) → entry.state ≡ state → IsHeldAfter old op entry state → FitsThen (record entry { state = state })
+  fits_then : (entry : Entry) (state : State) → entry.state ≡ state → IsHeldAfter old op entry state →
+      FitsThen (record entry { state = state })
   fits_then entry Live is stays =
       let is_there = there (without_state entry) stays.present in
       record {
-        tables = record { id = is_there.id; dir = is_there.dir; name = is_there.name; target = is_there.target; state = tt; attic = λ in_attic. stays.kept (is_there.attic in_attic) };
+        tables = record { id = is_there.id; dir = is_there.dir; name = is_there.name; target = is_there.target; state =
+            tt; attic = λ in_attic. stays.kept (is_there.attic in_attic) };
         past = is_there.past;
       }
   fits_then entry (Dead one two) is (inl was) = subst (λ state. FitsThen (record entry { state = state })) is (was_there entry was)
   fits_then entry (Dead one two) is (inr now) =
       let is_there = there (without_state entry) now.present in
       record {
-        tables = record { id = is_there.id; dir = is_there.dir; name = is_there.name; target = is_there.target; state = fits_marks one two now.known now.known_of_all; attic = tt };
+        tables = record { id = is_there.id; dir = is_there.dir; name = is_there.name; target = is_there.target; state =
+            fits_marks one two now.known now.known_of_all; attic = tt };
         past = record { id = is_there.past.id; dir = is_there.past.dir; target = is_there.past.target };
       }
 
@@ -200,8 +216,12 @@ module _ {old : Saved} {op : Op} (fits : FitsImage old) (ready : FitsSaved old o
     next_at_most = omega (arith, ready.left);
     used = ready.bytes;
     generation = omega arith;
-    tables = record { rising = applied.rising; each = All-weaker (Contains applied.entries) (FitsEntry old.members) (λ entry inside. (then entry inside).tables) applied.entries (All-contains_itself applied.entries) };
-    past = record { each = All-weaker (Contains applied.entries) (IsEntryOfPast old.me (old.next + 1)) (λ entry inside. (then entry inside).past) applied.entries (All-contains_itself applied.entries) };
+    tables = record { rising = applied.rising; each =
+        All-weaker (Contains applied.entries) (FitsEntry old.members) (λ entry inside. (then entry inside).tables)
+        applied.entries (All-contains_itself applied.entries) };
+    past = record { each =
+        All-weaker (Contains applied.entries) (IsEntryOfPast old.me (old.next + 1))
+        (λ entry inside. (then entry inside).past) applied.entries (All-contains_itself applied.entries) };
   })
     where
       then : (entry : Entry) → Contains applied.entries entry → FitsThen entry

@@ -39,7 +39,8 @@ closed_by_own r (Accept by serve) closes = closes
 closed_by_own r (Collect by) closes = absurd closes
 closed_by_own r (Restart by) closes = closes
 
-serve_stands : (volume : Volume) (H : List Event) (r : ℕ) (replica : Replica) (event : Event) → StandsFor volume H r replica → IsServe event → StandsFor volume (H ++ event ∷ []) r replica
+serve_stands : (volume : Volume) (H : List Event) (r : ℕ) (replica : Replica) (event : Event) →
+    StandsFor volume H r replica → IsServe event → StandsFor volume (H ++ event ∷ []) r replica
 serve_stands volume H r replica (Serve by ask) stands is =
     let event = Serve by ask in
     record {
@@ -53,7 +54,8 @@ serve_stands volume H r replica (Collect by) stands is = absurd is
 serve_stands volume H r replica (Restart by) stands is = absurd is
 
 -- what another replica does, and what a replica serves, leaves it as it is
-pub quiet_stands : (volume : Volume) (H : List Event) (r : ℕ) (replica : Replica) (event : Event) → StandsFor volume H r replica → (actor event ≢ r) ⊎ IsServe event → StandsFor volume (H ++ event ∷ []) r replica
+pub quiet_stands : (volume : Volume) (H : List Event) (r : ℕ) (replica : Replica) (event : Event) →
+    StandsFor volume H r replica → (actor event ≢ r) ⊎ IsServe event → StandsFor volume (H ++ event ∷ []) r replica
 quiet_stands volume H r replica event stands (inl other) = record {
   saved = saved_kept event (same_of_other H event r other) (is_update_of_other r event other) stands.saved (saved_of_other r event other);
   ask = open_kept H r replica.ask event (λ closes. other (closed_by_own r event closes)) stands.ask;
@@ -61,7 +63,8 @@ quiet_stands volume H r replica event stands (inl other) = record {
 quiet_stands volume H r replica event stands (inr serve) = serve_stands volume H r replica event stands serve
 
 -- what is saved is kept by a restart, and there is no open ask after it
-pub restart_stands : (volume : Volume) (H : List Event) (r : ℕ) (saved : Saved) (new : Replica) → IsSavedOf volume H r saved → new.saved ≡ saved → new.ask ≡ None → StandsFor volume (H ++ Restart r ∷ []) r new
+pub restart_stands : (volume : Volume) (H : List Event) (r : ℕ) (saved : Saved) (new : Replica) →
+    IsSavedOf volume H r saved → new.saved ≡ saved → new.ask ≡ None → StandsFor volume (H ++ Restart r ∷ []) r new
 restart_stands volume H r saved new was same none =
     let event = Restart r in
     record {
@@ -84,7 +87,8 @@ restart_at : {H : List Event} {position : ℕ} {event : Event} → All IsRestart
 restart_at {H} {position} {event} restarts a = subst IsRestart (get_or_from_slice_get H position event event a.is) (restarts position event (at_within a))
 
 -- a measure that is nothing for each restart
-not_measured : (measure : Event → ℕ) (event : Event) → ((by : ℕ) → measure (Restart by) ≡ 0) → IsRestart event → measure event ≤ 0
+not_measured : (measure : Event → ℕ) (event : Event) → ((by : ℕ) → measure (Restart by) ≡ 0) → IsRestart event →
+    measure event ≤ 0
 not_measured measure (Restart by) none is = omega (arith, none by)
 not_measured measure (Update by op) none is = absurd is
 not_measured measure (Ask by to) none is = absurd is
@@ -94,7 +98,9 @@ not_measured measure (Collect by) none is = absurd is
 
 module _ (H : List Event) (r : ℕ) (restarts : All IsRestart H) where
   nothing_summed : (measure : Event → ℕ) → ((by : ℕ) → measure (Restart by) ≡ 0) → sum_by measure H ≡ 0
-  nothing_summed measure none = omega (arith, sum_by-le measure 0 H (All-weaker IsRestart (λ x. measure x ≤ 0) (λ event is. not_measured measure event none is) H restarts))
+  nothing_summed measure none =
+      omega (arith, sum_by-le measure 0 H
+      (All-weaker IsRestart (λ x. measure x ≤ 0) (λ event is. not_measured measure event none is) H restarts))
 
   count_fresh : count_of r H ≡ 0
   count_fresh = nothing_summed (λ event. cond (is_update_of r event) 1 0) (λ by. refl)
@@ -138,7 +144,8 @@ no_ask r None none = refl
 no_ask r (Some asked) waits = absurd (restart_at no_restarts waits.1.ask)
 
 -- so whatever stands for no events stands for the restarts too
-pub restarted_stands : (volume : Volume) (H : List Event) (r : ℕ) (replica : Replica) → All IsRestart H → StandsFor volume [] r replica → StandsFor volume H r replica
+pub restarted_stands : (volume : Volume) (H : List Event) (r : ℕ) (replica : Replica) → All IsRestart H →
+    StandsFor volume [] r replica → StandsFor volume H r replica
 restarted_stands volume H r replica restarts stands =
     let saved = saved_once stands.saved (fresh_stands [] r no_restarts volume).saved in
     let fresh = fresh_stands H r restarts volume in

@@ -32,7 +32,8 @@ into_map f (y ∷ xs) x inside =
       | inr later ↦ there (f y) (f x) (map f xs) (into_map f xs x later)
     ]
 
-from_map : {X Y : Type 0} (f : X → Y) (xs : List X) (y : Y) → Contains (map f xs) y → (x : X) × Contains xs x × (f x ≡ y)
+from_map : {X Y : Type 0} (f : X → Y) (xs : List X) (y : Y) → Contains (map f xs) y →
+    (x : X) × Contains xs x × (f x ≡ y)
 from_map f [] y inside = absurd (not_inside_none y inside)
 from_map f (x ∷ xs) y inside =
     elim (here_or_there (f x) y (map f xs) inside) [
@@ -40,7 +41,8 @@ from_map f (x ∷ xs) y inside =
       | inr later ↦ let found = from_map f xs y later in (found.0, there x found.0 xs found.1, found.2)
     ]
 
-pairs_append : {X : Type 0} (R : X → X → Type 0) (xs ys : List X) → AllPairs R xs → AllPairs R ys → ((x y : X) → Contains xs x → Contains ys y → R x y) → AllPairs R (xs ++ ys)
+pairs_append : {X : Type 0} (R : X → X → Type 0) (xs ys : List X) → AllPairs R xs → AllPairs R ys →
+    ((x y : X) → Contains xs x → Contains ys y → R x y) → AllPairs R (xs ++ ys)
 pairs_append R xs ys first second across i j d before within =
     elim (cases_lt j (length xs)) as (λ _. R (get_or (xs ++ ys) i d) (get_or (xs ++ ys) j d)) [
       | inl early ↦ rw (get_or-append xs ys d i (omega arith), get_or-append xs ys d j early) (first i j d before early)
@@ -48,7 +50,9 @@ pairs_append R xs ys first second across i j d before within =
           let at : get_or (xs ++ ys) j d ≡ get_or ys (j - length xs) d = get_or-append_right xs ys (length xs) j d refl late in
           let inside : j - length xs < length ys = omega (arith, length-append xs ys) in
           elim (cases_lt i (length xs)) as (λ _. R (get_or (xs ++ ys) i d) (get_or (xs ++ ys) j d)) [
-            | inl early ↦ rw (get_or-append xs ys d i early, at) (across (get_or xs i d) (get_or ys (j - length xs) d) (Contains-get_or xs i d early) (Contains-get_or ys (j - length xs) d inside))
+            | inl early ↦ rw (get_or-append xs ys d i early, at)
+                (across (get_or xs i d) (get_or ys (j - length xs) d) (Contains-get_or xs i d early)
+                (Contains-get_or ys (j - length xs) d inside))
             | inr late_too ↦ rw (get_or-append_right xs ys (length xs) i d refl late_too, at) (second (i - length xs) (j - length xs) d (omega arith) inside)
           ]
     ]
@@ -70,7 +74,8 @@ module _ (view : View) where
     ordered = λ i j d before within. absurd (omega arith);
   }
 
-  module _ (directories : HasDirectoriesOnly view) (dir : Id) (names : List ShownName) (listing : IsListing (IsBoundIn view dir) names) where
+  module _ (directories : HasDirectoriesOnly view) (dir : Id) (names : List ShownName)
+      (listing : IsListing (IsBoundIn view dir) names) where
     abbrev own : List Line
     own = map (line_of dir) names
 
@@ -90,7 +95,8 @@ module _ (view : View) where
     own_has : (target : Id) (name : List ℕ) → binds dir name target → HasLine own dir name target
     own_has target name bound =
         let shows = listing.complete name target bound in
-        record { line = line_of dir shows.item; listed = into_map (line_of dir) names shows.item shows.inside; in_dir = refl; named = shows.named; leads = shows.leads }
+        record { line = line_of dir shows.item; listed = into_map (line_of dir) names shows.item shows.inside; in_dir =
+            refl; named = shows.named; leads = shows.leads }
 
     own_ordered : AllPairs (λ a b. line_cmp a b ≡ Less) own
     own_ordered i j d before within =
@@ -99,7 +105,9 @@ module _ (view : View) where
         (at_one (id_cmp dir dir) (shown_cmp (get_or names i d.shown) (get_or names j d.shown)) (id_cmp-self dir) (listing.rising i j d.shown before inside))
 
     -- the lines of further directories, all above those so far, go behind
-    pub lines_more : (shows more : Id → Type 0) (lines : List Line) → AreLines view shows lines → ((other : Id) → shows other → id_cmp other dir ≡ Less) → ((other : Id) → shows other → more other) → more dir → ((other : Id) → more other → shows other ⊎ (other ≡ dir)) → AreLines view more (lines ++ own)
+    pub lines_more : (shows more : Id → Type 0) (lines : List Line) → AreLines view shows lines →
+        ((other : Id) → shows other → id_cmp other dir ≡ Less) → ((other : Id) → shows other → more other) → more dir →
+        ((other : Id) → more other → shows other ⊎ (other ≡ dir)) → AreLines view more (lines ++ own)
     lines_more shows more lines are below kept new either = record {
       each = λ line listed. elim (Contains-append_cases lines own line listed) as (λ _. more line.dir × IsShownLine view line) [
         | inl earlier ↦ let is = are.each line earlier in (kept line.dir is.0, is.1)
@@ -111,10 +119,12 @@ module _ (view : View) where
             record { line = has.line; listed = Contains-append_left lines own has.line has.listed; in_dir = has.in_dir; named = has.named; leads = has.leads }
         | inr is ↦
             let has = own_has target name (subst (λ at. binds at name target) is bound) in
-            record { line = has.line; listed = Contains-append_right lines own has.line has.listed; in_dir = has.in_dir ∙ sym is; named = has.named; leads = has.leads }
+            record { line = has.line; listed = Contains-append_right lines own has.line has.listed; in_dir =
+                has.in_dir ∙ sym is; named = has.named; leads = has.leads }
       ];
       ordered = pairs_append (λ a b. line_cmp a b ≡ Less) lines own are.ordered own_ordered (λ a b earlier mine.
-          at_lower (id_cmp a.dir b.dir) (shown_cmp a.shown b.shown) (subst (λ at. id_cmp a.dir at ≡ Less) (sym (own_dir b mine)) (below a.dir (are.each a earlier).0)));
+          at_lower (id_cmp a.dir b.dir) (shown_cmp a.shown b.shown)
+              (subst (λ at. id_cmp a.dir at ≡ Less) (sym (own_dir b mine)) (below a.dir (are.each a earlier).0)));
     }
 
     -- the lines of one directory
@@ -133,7 +143,8 @@ module _ {one other : View} (same : SameView one other) where
   }
 
   -- views that show the same have the same lines
-  pub lines_along : {shows more : Id → Type 0} {lines : List Line} → ((dir : Id) → shows dir ↔ more dir) → AreLines one shows lines → AreLines other more lines
+  pub lines_along : {shows more : Id → Type 0} {lines : List Line} → ((dir : Id) → shows dir ↔ more dir) →
+      AreLines one shows lines → AreLines other more lines
   lines_along either are = record {
     each = λ line listed. let is = are.each line listed in ((either line.dir).0 is.0, line_shown is.1);
     all = λ dir target name shown bound. are.all dir target name ((either dir).1 shown) (bound_there (same_back same) bound);
@@ -141,12 +152,16 @@ module _ {one other : View} (same : SameView one other) where
   }
 
 module _ {view : View} (kinds : HasOneKind view) {shows : Id → Type 0} where
-  line_inside : (lines others : List Line) → AreLines view shows lines → AreLines view shows others → (line : Line) → Contains lines line → Contains others line
+  line_inside : (lines others : List Line) → AreLines view shows lines → AreLines view shows others → (line : Line) →
+      Contains lines line → Contains others line
   line_inside lines others are are_too line inside =
       let own = are.each line inside in
       let found = are_too.all line.dir line.shown.target line.shown.name own.0 own.1.shown.bound in
       let his = (are_too.each found.line found.listed).1 in
-      let in_dir : IsShownAs (IsBoundIn view line.dir) found.line.shown.name found.line.shown.target found.line.shown.suffixed = subst (λ dir. IsShownAs (IsBoundIn view dir) found.line.shown.name found.line.shown.target found.line.shown.suffixed) found.in_dir his.shown in
+      let in_dir : IsShownAs (IsBoundIn view line.dir) found.line.shown.name found.line.shown.target
+          found.line.shown.suffixed =
+          subst (λ dir. IsShownAs (IsBoundIn view dir) found.line.shown.name found.line.shown.target
+          found.line.shown.suffixed) found.in_dir his.shown in
       let suffixed = one_suffix line.shown.suffixed found.line.shown.suffixed own.1.shown in_dir found.named found.leads in
       let kind = kinds.one line.shown.target line.kind found.line.kind own.1.kind (subst (λ target. view.kinds target found.line.kind) found.leads his.kind) in
       let conflict = his.conflict ∙ sym own.1.conflict in

@@ -13,5 +13,8 @@ use Rattle.ficus_replica.proofs.Walks.{directory_once, directory_along}
 pub list_once : (view : View) → HasOneKind view → (path : Path) → Once (ListRule view path)
 list_once view kinds path = then_once (directory_once view path.base path.parts) (λ dir. tells_once Lines (lines_once kinds))
 
-pub list_along : {one other : View} → SameView one other → (path : Path) → Along (ListRule one path) (ListRule other path)
-list_along same path = then_along (directory_along same path.base path.parts) (λ dir walked. tells_along Lines (λ lines are. lines_along same (λ shown. (λ is. is, λ is. is)) are))
+pub list_along : {one other : View} → SameView one other → (path : Path) →
+    Along (ListRule one path) (ListRule other path)
+list_along same path =
+    then_along (directory_along same path.base path.parts)
+    (λ dir walked. tells_along Lines (λ lines are. lines_along same (λ shown. (λ is. is, λ is. is)) are))

@@ -19,7 +19,8 @@ pub look_once : (view : View) → HasOneKind view → (look : Look) → Once (Lo
 look_once view kinds (List path) = list_once view kinds path
 look_once view kinds Tree = tree_once kinds
 
-pub look_along : {one other : View} → SameView one other → (look : Look) → Along (LookRule one look) (LookRule other look)
+pub look_along : {one other : View} → SameView one other → (look : Look) →
+    Along (LookRule one look) (LookRule other look)
 look_along same (List path) = list_along same path
 look_along same Tree = tree_along same
 
@@ -27,5 +28,6 @@ look_along same Tree = tree_along same
 pub history_kinds : (volume : Volume) (H : ListOf Event) (r : ℕ) → HasOneKind (history_view volume H r)
 history_kinds volume H r = record { one = λ object kind other made made_too. made_once made made_too }
 
-pub look_stands : {volume : Volume} {H : ListOf Event} {r : ℕ} {replica : Replica} → StandsFor volume H r replica → (look : Look) (result : Result Told Refusal) → LookGives replica look result → LookStands volume H r look result
+pub look_stands : {volume : Volume} {H : ListOf Event} {r : ℕ} {replica : Replica} → StandsFor volume H r replica →
+    (look : Look) (result : Result Told Refusal) → LookGives replica look result → LookStands volume H r look result
 look_stands stands look result gives = memory_along (look_along (stands_same stands) look) result gives

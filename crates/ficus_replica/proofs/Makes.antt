@@ -1,19 +1,15 @@
 -- `make`: its answer is one, the same over views that show the same, and what it does may be done and fits tables.
-use Rattle.std.proofs.Common.{◌≡◌, ◌<◌, ℕ, ◌+◌, List, Ok, refl, ap, subst, sym, ◌∙◌, arith}
+use Rattle.std.proofs.Common.{◌≡◌, ℕ, List, Ok, ap, subst, sym, arith}
 use Rattle.std.specs.Prelude.{Some, IfSome}
-use Rattle.std.proofs.lemmas.Option.{same_Some}
 use Rattle.ficus_ids.specs.Name.{IsName}
-use Rattle.ficus_ids.specs.declared.id.Id.{Id}
 use Rattle.ficus_ids.specs.declared.kind.Kind.{Kind}
 use Rattle.ficus_ids.specs.declared.kind.Kind.TheVariants.{Dir}
 use Rattle.ficus_ids.specs.declared.refusal.Refusal.TheVariants.{Exists, Spent}
 use Rattle.ficus_model.specs.declared.event.Event.{Event}
 use Rattle.ficus_model.specs.declared.event.Op.{Op}
 use Rattle.ficus_model.specs.declared.event.Op.TheVariants.{Make}
-use Rattle.ficus_model.specs.Events.{count_of}
-use Rattle.ficus_model.specs.Known.{Knows}
-use Rattle.ficus_model.specs.Lawful.{Volume, IsAllowed, HasBytesLeft}
-use Rattle.ficus_model.specs.Live.{Entry as ModelEntry, entry_of, entered_by}
+use Rattle.ficus_model.specs.Lawful.{Volume}
+use Rattle.ficus_model.specs.Live.{entry_of, entered_by}
 use Rattle.ficus_path.specs.declared.path.Path.{Path}
 use Rattle.ficus_codec.specs.Saved.{FitsImage}
 use Rattle.ficus_replica.specs.declared.replica.Replica.{Replica}
@@ -24,51 +20,50 @@ use Rattle.ficus_replica.specs.SavedOf.{MakesDirectory}
 use Rattle.ficus_replica.specs.View.{View, SameView, tables_view, history_view}
 use Rattle.ficus_replica.specs.Walk.{last_name}
 use Rattle.ficus_replica.proofs.Allowed.{MayBeDone, new_place}
-use Rattle.ficus_replica.proofs.Effects.{EntersWell, FitsSaved, next_issuable}
-use Rattle.ficus_replica.proofs.Places.{MayHold, parent_place}
+use Rattle.ficus_replica.proofs.Effects.{FitsSaved, enters_one, next_issuable}
+use Rattle.ficus_replica.proofs.Places.{reached_place}
 use Rattle.ficus_replica.proofs.Rules.{then_once, unless_once, gives_once, then_along, unless_along, gives_along}
 use Rattle.ficus_replica.proofs.Views.{taken_same}
-use Rattle.ficus_replica.proofs.Walks.{parent_once, parent_along}
+use Rattle.ficus_replica.proofs.Walks.{parent_once, parent_along, parent_walked}
 
 pub make_once : (view : View) (path : Path) (kind : Kind) → Once (MakeRule view path kind)
 make_once view path kind = then_once (parent_once view path) (λ dir. unless_once _ _ (unless_once _ _ (gives_once _)))
 
-pub make_along : {one other : View} → SameView one other → (path : Path) (kind : Kind) → Along (MakeRule one path kind) (MakeRule other path kind)
-make_along same path kind = then_along (parent_along same path) (λ dir walked. unless_along Exists (taken_same same dir (last_name path)) (unless_along Spent same.spent (gives_along (Make dir (last_name path) kind))))
+pub make_along : {one other : View} → SameView one other → (path : Path) (kind : Kind) →
+    Along (MakeRule one path kind) (MakeRule other path kind)
+make_along same path kind =
+    then_along (parent_along same path)
+    (λ dir walked. unless_along Exists (taken_same same dir (last_name path))
+    (unless_along Spent same.spent (gives_along (Make dir (last_name path) kind))))
 
 -- so far a `make` is asked for a directory
-pub make_directory : (view : View) (path : Path) (kind : Kind) (op : Op) → kind ≡ Dir → MakeRule view path kind (Ok op) → MakesDirectory op
-make_directory view path kind op dir (parent, walk, (free, (left, is))) = subst MakesDirectory (sym is) dir
+pub make_directory : (view : View) (path : Path) (kind : Kind) (op : Op) → kind ≡ Dir →
+    MakeRule view path kind (Ok op) → MakesDirectory op
+make_directory view path kind op directory (dir, walk, (free, (left, is))) = subst MakesDirectory (sym is) directory
 
-pub make_may : (volume : Volume) (H : List Event) (r : ℕ) (path : Path) (kind : Kind) (op : Op) → MakeRule (history_view volume H r) path kind (Ok op) → MayBeDone volume H r op
-make_may volume H r path kind op (parent, walk, (free, (left, is))) = subst (MayBeDone volume H r) (sym is) (record {
+pub make_may : (volume : Volume) (H : List Event) (r : ℕ) (path : Path) (kind : Kind) (op : Op) →
+    MakeRule (history_view volume H r) path kind (Ok op) → MayBeDone volume H r op
+make_may volume H r path kind op (dir, walk, (free, (left, is))) = subst (MayBeDone volume H r) (sym is) (record {
   left = omega arith;
   bytes = tt;
-  allowed = new_place volume H r path parent (last_name path) walk free;
+  allowed = new_place volume H r dir (last_name path) (parent_walked (history_view volume H r) path dir walk) free;
 })
 
-pub make_fits : (old : Replica) (path : Path) (kind : Kind) (op : Op) → FitsImage old.saved → MakeRule (tables_view old) path kind (Ok op) → EntersName old.saved op → FitsSaved old.saved op
-make_fits old path kind op fits (parent, walk, (free, (left, is))) name = record {
-  left = omega arith;
-  bytes = rw is (omega (arith, fits.used));
-  enters = λ entry enters. subst (EntersWell old.saved op) (same entry enters) (record {
-    place = place.place;
-    place_past = place.past;
-    name = subst (λ found. IfSome found (λ e. IsName e.name)) made name;
-    target = next_issuable fits (omega arith);
-    target_past = λ own. omega arith;
-    attic = λ in_attic. absurd (place.no_attic in_attic);
-  });
-}
-  where
-    place : MayHold old fits parent
-    place = parent_place old fits path parent walk
-
-    new : ModelEntry
-    new = entry_of (next_id old.saved) parent (last_name path) (next_id old.saved)
-
-    made : entered_by (next_id old.saved) op ≡ Some new
-    made = ap (entered_by (next_id old.saved)) is
-
-    same : (entry : ModelEntry) → entered_by (next_id old.saved) op ≡ Some entry → new ≡ entry
-    same entry enters = same_Some new entry (sym made ∙ enters)
+pub make_fits : (old : Replica) (path : Path) (kind : Kind) (op : Op) → FitsImage old.saved →
+    MakeRule (tables_view old) path kind (Ok op) → EntersName old.saved op → FitsSaved old.saved op
+make_fits old path kind op fits (dir, walk, (free, (left, is))) name =
+    let id = next_id old.saved in
+    let place = reached_place old fits (parent_walked (tables_view old) path dir walk).reached in
+    let made : entered_by id op ≡ Some (entry_of id dir (last_name path) id) = ap (entered_by id) is in
+    record {
+      left = omega arith;
+      bytes = rw is (omega (arith, fits.used));
+      enters = enters_one old.saved op (entry_of id dir (last_name path) id) made (record {
+        place = place.place;
+        place_past = place.past;
+        name = subst (λ found. IfSome found (λ e. IsName e.name)) made name;
+        target = next_issuable fits (omega arith);
+        target_past = λ own. omega arith;
+        attic = λ in_attic. absurd (place.no_attic in_attic);
+      });
+    }

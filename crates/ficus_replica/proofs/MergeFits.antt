@@ -67,10 +67,12 @@ module _ (r members : ℕ) (me : IsMember members r) where
   of_two : (one two : ℕ) → FitsState members (Dead one two) → OfMembers (has two)
   of_two one two fits = record { each = fits.second }
 
-  same_members : (marks : ℕ) (set : ℕ → Bool) → OfMembers set → ((replica : ℕ) → has marks replica ≡ set replica) → HasMembersOnly marks members
+  same_members : (marks : ℕ) (set : ℕ → Bool) → OfMembers set → ((replica : ℕ) → has marks replica ≡ set replica) →
+      HasMembersOnly marks members
   same_members marks set of same replica inside = of.each replica (sym (same replica) ∙ inside)
 
-  second_fits : (one two : ℕ → Bool) (first second : ℕ) → OfMembers two → HasMarks r members one two first second → HasMembersOnly second members
+  second_fits : (one two : ℕ → Bool) (first second : ℕ) → OfMembers two → HasMarks r members one two first second →
+      HasMembersOnly second members
   second_fits one two first second of marks =
       elim (full_or_one_missing first members) [
         | inl full ↦ same_members second (with two r) (of_with two of) (marks.two_with_r full)
@@ -87,7 +89,8 @@ module _ (r members : ℕ) (me : IsMember members r) where
       let same = same_Some after kept is in
       record { fits = subst (FitsState members) (sym same) fits; live = λ live. sym same ∙ live }
 
-  fits_dead : (kept after : State) (one two : ℕ → Bool) → IsKnownBy one → OfMembers two → IsDead r members one two (Some after) → FitsAfter kept after
+  fits_dead : (kept after : State) (one two : ℕ → Bool) → IsKnownBy one → OfMembers two →
+      IsDead r members one two (Some after) → FitsAfter kept after
   fits_dead kept Live one two known of dead = absurd dead
   fits_dead kept (Dead first second) one two known of marks = record {
     fits = record {
@@ -99,41 +102,51 @@ module _ (r members : ℕ) (me : IsMember members r) where
     live = λ live. cc;
   }
 
-  fits_taken : (own : Bool) (kept after : State) (one two : ℕ → Bool) → IsKnownBy one → OfMembers two → MatchBool own (Some after ≡ None) (IsDead r members one two (Some after)) → FitsAfter kept after
+  fits_taken : (own : Bool) (kept after : State) (one two : ℕ → Bool) → IsKnownBy one → OfMembers two →
+      MatchBool own (Some after ≡ None) (IsDead r members one two (Some after)) → FitsAfter kept after
   fits_taken true kept after one two known of none = cc
   fits_taken false kept after one two known of dead = fits_dead kept after one two known of dead
 
   -- where the peer has nothing
-  fits_inferred : (one two : ℕ) (after : State) → FitsState members (Dead one two) → Merges r members (Some (Dead one two)) None (Some after) → FitsAfter (Dead one two) after
+  fits_inferred : (one two : ℕ) (after : State) → FitsState members (Dead one two) →
+      Merges r members (Some (Dead one two)) None (Some after) → FitsAfter (Dead one two) after
   fits_inferred one two after fits row =
       elim (full_or_one_missing one members) [
         | inl full ↦ fits_dead (Dead one two) after (has one) (everyone members) (known_one one two fits) of_everyone (row.0 full)
-        | inr missing ↦ fits_dead (Dead one two) after (has one) (has two) (known_one one two fits) (of_two one two fits) (row.1 (λ full. cc (full missing.0 missing.1, missing.2)))
+        | inr missing ↦ fits_dead (Dead one two) after (has one) (has two) (known_one one two fits)
+            (of_two one two fits) (row.1 (λ full. cc (full missing.0 missing.1, missing.2)))
       ]
 
-  fits_mine : (mine : State) (theirs : Option State) (after : State) → FitsState members mine → IfSome theirs (FitsState members) → Merges r members (Some mine) theirs (Some after) → FitsAfter mine after
+  fits_mine : (mine : State) (theirs : Option State) (after : State) → FitsState members mine →
+      IfSome theirs (FitsState members) → Merges r members (Some mine) theirs (Some after) → FitsAfter mine after
   fits_mine Live None after fits fits_theirs row = fits_same Live after fits row
   fits_mine Live (Some Live) after fits fits_theirs row = fits_same Live after fits row
-  fits_mine Live (Some (Dead one two)) after fits fits_theirs row = fits_dead Live after (with (has one) r) (has two) (known_with (has one) (known_one one two fits_theirs)) (of_two one two fits_theirs) row
+  fits_mine Live (Some (Dead one two)) after fits fits_theirs row =
+      fits_dead Live after (with (has one) r) (has two) (known_with (has one) (known_one one two fits_theirs))
+      (of_two one two fits_theirs) row
   fits_mine (Dead one two) None after fits fits_theirs row = fits_inferred one two after fits row
-  fits_mine (Dead one two) (Some Live) after fits fits_theirs row = fits_dead (Dead one two) after (has one) (has two) (known_one one two fits) (of_two one two fits) row
+  fits_mine (Dead one two) (Some Live) after fits fits_theirs row =
+      fits_dead (Dead one two) after (has one) (has two) (known_one one two fits) (of_two one two fits) row
   fits_mine (Dead one two) (Some (Dead peers_one peers_two)) after fits fits_theirs row =
       fits_dead (Dead one two) after (union (has one) (has peers_one)) (union (has two) (has peers_two))
       (known_union (has one) (has peers_one) (known_one one two fits) (known_one peers_one peers_two fits_theirs))
       (of_union (has two) (has peers_two) (of_two one two fits) (of_two peers_one peers_two fits_theirs))
       row
 
-  fits_theirs : (theirs : State) (after : State) → FitsState members theirs → Merges r members None (Some theirs) (Some after) → FitsAfter theirs after
+  fits_theirs : (theirs : State) (after : State) → FitsState members theirs →
+      Merges r members None (Some theirs) (Some after) → FitsAfter theirs after
   fits_theirs Live after fits row = fits_same Live after fits row
   fits_theirs (Dead one two) after fits row =
       fits_taken (has one r) (Dead one two) after (with (has one) r) (has two) (known_with (has one) (known_one one two fits)) (of_two one two fits) row
 
-  attic_after : (dir : Id) (kept after : State) → FitsAttic dir kept → (after ≡ Live → kept ≡ Live) → FitsAttic dir after
+  attic_after : (dir : Id) (kept after : State) → FitsAttic dir kept → (after ≡ Live → kept ≡ Live) →
+      FitsAttic dir after
   attic_after dir kept Live fits live = subst (FitsAttic dir) (live refl) fits
   attic_after dir kept (Dead one two) fits live = tt
 
   -- an entry that is kept, in its new state
-  tables_after : (kept after : Entry) → FitsEntry members kept → after ≡ record kept { state = after.state } → FitsAfter kept.state after.state → FitsEntry members after
+  tables_after : (kept after : Entry) → FitsEntry members kept → after ≡ record kept { state = after.state } →
+      FitsAfter kept.state after.state → FitsEntry members after
   tables_after kept after fits is state =
       let P : Entry → Type 0 = FitsEntry members in
       subst P (sym is) (record {
@@ -145,7 +158,8 @@ module _ (r members : ℕ) (me : IsMember members r) where
         attic = attic_after kept.dir kept.state after.state fits.attic state.live;
       })
 
-  past_after : (next : ℕ) (kept after : Entry) → IsEntryOfPast r next kept → after ≡ record kept { state = after.state } → IsEntryOfPast r next after
+  past_after : (next : ℕ) (kept after : Entry) → IsEntryOfPast r next kept →
+      after ≡ record kept { state = after.state } → IsEntryOfPast r next after
   past_after next kept after past is =
       let P : Entry → Type 0 = IsEntryOfPast r next in
       subst P (sym is) (record { id = past.id; dir = past.dir; target = past.target })
@@ -156,17 +170,20 @@ module _ (r members : ℕ) (me : IsMember members r) where
       tables : FitsEntry members entry
       past : IsEntryOfPast r next entry
 
-    replica_mine : (mine : Entry) (theirs : Option Entry) (after : Entry) → FitsReplica mine → IfSome theirs FitsReplica → MergesEntry r members (Some mine) theirs (Some after) → FitsReplica after
+    replica_mine : (mine : Entry) (theirs : Option Entry) (after : Entry) → FitsReplica mine →
+        IfSome theirs FitsReplica → MergesEntry r members (Some mine) theirs (Some after) → FitsReplica after
     replica_mine mine None after fits fits_other row = record {
       tables = tables_after mine after fits.tables row.place (fits_mine mine.state None after.state fits.tables.state tt row.state);
       past = past_after next mine after fits.past row.place;
     }
     replica_mine mine (Some theirs) after fits fits_other row = record {
-      tables = tables_after mine after fits.tables row.place (fits_mine mine.state (Some theirs.state) after.state fits.tables.state fits_other.tables.state row.state);
+      tables = tables_after mine after fits.tables row.place
+          (fits_mine mine.state (Some theirs.state) after.state fits.tables.state fits_other.tables.state row.state);
       past = past_after next mine after fits.past row.place;
     }
 
-    replica_after : (mine theirs : Option Entry) (after : Entry) → IfSome mine FitsReplica → IfSome theirs FitsReplica → MergesEntry r members mine theirs (Some after) → FitsReplica after
+    replica_after : (mine theirs : Option Entry) (after : Entry) → IfSome mine FitsReplica → IfSome theirs FitsReplica →
+        MergesEntry r members mine theirs (Some after) → FitsReplica after
     replica_after (Some mine) theirs after fits fits_other row = replica_mine mine theirs after fits fits_other row
     replica_after None (Some theirs) after fits fits_other row = record {
       tables = tables_after theirs after fits_other.tables row.place (fits_theirs theirs.state after.state fits_other.tables.state row.state);
@@ -174,11 +191,13 @@ module _ (r members : ℕ) (me : IsMember members r) where
     }
     replica_after None None after fits fits_other row = absurd row.place
 
-    held_fits : (entries : List Entry) (id : Id) (found : Option Entry) → All FitsReplica entries → HoldsUnder entries id found → IfSome found FitsReplica
+    held_fits : (entries : List Entry) (id : Id) (found : Option Entry) → All FitsReplica entries →
+        HoldsUnder entries id found → IfSome found FitsReplica
     held_fits entries id None all held = tt
     held_fits entries id (Some entry) all held = All-contains FitsReplica entries entry all held.0
 
-    merged_replica : (mine theirs merged : List Entry) → All FitsReplica mine → All FitsReplica theirs → MergesEntries r members mine theirs merged → All FitsReplica merged
+    merged_replica : (mine theirs merged : List Entry) → All FitsReplica mine → All FitsReplica theirs →
+        MergesEntries r members mine theirs merged → All FitsReplica merged
     merged_replica mine theirs merged all_mine all_theirs merges =
         All-weaker (Contains merged) FitsReplica (λ entry inside.
         let at_r = held_or_not (λ (e : Entry). e.id) mine entry.id in
@@ -186,11 +205,14 @@ module _ (r members : ℕ) (me : IsMember members r) where
         replica_after at_r.0 at_peer.0 entry (held_fits mine entry.id at_r.0 all_mine at_r.1) (held_fits theirs entry.id at_peer.0 all_theirs at_peer.1)
         (merges.each entry.id at_r.0 at_peer.0 (Some entry) at_r.1 at_peer.1 (inside, refl))) merged (All-contains_itself merged)
 
-    replicas : (entries : List Entry) → All (FitsEntry members) entries → All (IsEntryOfPast r next) entries → All FitsReplica entries
+    replicas : (entries : List Entry) → All (FitsEntry members) entries → All (IsEntryOfPast r next) entries →
+        All FitsReplica entries
     replicas entries tables past k d within = record { tables = tables k d within; past = past k d within }
 
     -- What the merge of tables that fit holds fits.
-    pub merged_tables : (mine theirs merged : List Entry) → All (FitsEntry members) mine → All (IsEntryOfPast r next) mine → All (FitsEntry members) theirs → All (IsEntryOfPast r next) theirs → MergesEntries r members mine theirs merged → All (FitsEntry members) merged × All (IsEntryOfPast r next) merged
+    pub merged_tables : (mine theirs merged : List Entry) → All (FitsEntry members) mine →
+        All (IsEntryOfPast r next) mine → All (FitsEntry members) theirs → All (IsEntryOfPast r next) theirs →
+        MergesEntries r members mine theirs merged → All (FitsEntry members) merged × All (IsEntryOfPast r next) merged
     merged_tables mine theirs merged tables past tables_theirs past_theirs merges =
         let all = merged_replica mine theirs merged (replicas mine tables past) (replicas theirs tables_theirs past_theirs) merges in
         (λ k d within. (all k d within).tables, λ k d within. (all k d within).past)

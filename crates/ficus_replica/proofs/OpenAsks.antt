@@ -11,18 +11,21 @@ use Rattle.ficus_replica.specs.declared.replica.Asked.{Asked}
 use Rattle.ficus_replica.specs.SavedOf.{generation_of, IsOpenAskOf}
 
 -- the events through a position of a history stay the same as it grows
-pub through_more : (H : List Event) (event : Event) (position : ℕ) → position < length H → through position H ≡ through position (H ++ event ∷ [])
+pub through_more : (H : List Event) (event : Event) (position : ℕ) → position < length H →
+    through position H ≡ through position (H ++ event ∷ [])
 through_more H event position h = agree_take (agree_more H (event ∷ [])) (omega arith)
 
 pub through_end : (H : List Event) (event : Event) → through (length H) (H ++ event ∷ []) ≡ H ++ event ∷ []
 through_end H event = through_is (at_end H event) ∙ ap (λ earlier. earlier ++ event ∷ []) (take_at H (event ∷ []) (length H) refl)
 
 -- an event that closes no ask leaves open what is open, and opens none
-pub open_kept : (H : List Event) (r : ℕ) (asked : Option Asked) (event : Event) → (ClosesAsk r event → ⊥) → IsOpenAskOf H r asked → IsOpenAskOf (H ++ event ∷ []) r asked
+pub open_kept : (H : List Event) (r : ℕ) (asked : Option Asked) (event : Event) → (ClosesAsk r event → ⊥) →
+    IsOpenAskOf H r asked → IsOpenAskOf (H ++ event ∷ []) r asked
 open_kept H r None event stays none = λ position to open_ask. none position to (open_before event stays open_ask)
 open_kept H r (Some asked) event stays waits =
     (waits.0, still_open event stays waits.1, waits.2 ∙ ap (generation_of r) (through_more H event waits.0 (at_within waits.1.ask)))
 
 -- an event that closes asks and is none leaves none open
-pub open_none : (H : List Event) (r : ℕ) (event : Event) → ClosesAsk r event → ((to : ℕ) → event ≡ Ask r to → ⊥) → IsOpenAskOf (H ++ event ∷ []) r None
+pub open_none : (H : List Event) (r : ℕ) (event : Event) → ClosesAsk r event → ((to : ℕ) → event ≡ Ask r to → ⊥) →
+    IsOpenAskOf (H ++ event ∷ []) r None
 open_none H r event closes no_ask position to open_ask = no_ask to (open_last H event closes open_ask).1

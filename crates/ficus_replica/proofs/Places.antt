@@ -1,16 +1,13 @@
 -- Where a replica's tables may hold a new entry.
-use Rattle.std.proofs.Common.{◌≡◌, ◌≢◌, ℕ, List, Ok, refl, sym, ap, subst, inl, inr, arith}
+use Rattle.std.proofs.Common.{◌≡◌, ◌≢◌, ℕ, List, refl, sym, ap, subst, inl, inr, arith}
 use Rattle.std.proofs.lemmas.List.Elements.{All-contains}
 use Rattle.ficus_ids.specs.declared.id.Id.{Id}
 use Rattle.ficus_ids.specs.declared.id.TheConstants.{ROOT, ATTIC}
 use Rattle.ficus_model.specs.Reached.IsReached.{Base, Through}
-use Rattle.ficus_path.specs.declared.path.Path.{Path}
 use Rattle.ficus_codec.specs.Saved.{FitsImage, IsOfPast, IsEntryOfPast}
 use Rattle.ficus_codec.specs.Tables.{FitsEntry, IsIssuable, MayHoldEntries}
 use Rattle.ficus_replica.specs.declared.replica.Replica.{Replica}
 use Rattle.ficus_replica.specs.View.{IsReachedIn, held_live, tables_view}
-use Rattle.ficus_replica.specs.Walk.{ParentRule}
-use Rattle.ficus_replica.proofs.Walks.{parent_walked}
 
 module _ (old : Replica) (fits : FitsImage old.saved) where
   -- where an entry may be made
@@ -22,7 +19,7 @@ module _ (old : Replica) (fits : FitsImage old.saved) where
   issuable_no_attic : {dir : Id} → IsIssuable old.saved.members dir → dir ≢ ATTIC
   issuable_no_attic issuable is = let zero : _ = ap (λ (id : Id). id.replica) is in omega (arith, issuable.replica.at_least, zero)
 
-  reached_place : {dir : Id} → IsReachedIn (tables_view old) dir → MayHold dir
+  pub reached_place : {dir : Id} → IsReachedIn (tables_view old) dir → MayHold dir
   reached_place (Base root) = subst MayHold (sym root) (record {
     place = inr (inl refl);
     no_attic = λ is. let number : 0 ≡ 1 = ap (λ (id : Id). id.number) is in omega arith;
@@ -32,6 +29,3 @@ module _ (old : Replica) (fits : FitsImage old.saved) where
       let tables = All-contains (FitsEntry old.saved.members) old.saved.entries (held_live bound.entry) fits.tables.each bound.live in
       let past = All-contains (IsEntryOfPast old.saved.me old.saved.next) old.saved.entries (held_live bound.entry) fits.past.each bound.live in
       subst MayHold bound.leads (record { place = inl tables.target; no_attic = issuable_no_attic tables.target; past = past.target })
-
-  pub parent_place : (path : Path) (dir : Id) → ParentRule (tables_view old) path (Ok dir) → MayHold dir
-  parent_place path dir walk = reached_place (parent_walked (tables_view old) path dir walk).reached

@@ -19,7 +19,9 @@ use Rattle.ficus_replica.proofs.Asks.{asks_stands}
 use Rattle.ficus_replica.proofs.Accepts.{accepted_stands, served_fits}
 
 -- what a replica holds that stands for the events through its Serve is what it served there
-pub standing_serves : (volume : Volume) (H : List Event) (r from number : ℕ) (serve ask : ℕ) (peer : Replica) → StandsFor volume (through serve H) from peer → IsAt H ask (Ask r from) → IsAt H serve (Serve from ask) → number ≡ generation_of r (through ask H) → IsServed H r from number peer.saved.entries serve
+pub standing_serves : (volume : Volume) (H : List Event) (r from number : ℕ) (serve ask : ℕ) (peer : Replica) →
+    StandsFor volume (through serve H) from peer → IsAt H ask (Ask r from) → IsAt H serve (Serve from ask) →
+    number ≡ generation_of r (through ask H) → IsServed H r from number peer.saved.entries serve
 standing_serves volume H r from number serve ask peer stands asked_at served number_is = record {
   ask = ask;
   asked = asked_at;
@@ -30,22 +32,27 @@ standing_serves volume H r from number serve ask peer stands asked_at served num
 }
 
 -- an ask of one member and its answer by another leave a history lawful
-pub answered_lawful : (volume : Volume) (H : List Event) (r s : ℕ) → IsLawful volume H → IsMember volume.members r → IsMember volume.members s → r ≢ s → IsLawful volume (answered H r s)
+pub answered_lawful : (volume : Volume) (H : List Event) (r s : ℕ) → IsLawful volume H → IsMember volume.members r →
+    IsMember volume.members s → r ≢ s → IsLawful volume (answered H r s)
 answered_lawful volume H r s lawful member peer_member differs =
     lawful_more volume (asked H r s) (Serve s (length H))
     (lawful_more volume H (Ask r s) lawful (ask_may_come H r s volume member peer_member differs))
     (serve_may_come H r s volume peer_member)
 
 -- a replica other than the puller stands for the history with the ask and the answer, and with the whole pull
-pub answered_stands : (volume : Volume) (H : List Event) (r s other : ℕ) (replica : Replica) → r ≢ other → StandsFor volume H other replica → StandsFor volume (answered H r s) other replica
+pub answered_stands : (volume : Volume) (H : List Event) (r s other : ℕ) (replica : Replica) → r ≢ other →
+    StandsFor volume H other replica → StandsFor volume (answered H r s) other replica
 answered_stands volume H r s other replica differs stands =
     quiet_stands volume (asked H r s) other replica (Serve s (length H)) (quiet_stands volume H other replica (Ask r s) stands (inl differs)) (inr tt)
 
-pub others_pulled_stand : (volume : Volume) (H : List Event) (r s other : ℕ) (replica : Replica) → r ≢ other → StandsFor volume H other replica → StandsFor volume (pulled H r s) other replica
+pub others_pulled_stand : (volume : Volume) (H : List Event) (r s other : ℕ) (replica : Replica) → r ≢ other →
+    StandsFor volume H other replica → StandsFor volume (pulled H r s) other replica
 others_pulled_stand volume H r s other replica differs stands =
     quiet_stands volume (answered H r s) other replica (Accept r (length H + 1)) (answered_stands volume H r s other replica differs stands) (inl differs)
 
-module _ (volume : Volume) (H : List Event) (r s : ℕ) (puller peer now : Replica) (member : IsMember volume.members r) (differs : r ≢ s) (stands : StandsFor volume H r puller) (peer_stands : StandsFor volume H s peer) (asks : AskGives puller s now) where
+module _ (volume : Volume) (H : List Event) (r s : ℕ) (puller peer now : Replica) (member : IsMember volume.members r)
+    (differs : r ≢ s) (stands : StandsFor volume H r puller) (peer_stands : StandsFor volume H s peer)
+    (asks : AskGives puller s now) where
   -- the puller while it waits for the answer
   pub waiting_stands : StandsFor volume (answered H r s) r now
   waiting_stands = quiet_stands volume (asked H r s) r now (Serve s (length H)) (asks_stands volume H r s puller now stands asks) (inr tt)
@@ -72,5 +79,8 @@ module _ (volume : Volume) (H : List Event) (r s : ℕ) (puller peer now : Repli
       served_fits volume (answered H r s) r s now.saved.generation peer.saved.entries (length H + 1) now longer waiting_stands peer_serves
 
   -- once it has taken the answer, the puller stands for the history with the pull
-  pub pulled_stands : (new : Replica) → Accepted now s now.saved.generation peer.saved.entries new → StandsFor volume (pulled H r s) r new
-  pulled_stands new accepted = accepted_stands volume (answered H r s) r s now.saved.generation peer.saved.entries (length H + 1) now new waiting_stands peer_serves accepted
+  pub pulled_stands : (new : Replica) → Accepted now s now.saved.generation peer.saved.entries new →
+      StandsFor volume (pulled H r s) r new
+  pulled_stands new accepted =
+      accepted_stands volume (answered H r s) r s now.saved.generation peer.saved.entries (length H + 1) now new
+      waiting_stands peer_serves accepted

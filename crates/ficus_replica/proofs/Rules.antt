@@ -4,8 +4,10 @@ use Rattle.ficus_ids.specs.declared.refusal.Refusal.{Refusal}
 use Rattle.ficus_ids.specs.declared.refusal.Refusal.TheVariants.{Memory}
 use Rattle.ficus_replica.specs.Rule.{Then, Unless, Where, Gives, Tells, UnlessMemory, Once, Along}
 
-module _ {A B : Type 0} {first : Result A Refusal → Type 0} {rest : A → Result B Refusal → Type 0} (first_once : Once first) (rest_once : (a : A) → Once (rest a)) where
-  goes_once : (a b : A) (one other : Result B Refusal) → first (Ok a) → first (Ok b) → rest a one → rest b other → one ≡ other
+module _ {A B : Type 0} {first : Result A Refusal → Type 0} {rest : A → Result B Refusal → Type 0}
+    (first_once : Once first) (rest_once : (a : A) → Once (rest a)) where
+  goes_once : (a b : A) (one other : Result B Refusal) → first (Ok a) → first (Ok b) → rest a one → rest b other →
+      one ≡ other
   goes_once a b one other first_a first_b rest_a rest_b =
       let e = first_once (Ok a) (Ok b) first_a first_b in
       let same : b ≡ a = cc in
@@ -25,11 +27,14 @@ module _ {A B : Type 0} {first : Result A Refusal → Type 0} {rest : A → Resu
   then_once (Err r) (Err s) (inr (a, fa, ra)) (inl stops) = absurd (stops_or_goes a s stops fa)
   then_once (Err r) (Err s) (inr (a, fa, ra)) (inr (d, fd, rd)) = goes_once a d (Err r) (Err s) fa fd ra rd
 
-pub then_goes : {A B : Type 0} (first : Result A Refusal → Type 0) (rest : A → Result B Refusal → Type 0) (a : A) (answer : Result B Refusal) → first (Ok a) → rest a answer → Then first rest answer
+pub then_goes : {A B : Type 0} (first : Result A Refusal → Type 0) (rest : A → Result B Refusal → Type 0) (a : A)
+    (answer : Result B Refusal) →
+    first (Ok a) → rest a answer → Then first rest answer
 then_goes first rest a (Ok b) fa ra = (a, fa, ra)
 then_goes first rest a (Err refusal) fa ra = inr (a, fa, ra)
 
-module _ {B : Type 0} (condition : Type 0) (refusal : Refusal) {rest : Result B Refusal → Type 0} (rest_once : Once rest) where
+module _ {B : Type 0} (condition : Type 0) (refusal : Refusal) {rest : Result B Refusal → Type 0}
+    (rest_once : Once rest) where
   pub unless_once : Once (Unless condition refusal rest)
   unless_once (Ok b) (Ok c) (good, rb) (good_too, rc) = rest_once (Ok b) (Ok c) rb rc
   unless_once (Ok b) (Err r) (good, rb) (inl (bad, e)) = absurd (good bad)
@@ -58,19 +63,22 @@ gives_once b (Ok c) (Err r) e none = absurd none
 gives_once b (Err r) other none f = absurd none
 
 -- where one thing is so
-pub tells_once : {A B : Type 0} (told_as : A → B) {IsSo : A → Type 0} → ((a b : A) → IsSo a → IsSo b → a ≡ b) → Once (Tells told_as IsSo)
+pub tells_once : {A B : Type 0} (told_as : A → B) {IsSo : A → Type 0} → ((a b : A) → IsSo a → IsSo b → a ≡ b) →
+    Once (Tells told_as IsSo)
 tells_once told_as one (Ok b) (Ok c) (a, so, e) (d, so_too, f) = ap Ok (e ∙ ap told_as (one a d so so_too) ∙ sym f)
 tells_once told_as one (Ok b) (Err r) is none = absurd none
 tells_once told_as one (Err r) other none is = absurd none
 
 module _ {A B : Type 0} {first other : Result A Refusal → Type 0} {rest more : A → Result B Refusal → Type 0} where
-  pub then_along : Along first other → ((a : A) → first (Ok a) → Along (rest a) (more a)) → Along (Then first rest) (Then other more)
+  pub then_along : Along first other → ((a : A) → first (Ok a) → Along (rest a) (more a)) →
+      Along (Then first rest) (Then other more)
   then_along there next (Ok b) (a, fa, ra) = (a, there (Ok a) fa, next a fa (Ok b) ra)
   then_along there next (Err r) (inl stops) = inl (there (Err r) stops)
   then_along there next (Err r) (inr (a, fa, ra)) = inr (a, there (Ok a) fa, next a fa (Err r) ra)
 
 module _ {B : Type 0} {condition same : Type 0} (refusal : Refusal) {rest more : Result B Refusal → Type 0} where
-  pub unless_along : condition ↔ same → Along rest more → Along (Unless condition refusal rest) (Unless same refusal more)
+  pub unless_along : condition ↔ same → Along rest more →
+      Along (Unless condition refusal rest) (Unless same refusal more)
   unless_along either next (Ok b) (good, rb) = ((λ bad. good (either.1 bad)), next (Ok b) rb)
   unless_along either next (Err r) (inl (bad, e)) = inl (either.0 bad, e)
   unless_along either next (Err r) (inr (good, rr)) = inr ((λ bad. good (either.1 bad)), next (Err r) rr)
@@ -83,7 +91,8 @@ module _ {B : Type 0} {condition same : Type 0} (refusal : Refusal) {rest more :
 pub gives_along : {B : Type 0} (b : B) → Along (Gives b) (Gives b)
 gives_along b answer is = is
 
-pub tells_along : {A B : Type 0} (told_as : A → B) {IsSo IsSoToo : A → Type 0} → ((a : A) → IsSo a → IsSoToo a) → Along (Tells told_as IsSo) (Tells told_as IsSoToo)
+pub tells_along : {A B : Type 0} (told_as : A → B) {IsSo IsSoToo : A → Type 0} → ((a : A) → IsSo a → IsSoToo a) →
+    Along (Tells told_as IsSo) (Tells told_as IsSoToo)
 tells_along told_as there (Ok b) (a, so, e) = (a, there a so, e)
 tells_along told_as there (Err r) none = absurd none
 
@@ -94,7 +103,8 @@ module _ {A : Type 0} {rule other : Result A Refusal → Type 0} where
   memory_along there (Err refusal) is = there (Err refusal) is
 
 -- an answer of the rule, whichever it is
-pub or_memory : {A : Type 0} (rule : Result A Refusal → Type 0) (answer : Result A Refusal) → rule answer → UnlessMemory rule answer
+pub or_memory : {A : Type 0} (rule : Result A Refusal → Type 0) (answer : Result A Refusal) → rule answer →
+    UnlessMemory rule answer
 or_memory rule (Ok a) is = is
 or_memory rule (Err Memory) is = tt
 or_memory rule (Err refusal) is = is

@@ -38,7 +38,8 @@ ask_is_saved r to = search rules
 pub accept_is_saved : (r serve : ℕ) → is_saved r (Accept r serve) ≡ true
 accept_is_saved r serve = search rules
 
-pub generation_saved : (r : ℕ) (H : List Event) (event : Event) → is_saved r event ≡ true → generation_of r (H ++ event ∷ []) ≡ generation_of r H + 1
+pub generation_saved : (r : ℕ) (H : List Event) (event : Event) → is_saved r event ≡ true →
+    generation_of r (H ++ event ∷ []) ≡ generation_of r H + 1
 generation_saved r H event is = counted_one (is_saved r) H event is
 
 written_none : (r : ℕ) (event : Event) → is_update_of r event ≡ false → written_in r event ≡ 0
@@ -49,20 +50,24 @@ written_none r (Accept by serve) none = refl
 written_none r (Collect by) none = refl
 written_none r (Restart by) none = refl
 
-pub written_kept : (r : ℕ) (H : List Event) (event : Event) → is_update_of r event ≡ false → written_of r (H ++ event ∷ []) ≡ written_of r H
+pub written_kept : (r : ℕ) (H : List Event) (event : Event) → is_update_of r event ≡ false →
+    written_of r (H ++ event ∷ []) ≡ written_of r H
 written_kept r H event none = omega (arith, sum_by_push (written_in r) H event, written_none r event none)
 
-pub written_more : (r : ℕ) (H : List Event) (op : Op) → written_of r (H ++ Update r op ∷ []) ≡ written_of r H + length (bytes_of op)
+pub written_more : (r : ℕ) (H : List Event) (op : Op) →
+    written_of r (H ++ Update r op ∷ []) ≡ written_of r H + length (bytes_of op)
 written_more r H op =
     let own : written_in r (Update r op) ≡ length (bytes_of op) = search rules in
     sum_by_push (written_in r) H (Update r op) ∙ ap (λ more. written_of r H + more) own
 
 -- where the same updates are known, the same is held
-held_same : {H K : List Event} {r : ℕ} (entry : Entry) (state : State) → SameUpdates H (Knows H r) K (Knows K r) → IsHeldAs H r entry state → IsHeldAs K r entry state
+held_same : {H K : List Event} {r : ℕ} (entry : Entry) (state : State) → SameUpdates H (Knows H r) K (Knows K r) →
+    IsHeldAs H r entry state → IsHeldAs K r entry state
 held_same entry Live same held = live_same same held
 held_same entry (Dead one two) same held = held
 
-pub held_along : {H K : List Event} {r : ℕ} {entries : List Entry} → SameUpdates H (Knows H r) K (Knows K r) → AreHeldBy H r entries → AreHeldBy K r entries
+pub held_along : {H K : List Event} {r : ℕ} {entries : List Entry} → SameUpdates H (Knows H r) K (Knows K r) →
+    AreHeldBy H r entries → AreHeldBy K r entries
 held_along same held = record {
   rising = held.rising;
   each = λ entry. (
@@ -72,7 +77,8 @@ held_along same held = record {
 }
 
 -- entries that are held are one list
-pub held_once : {H : List Event} {r : ℕ} {entries others : List Entry} → AreHeldBy H r entries → AreHeldBy H r others → entries ≡ others
+pub held_once : {H : List Event} {r : ℕ} {entries others : List Entry} → AreHeldBy H r entries → AreHeldBy H r others →
+    entries ≡ others
 held_once {entries = entries} {others = others} held held_too =
     same_items (λ (e : Entry). e.id) entries others held.rising held_too.rising (λ entry. (
       λ inside. (held_too.each entry).1 ((held.each entry).0 inside),
@@ -80,7 +86,8 @@ held_once {entries = entries} {others = others} held held_too =
     ))
 
 -- a history has one saved record
-pub saved_once : {volume : Volume} {H : List Event} {r : ℕ} {one other : Saved} → IsSavedOf volume H r one → IsSavedOf volume H r other → one ≡ other
+pub saved_once : {volume : Volume} {H : List Event} {r : ℕ} {one other : Saved} → IsSavedOf volume H r one →
+    IsSavedOf volume H r other → one ≡ other
 saved_once is is_too = λ i. record {
   me = (is.me ∙ sym is_too.me) i;
   members = (is.members ∙ sym is_too.members) i;
@@ -94,7 +101,9 @@ saved_once is is_too = λ i. record {
 
 module _ {volume : Volume} {H K : List Event} {r : ℕ} {old : Saved} (is : IsSavedOf volume H r old) where
   -- what is saved after more events, by its counts and its entries
-  pub saved_then : {next used generation : ℕ} {entries : List Entry} → next ≡ count_of r K + 1 → used ≡ written_of r K → generation ≡ generation_of r K → AreHeldBy K r entries → MakesDirectories K (Knows K r) → IsSavedOf volume K r (record old { next = next; used = used; generation = generation; entries = entries })
+  pub saved_then : {next used generation : ℕ} {entries : List Entry} → next ≡ count_of r K + 1 → used ≡ written_of r K →
+      generation ≡ generation_of r K → AreHeldBy K r entries → MakesDirectories K (Knows K r) →
+      IsSavedOf volume K r (record old { next = next; used = used; generation = generation; entries = entries })
   saved_then next used generation entries directories = record {
     me = is.me;
     members = is.members;
@@ -107,9 +116,12 @@ module _ {volume : Volume} {H K : List Event} {r : ℕ} {old : Saved} (is : IsSa
     directories = directories;
   }
 
-module _ {volume : Volume} {H : List Event} {r : ℕ} {old : Saved} (event : Event) (same : SameUpdates H (Knows H r) (H ++ event ∷ []) (Knows (H ++ event ∷ []) r)) (none : is_update_of r event ≡ false) (is : IsSavedOf volume H r old) where
+module _ {volume : Volume} {H : List Event} {r : ℕ} {old : Saved} (event : Event)
+    (same : SameUpdates H (Knows H r) (H ++ event ∷ []) (Knows (H ++ event ∷ []) r))
+    (none : is_update_of r event ≡ false) (is : IsSavedOf volume H r old) where
   -- an event that is no update of the replica's and brings it none: only the generation may change
-  pub saved_quietly : (generation : ℕ) → generation ≡ generation_of r (H ++ event ∷ []) → IsSavedOf volume (H ++ event ∷ []) r (record old { generation = generation })
+  pub saved_quietly : (generation : ℕ) → generation ≡ generation_of r (H ++ event ∷ []) →
+      IsSavedOf volume (H ++ event ∷ []) r (record old { generation = generation })
   saved_quietly generation counted =
       saved_then is
       (is.next ∙ ap (λ count. count + 1) (sym (count_no_update r H event none)))
@@ -121,5 +133,6 @@ module _ {volume : Volume} {H : List Event} {r : ℕ} {old : Saved} (event : Eve
   saved_kept no_save = saved_quietly old.generation (is.generation ∙ sym (counted_none (is_saved r) H event no_save))
 
   -- and one after which it does changes the generation
-  pub saved_again : is_saved r event ≡ true → IsSavedOf volume (H ++ event ∷ []) r (record old { generation = old.generation + 1 })
+  pub saved_again : is_saved r event ≡ true →
+      IsSavedOf volume (H ++ event ∷ []) r (record old { generation = old.generation + 1 })
   saved_again saved = saved_quietly (old.generation + 1) (ap (λ generation. generation + 1) is.generation ∙ sym (generation_saved r H event saved))

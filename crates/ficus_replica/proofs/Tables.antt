@@ -15,7 +15,8 @@ use Rattle.ficus_replica.specs.View.{View, IsBoundIn, IsDirectoryIn, IsReachedIn
 pub held_as_live : (entry : Entry) → entry.state ≡ Live → entry ≡ held_live (without_state entry)
 held_as_live entry live = ap (λ (state : State). record entry { state = state }) live
 
-pub tables_bound : (replica : Replica) (dir : Id) (name : List ℕ) (target : Id) → BindsIn replica.saved.entries dir name target ↔ IsBoundIn (tables_view replica) dir name target
+pub tables_bound : (replica : Replica) (dir : Id) (name : List ℕ) (target : Id) →
+    BindsIn replica.saved.entries dir name target ↔ IsBoundIn (tables_view replica) dir name target
 tables_bound replica dir name target = (
   λ binds. record {
     entry = without_state binds.entry;
@@ -41,6 +42,7 @@ pub record HasDirectoriesOnly (view : View) : Type 0 where
 pub tables_directories : (replica : Replica) → HasDirectoriesOnly (tables_view replica)
 tables_directories replica = record { kind = λ dir target name bound. (refl, record { entry = bound.entry; inside = bound.live; leads = bound.leads }) }
 
-pub reached_directory : (replica : Replica) {object : Id} → IsReachedIn (tables_view replica) object → IsDirectoryIn (tables_view replica) object
+pub reached_directory : (replica : Replica) {object : Id} → IsReachedIn (tables_view replica) object →
+    IsDirectoryIn (tables_view replica) object
 reached_directory replica (Base root) = inl root
 reached_directory replica {object} (Through {dir} reached leads) = inr ((tables_directories replica).kind dir object leads.0 leads.1)

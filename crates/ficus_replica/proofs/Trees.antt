@@ -42,21 +42,26 @@ module _ (view : View) where
       let nothing : (dir : Id) → ⊥ ↔ Contains [] dir = λ dir. (λ no. absurd no, λ inside. not_inside_none dir inside) in
       rw none (lines_along (same_itself view) nothing (no_lines view))
 
-  module _ (directories : HasDirectoriesOnly view) (objects : List Id) (rising : IsRisingBy (λ id. id) objects) (index : ℕ) (d : Id) (within : index < length objects) where
+  module _ (directories : HasDirectoriesOnly view) (objects : List Id) (rising : IsRisingBy (λ id. id) objects)
+      (index : ℕ) (d : Id) (within : index < length objects) where
     abbrev next : Id
     next = get_or objects index d
 
     below_next : (other : Id) → Contains (take index objects) other → id_cmp other next ≡ Less
     below_next other (place, inside, is) =
         let before : place < index = omega (arith, length-take index objects) in
-        let at : get_or objects place d ≡ other = get_or_default objects place d other (omega arith) ∙ sym (get_or-take index objects place other before) ∙ is in
+        let at : get_or objects place d ≡ other =
+            get_or_default objects place d other (omega arith) ∙ sym (get_or-take index objects place other before) ∙ is
+            in
         subst (λ (o : Id). id_cmp o next ≡ Less) at (rising.each place index d before within)
 
     -- those of the next object go behind
-    pub first_more : (lines : List Line) (names : List ShownName) → IsListing (IsBoundIn view next) names → AreFirst objects index lines → AreFirst objects (index + 1) (lines ++ map (line_of next) names)
+    pub first_more : (lines : List Line) (names : List ShownName) → IsListing (IsBoundIn view next) names →
+        AreFirst objects index lines → AreFirst objects (index + 1) (lines ++ map (line_of next) names)
     first_more lines names listing are =
         let more : take (index + 1) objects ≡ take index objects ++ next ∷ [] = take_more objects index d within in
-        rw more (lines_more view directories next names listing (Contains (take index objects)) (Contains (take index objects ++ next ∷ [])) lines are below_next
+        rw more (lines_more view directories next names listing (Contains (take index objects))
+            (Contains (take index objects ++ next ∷ [])) lines are below_next
         (λ other earlier. Contains-append_left (take index objects) (next ∷ []) other earlier)
         (Contains-push (take index objects) next)
         (λ other inside. elim (Contains-push_cases (take index objects) next other inside) [
@@ -65,7 +70,8 @@ module _ (view : View) where
         ]))
 
 module _ (replica : Replica) where
-  leads_from : (dir object : Id) → LeadsIn replica.saved.entries dir object → LeadsWithin (tables_view replica) dir object
+  leads_from : (dir object : Id) → LeadsIn replica.saved.entries dir object →
+      LeadsWithin (tables_view replica) dir object
   leads_from dir object way = (way.entry.name, record {
     entry = without_state way.entry;
     live = subst (Contains replica.saved.entries) (held_as_live way.entry way.live) way.inside;
@@ -74,7 +80,8 @@ module _ (replica : Replica) where
     leads = way.leads;
   })
 
-  leads_into : (dir object : Id) → LeadsWithin (tables_view replica) dir object → LeadsIn replica.saved.entries dir object
+  leads_into : (dir object : Id) → LeadsWithin (tables_view replica) dir object →
+      LeadsIn replica.saved.entries dir object
   leads_into dir object (name, bound) = record { entry = held_live bound.entry; inside = bound.live; live = refl; in_dir = bound.in_dir; leads = bound.leads }
 
   root_is : (object : Id) → Contains (ROOT ∷ []) object → object ≡ ROOT
@@ -84,7 +91,10 @@ module _ (replica : Replica) where
   root_inside object is = subst (Contains (ROOT ∷ [])) (sym is) (here ROOT [])
 
   -- the lines of all objects that are reached from the root
-  pub first_all : (objects : List Id) (index : ℕ) (lines : List Line) → ((object : Id) → Contains objects object ↔ IsReached (LeadsIn replica.saved.entries) (Contains (ROOT ∷ [])) object) → length objects ≤ index → AreFirst (tables_view replica) objects index lines → AreLines (tables_view replica) (IsReachedIn (tables_view replica)) lines
+  pub first_all : (objects : List Id) (index : ℕ) (lines : List Line) →
+      ((object : Id) → Contains objects object ↔ IsReached (LeadsIn replica.saved.entries) (Contains (ROOT ∷ [])) object) →
+      length objects ≤ index → AreFirst (tables_view replica) objects index lines →
+      AreLines (tables_view replica) (IsReachedIn (tables_view replica)) lines
   first_all objects index lines reached past are =
       let whole : take index objects ≡ objects = take_all index objects past in
       let all : AreLines (tables_view replica) (Contains objects) lines = subst (λ dirs. AreLines (tables_view replica) (Contains dirs) lines) whole are in

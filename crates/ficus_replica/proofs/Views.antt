@@ -18,7 +18,9 @@ use Rattle.ficus_replica.specs.View.{View, SameView, IsBoundIn, IsTakenIn, IsDir
 use Rattle.ficus_replica.proofs.Directories.{directories_target, directories_made, directories_named}
 
 pub same_itself : (view : View) → SameView view view
-same_itself view = record { live = λ entry. (λ live. live, λ live. live); kinds = λ object kind. (λ is. is, λ is. is); spent = (λ spent. spent, λ spent. spent) }
+same_itself view = record
+    { live = λ entry. (λ live. live, λ live. live); kinds = λ object kind. (λ is. is, λ is. is); spent =
+    (λ spent. spent, λ spent. spent) }
 
 pub same_back : {one other : View} → SameView one other → SameView other one
 same_back same = record {
@@ -38,7 +40,8 @@ module _ {one other : View} (same : SameView one other) where
   }
 
 module _ {one other : View} (same : SameView one other) where
-  pub bound_same : (dir : Id) (name : List ℕ) (target : Id) → IsBoundIn one dir name target ↔ IsBoundIn other dir name target
+  pub bound_same : (dir : Id) (name : List ℕ) (target : Id) →
+      IsBoundIn one dir name target ↔ IsBoundIn other dir name target
   bound_same dir name target = (λ bound. bound_there same bound, λ bound. bound_there (same_back same) bound)
 
   pub taken_same : (dir : Id) (name : List ℕ) → IsTakenIn one dir name ↔ IsTakenIn other dir name
@@ -76,7 +79,8 @@ module _ {volume : Volume} {H : List Event} {r : ℕ} {replica : Replica} (stand
       let live = directories_named stands.saved.directories made in
       record { entry = live.entry; inside = (live_history live.entry).1 live.live; leads = live.leads }
 
-  kinds_history : (object : Id) (kind : Kind) → (tables_view replica).kinds object kind ↔ IsMade H (Knows H r) object kind
+  kinds_history : (object : Id) (kind : Kind) →
+      (tables_view replica).kinds object kind ↔ IsMade H (Knows H r) object kind
   kinds_history object kind = (
     λ held. subst (IsMade H (Knows H r) object) (sym held.0) (named_made object held.1),
     λ made. (directories_made stands.saved.directories made, made_named object kind made),

@@ -25,64 +25,87 @@ use Rattle.ficus_replica.proofs.Walks.{base_reached, walk_reached, found_bound}
 
 module _ (replica : Replica) where
   -- what is found among the entries is found in what the tables show
-  found_shown : (object : Id) (part : Part) (answer : Result Id Refusal) → FindAnswer (BindsIn replica.saved.entries object) part.name part.target answer → FindAnswer (IsBoundIn (tables_view replica) object) part.name part.target answer
+  found_shown : (object : Id) (part : Part) (answer : Result Id Refusal) →
+      FindAnswer (BindsIn replica.saved.entries object) part.name part.target answer →
+      FindAnswer (IsBoundIn (tables_view replica) object) part.name part.target answer
   found_shown object part answer found = FindAnswer-along (tables_bound replica object) part.name part.target answer found
 
   -- the object reached is a directory, and what the rest of the parts leads to from there, all lead to from the base
   pub record HasReached (base : Base) (parts : List Part) (object : Id) (rest : List Part) : Type 0 where
     pub directory : IsDirectoryIn (tables_view replica) object
-    pub leads : (answer : Result Id Refusal) → PartsRule (tables_view replica) rest object answer → WalkRule (tables_view replica) base parts answer
+    pub leads : (answer : Result Id Refusal) → PartsRule (tables_view replica) rest object answer →
+        WalkRule (tables_view replica) base parts answer
 
-  pub reached_start : (base : Base) (parts : List Part) (object : Id) → BaseRule (tables_view replica) base (Ok object) → HasReached base parts object parts
+  pub reached_start : (base : Base) (parts : List Part) (object : Id) →
+      BaseRule (tables_view replica) base (Ok object) → HasReached base parts object parts
   reached_start base parts object begun = record {
     directory = reached_directory replica (base_reached (tables_view replica) base object begun);
     leads = λ answer rest. then_goes (BaseRule (tables_view replica) base) (PartsRule (tables_view replica) parts) object answer begun rest;
   }
 
-  module _ {base : Base} {object : Id} {parts : List Part} (index : ℕ) (part : Part) (within : index < length parts) (is : part ≡ get_or parts index part) (reached : HasReached base parts object (drop index parts)) where
+  module _ {base : Base} {object : Id} {parts : List Part} (index : ℕ) (part : Part) (within : index < length parts)
+      (is : part ≡ get_or parts index part) (reached : HasReached base parts object (drop index parts)) where
     next_part : drop index parts ≡ part ∷ drop (index + 1) parts
     next_part = drop_more parts index part within ∙ ap (λ p. p ∷ drop (index + 1) parts) (sym is)
 
-    step : (answer : Result Id Refusal) → PartsRule (tables_view replica) (part ∷ drop (index + 1) parts) object answer → WalkRule (tables_view replica) base parts answer
+    step : (answer : Result Id Refusal) →
+        PartsRule (tables_view replica) (part ∷ drop (index + 1) parts) object answer →
+        WalkRule (tables_view replica) base parts answer
     step answer rest = reached.leads answer (rw next_part rest)
 
-    found_leads : (next : Id) → FindAnswer (IsBoundIn (tables_view replica) object) part.name part.target (Ok next) → (answer : Result Id Refusal) → PartsRule (tables_view replica) (drop (index + 1) parts) next answer → WalkRule (tables_view replica) base parts answer
+    found_leads : (next : Id) → FindAnswer (IsBoundIn (tables_view replica) object) part.name part.target (Ok next) →
+        (answer : Result Id Refusal) → PartsRule (tables_view replica) (drop (index + 1) parts) next answer →
+        WalkRule (tables_view replica) base parts answer
     found_leads next found (Ok end) rest = step (Ok end) (reached.directory, (next, found, rest))
     found_leads next found (Err refusal) rest = step (Err refusal) (inr (reached.directory, inr (next, found, rest)))
 
-    pub reached_next : (next : Id) → FindAnswer (BindsIn replica.saved.entries object) part.name part.target (Ok next) → HasReached base parts next (drop (index + 1) parts)
+    pub reached_next : (next : Id) → FindAnswer (BindsIn replica.saved.entries object) part.name part.target (Ok next) →
+        HasReached base parts next (drop (index + 1) parts)
     reached_next next found =
         let shown = found_shown object part (Ok next) found in
         record {
-          directory = inr ((tables_directories replica).kind object next part.name (found_bound (IsBoundIn (tables_view replica) object) part.name part.target next shown));
+          directory = inr ((tables_directories replica).kind object next part.name
+              (found_bound (IsBoundIn (tables_view replica) object) part.name part.target next shown));
           leads = found_leads next shown;
         }
 
-    pub refused_part : (refusal : Refusal) → FindAnswer (BindsIn replica.saved.entries object) part.name part.target (Err refusal) → WalkRule (tables_view replica) base parts (Err refusal)
+    pub refused_part : (refusal : Refusal) →
+        FindAnswer (BindsIn replica.saved.entries object) part.name part.target (Err refusal) →
+        WalkRule (tables_view replica) base parts (Err refusal)
     refused_part refusal found = step (Err refusal) (inr (reached.directory, inl (found_shown object part (Err refusal) found)))
 
-  pub reached_end : {base : Base} {object : Id} {parts : List Part} (index : ℕ) → length parts ≤ index → HasReached base parts object (drop index parts) → WalkRule (tables_view replica) base parts (Ok object)
+  pub reached_end : {base : Base} {object : Id} {parts : List Part} (index : ℕ) → length parts ≤ index →
+      HasReached base parts object (drop index parts) → WalkRule (tables_view replica) base parts (Ok object)
   reached_end {base} {object} {parts} index past reached = reached.leads (Ok object) (rw (drop_all index parts past) refl)
 
   -- each object is a directory
-  pub walked_directory : (base : Base) (parts : List Part) (answer : Result Id Refusal) → WalkRule (tables_view replica) base parts answer → DirectoryRule (tables_view replica) base parts answer
+  pub walked_directory : (base : Base) (parts : List Part) (answer : Result Id Refusal) →
+      WalkRule (tables_view replica) base parts answer → DirectoryRule (tables_view replica) base parts answer
   walked_directory base parts (Ok object) walk = (object, walk, (reached_directory replica (walk_reached (tables_view replica) base parts object walk), refl))
   walked_directory base parts (Err refusal) walk = inl walk
 
   -- a name is taken unless it is refused as leading nowhere
-  taken_by : (dir : Id) (name : List ℕ) (refusal : Refusal) (taken : Bool) → FindsOnly (IsBoundIn (tables_view replica) dir) name (Err refusal) → taken ≡ not (sameb the_type refusal NoEntry) → IsTrue taken ↔ IsTakenIn (tables_view replica) dir name
+  taken_by : (dir : Id) (name : List ℕ) (refusal : Refusal) (taken : Bool) →
+      FindsOnly (IsBoundIn (tables_view replica) dir) name (Err refusal) →
+      taken ≡ not (sameb the_type refusal NoEntry) → IsTrue taken ↔ IsTakenIn (tables_view replica) dir name
   taken_by dir name NoEntry taken found is = (λ truth. cc, λ bound. absurd (found bound.0 bound.1))
   taken_by dir name Ambiguous taken found is = (λ truth. (found.one, found.bound_one), λ bound. is)
   taken_by dir name other taken found is = absurd found
 
-  pub taken_where_found : (dir : Id) (part : Part) (object : Id) → part.target ≡ None → FindAnswer (BindsIn replica.saved.entries dir) part.name part.target (Ok object) → IsTakenIn (tables_view replica) dir part.name
+  pub taken_where_found : (dir : Id) (part : Part) (object : Id) → part.target ≡ None →
+      FindAnswer (BindsIn replica.saved.entries dir) part.name part.target (Ok object) →
+      IsTakenIn (tables_view replica) dir part.name
   taken_where_found dir part object new found =
       let shown = found_shown dir part (Ok object) found in
       (object, found_bound (IsBoundIn (tables_view replica) dir) part.name part.target object shown)
 
-  pub taken_by_refusal : (dir : Id) (part : Part) (refusal : Refusal) (taken : Bool) → part.target ≡ None → FindAnswer (BindsIn replica.saved.entries dir) part.name part.target (Err refusal) → taken ≡ not (sameb the_type refusal NoEntry) → IsTrue taken ↔ IsTakenIn (tables_view replica) dir part.name
+  pub taken_by_refusal : (dir : Id) (part : Part) (refusal : Refusal) (taken : Bool) → part.target ≡ None →
+      FindAnswer (BindsIn replica.saved.entries dir) part.name part.target (Err refusal) →
+      taken ≡ not (sameb the_type refusal NoEntry) → IsTrue taken ↔ IsTakenIn (tables_view replica) dir part.name
   taken_by_refusal dir part refusal taken new found is =
-      taken_by dir part.name refusal taken (subst (λ target. FindAnswer (IsBoundIn (tables_view replica) dir) part.name target (Err refusal)) new (found_shown dir part (Err refusal) found)) is
+      taken_by dir part.name refusal taken
+          (subst (λ target. FindAnswer (IsBoundIn (tables_view replica) dir) part.name target (Err refusal)) new
+          (found_shown dir part (Err refusal) found)) is
 
 last_from : (start : Option Part) (front : List Part) (last : Part) → last_or start (front ++ last ∷ []) ≡ Some last
 last_from start [] last = refl
@@ -93,10 +116,13 @@ not_empty [] some = absurd (some refl)
 not_empty (part ∷ parts) some = omega arith
 
 -- the last part stands at the end
-pub last_at_end : (parts : List Part) (last : Part) → parts ≢ [] → last ≡ get_or parts (length parts - 1) last → last_or None parts ≡ Some last
+pub last_at_end : (parts : List Part) (last : Part) → parts ≢ [] → last ≡ get_or parts (length parts - 1) last →
+    last_or None parts ≡ Some last
 last_at_end parts last some is =
     let before : List Part = take (length parts - 1) parts in
-    let whole : parts ≡ before ++ get_or parts (length parts - 1) last ∷ [] = sym (take_all (length parts - 1 + 1) parts (omega (arith, not_empty parts some))) ∙ take_more parts (length parts - 1) last (omega (arith, not_empty parts some)) in
+    let whole : parts ≡ before ++ get_or parts (length parts - 1) last ∷ [] =
+        sym (take_all (length parts - 1 + 1) parts (omega (arith, not_empty parts some))) ∙ take_more parts
+        (length parts - 1) last (omega (arith, not_empty parts some)) in
     ap (last_or None) whole ∙ last_from None before (get_or parts (length parts - 1) last) ∙ ap Some (sym is)
 
 -- the last part of a new path has no target

@@ -41,25 +41,31 @@ module _ {one other : View} (same : SameView one other) where
 
   parts_along : (parts : List Part) (object : Id) → Along (PartsRule one parts object) (PartsRule other parts object)
   parts_along [] object = gives_along object
-  parts_along (part ∷ parts) object = where_along NotDir (directory_same same object) (then_along (FindAnswer-along (bound_same same object) part.name part.target) (λ next found. parts_along parts next))
+  parts_along (part ∷ parts) object =
+      where_along NotDir (directory_same same object)
+      (then_along (FindAnswer-along (bound_same same object) part.name part.target)
+      (λ next found. parts_along parts next))
 
   pub walk_along : (base : PathBase) (parts : List Part) → Along (WalkRule one base parts) (WalkRule other base parts)
   walk_along base parts = then_along (base_along base) (λ object begun. parts_along parts object)
 
-  pub directory_along : (base : PathBase) (parts : List Part) → Along (DirectoryRule one base parts) (DirectoryRule other base parts)
+  pub directory_along : (base : PathBase) (parts : List Part) →
+      Along (DirectoryRule one base parts) (DirectoryRule other base parts)
   directory_along base parts = then_along (walk_along base parts) (λ object walked. where_along NotDir (directory_same same object) (gives_along object))
 
   pub parent_along : (path : Path) → Along (ParentRule one path) (ParentRule other path)
   parent_along path = directory_along path.base _
 
 -- what is found under a name is bound to it
-pub found_bound : (binds : List ℕ → Id → Type 0) (name : List ℕ) (target : Option Id) (object : Id) → FindAnswer binds name target (Ok object) → binds name object
+pub found_bound : (binds : List ℕ → Id → Type 0) (name : List ℕ) (target : Option Id) (object : Id) →
+    FindAnswer binds name target (Ok object) → binds name object
 found_bound binds name None object found = found.bound
 found_bound binds name (Some target) object found = subst (binds name) (sym found.1) found.0
 
 module _ (view : View) where
   -- what a walk leads to is reached as its start is
-  parts_reach : (parts : List Part) (object target : Id) → PartsRule view parts object (Ok target) → IsReachedIn view object → IsReachedIn view target
+  parts_reach : (parts : List Part) (object target : Id) → PartsRule view parts object (Ok target) →
+      IsReachedIn view object → IsReachedIn view target
   parts_reach [] object target is reached = subst (IsReachedIn view) (sym is) reached
   parts_reach (part ∷ parts) object target (directory, (next, found, rest)) reached =
       parts_reach parts next target rest (Through reached (part.name, found_bound (IsBoundIn view object) part.name part.target next found))
@@ -67,7 +73,8 @@ module _ (view : View) where
   pub base_reached : (base : PathBase) (object : Id) → BaseRule view base (Ok object) → IsReachedIn view object
   base_reached Root object is = Base is
 
-  pub walk_reached : (base : PathBase) (parts : List Part) (object : Id) → WalkRule view base parts (Ok object) → IsReachedIn view object
+  pub walk_reached : (base : PathBase) (parts : List Part) (object : Id) → WalkRule view base parts (Ok object) →
+      IsReachedIn view object
   walk_reached base parts object (start, begun, rest) = parts_reach parts start object rest (base_reached base start begun)
 
   -- a directory that is walked to
@@ -75,7 +82,8 @@ module _ (view : View) where
     pub directory : IsDirectoryIn view dir
     pub reached : IsReachedIn view dir
 
-  pub directory_walked : (base : PathBase) (parts : List Part) (dir : Id) → DirectoryRule view base parts (Ok dir) → IsWalkedTo dir
+  pub directory_walked : (base : PathBase) (parts : List Part) (dir : Id) → DirectoryRule view base parts (Ok dir) →
+      IsWalkedTo dir
   directory_walked base parts dir (object, walk, (directory, is)) = record {
     directory = subst (IsDirectoryIn view) (sym is) directory;
     reached = subst (IsReachedIn view) (sym is) (walk_reached base parts object walk);

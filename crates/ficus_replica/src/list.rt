@@ -20,7 +20,7 @@ impl Replica {
         ensures stands { (volume : Volume) (H : List Event) → StandsFor volume H self.now.saved.me self.now
             → LookStands volume H self.now.saved.me (ListLook path.now) (answer_told vec_lines result) }
     {
-        let dir = self.directory(path.base, path.parts.items())?;
+        let dir = self.directory(path)?;
         let names = shown(alloc, &self.saved.entries, dir)?;
         let mut lines = Vec::with_capacity(alloc, names.len())?;
         add_lines(&mut lines, dir, names)?;

@@ -9,8 +9,8 @@ impl Replica {
     ghost use Rattle.ficus_replica.specs.View.{IsTakenIn, tables_view};
     ghost use Rattle.ficus_replica.specs.Walk.{BaseRule, WalkRule, DirectoryRule, ParentRule};
 
-    /// The object to which the parts lead from the base, or the refusal that comes first.
-    pub(crate) fn walk(&self, base: Base, parts: &[Part]) -> Result<Id, Refusal>
+    // The object to which the parts lead from the base, or the refusal that comes first.
+    fn walk(&self, base: Base, parts: &[Part]) -> Result<Id, Refusal>
         ensures { WalkRule (tables_view self.now) base parts.now result }
     {
         let mut object = self.begin(base)?;
@@ -29,20 +29,27 @@ impl Replica {
         }
     }
 
-    /// The directory to which the parts lead. No file is kept yet, so each object is a directory.
-    pub(crate) fn directory(&self, base: Base, parts: &[Part]) -> Result<Id, Refusal>
+    // The directory to which the parts lead. No file is kept yet, so each object is a directory.
+    fn directory_of(&self, base: Base, parts: &[Part]) -> Result<Id, Refusal>
         ensures { DirectoryRule (tables_view self.now) base parts.now result }
     {
         self.walk(base, parts)
     }
 
-    /// The directory of a path that names an entry.
+    /// The directory at a path.
+    pub(crate) fn directory(&self, path: &Path) -> Result<Id, Refusal>
+        ensures { DirectoryRule (tables_view self.now) path.now.base path.now.parts result }
+    {
+        self.directory_of(path.base, path.parts.items())
+    }
+
+    /// The directory in which the last part of a path is looked up.
     pub(crate) fn parent(&self, path: &Path) -> Result<Id, Refusal>
         requires { IsEntry path.now }
         ensures { ParentRule (tables_view self.now) path.now result }
     {
         let parts = path.parts.items();
-        self.directory(path.base, &parts[..parts.len() - 1])
+        self.directory_of(path.base, &parts[..parts.len() - 1])
     }
 
     /// Whether a live entry of the directory has the name of a part without a target.

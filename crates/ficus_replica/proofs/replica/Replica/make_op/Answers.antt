@@ -15,4 +15,5 @@ returns-then-has_name c =
 pub returns-then-is_spent : goal.returns-then-is_spent
 returns-then-is_spent c =
     let name : last_name c.args.path.now ≡ c.last_part-last.result.now.name = ap name_of c.last_part-last.ensures in
-    inr (c.in_ok-dir.dir, c.in_ok-dir.ensures, inr ((λ taken. false≢true (c.if-has_name.ensures.1 (rw name at taken))), inl (c.if-is_spent.ensures.0 refl, refl)))
+    inr (c.in_ok-dir.dir, c.in_ok-dir.ensures, inr
+        ((λ taken. false≢true (c.if-has_name.ensures.1 (rw name at taken))), inl (c.if-is_spent.ensures.0 refl, refl)))
