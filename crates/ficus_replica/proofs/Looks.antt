@@ -9,7 +9,7 @@ use Rattle.ficus_replica.specs.Look.{Look, List, Tree, LookRule, LookGives, Look
 use Rattle.ficus_replica.specs.Rule.{Once, Along}
 use Rattle.ficus_replica.specs.SavedOf.{StandsFor}
 use Rattle.ficus_replica.specs.Told.{Told}
-use Rattle.ficus_replica.specs.View.{View, SameView, history_view}
+use Rattle.ficus_replica.specs.View.{View, SameShown, history_view}
 use Rattle.ficus_replica.proofs.Lists.{list_once, list_along}
 use Rattle.ficus_replica.proofs.Rules.{memory_along}
 use Rattle.ficus_replica.proofs.Trees.{tree_once, tree_along}
@@ -19,7 +19,7 @@ pub look_once : (view : View) → HasOneKind view → (look : Look) → Once (Lo
 look_once view kinds (List path) = list_once view kinds path
 look_once view kinds Tree = tree_once kinds
 
-pub look_along : {one other : View} → SameView one other → (look : Look) →
+pub look_along : {one other : View} → SameShown one other → (look : Look) →
     Along (LookRule one look) (LookRule other look)
 look_along same (List path) = list_along same path
 look_along same Tree = tree_along same
@@ -30,4 +30,4 @@ history_kinds volume H r = record { one = λ object kind other made made_too. ma
 
 pub look_stands : {volume : Volume} {H : ListOf Event} {r : ℕ} {replica : Replica} → StandsFor volume H r replica →
     (look : Look) (result : Result Told Refusal) → LookGives replica look result → LookStands volume H r look result
-look_stands stands look result gives = memory_along (look_along (stands_same stands) look) result gives
+look_stands stands look result gives = memory_along (look_along (stands_same stands).shown look) result gives
