@@ -14,13 +14,15 @@ use Rattle.ficus_world.specs.ModelWorld.{ModelWorld, Outcome}
 use Rattle.ficus_world.specs.Run.{Does, Step, Run}
 use Rattle.ficus_world.specs.Run.Run.{End, Then}
 use Rattle.ficus_world.specs.Sort.{Sort, Changes, Looks, Pulls, sort_of, answer_of, LookAnswer, answer_as}
-use Rattle.ficus_world.proofs.Borrowed.{then_once, where_once, gives_once, change_once, look_once}
+use Rattle.ficus_replica.proofs.Changes.{change_once}
+use Rattle.ficus_replica.proofs.Looks.{look_once, history_kinds}
+use Rattle.ficus_replica.proofs.Rules.{then_once, where_once, gives_once}
 use Rattle.ficus_world.proofs.Sequences.{IsSure, OnceByOutcome, sequence_sure, sequence_once, by_rule_sure, by_rule_once, adds_sure, adds_once}
 
 -- what a look is answered after a history is one thing
 pub look_answer_once : (volume : Volume) (H : List Event) (r : ℕ) (look : Look)
     → Once (LookAnswer (history_view volume H r) look)
-look_answer_once volume H r look = then_once (look_once volume H r look) (λ told. gives_once (answer_of look told))
+look_answer_once volume H r look = then_once (look_once (history_view volume H r) (history_kinds volume H r) look) (λ told. gives_once (answer_of look told))
 
 module _ (good : ModelWorld → Type 0) (refusal : Refusal) where
   wants_sure : IsSure (Wants good refusal)

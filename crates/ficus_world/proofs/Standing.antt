@@ -15,7 +15,7 @@ use Rattle.ficus_world.specs.Actions.{happened}
 use Rattle.ficus_world.specs.ModelWorld.{Standing, Up, ModelWorld}
 use Rattle.ficus_world.specs.Moves.{advanced}
 use Rattle.ficus_world.specs.World.{Whole, IsNumber, MemberStandsFor, WorldStandsFor}
-use Rattle.ficus_world.proofs.Borrowed.{quiet_stands}
+use Rattle.ficus_replica.proofs.Events.{quiet_stands}
 use Rattle.ficus_world.proofs.LastPart.{length_part, part_more}
 use Rattle.ficus_world.proofs.Replaced.{number_read, replaced}
 
@@ -24,7 +24,7 @@ up_stands : (volume : Volume) (H : List Event) (r : ℕ) (member : Member) (stan
     → MemberStandsFor volume H r member standing → StandsFor volume H r member.replica
 up_stands volume H r member Up stands = stands
 
-stands_up : (volume : Volume) (H : List Event) (r : ℕ) (member : Member) (standing : Standing)
+pub stands_up : (volume : Volume) (H : List Event) (r : ℕ) (member : Member) (standing : Standing)
     → StandsFor volume H r member.replica → MemberStandsFor volume H r member standing
 stands_up volume H r member Up stands = stands
 
@@ -86,4 +86,4 @@ module _ (volume : Volume) (W : ModelWorld) (old : Whole) (stands : WorldStandsF
       → WorldStandsFor volume ((happened W (Serve to position)).after) (record old { events = old.events ++ Serve to ask ∷ [] })
   served_stands to ask position raises may =
       next_stands (Serve to ask) (Serve to position) (ap (λ n. Serve to n) raises) may old.members refl
-      (λ r member is. quiet_stands volume W.events r member.replica (Serve to position) (replica_stands r member is) (inr (to, position, refl)))
+      (λ r member is. quiet_stands volume W.events r member.replica (Serve to position) (replica_stands r member is) (inr tt))

@@ -27,9 +27,17 @@ sort_of (command.Ls by path) = Looks by (List path)
 sort_of (command.Tree by) = Looks by Tree
 sort_of (command.Pull by to) = Pulls by to
 
--- what the update of this number is answered with
+-- what the update of this number is answered with: its number, where it gives an object a name
 abbrev pub answer_to : Id → Op → Answer
 answer_to number (op.Make dir name kind) = answer.Made number
+answer_to number (op.Link dir name target) = answer.Made number
+answer_to number (op.Remove entries target) = answer.Done
+answer_to number (op.Move entries dir name target) = answer.Made number
+answer_to number (op.Write file bytes) = answer.Done
+answer_to number (op.Settle file bytes) = answer.Done
+answer_to number (op.Resolve file bytes) = answer.Done
+answer_to number (op.Adopt file dir name) = answer.Made number
+answer_to number (op.Discard file) = answer.Done
 
 -- what is answered where a look tells this
 abbrev pub answer_of : Look → Told → Answer

@@ -1,15 +1,16 @@
-ghost use Rattle.std.specs.Prelude.{◌≡◌, ℕ, List, Result};
+ghost use Rattle.std.specs.Prelude.{◌≡◌, ℕ, List, Result, Err};
 ghost use Rattle.ficus_ids.specs.declared.refusal.Refusal.{Refusal};
+ghost use Rattle.ficus_ids.specs.declared.refusal.Refusal.TheVariants.{Stale};
 ghost use Rattle.ficus_laws.specs.Laws.{KnowSameUpdates};
-ghost use Rattle.ficus_model.specs.Lawful.{Volume, IsLawful, MayCome};
+ghost use Rattle.ficus_model.specs.Lawful.{Volume, IsLawful};
 ghost use Rattle.ficus_model.specs.declared.event.Event.{Event};
 ghost use Rattle.ficus_replica.specs.Look.{Look};
 ghost use Rattle.ficus_replica.specs.View.{history_view};
 ghost use Rattle.ficus_script.specs.declared.answer.Answer.{Answer};
 ghost use Rattle.ficus_script.specs.declared.command.Command.{Command};
-ghost use Rattle.ficus_world.specs.ModelWorld.{ModelWorld, Outcome};
-ghost use Rattle.ficus_world.specs.Run.{Run};
-ghost use Rattle.ficus_world.specs.Sort.{LookAnswer};
+ghost use Rattle.ficus_world.specs.ModelWorld.{ModelWorld, Outcome, Effect};
+ghost use Rattle.ficus_world.specs.Run.{Does, Run};
+ghost use Rattle.ficus_world.specs.Sort.{Pulls, LookAnswer};
 ghost use Rattle.ficus_world.specs.Start.{default_volume, start};
 
 /// Commands leave a lawful history, whatever they are.
@@ -25,6 +26,11 @@ pub fn one_run()
     ensures { (volume : Volume) (W after later : ModelWorld) (commands : List Command) (outcomes : List Outcome)
         (answers others : List Answer) → Run volume W commands outcomes answers after
         → Run volume W commands outcomes others later → (answers ≡ others) × (after ≡ later) }
+{}
+
+/// What is served in a pull is taken.
+pub fn pulls_are_never_stale()
+    ensures { (volume : Volume) (W : ModelWorld) (by to : ℕ) (left : Effect) → Does volume (Pulls by to) W (Err Stale) left → ⊥ }
 {}
 
 /// Replicas that know the same updates answer looks alike.

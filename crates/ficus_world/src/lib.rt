@@ -9,5 +9,5 @@ mod step;
 mod tests;
 mod world;
 
-pub use laws::{one_run, runs_are_lawful, same_updates_answer_same};
+pub use laws::{one_run, pulls_are_never_stale, runs_are_lawful, same_updates_answer_same};
 pub use world::World;

@@ -58,6 +58,7 @@ pub(crate) fn answer(number: Id, op: &Op) -> Answer
     ensures { result ≡ answer_to number op.now }
 {
     match op {
-        Op::Make { .. } => Answer::Made(number),
+        Op::Make { .. } | Op::Link { .. } | Op::Move { .. } | Op::Adopt { .. } => Answer::Made(number),
+        Op::Remove { .. } | Op::Write { .. } | Op::Settle { .. } | Op::Resolve { .. } | Op::Discard { .. } => Answer::Done,
     }
 }

@@ -1,4 +1,4 @@
-ghost use Rattle.std.specs.Prelude.{◌≡◌, ◌≢◌, ◌+◌, ◌<◌, ◌≤◌, ◌++◌, ◌∷◌, [], Err, length, IfOk, OnErr, IsErrOf};
+ghost use Rattle.std.specs.Prelude.{◌≡◌, ◌≢◌, ◌↔◌, ◌+◌, ◌<◌, ◌≤◌, ◌++◌, ◌∷◌, [], Err, length, IsTrue, IfOk, OnErr, IsErrOf};
 ghost use Rattle.ficus_ids.specs.declared.refusal.Refusal.TheVariants.{Memory as OutOfMemory};
 ghost use Rattle.ficus_model.specs.declared.event.Event.TheVariants.{Ask, Serve};
 ghost use Rattle.ficus_world.specs.Sort.{answer_as};
@@ -16,7 +16,7 @@ impl World {
     ghost use Rattle.ficus_replica.specs.Rule.{UnlessMemory};
     ghost use Rattle.ficus_script.specs.Command.{IsCommand};
     ghost use Rattle.ficus_world.specs.ModelWorld.{ModelWorld};
-    ghost use Rattle.ficus_world.specs.Moves.{MovesBySort, Moves, IsChangeBy, IsLookBy, Follows};
+    ghost use Rattle.ficus_world.specs.Moves.{ArePeers, MovesBySort, Moves, IsChangeBy, IsLookBy, Follows};
     ghost use Rattle.ficus_world.specs.Sort.{Pulls, sort_of};
     ghost use Rattle.ficus_world.specs.World.{WorldStandsFor};
 
@@ -69,7 +69,7 @@ impl World {
         self.history.reserve(1)?;
         let answer = answer(Id { replica: by, number }, &next.op);
         self.history.push(Event::Update { by, op: next.op });
-        self.members[usize::from(by) - 1].replica = next.replica;
+        self.members[by as usize - 1].replica = next.replica;
         Ok(answer)
     }
 
@@ -83,6 +83,13 @@ impl World {
         self.member(by).look(alloc, by, command)
     }
 
+    // Whether they are the numbers of two different members.
+    fn are_peers(&self, by: u8, to: u8) -> bool
+        ensures { IsTrue result ↔ ArePeers (length self.now.members) by to }
+    {
+        self.has(by) && self.has(to) && by != to
+    }
+
     // All memory is taken before anything changes.
     fn pull(&mut self, alloc: Global, by: u8, to: u8) -> Result<Answer, Refusal>
         requires room { length self.old.events < event_limit }
@@ -90,26 +97,25 @@ impl World {
         ensures grows { length self.new.events ≤ length self.old.events + 3 }
         ensures memory { IsErrOf result OutOfMemory → self.new ≡ self.old }
     {
-        if !self.has(by) || !self.has(to) || by == to {
+        if !self.are_peers(by, to) {
             return Err(Refusal::Member);
         }
         self.history.reserve(3)?;
         let asked = self.member(by).replica.ask(to)?;
         let served = &self.member(to).replica.saved.entries;
-        match asked.accept(alloc, to, asked.saved.generation, served) {
-            Ok(accepted) => {
-                let serve = push_serve(&mut self.history, by, to);
-                self.history.push(Event::Accept { by, serve });
-                self.members[usize::from(by) - 1].replica = accepted;
-                Ok(Answer::Done)
-            }
-            Err(Refusal::Memory) => Err(Refusal::Memory),
+        let accepted = match asked.accept(alloc, to, asked.saved.generation, served) {
+            Ok(accepted) => accepted,
+            Err(Refusal::Memory) => return Err(Refusal::Memory),
             Err(refusal) => {
                 push_serve(&mut self.history, by, to);
-                self.members[usize::from(by) - 1].replica = asked;
-                Err(refusal)
+                self.members[by as usize - 1].replica = asked;
+                return Err(refusal);
             }
-        }
+        };
+        let serve = push_serve(&mut self.history, by, to);
+        self.history.push(Event::Accept { by, serve });
+        self.members[by as usize - 1].replica = accepted;
+        Ok(Answer::Done)
     }
 }
 

@@ -71,7 +71,7 @@ impl World {
     pub(crate) fn has(&self, number: u8) -> bool
         ensures { IsTrue result ↔ IsMember (length self.now.members) number }
     {
-        1 <= number && usize::from(number) <= self.members.len()
+        1 <= number && number as usize <= self.members.len()
     }
 
     /// The member of this number.
@@ -80,6 +80,6 @@ impl World {
         ensures is { IsNumber self.now.members number result.now }
         ensures sound { IsSound (length self.now.members) (length self.now.events) number result.now.replica }
     {
-        &self.members[usize::from(number) - 1]
+        &self.members[number as usize - 1]
     }
 }
