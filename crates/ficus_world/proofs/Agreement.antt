@@ -25,5 +25,6 @@ module _ (volume : Volume) (H : List Event) (replica other : ℕ) (look : Look) 
       → answer ≡ again
   same_updates_answer same answer again is is_too =
       let shows = shows_same (same_from_known same) in
-      let shown : SameShown (history_view volume H replica) (history_view volume H other) = record { live = shows.live; kinds = shows.made } in
+      let shown : SameShown (history_view volume H replica) (history_view volume H other) =
+      record { live = shows.live; kinds = shows.made } in
       look_answer_once volume H other look answer again (look_answer_along shown look answer is) is_too

@@ -25,18 +25,19 @@ use Rattle.ficus_script.specs.declared.answer.Answer.TheVariants.{Done}
 use Rattle.ficus_world.specs.declared.member.Member.{Member}
 use Rattle.ficus_world.specs.Actions.{unchanged, happened, AtMember, Updates}
 use Rattle.ficus_world.specs.Actions.Adds.{Added}
+use Rattle.ficus_world.specs.Follows.{Follows}
 use Rattle.ficus_world.specs.ModelWorld.{ModelWorld, Effect}
-use Rattle.ficus_world.specs.Moves.{ArePeers, advanced, TakesServed, MovesBySort, Moves, Follows}
+use Rattle.ficus_world.specs.Moves.{next_number_of, ArePeers, Served, advanced, TakesServed, MovesBySort, Moves}
 use Rattle.ficus_world.specs.Moves.FindsMember.{Finds, FindsNone}
 use Rattle.ficus_world.specs.Moves.KeepsUpdate.{Keeps}
 use Rattle.ficus_world.specs.Moves.KeepsAsk.{Sends, NoPeers}
 use Rattle.ficus_world.specs.Moves.HandsOver.{Hands}
-use Rattle.ficus_world.specs.Moves.TakesServed.{Takes, Refuses}
+use Rattle.ficus_world.specs.Moves.TakesServed.{Accepts, Refuses}
 use Rattle.ficus_world.specs.Run.{Does}
 use Rattle.ficus_world.specs.Sequence.Sequence.{Ends, Goes}
 use Rattle.ficus_world.specs.Sequence.ByRule.{Says}
 use Rattle.ficus_world.specs.Sort.{Sort, Changes, Looks, Pulls, sort_of, answer_to}
-use Rattle.ficus_world.specs.World.{Whole, IsNumber, WorldStandsFor}
+use Rattle.ficus_world.specs.World.{Whole, IsNumbered, WorldStandsFor}
 use Rattle.ficus_replica.proofs.Accepts.{accept_gives_stands}
 use Rattle.ficus_replica.proofs.Asks.{asks_stands}
 use Rattle.ficus_replica.proofs.Changes.{IsOfDirectory, change_along, changed_after}
@@ -66,15 +67,15 @@ record FollowsBySort (volume : Volume) (W : ModelWorld) (sort : Sort) (result : 
   pub stands : WorldStandsFor volume effect.after new
 
 module _ (volume : Volume) (W : ModelWorld) (old : Whole) (stands : WorldStandsFor volume W old) where
-  at_member : (by : ℕ) (member : Member) → IsNumber old.members by member → AtMember volume by W (Ok tt) (unchanged W)
+  at_member : (by : ℕ) (member : Member) → IsNumbered old.members by member → AtMember volume by W (Ok tt) (unchanged W)
   at_member by member is = Says (member_of volume W old stands by is.member, refl)
 
   at_none : (by : ℕ) → (IsMember (length old.members) by → ⊥) → AtMember volume by W (Err NoMember) (unchanged W)
   at_none by none = Says (inl ((λ member. none (member_from volume W old stands by member)), refl))
 
   -- the number of the update is that in the code
-  numbered : (by : ℕ) (member : Member) (op : Op) → IsNumber old.members by member
-      → Updates by op W (Ok (answer_to (record { replica = by; number = member.replica.saved.next }) op)) (happened W (Update by op))
+  numbered : (by : ℕ) (member : Member) (op : Op) → IsNumbered old.members by member
+      → Updates by op W (Ok (answer_to (next_number_of by member) op)) (happened W (Update by op))
   numbered by member op is =
       subst (λ n. Updates by op W (Ok (answer_to (record { replica = by; number = n }) op)) (happened W (Update by op)))
       (sym (replica_stands volume W old stands by member is).saved.next) Added
@@ -90,7 +91,8 @@ module _ (volume : Volume) (W : ModelWorld) (old : Whole) (stands : WorldStandsF
         does = Goes (at_member by member is) (Ends (Says (change_along same change (Err refusal) refused)));
         stands = stands;
       }
-  follow_change by change result new dir (Goes (Finds {member = member} is) (Goes {a = op} (Says decided) (Keeps {new = next} applied ask))) =
+  follow_change by change result new dir
+      (Goes (Finds {member = member} is) (Goes {a = op} (Says decided) (Keeps {new = next} applied ask))) =
       let now : ChangedAfter volume W.events by change (record { replica = next; op = op }) =
       changed_after stands.lawful (member_of volume W old stands by is.member)
       (replica_stands volume W old stands by member is) change dir (record { replica = next; op = op })
@@ -98,7 +100,9 @@ module _ (volume : Volume) (W : ModelWorld) (old : Whole) (stands : WorldStandsF
       record {
         effect = happened W (Update by op);
         does = Goes (at_member by member is) (Goes (Says now.answer) (numbered by member op is));
-        stands = advanced_stands volume W old stands (Update by op) (Update by op) refl now.after.lawful by member next is refl now.after.stands;
+        stands =
+            advanced_stands volume W old stands (Update by op) (Update by op) refl now.after.lawful by member next is refl
+            now.after.stands;
       }
 
   follow_look : (by : ℕ) (look : Look) (result : Result Answer Refusal) (new : Whole)
@@ -131,7 +135,7 @@ module _ (volume : Volume) (W : ModelWorld) (old : Whole) (stands : WorldStandsF
         })
 
     module _ (was : Member) (waiting : Replica) (peers : ArePeers (length old.members) by to)
-        (is : IsNumber old.members by was) (asks : AskGives was.replica to waiting) where
+        (is : IsNumbered old.members by was) (asks : AskGives was.replica to waiting) where
       -- the member waits for the answer
       abbrev asked_model : ModelWorld
       asked_model = (happened W (Ask by to)).after
@@ -143,7 +147,8 @@ module _ (volume : Volume) (W : ModelWorld) (old : Whole) (stands : WorldStandsF
       waits = asks_stands volume W.events by to was.replica waiting (replica_stands volume W old stands by was is) asks
 
       asked_stand : WorldStandsFor volume asked_model asked_world
-      asked_stand = advanced_stands volume W old stands (Ask by to) (Ask by to) refl (may_ask peers) by was waiting is refl waits
+      asked_stand =
+          advanced_stands volume W old stands (Ask by to) (Ask by to) refl (may_ask peers) by was waiting is refl waits
 
       -- the peer has served
       abbrev serve : ℕ
@@ -158,14 +163,20 @@ module _ (volume : Volume) (W : ModelWorld) (old : Whole) (stands : WorldStandsF
       answered_stand : WorldStandsFor volume answered_model answered_world
       answered_stand =
           served_stands volume asked_model asked_world asked_stand to (length old.events) (length W.events)
-          (omega (arith, raised_length volume asked_model asked_world asked_stand, length_push old.events (Ask by to), length_asked W.events by to))
+          (omega (
+            arith,
+            raised_length volume asked_model asked_world asked_stand,
+            length_push old.events (Ask by to),
+            length_asked W.events by to,
+          ))
           (serve_may_come W.events by to volume (may_ask peers).other)
 
-      serves : (peer : Member) → IsNumber asked_world.members to peer
+      serves : (peer : Member) → IsNumbered asked_world.members to peer
           → IsServed (answered W.events by to) by to waiting.saved.generation peer.replica.saved.entries serve
       serves peer peer_is =
           standing_serves volume (answered W.events by to) by to waiting.saved.generation serve (length W.events) peer.replica
-          (subst (λ K. StandsFor volume K to peer.replica) (sym (through_end (asked W.events by to) (Serve to (length W.events))))
+          (subst (λ K. StandsFor volume K to peer.replica)
+          (sym (through_end (asked W.events by to) (Serve to (length W.events))))
           (replica_stands volume answered_model answered_world answered_stand to peer peer_is))
           (at_more (Serve to (length W.events) ∷ []) (at_end W.events (Ask by to)))
           (at_end (asked W.events by to) (Serve to (length W.events)))
@@ -173,43 +184,65 @@ module _ (volume : Volume) (W : ModelWorld) (old : Whole) (stands : WorldStandsF
         where
           through_ask : through (length W.events) (answered W.events by to) ≡ asked W.events by to
           through_ask =
-              sym (through_more (asked W.events by to) (Serve to (length W.events)) (length W.events) (omega (arith, length_asked W.events by to)))
+              sym (through_more (asked W.events by to) (Serve to (length W.events)) (length W.events)
+              (omega (arith, length_asked W.events by to)))
               ∙ through_end W.events (Ask by to)
 
       may_accept : MayCome volume (answered W.events by to) (Accept by serve)
       may_accept =
-          subst (λ position. MayCome volume (answered W.events by to) (Accept by position)) (sym (length_asked W.events by to))
+          subst (λ position. MayCome volume (answered W.events by to) (Accept by position))
+          (sym (length_asked W.events by to))
           (accept_may_come W.events by to volume (may_ask peers).member)
 
-      takes : (peer holder : Member) (result : Result Replica Refusal) → IsNumber asked_world.members to peer
-          → IsNumber answered_world.members by holder
+      takes : (peer holder : Member) (result : Result Replica Refusal) → IsNumbered asked_world.members to peer
+          → IsNumbered answered_world.members by holder
           → AcceptGives holder.replica to waiting.saved.generation peer.replica.saved.entries result
           → AcceptStands volume (answered W.events by to) by serve result
       takes peer holder result peer_is holder_is gives =
-          accept_gives_stands volume (answered W.events by to) by to waiting.saved.generation peer.replica.saved.entries serve
-          holder.replica result answered_stand.lawful
-          (replica_stands volume answered_model answered_world answered_stand by holder holder_is) (serves peer peer_is) gives
+          accept_gives_stands volume (answered W.events by to) by to waiting.saved.generation
+          peer.replica.saved.entries serve holder.replica result answered_stand.lawful
+          (replica_stands volume answered_model answered_world answered_stand by holder holder_is) (serves peer peer_is)
+          gives
 
       -- so it is never refused
-      never_refused : (refusal : Refusal) → refusal ≢ Memory → AcceptStands volume (answered W.events by to) by serve (Err refusal) → ⊥
+      never_refused : (refusal : Refusal) → refusal ≢ Memory
+          → AcceptStands volume (answered W.events by to) by serve (Err refusal) → ⊥
       never_refused Stale no_memory never = never may_accept
       never_refused Memory no_memory so = no_memory refl
       never_refused refusal no_memory none = none
 
-      follow_taking : (peer : Member) (result : Result Answer Refusal) (new : Whole) → IsNumber asked_world.members to peer
-          → TakesServed by to (record { position = length asked_world.events; number = waiting.saved.generation; entries = peer.replica.saved.entries }) answered_world result new
+      -- what the peer has served
+      abbrev served : Member → Served
+      served peer = record {
+        position = length asked_world.events;
+        number = waiting.saved.generation;
+        entries = peer.replica.saved.entries;
+      }
+
+      -- the stored position of the Serve is raised to that in the history
+      serve_raised : length asked_world.events + raise volume answered_model answered_world answered_stand ≡ serve
+      serve_raised =
+          omega (
+            arith,
+            raised_length volume answered_model answered_world answered_stand,
+            length_push asked_world.events (Serve to (length old.events)),
+            length_push (asked W.events by to) (Serve to (length W.events)),
+          )
+
+      follow_taking : (peer : Member) (result : Result Answer Refusal) (new : Whole)
+          → IsNumbered asked_world.members to peer → TakesServed by to (served peer) answered_world result new
           → FollowsBySort volume W (Pulls by to) result new
       follow_taking peer result new peer_is (Refuses {was = holder} {refusal = refusal} holder_is no_memory gives) =
           absurd (never_refused refusal no_memory (takes peer holder (Err refusal) peer_is holder_is gives))
-      follow_taking peer result new peer_is (Takes {was = holder} {new = next} holder_is gives) =
+      follow_taking peer result new peer_is (Accepts {was = holder} {new = next} holder_is gives) =
           let now = takes peer holder (Ok next) peer_is holder_is gives in
-          let stored : ℕ = length asked_world.events in
-          let raises : stored + raise volume answered_model answered_world answered_stand ≡ serve =
-          omega (arith, raised_length volume answered_model answered_world answered_stand, length_push asked_world.events (Serve to (length old.events)), length_push (asked W.events by to) (Serve to (length W.events))) in
+          let stored = length asked_world.events in
           record {
             effect = happened answered_model (Accept by serve);
             does = Goes (Goes (Says (may_ask peers, refl)) Added) (Goes Added (Goes (Says (may_accept, refl)) Added));
-            stands = advanced_stands volume answered_model answered_world answered_stand (Accept by stored) (Accept by serve) (ap (λ n. Accept by n) raises) may_accept by holder next holder_is refl now.stands;
+            stands =
+                advanced_stands volume answered_model answered_world answered_stand (Accept by stored) (Accept by serve)
+                (ap (λ n. Accept by n) serve_raised) may_accept by holder next holder_is refl now.stands;
           }
 
     follow_pull : (result : Result Answer Refusal) (new : Whole) → MovesBySort (Pulls by to) old result new
@@ -217,7 +250,8 @@ module _ (volume : Volume) (W : ModelWorld) (old : Whole) (stands : WorldStandsF
     follow_pull result new (Ends (NoPeers none)) =
         record { effect = unchanged W; does = Ends (Ends (Says (inl (may_not_ask none, refl)))); stands = stands }
     follow_pull result new (Goes (Sends peers is asks) (Ends hands)) = elim hands [ ]
-    follow_pull result new (Goes (Sends {was = was} {asked = waiting} peers is asks) (Goes (Hands {peer = peer} peer_is) taking)) =
+    follow_pull result new
+        (Goes (Sends {was = was} {asked = waiting} peers is asks) (Goes (Hands {peer = peer} peer_is) taking)) =
         follow_taking was waiting peers is asks peer result new peer_is taking
 
   follow_sort : (sort : Sort) (result : Result Answer Refusal) (new : Whole) → IsOfDirectories sort

@@ -7,10 +7,14 @@ use Rattle.ficus_model.specs.Events.{raised}
 use Rattle.ficus_world.specs.World.{IsLastPart}
 
 module _ (events H : List Event) (part : IsLastPart events H) where
+  -- what stored positions are in the history
+  abbrev raise : Event → Event
+  raise = raised (length part.earlier)
+
   pub length_part : length H ≡ length part.earlier + length events
   length_part =
-      ap length part.is ∙ length-append part.earlier (map (raised (length part.earlier)) events)
-      ∙ ap (λ n. length part.earlier + n) (length-map events (raised (length part.earlier)))
+      ap length part.is ∙ length-append part.earlier (map raise events)
+      ∙ ap (λ n. length part.earlier + n) (length-map events raise)
 
   -- the event behind both, with its position raised in the history
   pub part_more : (stored event : Event) → raised (length part.earlier) stored ≡ event
@@ -19,6 +23,6 @@ module _ (events H : List Event) (part : IsLastPart events H) where
     earlier = part.earlier;
     is =
         ap₂ (λ (front back : List Event). front ++ back) part.is (ap (λ e. e ∷ []) (sym raises))
-        ∙ append_assoc part.earlier (map (raised (length part.earlier)) events) (raised (length part.earlier) stored ∷ [])
-        ∙ ap (λ later. part.earlier ++ later) (sym (map-append (raised (length part.earlier)) events (stored ∷ [])));
+        ∙ append_assoc part.earlier (map raise events) (raise stored ∷ [])
+        ∙ ap (λ later. part.earlier ++ later) (sym (map-append raise events (stored ∷ [])));
   }

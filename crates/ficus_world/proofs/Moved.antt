@@ -14,13 +14,14 @@ use Rattle.ficus_replica.specs.View.{tables_view}
 use Rattle.ficus_script.specs.declared.answer.Answer.{Answer}
 use Rattle.ficus_script.specs.declared.command.Command.{Command}
 use Rattle.ficus_world.specs.declared.member.Member.{Member}
-use Rattle.ficus_world.specs.Moves.{advanced, MovesBySort, Moves, GivesChange, GivesLook, IsChangeBy, IsLookBy, KeepsUpdate}
+use Rattle.ficus_world.specs.Member.{GivesChange, GivesLook, IsChangeBy, IsLookBy}
+use Rattle.ficus_world.specs.Moves.{advanced, next_number_of, MovesBySort, Moves, KeepsUpdate}
 use Rattle.ficus_world.specs.Moves.FindsMember.{Finds, FindsNone}
 use Rattle.ficus_world.specs.Moves.KeepsUpdate.{Keeps}
 use Rattle.ficus_world.specs.Sequence.Sequence.{Ends, Goes}
 use Rattle.ficus_world.specs.Sequence.ByRule.{Says}
 use Rattle.ficus_world.specs.Sort.{Sort, Changes, Looks, Pulls, sort_of, answer_to, LookAnswer, answer_as}
-use Rattle.ficus_world.specs.World.{Whole, IsNumber}
+use Rattle.ficus_world.specs.World.{Whole, IsNumbered}
 
 pub not_so : (b : Bool) {P : Type 0} → (IsTrue b ↔ P) → b ≡ false → P → ⊥
 not_so true is fails p = cc
@@ -36,33 +37,40 @@ refused_along rule other refusal there is = there is
 module _ (old : Whole) (by : ℕ) where
   pub no_change : (sort : Sort) → IsChangeBy by sort → (IsMember (length old.members) by → ⊥)
       → MovesBySort sort old (Err NoMember) old
-  no_change (Changes r change) same none = Ends (FindsNone (λ member. none (subst (λ n. IsMember (length old.members) n) same member)))
+  no_change (Changes r change) same none = Ends (FindsNone (λ member. none (subst (IsMember (length old.members)) same member)))
   no_change (Looks r look) not none = absurd not
   no_change (Pulls r to) not none = absurd not
 
   pub no_look : (sort : Sort) → IsLookBy by sort → (IsMember (length old.members) by → ⊥)
       → MovesBySort sort old (Err NoMember) old
   no_look (Changes r change) not none = absurd not
-  no_look (Looks r look) same none = Ends (FindsNone (λ member. none (subst (λ n. IsMember (length old.members) n) same member)))
+  no_look (Looks r look) same none = Ends (FindsNone (λ member. none (subst (IsMember (length old.members)) same member)))
   no_look (Pulls r to) not none = absurd not
 
-  module _ (member : Member) (is : IsNumber old.members by member) where
-    finds : {r : ℕ} → r ≡ by → IsNumber old.members r member
-    finds same = subst (λ n. IsNumber old.members n member) (sym same) is
+  module _ (member : Member) (is : IsNumbered old.members by member) where
+    finds : {r : ℕ} → r ≡ by → IsNumbered old.members r member
+    finds same = subst (λ n. IsNumbered old.members n member) (sym same) is
+
+    -- what the change leaves
+    abbrev changed : Next → Whole
+    changed next = advanced old by member next.replica (Update by next.op)
 
     pub change_moves : (sort : Sort) (next : Next) → IsChangeBy by sort → GivesChange member.replica sort (Ok next)
-        → MovesBySort sort old (Ok (answer_to (record { replica = by; number = member.replica.saved.next }) next.op)) (advanced old by member next.replica (Update by next.op))
+        → MovesBySort sort old (Ok (answer_to (next_number_of by member) next.op))
+        (advanced old by member next.replica (Update by next.op))
     change_moves (Changes r change) next same gives =
         Goes (Finds (finds same)) (Goes (Says gives.answer)
-        (subst (λ n. KeepsUpdate n member next.op old (Ok (answer_to (record { replica = by; number = member.replica.saved.next }) next.op)) (advanced old by member next.replica (Update by next.op))) (sym same) (Keeps gives.applied gives.ask)))
+        (subst (λ n. KeepsUpdate n member next.op old (Ok (answer_to (next_number_of by member) next.op)) (changed next))
+        (sym same) (Keeps gives.applied gives.ask)))
     change_moves (Looks r look) next not gives = absurd not
     change_moves (Pulls r to) next not gives = absurd not
 
     pub change_refused : (sort : Sort) (refusal : Refusal) → IsChangeBy by sort
-        → GivesChange member.replica sort (Err refusal) → UnlessMemory (λ answer. MovesBySort sort old answer old) (Err refusal)
+        → GivesChange member.replica sort (Err refusal)
+        → UnlessMemory (λ answer. MovesBySort sort old answer old) (Err refusal)
     change_refused (Changes r change) refusal same gives =
-        refused_along (ChangeRule (tables_view member.replica) change) (λ answer. MovesBySort (Changes r change) old answer old) refusal
-        (λ refused. Goes (Finds (finds same)) (Ends (Says refused))) gives
+        refused_along (ChangeRule (tables_view member.replica) change)
+        (λ answer. MovesBySort (Changes r change) old answer old) refusal (λ refused. Goes (Finds (finds same)) (Ends (Says refused))) gives
     change_refused (Looks r look) refusal not gives = absurd not
     change_refused (Pulls r to) refusal not gives = absurd not
 
@@ -71,8 +79,8 @@ module _ (old : Whole) (by : ℕ) where
     look_moves (Changes r change) answer not gives = absurd not
     look_moves (Looks r look) (Ok answer) same gives = Goes (Finds (finds same)) (Says gives)
     look_moves (Looks r look) (Err refusal) same gives =
-        refused_along (LookAnswer (tables_view member.replica) look) (λ answer. MovesBySort (Looks r look) old answer old) refusal
-        (λ refused. Goes (Finds (finds same)) (Says refused)) gives
+        refused_along (LookAnswer (tables_view member.replica) look)
+        (λ answer. MovesBySort (Looks r look) old answer old) refusal (λ refused. Goes (Finds (finds same)) (Says refused)) gives
     look_moves (Pulls r to) answer not gives = absurd not
 
 -- what isn't want of memory is as the rule says
@@ -84,11 +92,13 @@ unless_memory rule (Err refusal) no_memory is = is
 
 -- so an answer moves the world as the command does
 pub answered_moves : (old new : Whole) (command : Command) (came_to : Result Answer Refusal)
-    (result : Result Answer OutOfMemory) → UnlessMemory (λ answer. MovesBySort (sort_of command) old answer new) came_to
+    (result : Result Answer OutOfMemory)
+    → UnlessMemory (λ answer. MovesBySort (sort_of command) old answer new) came_to
     → IfOk result (λ answer. (answer ≡ answer_as came_to) × (came_to ≢ Err Memory))
     → IfOk result (λ answer. Moves old command answer new)
 answered_moves old new command came_to result moves answered =
-    IfOk-weaker result (λ answer. (answer ≡ answer_as came_to) × (came_to ≢ Err Memory)) (λ answer. Moves old command answer new)
+    IfOk-weaker result (λ answer. (answer ≡ answer_as came_to) × (came_to ≢ Err Memory))
+    (λ answer. Moves old command answer new)
     (λ answer is. record {
       result = came_to;
       does = unless_memory (λ answer. MovesBySort (sort_of command) old answer new) came_to is.1 moves;

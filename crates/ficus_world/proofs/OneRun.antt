@@ -22,7 +22,9 @@ use Rattle.ficus_world.proofs.Sequences.{IsSure, OnceByOutcome, sequence_sure, s
 -- what a look is answered after a history is one thing
 pub look_answer_once : (volume : Volume) (H : List Event) (r : ℕ) (look : Look)
     → Once (LookAnswer (history_view volume H r) look)
-look_answer_once volume H r look = then_once (look_once (history_view volume H r) (history_kinds volume H r) look) (λ told. gives_once (answer_of look told))
+look_answer_once volume H r look =
+    then_once (look_once (history_view volume H r) (history_kinds volume H r) look)
+    (λ told. gives_once (answer_of look told))
 
 module _ (good : ModelWorld → Type 0) (refusal : Refusal) where
   wants_sure : IsSure (Wants good refusal)
@@ -42,7 +44,8 @@ module _ {A : Type 0} (volume : Volume) (given : ModelWorld → A) (event : Even
 does_once : (volume : Volume) (sort : Sort) → OnceByOutcome (Does volume sort)
 does_once volume (Changes by change) =
     sequence_once _ _ (wants_sure _ _) (wants_once _ _)
-    (λ member. sequence_once _ _ (by_rule_sure _) (by_rule_once _ (λ old. change_once (history_view volume old.events by) change)) (λ op. adds_once _ _))
+    (λ member. sequence_once _ _ (by_rule_sure _)
+    (by_rule_once _ (λ old. change_once (history_view volume old.events by) change)) (λ op. adds_once _ _))
 does_once volume (Looks by look) =
     sequence_once _ _ (wants_sure _ _) (wants_once _ _)
     (λ member. by_rule_once _ (λ old. look_answer_once volume old.events by look))
@@ -55,7 +58,8 @@ module _ {volume : Volume} {old new other : ModelWorld} {command : Command} {out
   step_once : Step volume old command outcome answer new → Step volume old command outcome again other
       → (answer ≡ again) × (new ≡ other)
   step_once one two =
-      let same = does_once volume (sort_of command) old one.result two.result (record { outcome = outcome; after = new })
+      let same =
+      does_once volume (sort_of command) old one.result two.result (record { outcome = outcome; after = new })
       (record { outcome = outcome; after = other }) one.does two.does refl in
       (one.answer_is ∙ ap answer_as same.0 ∙ sym two.answer_is, ap after same.1)
 
@@ -63,7 +67,7 @@ pub run_once : {volume : Volume} {W V U : ModelWorld} {commands : List Command} 
     {answers others : List Answer} → Run volume W commands outcomes answers V
     → Run volume W commands outcomes others U → (answers ≡ others) × (V ≡ U)
 run_once End End = (refl, refl)
-run_once {volume} {U = U} (Then {middle = middle} {commands = commands} {outcomes = outcomes} step rest) (Then {answers = others} step_too rest_too) =
+run_once {volume} {U = U} (Then {commands = commands} {outcomes = outcomes} step rest) (Then {answers = others} step_too rest_too) =
     let same = step_once step step_too in
     let ends = run_once rest (subst (λ M. Run volume M commands outcomes others U) (sym same.1) rest_too) in
     (ap₂ (λ (first : Answer) (more : List Answer). first ∷ more) same.0 ends.0, ends.1)

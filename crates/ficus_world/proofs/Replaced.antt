@@ -5,11 +5,11 @@ use Rattle.std.proofs.lemmas.Bool.{cases_eq}
 use Rattle.std.proofs.lemmas.List.{get_or-set_same, get_or-set_other, length-set}
 use Rattle.std.proofs.lemmas.Option.{slice_get-get_or, get_or_from_slice_get}
 use Rattle.ficus_ids.specs.Members.{IsMember}
-use Rattle.ficus_world.specs.World.{IsNumber}
+use Rattle.ficus_world.specs.World.{IsNumbered}
 
 module _ {A : Type 0} (list : List A) (r : ℕ) where
   -- what stands at a place within the list
-  pub number_read : (x d : A) → IsMember (length list) r → get_or list (r - 1) d ≡ x → IsNumber list r x
+  pub number_read : (x d : A) → IsMember (length list) r → get_or list (r - 1) d ≡ x → IsNumbered list r x
   number_read x d member is =
       let one = member.at_least in
       let most = member.at_most in
@@ -20,7 +20,7 @@ module _ {A : Type 0} (list : List A) (r : ℕ) (next : A) where
   stays_within {q} member = subst (λ n. IsMember n q) (sym (length-set list (r - 1) next)) member
 
   -- the new one stands in its place
-  pub number_set : IsMember (length list) r → IsNumber (slice_set list (r - 1) next) r next
+  pub number_set : IsMember (length list) r → IsNumbered (slice_set list (r - 1) next) r next
   number_set member =
       let one = member.at_least in
       let most = member.at_most in
@@ -28,7 +28,7 @@ module _ {A : Type 0} (list : List A) (r : ℕ) (next : A) where
       (get_or-set_same list (r - 1) next next (omega arith))
 
   -- and another one in its own
-  pub number_kept : {q : ℕ} {x : A} → 1 ≤ r → IsNumber list q x → r ≢ q → IsNumber (slice_set list (r - 1) next) q x
+  pub number_kept : {q : ℕ} {x : A} → 1 ≤ r → IsNumbered list q x → r ≢ q → IsNumbered (slice_set list (r - 1) next) q x
   number_kept {q} {x} from_one is differs =
       let one = is.member.at_least in
       let other : q - 1 ≢ r - 1 = omega arith in
@@ -36,7 +36,7 @@ module _ {A : Type 0} (list : List A) (r : ℕ) (next : A) where
       (get_or-set_other list (r - 1) (q - 1) next x other ∙ get_or_from_slice_get list (q - 1) x x is.is)
 
 module _ {A : Type 0} (list : List A) (r q : ℕ) (next found : A) (from_one : 1 ≤ r)
-    (is : IsNumber (slice_set list (r - 1) next) q found) where
+    (is : IsNumbered (slice_set list (r - 1) next) q found) where
   member : IsMember (length list) q
   member = subst (λ n. IsMember n q) (length-set list (r - 1) next) is.member
 
@@ -52,14 +52,14 @@ module _ {A : Type 0} (list : List A) (r q : ℕ) (next found : A) (from_one : 1
       sym read ∙ ap (λ place. get_or (slice_set list place next) (q - 1) found) (sym at)
       ∙ get_or-set_same list (q - 1) next found h
 
-  other_place : q ≢ r → IsNumber list q found
+  other_place : q ≢ r → IsNumbered list q found
   other_place differs =
       let one = member.at_least in
       let other : q - 1 ≢ r - 1 = omega arith in
       number_read list q found found member (sym (get_or-set_other list (r - 1) (q - 1) next found other) ∙ read)
 
   -- the new one stands in its place, and the others in theirs
-  pub replaced : ((q ≡ r) × (found ≡ next)) ⊎ ((r ≢ q) × IsNumber list q found)
+  pub replaced : ((q ≡ r) × (found ≡ next)) ⊎ ((r ≢ q) × IsNumbered list q found)
   replaced =
       elim (cases_eq q r) [
         | inl same ↦ inl (same, same_place same)

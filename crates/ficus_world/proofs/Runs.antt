@@ -72,7 +72,8 @@ module _ (volume : Volume) where
       (subst (λ serve. MayCome volume (answered W.events by to) (Accept by serve)) (sym (length_asked W.events by to))
       (accept_may_come W.events by to volume may.0.member))
 
-  pub pull_never_stale : (W : ModelWorld) (by to : ℕ) (left : Effect) → Does volume (Pulls by to) W (Err Stale) left → ⊥
+  pub pull_never_stale : (W : ModelWorld) (by to : ℕ) (left : Effect)
+      → Does volume (Pulls by to) W (Err Stale) left → ⊥
   pull_never_stale W by to left does = pull_answers W by to (Err Stale) left does refl
 
 step_lawful : {volume : Volume} {old new : ModelWorld} {command : Command} {outcome : Outcome} {answer : Answer}
@@ -109,7 +110,8 @@ members_restart members = All-map (IsRestartOf members) (λ r. Restart r) (range
     member : All (IsMember members) (range_with_len 1 members)
     member k d within =
         let below : k < members = omega (arith, length-range_with_len 1 members) in
-        subst (IsMember members) (sym (get_or-range_with_len 1 members k d below)) (record { at_least = omega arith; at_most = omega arith })
+        subst (IsMember members) (sym (get_or-range_with_len 1 members k d below))
+        (record { at_least = omega arith; at_most = omega arith })
 
 -- members may start in a history without events
 pub start_lawful : (members : ℕ) → IsLawful (default_volume members) (restarts members)

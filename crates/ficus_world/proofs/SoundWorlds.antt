@@ -12,9 +12,9 @@ use Rattle.ficus_entry.specs.declared.entry.Entry.{Entry}
 use Rattle.ficus_replica.specs.Accept.{Accepted}
 use Rattle.ficus_replica.specs.Ask.{AskGives}
 use Rattle.ficus_world.specs.declared.member.Member.{Member}
-use Rattle.ficus_world.specs.Moves.{GivesChange}
+use Rattle.ficus_world.specs.Member.{GivesChange}
 use Rattle.ficus_world.specs.Sort.{Sort, Changes, Looks, Pulls}
-use Rattle.ficus_world.specs.World.{IsNumber, IsSound, IsWorld}
+use Rattle.ficus_world.specs.World.{IsNumbered, IsSound, IsWorld}
 use Rattle.ficus_world.proofs.Replaced.{replaced}
 
 pub sound_more : {count events more r : ℕ} {replica : Replica} → IsSound count events r replica → events ≤ more
@@ -38,7 +38,7 @@ world_after {members} {old} {new} {r} {next} world member sound grown = record {
     same : length (slice_set members (r - 1) next) ≡ length members
     same = length-set members (r - 1) next
 
-    each : (q : ℕ) (found : Member) → IsNumber (slice_set members (r - 1) next) q found
+    each : (q : ℕ) (found : Member) → IsNumbered (slice_set members (r - 1) next) q found
         → IsSound (length members) (length new) q found.replica
     each q found is =
         elim (replaced members r q next found member.at_least is) [

@@ -14,7 +14,7 @@ use Rattle.ficus_world.specs.declared.member.Member.{Member}
 use Rattle.ficus_world.specs.Actions.{happened}
 use Rattle.ficus_world.specs.ModelWorld.{Standing, Up, ModelWorld}
 use Rattle.ficus_world.specs.Moves.{advanced}
-use Rattle.ficus_world.specs.World.{Whole, IsNumber, MemberStandsFor, WorldStandsFor}
+use Rattle.ficus_world.specs.World.{Whole, IsNumbered, MemberStandsFor, WorldStandsFor}
 use Rattle.ficus_replica.proofs.Events.{quiet_stands}
 use Rattle.ficus_world.proofs.LastPart.{length_part, part_more}
 use Rattle.ficus_world.proofs.Replaced.{number_read, replaced}
@@ -35,13 +35,14 @@ module _ (volume : Volume) (W : ModelWorld) (old : Whole) (stands : WorldStandsF
   pub member_from : (r : ℕ) → IsMember volume.members r → IsMember (length old.members) r
   member_from r member = subst (λ n. IsMember n r) (sym stands.members) member
 
-  pub replica_stands : (r : ℕ) (member : Member) → IsNumber old.members r member
+  pub replica_stands : (r : ℕ) (member : Member) → IsNumbered old.members r member
       → StandsFor volume W.events r member.replica
   replica_stands r member is =
       let standing = get_or W.standings (r - 1) Up in
       let same : length old.members ≡ length W.standings = stands.members ∙ sym stands.standings in
       up_stands volume W.events r member standing
-      (stands.each r member standing is (number_read W.standings r standing Up (subst (λ n. IsMember n r) same is.member) refl))
+      (stands.each r member standing is
+      (number_read W.standings r standing Up (subst (λ n. IsMember n r) same is.member) refl))
 
   -- where a stored event is raised by the events before the stored ones
   abbrev pub raise : ℕ
@@ -53,37 +54,46 @@ module _ (volume : Volume) (W : ModelWorld) (old : Whole) (stands : WorldStandsF
   -- an event happens, and the members stand for what has happened then
   module _ (stored event : Event) (raises : raised raise stored ≡ event) (may : MayCome volume W.events event) where
     next_stands : (members : List Member) → length members ≡ length old.members
-        → ((r : ℕ) (member : Member) → IsNumber members r member → StandsFor volume (W.events ++ event ∷ []) r member.replica)
-        → WorldStandsFor volume ((happened W event).after) (record { members = members; events = old.events ++ stored ∷ [] })
+        → ((r : ℕ) (member : Member) → IsNumbered members r member
+        → StandsFor volume (W.events ++ event ∷ []) r member.replica)
+        → WorldStandsFor volume ((happened W event).after)
+        (record { members = members; events = old.events ++ stored ∷ [] })
     next_stands members count each = record {
       members = count ∙ stands.members;
       standings = stands.standings;
       lawful = lawful_more volume W.events event stands.lawful may;
       stored = part_more old.events W.events stands.stored stored event raises;
-      each = λ r member standing is standing_is. stands_up volume (W.events ++ event ∷ []) r member standing (each r member is);
+      each = λ r member standing is standing_is.
+          stands_up volume (W.events ++ event ∷ []) r member standing (each r member is);
     }
 
     -- it is a member's own, and that member alone changes
-    pub advanced_stands : (r : ℕ) (was : Member) (next : Replica) → IsNumber old.members r was → actor event ≡ r
-        → StandsFor volume (W.events ++ event ∷ []) r next
-        → WorldStandsFor volume ((happened W event).after) (advanced old r was next stored)
-    advanced_stands r was next is own now =
-        next_stands (slice_set old.members (r - 1) (record was { replica = next })) (length-set old.members (r - 1) (record was { replica = next })) each
-      where
-        each : (q : ℕ) (found : Member) → IsNumber (slice_set old.members (r - 1) (record was { replica = next })) q found
-            → StandsFor volume (W.events ++ event ∷ []) q found.replica
-        each q found at =
-            elim (replaced old.members r q (record was { replica = next }) found is.member.at_least at) [
-              | inl (same, swapped) ↦
-                  subst (λ n. StandsFor volume (W.events ++ event ∷ []) n found.replica) (sym same)
-                  (subst (λ (m : Member). StandsFor volume (W.events ++ event ∷ []) r m.replica) (sym swapped) now)
-              | inr (differs, kept) ↦
-                  quiet_stands volume W.events q found.replica event (replica_stands q found kept) (inl (λ e. differs (sym own ∙ e)))
-            ]
+    module _ (r : ℕ) (was : Member) (next : Replica) (is : IsNumbered old.members r was) (own : actor event ≡ r)
+        (now : StandsFor volume (W.events ++ event ∷ []) r next) where
+      abbrev new : Member
+      new = record was { replica = next }
+
+      each_stands : (q : ℕ) (found : Member) → IsNumbered (slice_set old.members (r - 1) new) q found
+          → StandsFor volume (W.events ++ event ∷ []) q found.replica
+      each_stands q found at =
+          elim (replaced old.members r q new found is.member.at_least at) [
+            | inl (same, swapped) ↦
+                subst (λ n. StandsFor volume (W.events ++ event ∷ []) n found.replica) (sym same)
+                (subst (λ (m : Member). StandsFor volume (W.events ++ event ∷ []) r m.replica) (sym swapped) now)
+            | inr (differs, kept) ↦
+                quiet_stands volume W.events q found.replica event (replica_stands q found kept)
+                (inl (λ e. differs (sym own ∙ e)))
+          ]
+
+      pub advanced_stands : WorldStandsFor volume ((happened W event).after) (advanced old r was next stored)
+      advanced_stands =
+          next_stands (slice_set old.members (r - 1) new) (length-set old.members (r - 1) new) each_stands
 
   -- a member serves what it holds
   pub served_stands : (to ask position : ℕ) → ask + raise ≡ position → MayCome volume W.events (Serve to position)
-      → WorldStandsFor volume ((happened W (Serve to position)).after) (record old { events = old.events ++ Serve to ask ∷ [] })
+      → WorldStandsFor volume ((happened W (Serve to position)).after)
+      (record old { events = old.events ++ Serve to ask ∷ [] })
   served_stands to ask position raises may =
       next_stands (Serve to ask) (Serve to position) (ap (λ n. Serve to n) raises) may old.members refl
-      (λ r member is. quiet_stands volume W.events r member.replica (Serve to position) (replica_stands r member is) (inr tt))
+      (λ r member is.
+      quiet_stands volume W.events r member.replica (Serve to position) (replica_stands r member is) (inr tt))

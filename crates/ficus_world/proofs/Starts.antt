@@ -13,7 +13,7 @@ use Rattle.ficus_model.specs.Events.{raised}
 use Rattle.ficus_model.specs.Lawful.{Volume}
 use Rattle.ficus_replica.proofs.Events.{restarts_alone, restarted_stands}
 use Rattle.ficus_world.specs.declared.member.Member.{Member}
-use Rattle.ficus_world.specs.World.{Whole, IsNumber, IsSound, IsWorld, WorldStandsFor}
+use Rattle.ficus_world.specs.World.{Whole, IsNumbered, IsSound, IsWorld, WorldStandsFor}
 use Rattle.ficus_world.specs.Start.{default_volume, restarts, start, IsFresh, AreFresh}
 use Rattle.ficus_world.proofs.Replaced.{number_read}
 use Rattle.ficus_world.proofs.Runs.{start_lawful}
@@ -28,7 +28,7 @@ length_restarts count = length-map-range_with_len (λ r. Restart r) 1 count
 -- one more fresh member behind the others
 module _ (volume : Volume) (count : ℕ) (members : List Member) (next : Member) (fresh : AreFresh volume count members)
     (next_fresh : IsFresh volume (count + 1) next) where
-  each_fresh : (r : ℕ) (member : Member) → IsNumber (members ++ next ∷ []) r member → IsFresh volume r member
+  each_fresh : (r : ℕ) (member : Member) → IsNumbered (members ++ next ∷ []) r member → IsFresh volume r member
   each_fresh r member is = go (cases_lt (r - 1) count)
     where
       read : get_or (members ++ next ∷ []) (r - 1) member ≡ member
@@ -43,7 +43,8 @@ module _ (volume : Volume) (count : ℕ) (members : List Member) (next : Member)
       go : (r - 1 < count) ⊎ (count ≤ r - 1) → IsFresh volume r member
       go (inl h) =
           let within : r - 1 < length members = omega (arith, fresh.counted) in
-          let found : get_or members (r - 1) member ≡ member = sym (get_or_append_left members (next ∷ []) member (r - 1) within) ∙ read in
+          let found : get_or members (r - 1) member ≡ member =
+          sym (get_or_append_left members (next ∷ []) member (r - 1) within) ∙ read in
           let older : IsMember (length members) r = record { at_least = one; at_most = omega (arith, one) } in
           fresh.each r member (number_read members r member member older found)
       go (inr h) =
@@ -64,7 +65,7 @@ module _ {count : ℕ} {members : List Member} (fresh : AreFresh (default_volume
   pub fresh_world : (events : List Event) → IsCount count → IsWorld members events
   fresh_world events counted = record { count = subst IsCount (sym fresh.counted) counted; sound = sound }
     where
-      sound : (r : ℕ) (member : Member) → IsNumber members r member
+      sound : (r : ℕ) (member : Member) → IsNumbered members r member
           → IsSound (length members) (length events) r member.replica
       sound r member is =
           let one = fresh.each r member is in

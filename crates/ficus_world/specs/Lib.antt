@@ -5,4 +5,6 @@ pub mod Actions
 pub mod Run
 pub mod World
 pub mod Moves
+pub mod Member
+pub mod Follows
 pub mod Start

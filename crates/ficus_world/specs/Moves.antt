@@ -1,31 +1,27 @@
 -- What a command does to a world, action by action, over what its members hold.
 use Rattle.std.specs.Prelude.{◌≡◌, ◌≢◌, ℕ, ◌-◌, List, [], ◌∷◌, ◌++◌, length, Result, Ok, Err, slice_set}
 use Rattle.ficus_ids.specs.Members.{IsMember}
+use Rattle.ficus_ids.specs.declared.id.Id.{Id}
 use Rattle.ficus_ids.specs.declared.refusal.Refusal.{Refusal}
 use Rattle.ficus_ids.specs.declared.refusal.Refusal.TheVariants.{Member as NoMember, Memory}
 use Rattle.ficus_model.specs.declared.event.Event.{Event}
 use Rattle.ficus_model.specs.declared.event.Event.TheVariants.{Update, Ask, Serve, Accept}
 use Rattle.ficus_model.specs.declared.event.Op.{Op}
-use Rattle.ficus_model.specs.Lawful.{Volume}
 use Rattle.ficus_entry.specs.declared.entry.Entry.{Entry}
-use Rattle.ficus_replica.specs.declared.replica.Next.{Next}
 use Rattle.ficus_replica.specs.declared.replica.Replica.{Replica}
 use Rattle.ficus_replica.specs.Accept.{AcceptGives}
 use Rattle.ficus_replica.specs.Ask.{AskGives}
-use Rattle.ficus_replica.specs.Change.{Change, ChangeRule, ChangeGives}
+use Rattle.ficus_replica.specs.Change.{Change, ChangeRule}
 use Rattle.ficus_replica.specs.Effect.{Applied}
 use Rattle.ficus_replica.specs.Look.{Look}
-use Rattle.ficus_replica.specs.Rule.{UnlessMemory}
 use Rattle.ficus_replica.specs.View.{tables_view}
 use Rattle.ficus_script.specs.declared.command.Command.{Command}
 use Rattle.ficus_script.specs.declared.answer.Answer.{Answer}
 use Rattle.ficus_script.specs.declared.answer.Answer.TheVariants.{Done}
 use Rattle.ficus_world.specs.declared.member.Member.{Member}
-use Rattle.ficus_world.specs.ModelWorld.{ModelWorld, Outcome}
-use Rattle.ficus_world.specs.Run.{Step}
 use Rattle.ficus_world.specs.Sequence.{Action, Sequence, ByRule}
 use Rattle.ficus_world.specs.Sort.{Sort, Changes, Looks, Pulls, sort_of, answer_to, LookAnswer, answer_as}
-use Rattle.ficus_world.specs.World.{Whole, IsNumber, WorldStandsFor}
+use Rattle.ficus_world.specs.World.{Whole, IsNumbered}
 
 abbrev pub WholeAction : Type 0 → Type 1
 WholeAction A = Action Whole Whole A
@@ -41,20 +37,24 @@ advanced old by was replica event = record {
   events = old.events ++ event ∷ [];
 }
 
--- gives the member of this number, and is refused where there is none
+-- finds the member of this number, and is refused where there is none
 pub data FindsMember (by : ℕ) (old : Whole) : Result Member Refusal → Whole → Type 0 where
-  Finds : {member : Member} → IsNumber old.members by member → FindsMember by old (Ok member) old
+  Finds : {member : Member} → IsNumbered old.members by member → FindsMember by old (Ok member) old
   FindsNone : (IsMember (length old.members) by → ⊥) → FindsMember by old (Err NoMember) old
 
 -- the change is the operation that its rule gives, by what the member holds
 abbrev pub TablesDecide : Member → Change → WholeAction Op
 TablesDecide member change = ByRule itself (λ world. ChangeRule (tables_view member.replica) change)
 
+-- the number of the member's next update
+abbrev pub next_number_of : ℕ → Member → Id
+next_number_of by member = record { replica = by; number = member.replica.saved.next }
+
 -- the member holds what the operation makes of what it saves, and the update is stored
-pub data KeepsUpdate (by : ℕ) (was : Member) (op : Op) (old : Whole) : Result Answer Refusal → Whole → Type 0 where
+pub data KeepsUpdate (by : ℕ) (was : Member) (op : Op) (old : Whole) :
+    Result Answer Refusal → Whole → Type 0 where
   Keeps : {new : Replica} → Applied was.replica.saved op new.saved → new.ask ≡ was.replica.ask
-      → KeepsUpdate by was op old (Ok (answer_to (record { replica = by; number = was.replica.saved.next }) op))
-          (advanced old by was new (Update by op))
+      → KeepsUpdate by was op old (Ok (answer_to (next_number_of by was) op)) (advanced old by was new (Update by op))
 
 -- the look is answered as its rule says, by what the member holds
 abbrev pub TablesShow : Member → Look → WholeAction Answer
@@ -79,25 +79,25 @@ pub record Served : Type 0 where
 
 -- one of two different members asks the other
 pub data KeepsAsk (by to : ℕ) (old : Whole) : Result Sent Refusal → Whole → Type 0 where
-  Sends : {was : Member} {asked : Replica} → ArePeers (length old.members) by to → IsNumber old.members by was
+  Sends : {was : Member} {asked : Replica} → ArePeers (length old.members) by to → IsNumbered old.members by was
       → AskGives was.replica to asked
       → KeepsAsk by to old (Ok (record { position = length old.events; number = asked.saved.generation }))
-          (advanced old by was asked (Ask by to))
+      (advanced old by was asked (Ask by to))
   NoPeers : (ArePeers (length old.members) by to → ⊥) → KeepsAsk by to old (Err NoMember) old
 
 -- the member serves what it holds
 pub data HandsOver (to : ℕ) (ask : Sent) (old : Whole) : Result Served Refusal → Whole → Type 0 where
-  Hands : {peer : Member} → IsNumber old.members to peer
+  Hands : {peer : Member} → IsNumbered old.members to peer
       → HandsOver to ask old
-          (Ok (record { position = length old.events; number = ask.number; entries = peer.replica.saved.entries }))
-          (record old { events = old.events ++ Serve to ask.position ∷ [] })
+      (Ok (record { position = length old.events; number = ask.number; entries = peer.replica.saved.entries }))
+      (record old { events = old.events ++ Serve to ask.position ∷ [] })
 
 -- the member takes what was served, or refuses it
 pub data TakesServed (by to : ℕ) (served : Served) (old : Whole) : Result Answer Refusal → Whole → Type 0 where
-  Takes : {was : Member} {new : Replica} → IsNumber old.members by was
+  Accepts : {was : Member} {new : Replica} → IsNumbered old.members by was
       → AcceptGives was.replica to served.number served.entries (Ok new)
       → TakesServed by to served old (Ok Done) (advanced old by was new (Accept by served.position))
-  Refuses : {was : Member} {refusal : Refusal} → IsNumber old.members by was → refusal ≢ Memory
+  Refuses : {was : Member} {refusal : Refusal} → IsNumbered old.members by was → refusal ≢ Memory
       → AcceptGives was.replica to served.number served.entries (Err refusal)
       → TakesServed by to served old (Err refusal) old
 
@@ -115,32 +115,3 @@ pub record Moves (old : Whole) (command : Command) (answer : Answer) (new : Whol
   pub result : Result Answer Refusal
   pub does : MovesBySort (sort_of command) old result new
   pub answer_is : answer ≡ answer_as result
-
--- what commands of this sort give of what a member holds: the next replica of a change, the answer of a look
-abbrev pub GivesChange : Replica → Sort → Result Next Refusal → Type 0
-GivesChange replica (Changes by change) next = ChangeGives replica change next
-GivesChange replica (Looks by look) next = ⊥
-GivesChange replica (Pulls by to) next = ⊥
-
-abbrev pub GivesLook : Replica → Sort → Result Answer Refusal → Type 0
-GivesLook replica (Changes by change) answer = ⊥
-GivesLook replica (Looks by look) answer = UnlessMemory (LookAnswer (tables_view replica) look) answer
-GivesLook replica (Pulls by to) answer = ⊥
-
--- a change of this member, and a look at it
-abbrev pub IsChangeBy : ℕ → Sort → Type 0
-IsChangeBy member (Changes by change) = by ≡ member
-IsChangeBy member (Looks by look) = ⊥
-IsChangeBy member (Pulls by to) = ⊥
-
-abbrev pub IsLookBy : ℕ → Sort → Type 0
-IsLookBy member (Changes by change) = ⊥
-IsLookBy member (Looks by look) = by ≡ member
-IsLookBy member (Pulls by to) = ⊥
-
--- the model allows the answer, and the world stands for what it leads to
-pub record Follows (volume : Volume) (W : ModelWorld) (command : Command) (answer : Answer) (new : Whole) : Type 0 where
-  pub outcome : Outcome
-  pub after : ModelWorld
-  pub step : Step volume W command outcome answer after
-  pub stands : WorldStandsFor volume after new

@@ -10,7 +10,7 @@ use Rattle.ficus_replica.specs.SavedOf.{StandsFor}
 use Rattle.ficus_world.specs.declared.member.Member.{Member}
 use Rattle.ficus_world.specs.declared.world.TheConstants.{DEFAULT_IDS, DEFAULT_BYTES}
 use Rattle.ficus_world.specs.ModelWorld.{ModelWorld, Up}
-use Rattle.ficus_world.specs.World.{IsNumber}
+use Rattle.ficus_world.specs.World.{IsNumbered}
 
 -- a volume with the default limits
 abbrev pub default_volume : ℕ → Volume
@@ -32,4 +32,4 @@ pub record IsFresh (volume : Volume) (r : ℕ) (member : Member) : Type 0 where
 -- there are so many, and none has heard of anything
 pub record AreFresh (volume : Volume) (count : ℕ) (members : List Member) : Type 0 where
   pub counted : length members ≡ count
-  pub each : (r : ℕ) (member : Member) → IsNumber members r member → IsFresh volume r member
+  pub each : (r : ℕ) (member : Member) → IsNumbered members r member → IsFresh volume r member

@@ -21,14 +21,14 @@ abbrev pub event_limit : ℕ
 event_limit = 2 ^ 32 - 16
 
 -- the r-th of a list, from 1
-pub record IsNumber {A : Type 0} (list : List A) (r : ℕ) (x : A) : Type 0 where
+pub record IsNumbered {A : Type 0} (list : List A) (r : ℕ) (x : A) : Type 0 where
   pub member : IsMember (length list) r
   pub is : slice_get list (r - 1) ≡ Some x
 
 -- what member r holds
 pub record IsReplica (members : List Member) (r : ℕ) (replica : Replica) : Type 0 where
   pub member : Member
-  pub is : IsNumber members r member
+  pub is : IsNumbered members r member
   pub holds : replica ≡ member.replica
 
 -- what holds of each replica of every world
@@ -41,7 +41,7 @@ pub record IsSound (count events r : ℕ) (replica : Replica) : Type 0 where
 -- what holds of every world
 pub record IsWorld (members : List Member) (events : List Event) : Type 0 where
   pub count : IsCount (length members)
-  pub sound : (r : ℕ) (member : Member) → IsNumber members r member
+  pub sound : (r : ℕ) (member : Member) → IsNumbered members r member
       → IsSound (length members) (length events) r member.replica
 
 -- the stored events are the last part of the history
@@ -60,5 +60,5 @@ pub record WorldStandsFor (volume : Volume) (W : ModelWorld) (world : Whole) : T
   pub standings : length W.standings ≡ volume.members
   pub lawful : IsLawful volume W.events
   pub stored : IsLastPart world.events W.events
-  pub each : (r : ℕ) (member : Member) (standing : Standing) → IsNumber world.members r member
-      → IsNumber W.standings r standing → MemberStandsFor volume W.events r member standing
+  pub each : (r : ℕ) (member : Member) (standing : Standing) → IsNumbered world.members r member
+      → IsNumbered W.standings r standing → MemberStandsFor volume W.events r member standing

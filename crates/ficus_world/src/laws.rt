@@ -15,8 +15,8 @@ ghost use Rattle.ficus_world.specs.Start.{default_volume, start};
 
 /// Commands leave a lawful history, whatever they are.
 pub fn runs_are_lawful()
-    ensures { (members : ℕ) (commands : List Command) (outcomes : List Outcome) (answers : List Answer) (W : ModelWorld)
-        → Run (default_volume members) (start members) commands outcomes answers W
+    ensures { (members : ℕ) (commands : List Command) (outcomes : List Outcome) (answers : List Answer)
+        (W : ModelWorld) → Run (default_volume members) (start members) commands outcomes answers W
         → IsLawful (default_volume members) W.events }
 {}
 
@@ -30,12 +30,13 @@ pub fn one_run()
 
 /// What is served in a pull is taken.
 pub fn pulls_are_never_stale()
-    ensures { (volume : Volume) (W : ModelWorld) (by to : ℕ) (left : Effect) → Does volume (Pulls by to) W (Err Stale) left → ⊥ }
+    ensures { (volume : Volume) (W : ModelWorld) (by to : ℕ) (left : Effect)
+        → Does volume (Pulls by to) W (Err Stale) left → ⊥ }
 {}
 
 /// Replicas that know the same updates answer looks alike.
 pub fn same_updates_answer_same()
-    ensures { (volume : Volume) (H : List Event) (replica other : ℕ) (look : Look) (answer again : Result Answer Refusal)
-        → KnowSameUpdates H replica other → LookAnswer (history_view volume H replica) look answer
+    ensures { (volume : Volume) (H : List Event) (replica other : ℕ) (look : Look)
+        (answer again : Result Answer Refusal) → KnowSameUpdates H replica other → LookAnswer (history_view volume H replica) look answer
         → LookAnswer (history_view volume H other) look again → answer ≡ again }
 {}

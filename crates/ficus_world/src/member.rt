@@ -8,7 +8,7 @@ use ficus_script::{Answer, Command};
 use std::alloc::Global;
 
 /// A member of a volume. So far each is up, and holds its replica.
-#[derive(Debug, Drop)]
+#[derive(Drop)]
 pub struct Member {
     pub(crate) replica: Replica,
 }
@@ -16,7 +16,7 @@ pub struct Member {
 impl Member {
     ghost use Rattle.ficus_codec.specs.Saved.{FitsImage};
     ghost use Rattle.ficus_script.specs.Command.{IsCommand};
-    ghost use Rattle.ficus_world.specs.Moves.{GivesChange, GivesLook, IsChangeBy, IsLookBy};
+    ghost use Rattle.ficus_world.specs.Member.{GivesChange, GivesLook, IsChangeBy, IsLookBy};
     ghost use Rattle.ficus_world.specs.Sort.{sort_of};
 
     /// What the change makes of the replica for which the command asks.
@@ -58,7 +58,13 @@ pub(crate) fn answer(number: Id, op: &Op) -> Answer
     ensures { result ≡ answer_to number op.now }
 {
     match op {
-        Op::Make { .. } | Op::Link { .. } | Op::Move { .. } | Op::Adopt { .. } => Answer::Made(number),
-        Op::Remove { .. } | Op::Write { .. } | Op::Settle { .. } | Op::Resolve { .. } | Op::Discard { .. } => Answer::Done,
+        Op::Make { .. } | Op::Link { .. } | Op::Move { .. } | Op::Adopt { .. } => Answer::Made(
+            number,
+        ),
+        Op::Remove { .. }
+        | Op::Write { .. }
+        | Op::Settle { .. }
+        | Op::Resolve { .. }
+        | Op::Discard { .. } => Answer::Done,
     }
 }

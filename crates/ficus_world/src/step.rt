@@ -16,7 +16,9 @@ impl World {
     ghost use Rattle.ficus_replica.specs.Rule.{UnlessMemory};
     ghost use Rattle.ficus_script.specs.Command.{IsCommand};
     ghost use Rattle.ficus_world.specs.ModelWorld.{ModelWorld};
-    ghost use Rattle.ficus_world.specs.Moves.{ArePeers, MovesBySort, Moves, IsChangeBy, IsLookBy, Follows};
+    ghost use Rattle.ficus_world.specs.Follows.{Follows};
+    ghost use Rattle.ficus_world.specs.Member.{IsChangeBy, IsLookBy};
+    ghost use Rattle.ficus_world.specs.Moves.{ArePeers, MovesBySort, Moves};
     ghost use Rattle.ficus_world.specs.Sort.{Pulls, sort_of};
     ghost use Rattle.ficus_world.specs.World.{WorldStandsFor};
 
@@ -67,7 +69,13 @@ impl World {
         let number = member.replica.saved.next;
         let next = member.change(by, command)?;
         self.history.reserve(1)?;
-        let answer = answer(Id { replica: by, number }, &next.op);
+        let answer = answer(
+            Id {
+                replica: by,
+                number,
+            },
+            &next.op,
+        );
         self.history.push(Event::Update { by, op: next.op });
         self.members[by as usize - 1].replica = next.replica;
         Ok(answer)

@@ -15,7 +15,7 @@ pub const DEFAULT_IDS: u32 = 100_000;
 pub const DEFAULT_BYTES: u32 = 4_194_304;
 
 /// The members of a volume, and the history of this run.
-#[derive(Debug, Drop)]
+#[derive(Drop)]
 pub struct World {
     pub(crate) members: Vec<Member>,
     pub(crate) history: History,
@@ -33,7 +33,7 @@ impl Model for World {
 
 impl World {
     ghost use Rattle.ficus_ids.specs.Members.{IsMember};
-    ghost use Rattle.ficus_world.specs.World.{IsNumber, IsReplica, IsSound, WorldStandsFor};
+    ghost use Rattle.ficus_world.specs.World.{IsNumbered, IsReplica, IsSound, WorldStandsFor};
     ghost use Rattle.ficus_world.specs.Start.{default_volume, restarts, start};
 
     /// Members that have heard of nothing, with the default limits. The history is one restart of each.
@@ -77,7 +77,7 @@ impl World {
     /// The member of this number.
     pub(crate) fn member(&self, number: u8) -> &Member
         requires { IsMember (length self.now.members) number }
-        ensures is { IsNumber self.now.members number result.now }
+        ensures is { IsNumbered self.now.members number result.now }
         ensures sound { IsSound (length self.now.members) (length self.now.events) number result.now.replica }
     {
         &self.members[number as usize - 1]

@@ -1,5 +1,6 @@
 use Rattle.std.proofs.lemmas.Result.{IfOk-weaker}
-use Rattle.ficus_world.specs.Moves.{Moves, Follows}
+use Rattle.ficus_world.specs.Follows.{Follows}
+use Rattle.ficus_world.specs.Moves.{Moves}
 use Rattle.ficus_world.proofs.Following.{follow}
 use Rattle.ficus_world.proofs.Moved.{answered_moves}
 use Rattle.ficus_world.proofs.world.World.step.Goals as goal
