@@ -39,6 +39,7 @@ use Rattle.ficus_replica.specs.Accept.{IsOpen, FitsPast, Accepted, AcceptGives, 
 use Rattle.ficus_replica.specs.SavedOf.{is_saved, generation_of, IsHeldAs, AreHeldBy, MakesDirectory, MakesDirectories, IsOpenAskOf, StandsFor}
 use Rattle.ficus_replica.specs.View.{held_live, without_state}
 use Rattle.ficus_replica.proofs.Directories.{directories_keep}
+use Rattle.ficus_replica.proofs.Images.{image_then}
 use Rattle.ficus_replica.proofs.MergeFits.{merged_tables}
 use Rattle.ficus_replica.proofs.Merged.{AreLive, AreOne, merged_entries}
 use Rattle.ficus_replica.proofs.OpenAsks.{open_none}
@@ -118,7 +119,7 @@ entry_once H r entry other held held_other same =
 -- In each of these the replica takes what this server served at this position.
 module _ (H : List Event) (r serve server : ℕ) (by_server : IsOf H serve server)
     (makes : MakesDirectories H (Knows H r))
-        (makes_there : MakesDirectories (through serve H) (Knows (through serve H) server)) where
+    (makes_there : MakesDirectories (through serve H) (Knows (through serve H) server)) where
   abbrev after : List Event
   after = H ++ Accept r serve ∷ []
 
@@ -201,15 +202,15 @@ accepted_stands volume H r from number tables serve old new stands served accept
     let was = stands.saved in
     let by_server = of_at served.served in
     let merges : MergesEntries r old.saved.members old.saved.entries tables accepted.merged =
-        subst (λ me. MergesEntries me old.saved.members old.saved.entries tables accepted.merged) was.me accepted.merges
-        in
+    subst (λ me. MergesEntries me old.saved.members old.saved.entries tables accepted.merged) was.me accepted.merges
+    in
     subst (StandsFor volume (H ++ accept ∷ []) r) (sym accepted.replica) (record {
       saved = saved_then was
           (omega (arith, was.next, count_no_update r H accept refl))
           (was.used ∙ sym (written_kept r H accept refl))
           (omega (arith, was.generation, generation_saved r H accept (accept_is_saved r serve)))
           (accepted_entries H r serve from by_server was.directories served.directories old.saved.members
-              old.saved.entries tables accepted.merged was.entries served.entries accepted.rising merges)
+          old.saved.entries tables accepted.merged was.entries served.entries accepted.rising merges)
           (directories_accepted H r serve from by_server was.directories served.directories);
       ask = open_none H r accept refl (λ to is. cc);
     })
@@ -246,7 +247,7 @@ pub served_fits : (volume : Volume) (H : List Event) (r from number : ℕ) (tabl
 served_fits volume H r from number tables serve old lawful stands served = record {
   each = All-weaker (Contains tables) (IsEntryOfPast old.saved.me old.saved.next)
       (λ entry inside. entry_past volume H r serve old.saved.me old.saved.next stands.saved.me stands.saved.next from
-          entry lawful ((served.entries.each entry).0 inside))
+      entry lawful ((served.entries.each entry).0 inside))
       tables (All-contains_itself tables);
 }
 
@@ -272,17 +273,8 @@ pub accepted_fits : (from number : ℕ) (entries : List Entry) (old new : Replic
     FitsImage new.saved
 accepted_fits from number entries old new fits tables generation accepted =
     let merged = merged_tables old.saved.me old.saved.members fits.me old.saved.next old.saved.entries entries
-        accepted.merged fits.tables.each fits.past.each tables.each accepted.past.each accepted.merges in
-    subst (λ (replica : Replica). FitsImage replica.saved) (sym accepted.replica) (record {
-      members = fits.members;
-      me = fits.me;
-      ids_at_least = fits.ids_at_least;
-      ids_at_most = fits.ids_at_most;
-      bytes = fits.bytes;
-      next_at_least = fits.next_at_least;
-      next_at_most = fits.next_at_most;
-      used = fits.used;
-      generation = omega arith;
-      tables = record { rising = accepted.rising; each = merged.0 };
-      past = record { each = merged.1 };
-    })
+    accepted.merged fits.tables.each fits.past.each tables.each accepted.past.each accepted.merges in
+    subst (λ (replica : Replica). FitsImage replica.saved) (sym accepted.replica)
+    (image_then fits fits.next_at_least fits.next_at_most fits.used (omega arith)
+    (record { rising = accepted.rising; each = merged.0 })
+    (record { each = merged.1 }))

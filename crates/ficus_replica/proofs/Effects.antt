@@ -21,7 +21,7 @@ use Rattle.ficus_entry.specs.declared.entry.State.{State}
 use Rattle.ficus_entry.specs.declared.entry.State.TheVariants.{Live, Dead}
 use Rattle.ficus_codec.specs.declared.saved.Saved.{Saved}
 use Rattle.ficus_codec.specs.Saved.{FitsImage, IsOfPast, IsEntryOfPast}
-use Rattle.ficus_codec.specs.Tables.{FitsEntry, FitsMarks, IsIssuable, MayHoldEntries}
+use Rattle.ficus_codec.specs.Tables.{FitsAttic, FitsEntry, FitsMarks, FitsState, IsIssuable, MayHoldEntries}
 use Rattle.ficus_recon_dir.specs.Table.{StandFor}
 use Rattle.ficus_laws.specs.Updates.{next_number, HasUpdate}
 use Rattle.ficus_laws.proofs.AfterUpdate.{entered_id, live_after, live_kept, live_new}
@@ -32,6 +32,7 @@ use Rattle.ficus_replica.specs.Effect.{Applied, IsLiveOrEntered, StaysLive, Beco
 use Rattle.ficus_replica.specs.SavedOf.{IsSavedOf, IsHeldAs, AreHeldBy, MakesDirectory, MakesDirectories}
 use Rattle.ficus_replica.specs.View.{held_live, without_state}
 use Rattle.ficus_replica.proofs.Directories.{removes_none}
+use Rattle.ficus_replica.proofs.Images.{image_then}
 use Rattle.ficus_replica.proofs.Saves.{saved_then, generation_saved, update_is_saved, written_more}
 
 -- In each of these a replica that stands for a history does one more operation, which makes a directory.
@@ -186,43 +187,42 @@ module _ {old : Saved} {op : Op} (fits : FitsImage old) (ready : FitsSaved old o
     knows = known old.me ∙ search rules;
   }
 
+  -- what is there, in a state that fits
+  in_state : (entry : ModelEntry) (state : State) → IsThere entry → FitsState old.members state →
+      FitsAttic entry.dir state → FitsThen (record (held_live entry) { state = state })
+  in_state entry state is_there fits_state attic = record {
+    tables = record {
+      id = is_there.id;
+      dir = is_there.dir;
+      name = is_there.name;
+      target = is_there.target;
+      state = fits_state;
+      attic = attic;
+    };
+    past = record { id = is_there.past.id; dir = is_there.past.dir; target = is_there.past.target };
+  }
+
   fits_then : (entry : Entry) (state : State) → entry.state ≡ state → IsHeldAfter old op entry state →
       FitsThen (record entry { state = state })
   fits_then entry Live is stays =
       let is_there = there (without_state entry) stays.present in
-      record {
-        tables = record { id = is_there.id; dir = is_there.dir; name = is_there.name; target = is_there.target; state =
-            tt; attic = λ in_attic. stays.kept (is_there.attic in_attic) };
-        past = is_there.past;
-      }
-  fits_then entry (Dead one two) is (inl was) = subst (λ state. FitsThen (record entry { state = state })) is (was_there entry was)
+      in_state (without_state entry) Live is_there tt (λ in_attic. stays.kept (is_there.attic in_attic))
+  fits_then entry (Dead one two) is (inl was) =
+      subst (λ state. FitsThen (record entry { state = state })) is (was_there entry was)
   fits_then entry (Dead one two) is (inr now) =
-      let is_there = there (without_state entry) now.present in
-      record {
-        tables = record { id = is_there.id; dir = is_there.dir; name = is_there.name; target = is_there.target; state =
-            fits_marks one two now.known now.known_of_all; attic = tt };
-        past = record { id = is_there.past.id; dir = is_there.past.dir; target = is_there.past.target };
-      }
+      let marks = fits_marks one two now.known now.known_of_all in
+      in_state (without_state entry) (Dead one two) (there (without_state entry) now.present) marks tt
 
   -- what is saved then fits an image
   pub applied_fits : {new : Saved} → old.generation < 2 ^ 63 - 1 → Applied old op new → FitsImage new
-  applied_fits {new} generation applied = subst FitsImage (sym applied.saved) (record {
-    members = fits.members;
-    me = fits.me;
-    ids_at_least = fits.ids_at_least;
-    ids_at_most = fits.ids_at_most;
-    bytes = fits.bytes;
-    next_at_least = omega arith;
-    next_at_most = omega (arith, ready.left);
-    used = ready.bytes;
-    generation = omega arith;
-    tables = record { rising = applied.rising; each =
-        All-weaker (Contains applied.entries) (FitsEntry old.members) (λ entry inside. (then entry inside).tables)
-        applied.entries (All-contains_itself applied.entries) };
-    past = record { each =
-        All-weaker (Contains applied.entries) (IsEntryOfPast old.me (old.next + 1))
-        (λ entry inside. (then entry inside).past) applied.entries (All-contains_itself applied.entries) };
-  })
+  applied_fits {new} generation applied =
+      subst FitsImage (sym applied.saved)
+      (image_then fits (omega arith) (omega (arith, ready.left)) ready.bytes (omega arith)
+      (record { rising = applied.rising; each = every (FitsEntry old.members) (λ entry inside. (then entry inside).tables) })
+      (record { each = every (IsEntryOfPast old.me (old.next + 1)) (λ entry inside. (then entry inside).past) }))
     where
       then : (entry : Entry) → Contains applied.entries entry → FitsThen entry
       then entry inside = fits_then entry entry.state refl ((applied.each entry).0 inside)
+
+      every : (P : Entry → Type 0) → ((entry : Entry) → Contains applied.entries entry → P entry) → All P applied.entries
+      every P each = All-weaker (Contains applied.entries) P each applied.entries (All-contains_itself applied.entries)

@@ -99,8 +99,11 @@ not_measured measure (Collect by) none is = absurd is
 module _ (H : List Event) (r : ℕ) (restarts : All IsRestart H) where
   nothing_summed : (measure : Event → ℕ) → ((by : ℕ) → measure (Restart by) ≡ 0) → sum_by measure H ≡ 0
   nothing_summed measure none =
-      omega (arith, sum_by-le measure 0 H
-      (All-weaker IsRestart (λ x. measure x ≤ 0) (λ event is. not_measured measure event none is) H restarts))
+      omega (
+        arith,
+        sum_by-le measure 0 H
+            (All-weaker IsRestart (λ x. measure x ≤ 0) (λ event is. not_measured measure event none is) H restarts),
+      )
 
   count_fresh : count_of r H ≡ 0
   count_fresh = nothing_summed (λ event. cond (is_update_of r event) 1 0) (λ by. refl)

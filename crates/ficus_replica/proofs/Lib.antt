@@ -12,6 +12,7 @@ pub mod Saves
 pub mod OpenAsks
 pub mod Allowed
 pub mod Places
+pub mod Images
 pub mod Effects
 pub mod Entering
 pub mod Makes

@@ -95,8 +95,14 @@ module _ (view : View) where
     own_has : (target : Id) (name : List ℕ) → binds dir name target → HasLine own dir name target
     own_has target name bound =
         let shows = listing.complete name target bound in
-        record { line = line_of dir shows.item; listed = into_map (line_of dir) names shows.item shows.inside; in_dir =
-            refl; named = shows.named; leads = shows.leads }
+        record {
+          line = line_of dir shows.item;
+          listed = into_map (line_of dir) names shows.item shows.inside;
+          in_dir =
+              refl;
+          named = shows.named;
+          leads = shows.leads;
+        }
 
     own_ordered : AllPairs (λ a b. line_cmp a b ≡ Less) own
     own_ordered i j d before within =
@@ -119,12 +125,18 @@ module _ (view : View) where
             record { line = has.line; listed = Contains-append_left lines own has.line has.listed; in_dir = has.in_dir; named = has.named; leads = has.leads }
         | inr is ↦
             let has = own_has target name (subst (λ at. binds at name target) is bound) in
-            record { line = has.line; listed = Contains-append_right lines own has.line has.listed; in_dir =
-                has.in_dir ∙ sym is; named = has.named; leads = has.leads }
+            record {
+              line = has.line;
+              listed = Contains-append_right lines own has.line has.listed;
+              in_dir =
+                  has.in_dir ∙ sym is;
+              named = has.named;
+              leads = has.leads;
+            }
       ];
       ordered = pairs_append (λ a b. line_cmp a b ≡ Less) lines own are.ordered own_ordered (λ a b earlier mine.
           at_lower (id_cmp a.dir b.dir) (shown_cmp a.shown b.shown)
-              (subst (λ at. id_cmp a.dir at ≡ Less) (sym (own_dir b mine)) (below a.dir (are.each a earlier).0)));
+          (subst (λ at. id_cmp a.dir at ≡ Less) (sym (own_dir b mine)) (below a.dir (are.each a earlier).0)));
     }
 
     -- the lines of one directory
@@ -159,9 +171,9 @@ module _ {view : View} (kinds : HasOneKind view) {shows : Id → Type 0} where
       let found = are_too.all line.dir line.shown.target line.shown.name own.0 own.1.shown.bound in
       let his = (are_too.each found.line found.listed).1 in
       let in_dir : IsShownAs (IsBoundIn view line.dir) found.line.shown.name found.line.shown.target
-          found.line.shown.suffixed =
-          subst (λ dir. IsShownAs (IsBoundIn view dir) found.line.shown.name found.line.shown.target
-          found.line.shown.suffixed) found.in_dir his.shown in
+      found.line.shown.suffixed =
+      subst (λ dir. IsShownAs (IsBoundIn view dir) found.line.shown.name found.line.shown.target
+      found.line.shown.suffixed) found.in_dir his.shown in
       let suffixed = one_suffix line.shown.suffixed found.line.shown.suffixed own.1.shown in_dir found.named found.leads in
       let kind = kinds.one line.shown.target line.kind found.line.kind own.1.kind (subst (λ target. view.kinds target found.line.kind) found.leads his.kind) in
       let conflict = his.conflict ∙ sym own.1.conflict in

@@ -61,8 +61,8 @@ module _ (r members : ℕ) (mine theirs merged : List Entry) (mine_live : AreLiv
       let row = merges.each entry.id (Some entry) at_peer after (inside, refl) held stands in
       let live = mine_live.each entry inside in
       same_entry entry after live
-          (live_stays r members entry.state (state_of at_peer) (state_of after) live
-          (held_live theirs entry.id at_peer theirs_live held) row.state) (kept_mine entry at_peer after row.place)
+      (live_stays r members entry.state (state_of at_peer) (state_of after) live
+      (held_live theirs entry.id at_peer theirs_live held) row.state) (kept_mine entry at_peer after row.place)
 
   -- what stands at the peer comes
   after_theirs : (entry : Entry) (at_r after : Option Entry) → Contains theirs entry → HoldsUnder mine entry.id at_r →

@@ -2,7 +2,7 @@
 use Rattle.std.proofs.Common.{◌≡◌, ◌↔◌, ◌⊎◌, Result, Ok, Err, refl, sym, ap, subst, ◌∙◌, inl, inr}
 use Rattle.ficus_ids.specs.declared.refusal.Refusal.{Refusal}
 use Rattle.ficus_ids.specs.declared.refusal.Refusal.TheVariants.{Memory}
-use Rattle.ficus_replica.specs.Rule.{Then, Unless, Where, Gives, Tells, UnlessMemory, Once, Along}
+use Rattle.ficus_replica.specs.Rule.{Then, RefusedOr, Unless, Where, Gives, Tells, UnlessMemory, Once, Along}
 
 module _ {A B : Type 0} {first : Result A Refusal → Type 0} {rest : A → Result B Refusal → Type 0}
     (first_once : Once first) (rest_once : (a : A) → Once (rest a)) where
@@ -33,29 +33,26 @@ pub then_goes : {A B : Type 0} (first : Result A Refusal → Type 0) (rest : A �
 then_goes first rest a (Ok b) fa ra = (a, fa, ra)
 then_goes first rest a (Err refusal) fa ra = inr (a, fa, ra)
 
+module _ {B : Type 0} {bad good : Type 0} (refusal : Refusal) {rest : Result B Refusal → Type 0}
+    (not_both : bad → good → ⊥) (rest_once : Once rest) where
+  refused_once : Once (RefusedOr bad good refusal rest)
+  refused_once (Ok b) (Ok c) (is, rb) (is_too, rc) = rest_once (Ok b) (Ok c) rb rc
+  refused_once (Ok b) (Err r) (is, rb) (inl (isnt, e)) = absurd (not_both isnt is)
+  refused_once (Ok b) (Err r) (is, rb) (inr (is_too, rr)) = rest_once (Ok b) (Err r) rb rr
+  refused_once (Err r) (Ok b) (inl (isnt, e)) (is, rb) = absurd (not_both isnt is)
+  refused_once (Err r) (Ok b) (inr (is_too, rr)) (is, rb) = rest_once (Err r) (Ok b) rr rb
+  refused_once (Err r) (Err s) (inl (isnt, e)) (inl (isnt_too, f)) = ap Err (e ∙ sym f)
+  refused_once (Err r) (Err s) (inl (isnt, e)) (inr (is, rr)) = absurd (not_both isnt is)
+  refused_once (Err r) (Err s) (inr (is, rr)) (inl (isnt, e)) = absurd (not_both isnt is)
+  refused_once (Err r) (Err s) (inr (is, rr)) (inr (is_too, rs)) = rest_once (Err r) (Err s) rr rs
+
 module _ {B : Type 0} (condition : Type 0) (refusal : Refusal) {rest : Result B Refusal → Type 0}
     (rest_once : Once rest) where
   pub unless_once : Once (Unless condition refusal rest)
-  unless_once (Ok b) (Ok c) (good, rb) (good_too, rc) = rest_once (Ok b) (Ok c) rb rc
-  unless_once (Ok b) (Err r) (good, rb) (inl (bad, e)) = absurd (good bad)
-  unless_once (Ok b) (Err r) (good, rb) (inr (good_too, rr)) = rest_once (Ok b) (Err r) rb rr
-  unless_once (Err r) (Ok b) (inl (bad, e)) (good, rb) = absurd (good bad)
-  unless_once (Err r) (Ok b) (inr (good_too, rr)) (good, rb) = rest_once (Err r) (Ok b) rr rb
-  unless_once (Err r) (Err s) (inl (bad, e)) (inl (bad_too, f)) = ap Err (e ∙ sym f)
-  unless_once (Err r) (Err s) (inl (bad, e)) (inr (good, rr)) = absurd (good bad)
-  unless_once (Err r) (Err s) (inr (good, rr)) (inl (bad, e)) = absurd (good bad)
-  unless_once (Err r) (Err s) (inr (good, rr)) (inr (good_too, rs)) = rest_once (Err r) (Err s) rr rs
+  unless_once = refused_once refusal (λ is isnt. isnt is) rest_once
 
   pub where_once : Once (Where condition refusal rest)
-  where_once (Ok b) (Ok c) (good, rb) (good_too, rc) = rest_once (Ok b) (Ok c) rb rc
-  where_once (Ok b) (Err r) (good, rb) (inl (bad, e)) = absurd (bad good)
-  where_once (Ok b) (Err r) (good, rb) (inr (good_too, rr)) = rest_once (Ok b) (Err r) rb rr
-  where_once (Err r) (Ok b) (inl (bad, e)) (good, rb) = absurd (bad good)
-  where_once (Err r) (Ok b) (inr (good_too, rr)) (good, rb) = rest_once (Err r) (Ok b) rr rb
-  where_once (Err r) (Err s) (inl (bad, e)) (inl (bad_too, f)) = ap Err (e ∙ sym f)
-  where_once (Err r) (Err s) (inl (bad, e)) (inr (good, rr)) = absurd (bad good)
-  where_once (Err r) (Err s) (inr (good, rr)) (inl (bad, e)) = absurd (bad good)
-  where_once (Err r) (Err s) (inr (good, rr)) (inr (good_too, rs)) = rest_once (Err r) (Err s) rr rs
+  where_once = refused_once refusal (λ isnt is. isnt is) rest_once
 
 pub gives_once : {B : Type 0} (b : B) → Once (Gives b)
 gives_once b (Ok c) (Ok d) e f = ap Ok (e ∙ sym f)
@@ -76,17 +73,21 @@ module _ {A B : Type 0} {first other : Result A Refusal → Type 0} {rest more :
   then_along there next (Err r) (inl stops) = inl (there (Err r) stops)
   then_along there next (Err r) (inr (a, fa, ra)) = inr (a, there (Ok a) fa, next a fa (Err r) ra)
 
+module _ {B : Type 0} {bad good bad_too good_too : Type 0} (refusal : Refusal) {rest more : Result B Refusal → Type 0} where
+  refused_along : (bad → bad_too) → (good → good_too) → Along rest more →
+      Along (RefusedOr bad good refusal rest) (RefusedOr bad_too good_too refusal more)
+  refused_along refused goes next (Ok b) (is, rb) = (goes is, next (Ok b) rb)
+  refused_along refused goes next (Err r) (inl (isnt, e)) = inl (refused isnt, e)
+  refused_along refused goes next (Err r) (inr (is, rr)) = inr (goes is, next (Err r) rr)
+
 module _ {B : Type 0} {condition same : Type 0} (refusal : Refusal) {rest more : Result B Refusal → Type 0} where
   pub unless_along : condition ↔ same → Along rest more →
       Along (Unless condition refusal rest) (Unless same refusal more)
-  unless_along either next (Ok b) (good, rb) = ((λ bad. good (either.1 bad)), next (Ok b) rb)
-  unless_along either next (Err r) (inl (bad, e)) = inl (either.0 bad, e)
-  unless_along either next (Err r) (inr (good, rr)) = inr ((λ bad. good (either.1 bad)), next (Err r) rr)
+  unless_along either next = refused_along refusal either.0 (λ isnt is. isnt (either.1 is)) next
 
-  pub where_along : condition ↔ same → Along rest more → Along (Where condition refusal rest) (Where same refusal more)
-  where_along either next (Ok b) (good, rb) = (either.0 good, next (Ok b) rb)
-  where_along either next (Err r) (inl (bad, e)) = inl ((λ good. bad (either.1 good)), e)
-  where_along either next (Err r) (inr (good, rr)) = inr (either.0 good, next (Err r) rr)
+  pub where_along : condition ↔ same → Along rest more →
+      Along (Where condition refusal rest) (Where same refusal more)
+  where_along either next = refused_along refusal (λ isnt is. isnt (either.1 is)) either.0 next
 
 pub gives_along : {B : Type 0} (b : B) → Along (Gives b) (Gives b)
 gives_along b answer is = is

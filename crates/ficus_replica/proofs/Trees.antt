@@ -51,8 +51,8 @@ module _ (view : View) where
     below_next other (place, inside, is) =
         let before : place < index = omega (arith, length-take index objects) in
         let at : get_or objects place d ≡ other =
-            get_or_default objects place d other (omega arith) ∙ sym (get_or-take index objects place other before) ∙ is
-            in
+        get_or_default objects place d other (omega arith) ∙ sym (get_or-take index objects place other before) ∙ is
+        in
         subst (λ (o : Id). id_cmp o next ≡ Less) at (rising.each place index d before within)
 
     -- those of the next object go behind
@@ -61,7 +61,7 @@ module _ (view : View) where
     first_more lines names listing are =
         let more : take (index + 1) objects ≡ take index objects ++ next ∷ [] = take_more objects index d within in
         rw more (lines_more view directories next names listing (Contains (take index objects))
-            (Contains (take index objects ++ next ∷ [])) lines are below_next
+        (Contains (take index objects ++ next ∷ [])) lines are below_next
         (λ other earlier. Contains-append_left (take index objects) (next ∷ []) other earlier)
         (Contains-push (take index objects) next)
         (λ other inside. elim (Contains-push_cases (take index objects) next other inside) [
@@ -72,13 +72,16 @@ module _ (view : View) where
 module _ (replica : Replica) where
   leads_from : (dir object : Id) → LeadsIn replica.saved.entries dir object →
       LeadsWithin (tables_view replica) dir object
-  leads_from dir object way = (way.entry.name, record {
-    entry = without_state way.entry;
-    live = subst (Contains replica.saved.entries) (held_as_live way.entry way.live) way.inside;
-    in_dir = way.in_dir;
-    named = refl;
-    leads = way.leads;
-  })
+  leads_from dir object way = (
+    way.entry.name,
+    record {
+      entry = without_state way.entry;
+      live = subst (Contains replica.saved.entries) (held_as_live way.entry way.live) way.inside;
+      in_dir = way.in_dir;
+      named = refl;
+      leads = way.leads;
+    },
+  )
 
   leads_into : (dir object : Id) → LeadsWithin (tables_view replica) dir object →
       LeadsIn replica.saved.entries dir object

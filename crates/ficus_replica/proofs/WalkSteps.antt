@@ -18,7 +18,7 @@ use Rattle.ficus_names.specs.Find.{FindsOnly, FindAnswer}
 use Rattle.ficus_names.specs.FindLaws.{FindAnswer-along}
 use Rattle.ficus_replica.specs.declared.replica.Replica.{Replica}
 use Rattle.ficus_replica.specs.View.{IsBoundIn, IsTakenIn, IsDirectoryIn, tables_view}
-use Rattle.ficus_replica.specs.Walk.{BaseRule, PartsRule, WalkRule, DirectoryRule}
+use Rattle.ficus_replica.specs.Walk.{BaseRule, PartsRule, WalkRule, DirectoryRule, last_name, name_of}
 use Rattle.ficus_replica.proofs.Rules.{then_goes}
 use Rattle.ficus_replica.proofs.Tables.{tables_bound, tables_directories, reached_directory}
 use Rattle.ficus_replica.proofs.Walks.{base_reached, walk_reached, found_bound}
@@ -92,21 +92,6 @@ module _ (replica : Replica) where
   taken_by dir name Ambiguous taken found is = (λ truth. (found.one, found.bound_one), λ bound. is)
   taken_by dir name other taken found is = absurd found
 
-  pub taken_where_found : (dir : Id) (part : Part) (object : Id) → part.target ≡ None →
-      FindAnswer (BindsIn replica.saved.entries dir) part.name part.target (Ok object) →
-      IsTakenIn (tables_view replica) dir part.name
-  taken_where_found dir part object new found =
-      let shown = found_shown dir part (Ok object) found in
-      (object, found_bound (IsBoundIn (tables_view replica) dir) part.name part.target object shown)
-
-  pub taken_by_refusal : (dir : Id) (part : Part) (refusal : Refusal) (taken : Bool) → part.target ≡ None →
-      FindAnswer (BindsIn replica.saved.entries dir) part.name part.target (Err refusal) →
-      taken ≡ not (sameb the_type refusal NoEntry) → IsTrue taken ↔ IsTakenIn (tables_view replica) dir part.name
-  taken_by_refusal dir part refusal taken new found is =
-      taken_by dir part.name refusal taken
-          (subst (λ target. FindAnswer (IsBoundIn (tables_view replica) dir) part.name target (Err refusal)) new
-          (found_shown dir part (Err refusal) found)) is
-
 last_from : (start : Option Part) (front : List Part) (last : Part) → last_or start (front ++ last ∷ []) ≡ Some last
 last_from start [] last = refl
 last_from start (part ∷ front) last = last_from (Some part) front last
@@ -121,12 +106,32 @@ pub last_at_end : (parts : List Part) (last : Part) → parts ≢ [] → last �
 last_at_end parts last some is =
     let before : List Part = take (length parts - 1) parts in
     let whole : parts ≡ before ++ get_or parts (length parts - 1) last ∷ [] =
-        sym (take_all (length parts - 1 + 1) parts (omega (arith, not_empty parts some))) ∙ take_more parts
-        (length parts - 1) last (omega (arith, not_empty parts some)) in
+    sym (take_all (length parts - 1 + 1) parts (omega (arith, not_empty parts some))) ∙ take_more parts
+    (length parts - 1) last (omega (arith, not_empty parts some)) in
     ap (last_or None) whole ∙ last_from None before (get_or parts (length parts - 1) last) ∙ ap Some (sym is)
 
 -- the last part of a new path has no target
-pub last_is_new : (path : Path) (last : Part) → IsNew path → last_or None path.parts ≡ Some last → last.target ≡ None
+last_is_new : (path : Path) (last : Part) → IsNew path → last_or None path.parts ≡ Some last → last.target ≡ None
 last_is_new path last (front, part, is, new) at =
     let same : Some part ≡ Some last = sym (last_from None front part) ∙ sym (ap (last_or None) is) ∙ at in
     ap (λ (p : Part). p.target) (sym (same_Some part last same)) ∙ new
+
+module _ (replica : Replica) (dir : Id) (path : Path) (last : Part) (at : last_or None path.parts ≡ Some last) where
+  name_is : last_name path ≡ last.name
+  name_is = ap name_of at
+
+  pub taken_where_found : (object : Id) →
+      FindAnswer (BindsIn replica.saved.entries dir) last.name last.target (Ok object) →
+      IsTakenIn (tables_view replica) dir (last_name path)
+  taken_where_found object found =
+      let shown = found_shown replica dir last (Ok object) found in
+      rw name_is (object, found_bound (IsBoundIn (tables_view replica) dir) last.name last.target object shown)
+
+  pub taken_by_refusal : (refusal : Refusal) (taken : Bool) → IsNew path →
+      FindAnswer (BindsIn replica.saved.entries dir) last.name last.target (Err refusal) →
+      taken ≡ not (sameb the_type refusal NoEntry) → IsTrue taken ↔ IsTakenIn (tables_view replica) dir (last_name path)
+  taken_by_refusal refusal taken is_new found is =
+      let shown = found_shown replica dir last (Err refusal) found in
+      let only : FindsOnly (IsBoundIn (tables_view replica) dir) last.name (Err refusal) =
+      subst (λ target. FindAnswer (IsBoundIn (tables_view replica) dir) last.name target (Err refusal)) (last_is_new path last is_new at) shown in
+      rw name_is (taken_by replica dir last.name refusal taken only is)

@@ -9,15 +9,18 @@ abbrev pub Then : {A B : Type 0} →
 Then {A} first rest (Ok b) = (a : A) × first (Ok a) × rest a (Ok b)
 Then {A} first rest (Err refusal) = first (Err refusal) ⊎ ((a : A) × first (Ok a) × rest a (Err refusal))
 
+-- refused in the one case, and else, in the other, by the rest
+abbrev pub RefusedOr : {B : Type 0} → Type 0 → Type 0 → Refusal → (Result B Refusal → Type 0) → Result B Refusal → Type 0
+RefusedOr bad good refusal rest (Ok b) = good × rest (Ok b)
+RefusedOr bad good refusal rest (Err other) = (bad × (other ≡ refusal)) ⊎ (good × rest (Err other))
+
 -- refused exactly where it is so
 abbrev pub Unless : {B : Type 0} → Type 0 → Refusal → (Result B Refusal → Type 0) → Result B Refusal → Type 0
-Unless bad refusal rest (Ok b) = (bad → ⊥) × rest (Ok b)
-Unless bad refusal rest (Err other) = (bad × (other ≡ refusal)) ⊎ ((bad → ⊥) × rest (Err other))
+Unless bad refusal rest result = RefusedOr bad (bad → ⊥) refusal rest result
 
 -- refused exactly where it isn't so
 abbrev pub Where : {B : Type 0} → Type 0 → Refusal → (Result B Refusal → Type 0) → Result B Refusal → Type 0
-Where good refusal rest (Ok b) = good × rest (Ok b)
-Where good refusal rest (Err other) = ((good → ⊥) × (other ≡ refusal)) ⊎ (good × rest (Err other))
+Where good refusal rest result = RefusedOr (good → ⊥) good refusal rest result
 
 -- this, and no refusal
 abbrev pub Gives : {B : Type 0} → B → Result B Refusal → Type 0

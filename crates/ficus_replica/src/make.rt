@@ -1,4 +1,4 @@
-use crate::walk::last_part;
+use crate::walk::last_name;
 use crate::{Next, Replica};
 use ficus_ids::{Kind, Refusal};
 use ficus_model::Op;
@@ -42,14 +42,13 @@ impl Replica {
         ensures { UnlessMemory (MakeRule (tables_view self.now) path.now kind) result }
     {
         let dir = self.parent(path)?;
-        let last = last_part(path);
-        if self.has_name(dir, last) {
+        if self.is_taken(dir, path) {
             return Err(Refusal::Exists);
         }
         if self.is_spent() {
             return Err(Refusal::Spent);
         }
-        let name = last.name.copy()?;
+        let name = last_name(path).copy()?;
         Ok(Op::Make { dir, name, kind })
     }
 }

@@ -1,13 +1,13 @@
 use crate::Replica;
-use ficus_ids::{Id, ROOT, Refusal};
+use ficus_ids::{Id, Name, ROOT, Refusal};
 use ficus_names::find;
 use ficus_path::{Base, Part, Path};
 
 impl Replica {
-    ghost use Rattle.std.specs.Prelude.{◌≡◌, ◌↔◌, IsTrue, None};
-    ghost use Rattle.ficus_path.specs.Path.{IsEntry};
+    ghost use Rattle.std.specs.Prelude.{◌↔◌, IsTrue};
+    ghost use Rattle.ficus_path.specs.Path.{IsEntry, IsNew};
     ghost use Rattle.ficus_replica.specs.View.{IsTakenIn, tables_view};
-    ghost use Rattle.ficus_replica.specs.Walk.{BaseRule, WalkRule, DirectoryRule, ParentRule};
+    ghost use Rattle.ficus_replica.specs.Walk.{BaseRule, WalkRule, DirectoryRule, ParentRule, last_name};
 
     // The object to which the parts lead from the base, or the refusal that comes first.
     fn walk(&self, base: Base, parts: &[Part]) -> Result<Id, Refusal>
@@ -52,24 +52,33 @@ impl Replica {
         self.directory_of(path.base, &parts[..parts.len() - 1])
     }
 
-    /// Whether a live entry of the directory has the name of a part without a target.
-    pub(crate) fn has_name(&self, dir: Id, part: &Part) -> bool
-        requires { part.now.target ≡ None }
-        ensures { IsTrue result ↔ IsTakenIn (tables_view self.now) dir part.now.name }
+    /// Whether a live entry of the directory has the name of a new path.
+    pub(crate) fn is_taken(&self, dir: Id, path: &Path) -> bool
+        requires { IsNew path.now }
+        ensures { IsTrue result ↔ IsTakenIn (tables_view self.now) dir (last_name path.now) }
     {
-        match find(&self.saved.entries, dir, part) {
+        match find(&self.saved.entries, dir, last_part(path)) {
             Ok(_) => true,
             Err(refusal) => refusal != Refusal::NoEntry,
         }
     }
 }
 
-ghost use Rattle.std.specs.Prelude.{◌≡◌, Some};
+ghost use Rattle.std.specs.Prelude.{◌≡◌, Some, None};
 ghost use Rattle.std.specs.List.{last_or};
 ghost use Rattle.ficus_path.specs.Path.{IsEntry as NamesEntry};
+ghost use Rattle.ficus_replica.specs.Walk.{last_name as name_at_end};
 
-/// The last part of a path that names an entry.
-pub(crate) fn last_part(path: &Path) -> &Part
+/// The name of the last part of a path that names an entry.
+pub(crate) fn last_name(path: &Path) -> &Name
+    requires { NamesEntry path.now }
+    ensures { result.now ≡ name_at_end path.now }
+{
+    &last_part(path).name
+}
+
+// The last part of a path that names an entry.
+fn last_part(path: &Path) -> &Part
     requires { NamesEntry path.now }
     ensures { last_or None path.now.parts ≡ Some result.now }
 {

@@ -9,8 +9,8 @@ returns-then-ne-clause-gives c = search rules
 pub returns-then-ne-clause-stands : goal.returns-then-ne-clause-stands
 returns-then-ne-clause-stands c =
     λ volume H serve lawful stands served. accept_gives_stands volume H c.args.self.now.saved.me c.args.from
-        c.args.number c.args.entries.now serve c.args.self.now (Err Stale) lawful stands served
-        (returns-then-ne-clause-gives c)
+    c.args.number c.args.entries.now serve c.args.self.now (Err Stale) lawful stands served
+    (returns-then-ne-clause-gives c)
 
 pub returns-then-not-has_issued_all-clause-gives : goal.returns-then-not-has_issued_all-clause-gives
 returns-then-not-has_issued_all-clause-gives c = search rules
@@ -18,8 +18,8 @@ returns-then-not-has_issued_all-clause-gives c = search rules
 pub returns-then-not-has_issued_all-clause-stands : goal.returns-then-not-has_issued_all-clause-stands
 returns-then-not-has_issued_all-clause-stands c =
     λ volume H serve lawful stands served. accept_gives_stands volume H c.args.self.now.saved.me c.args.from
-        c.args.number c.args.entries.now serve c.args.self.now (Err BadMessage) lawful stands served
-        (returns-then-not-has_issued_all-clause-gives c)
+    c.args.number c.args.entries.now serve c.args.self.now (Err BadMessage) lawful stands served
+    (returns-then-not-has_issued_all-clause-gives c)
 
 pub returns-clause-gives : goal.returns-clause-gives
 returns-clause-gives c = search rules
@@ -27,11 +27,11 @@ returns-clause-gives c = search rules
 pub returns-clause-fits : goal.returns-clause-fits
 returns-clause-fits c =
     accepted_fits c.args.from c.args.number c.args.entries.now c.args.self.now
-        (record { saved = c.saved_with.result; ask = None }) c.requires.fits c.requires.tables c.requires.generation
-        (returns-clause-gives c)
+    (record { saved = c.saved_with.result; ask = None }) c.requires.fits c.requires.tables c.requires.generation
+    (returns-clause-gives c)
 
 pub returns-clause-stands : goal.returns-clause-stands
 returns-clause-stands c =
     λ volume H serve lawful stands served. accept_gives_stands volume H c.args.self.now.saved.me c.args.from
-        c.args.number c.args.entries.now serve c.args.self.now (Ok (record { saved = c.saved_with.result; ask = None }))
-        lawful stands served (returns-clause-gives c)
+    c.args.number c.args.entries.now serve c.args.self.now (Ok (record { saved = c.saved_with.result; ask = None }))
+    lawful stands served (returns-clause-gives c)

@@ -1,21 +1,16 @@
-use Rattle.std.proofs.Common.{◌≡◌, ◌++◌, map, Ok, Err, inl, refl, ap, ◌∙◌}
-use Rattle.std.proofs.lemmas.Result.{err_from_is_err_and}
+use Rattle.std.proofs.Common.{rules, ◌≡◌, ◌++◌, map, Ok, refl, ap, ◌∙◌}
 use Rattle.ficus_names.specs.ListingLaws.{IsListing-along}
 use Rattle.ficus_replica.specs.Lines.{line_of}
-use Rattle.ficus_replica.specs.List.{ListRule}
 use Rattle.ficus_replica.specs.Look.{List as ListLook}
 use Rattle.ficus_replica.specs.Told.{answer_told, vec_lines}
 use Rattle.ficus_replica.specs.View.{tables_view}
 use Rattle.ficus_replica.proofs.Listings.{lines_of_one}
 use Rattle.ficus_replica.proofs.Looks.{look_stands}
-use Rattle.ficus_replica.proofs.Rules.{or_memory}
 use Rattle.ficus_replica.proofs.Tables.{tables_bound, tables_directories}
 use Rattle.ficus_replica.proofs.replica.Replica.list.Goals as goal
 
 pub returns-in_err-dir-clause-gives : goal.returns-in_err-dir-clause-gives
-returns-in_err-dir-clause-gives c =
-    let p = err_from_is_err_and c.from_residual.result c.from_residual.ensures.1 in
-    rw (p.1, p.2) (or_memory (ListRule (tables_view c.args.self.now) c.args.path.now) (Err c.in_err-dir.field-0.0) (inl c.in_err-dir.ensures))
+returns-in_err-dir-clause-gives c = search rules
 
 pub returns-in_err-dir-clause-stands : goal.returns-in_err-dir-clause-stands
 returns-in_err-dir-clause-stands c =
@@ -24,13 +19,19 @@ returns-in_err-dir-clause-stands c =
 pub returns-clause-gives : goal.returns-clause-gives
 returns-clause-gives c =
     let lines : c.add_lines.new.lines.items ≡ map (line_of c.in_ok-dir.dir) c.in_ok-names.names.items =
-        c.in_ok-add_lines.ensures ∙ ap (λ before. before ++ map (line_of c.in_ok-dir.dir) c.in_ok-names.names.items)
-        c.in_ok-lines.ensures.items in
-    let listing = IsListing-along (tables_bound c.args.self.now c.in_ok-dir.dir) c.in_ok-names.ensures in
-    (c.in_ok-dir.dir, c.in_ok-dir.ensures,
-        (c.add_lines.new.lines.items, rw lines
-        (lines_of_one (tables_view c.args.self.now) (tables_directories c.args.self.now) c.in_ok-dir.dir
-        c.in_ok-names.names.items listing), refl))
+    c.in_ok-add_lines.ensures ∙ ap (λ before. before ++ map (line_of c.in_ok-dir.dir) c.in_ok-names.names.items)
+    c.in_ok-lines.ensures.items in
+    let listing = IsListing-along (tables_bound c.args.self.now c.in_ok-dir.dir) c.in_ok-names.ensures in (
+      c.in_ok-dir.dir,
+      c.in_ok-dir.ensures,
+      (
+        c.add_lines.new.lines.items,
+        rw lines
+            (lines_of_one (tables_view c.args.self.now) (tables_directories c.args.self.now) c.in_ok-dir.dir
+            c.in_ok-names.names.items listing),
+        refl,
+      ),
+    )
 
 pub returns-clause-stands : goal.returns-clause-stands
 returns-clause-stands c =

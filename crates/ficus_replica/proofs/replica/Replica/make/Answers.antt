@@ -14,7 +14,7 @@ returns-in_err-op-clause-stands c =
 pub returns-clause-gives : goal.returns-clause-gives
 returns-clause-gives c =
     change_done c.args.self.now (Make c.args.path.now c.args.kind) c.in_ok-op.op c.in_ok-next.next c.in_ok-op.ensures
-        c.in_ok-next.ensures.op c.in_ok-next.ensures.applied c.in_ok-next.ensures.ask
+    c.in_ok-next.ensures.op c.in_ok-next.ensures.applied c.in_ok-next.ensures.ask
 
 pub returns-clause-fits : goal.returns-clause-fits
 returns-clause-fits c =

@@ -16,25 +16,28 @@ loop-dir-init c = first_none (tables_view c.args.self.now) c.deref-dir-items.res
 pub loop-dir-preserved : goal.loop-dir-preserved
 loop-dir-preserved c =
     let rising : IsRisingBy (λ (id : Id). id) c.deref-dir-items.result.now =
-        subst (IsRisingBy (λ (id : Id). id)) (sym c.deref-dir-items.ensures.value) c.in_ok-reached.ensures.rising in
+    subst (IsRisingBy (λ (id : Id). id)) (sym c.deref-dir-items.ensures.value) c.in_ok-reached.ensures.rising in
     rw c.in_ok-add_lines.ensures
-        (first_more (tables_view c.args.self.now) (tables_directories c.args.self.now) c.deref-dir-items.result.now
-        rising c.loop-dir.dir-index _ c.loop-dir-test.true c.loop-dir.lines.items c.in_ok-shown.field-0.items
+    (first_more (tables_view c.args.self.now) (tables_directories c.args.self.now) c.deref-dir-items.result.now
+    rising c.loop-dir.dir-index _ c.loop-dir-test.true c.loop-dir.lines.items c.in_ok-shown.field-0.items
     (IsListing-along (tables_bound c.args.self.now _)
-        (IsListing-along (λ name target. c.in_ok-directories.ensures _ target name) c.in_ok-shown.ensures))
-        c.loop-dir.invariant)
+    (IsListing-along (λ name target. c.in_ok-directories.ensures _ target name) c.in_ok-shown.ensures))
+    c.loop-dir.invariant)
 
 pub returns-clause-gives : goal.returns-clause-gives
 returns-clause-gives c =
     let first : AreFirst (tables_view c.args.self.now) c.in_ok-reached.reached.items c.loop-dir.dir-index
-        c.loop-dir.lines.items =
-        subst (λ dirs. AreFirst (tables_view c.args.self.now) dirs c.loop-dir.dir-index c.loop-dir.lines.items)
-        c.deref-dir-items.ensures.value c.loop-dir.invariant in
+    c.loop-dir.lines.items =
+    subst (λ dirs. AreFirst (tables_view c.args.self.now) dirs c.loop-dir.dir-index c.loop-dir.lines.items)
+    c.deref-dir-items.ensures.value c.loop-dir.invariant in
     let past : length c.in_ok-reached.reached.items ≤ c.loop-dir.dir-index =
-        subst (λ (dirs : List Id). length dirs ≤ c.loop-dir.dir-index) c.deref-dir-items.ensures.value
-        c.loop-dir-test.false in
-    (c.loop-dir.lines.items, first_all c.args.self.now c.in_ok-reached.reached.items c.loop-dir.dir-index
-        c.loop-dir.lines.items c.in_ok-reached.ensures.exact past first, refl)
+    subst (λ (dirs : List Id). length dirs ≤ c.loop-dir.dir-index) c.deref-dir-items.ensures.value
+    c.loop-dir-test.false in (
+      c.loop-dir.lines.items,
+      first_all c.args.self.now c.in_ok-reached.reached.items c.loop-dir.dir-index
+          c.loop-dir.lines.items c.in_ok-reached.ensures.exact past first,
+      refl,
+    )
 
 pub returns-clause-stands : goal.returns-clause-stands
 returns-clause-stands c = λ volume H stands. look_stands stands Tree (Ok (vec_lines c.loop-dir.lines)) (returns-clause-gives c)

@@ -10,7 +10,7 @@ pub returns-in_err-object-2 : goal.returns-in_err-object-2
 returns-in_err-object-2 c =
     let p = err_from_is_err_and c.from_residual-in_err-object-2.result c.from_residual-in_err-object-2.ensures.1 in
     rw (p.1, p.2) (refused_part c.args.self.now c.loop-part.part-index c.part-item.result c.loop-part-test.true
-        c.part-item.is c.loop-part.invariant _ c.in_err-object-2.ensures)
+    c.part-item.is c.loop-part.invariant _ c.in_err-object-2.ensures)
 
 pub loop-part-preserved : goal.loop-part-preserved
 loop-part-preserved c =

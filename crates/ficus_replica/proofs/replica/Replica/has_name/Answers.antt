@@ -1,9 +1,0 @@
-use Rattle.std.proofs.Common.{refl}
-use Rattle.ficus_replica.proofs.WalkSteps.{taken_where_found, taken_by_refusal}
-use Rattle.ficus_replica.proofs.replica.Replica.has_name.Goals as goal
-
-pub returns-in-Ok : goal.returns-in-Ok
-returns-in-Ok c = (λ truth. taken_where_found c.args.self.now c.args.dir c.args.part.now c.in-Ok.field-0 c.requires c.in-Ok.ensures, λ taken. refl)
-
-pub returns-in-Err : goal.returns-in-Err
-returns-in-Err c = taken_by_refusal c.args.self.now c.args.dir c.args.part.now c.in-Err.refusal c.ne.result c.requires c.in-Err.ensures c.ne.ensures
