@@ -6,3 +6,7 @@ use Rattle.ficus_outside.specs.Calls.{Tally}
 pub record SinkState : Type 0 where
   pub written : List ℕ
   pub calls : Tally
+
+-- how many bytes it has room for: 8 MiB
+abbrev pub sink_room : ℕ
+sink_room = 8388608

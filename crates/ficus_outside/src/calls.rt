@@ -7,7 +7,7 @@ use crate::faults::Faults;
 use std::marker::Model;
 
 /// The calls of a source or a sink in memory: which of them fail, how many were made, and how many failed.
-#[derive(Debug, Drop)]
+#[derive(Drop)]
 pub(crate) struct Calls {
     fail: Vec<u32>,
     made: u32,

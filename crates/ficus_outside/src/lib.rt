@@ -6,12 +6,12 @@ mod failed;
 mod faults;
 mod mem_sink;
 mod mem_source;
+mod reader_source;
 mod sink;
 mod source;
 mod std_sink;
 mod std_source;
-#[cfg(test)]
-mod tests;
+mod writer_sink;
 
 pub use failed::Failed;
 pub use mem_sink::{MEM_SINK_ROOM, MemSink};

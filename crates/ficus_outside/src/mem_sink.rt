@@ -1,8 +1,7 @@
 ghost use Rattle.std.specs.Prelude.{◌≡◌, ◌<◌, ◌≤◌, ◌↔◌, ◌⊎◌, ◌+◌, ⊤, [], ◌++◌, length, take, Ok, IfOk, OnOk, OnErr, IsErr, vec_len, vec_capacity};
 ghost use Rattle.ficus_outside.specs.Faults.{Rose};
 ghost use Rattle.ficus_outside.specs.Calls.{fresh, called, failed, IsNextListed};
-ghost use Rattle.ficus_outside.specs.MemSink.{SinkState};
-ghost use Rattle.ficus_outside.specs.declared.mem_sink.TheConstants.{MEM_SINK_ROOM};
+ghost use Rattle.ficus_outside.specs.MemSink.{SinkState, sink_room};
 
 use crate::calls::Calls;
 use crate::{Failed, Sink};
@@ -14,7 +13,7 @@ use std::marker::Model;
 pub const MEM_SINK_ROOM: usize = 8 * 1024 * 1024;
 
 /// A sink of bytes in memory. It tells what was put, and fails at the calls that it was told.
-#[derive(Debug, Drop)]
+#[derive(Drop)]
 pub struct MemSink {
     written: Vec<u8>,
     calls: Calls,
@@ -25,7 +24,7 @@ impl Model for MemSink {
 
     ghost view = { λ s. record { written = s.written.items; calls = s.calls } };
 
-    ghost invariant = { λ s. (vec_len s.written ≤ MEM_SINK_ROOM) × (MEM_SINK_ROOM ≤ vec_capacity s.written) };
+    ghost invariant = { λ s. (vec_len s.written ≤ sink_room) × (sink_room ≤ vec_capacity s.written) };
 }
 
 impl MemSink {
@@ -61,11 +60,13 @@ impl Sink for MemSink {
         ensures kept { ⊤ → OnErr result (self.new.written ≡ self.old.written) }
         ensures failed { OnErr result (Rose self.old.calls.faults self.new.calls.faults) }
         ensures none { 0 < length bytes.now → result ≡ Ok 0 → Rose self.old.calls.faults self.new.calls.faults }
+        ensures steady { IfOk result (λ count. (0 < count) ⊎ (length bytes.now ≡ 0)
+            → self.new.calls.faults ≡ self.old.calls.faults) }
         ensures counted { self.old.calls.faults ≤ self.new.calls.faults }
 
         // It fails exactly where it was told or the room would be passed, and takes the whole piece else.
         ensures fails { IsErr result
-            ↔ (IsNextListed self.old.calls ⊎ (MEM_SINK_ROOM < length self.old.written + length bytes.now)) }
+            ↔ (IsNextListed self.old.calls ⊎ (sink_room < length self.old.written + length bytes.now)) }
         ensures whole { IfOk result (λ count. count ≡ length bytes.now) }
         ensures call { OnOk result (self.new.calls ≡ called self.old.calls) }
         ensures fault { OnErr result (self.new.calls ≡ failed self.old.calls) }

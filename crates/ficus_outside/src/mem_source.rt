@@ -8,7 +8,7 @@ use crate::{Failed, Source};
 use std::marker::Model;
 
 /// A source of bytes in memory. It tells what is left, and fails at the calls that it was told.
-#[derive(Debug, Drop)]
+#[derive(Drop)]
 pub struct MemSource {
     bytes: Vec<u8>,
     // How many of the bytes were given.
@@ -50,6 +50,7 @@ impl Source for MemSource {
         ensures end { ⊤ → 0 < length into.new → result ≡ Ok 0 → self.old.left ≡ [] }
         ensures kept { ⊤ → OnErr result (self.new.left ≡ self.old.left) }
         ensures failed { OnErr result (Rose self.old.calls.faults self.new.calls.faults) }
+        ensures steady { OnOk result (self.new.calls.faults ≡ self.old.calls.faults) }
         ensures counted { self.old.calls.faults ≤ self.new.calls.faults }
 
         // It fails exactly where it was told, and gives as many bytes as fit.

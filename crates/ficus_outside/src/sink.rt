@@ -1,4 +1,4 @@
-ghost use Rattle.std.specs.Prelude.{◌≡◌, ◌<◌, ◌≤◌, List, ◌++◌, ℕ, length, take, Ok, IfOk, OnErr};
+ghost use Rattle.std.specs.Prelude.{◌≡◌, ◌<◌, ◌≤◌, ◌⊎◌, List, ◌++◌, ℕ, length, take, Ok, IfOk, OnErr};
 ghost use Rattle.ficus_outside.specs.Faults.{Rose};
 
 use crate::Failed;
@@ -21,5 +21,7 @@ pub trait Sink {
         ensures kept { tells → OnErr result (written self.new ≡ written self.old) }
         ensures failed { OnErr result (Rose (faults self.old) (faults self.new)) }
         ensures none { 0 < length bytes.now → result ≡ Ok 0 → Rose (faults self.old) (faults self.new) }
+        ensures steady { IfOk result (λ count. (0 < count) ⊎ (length bytes.now ≡ 0)
+            → faults self.new ≡ faults self.old) }
         ensures counted { faults self.old ≤ faults self.new };
 }

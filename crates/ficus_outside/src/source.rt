@@ -1,4 +1,4 @@
-ghost use Rattle.std.specs.Prelude.{◌≡◌, ◌<◌, ◌≤◌, List, [], ◌++◌, ℕ, length, take, Ok, IfOk, OnErr};
+ghost use Rattle.std.specs.Prelude.{◌≡◌, ◌<◌, ◌≤◌, List, [], ◌++◌, ℕ, length, take, Ok, IfOk, OnOk, OnErr};
 ghost use Rattle.ficus_outside.specs.Faults.{Rose};
 
 use crate::Failed;
@@ -21,5 +21,6 @@ pub trait Source {
         ensures end { tells → 0 < length into.new → result ≡ Ok 0 → left self.old ≡ [] }
         ensures kept { tells → OnErr result (left self.new ≡ left self.old) }
         ensures failed { OnErr result (Rose (faults self.old) (faults self.new)) }
+        ensures steady { OnOk result (faults self.new ≡ faults self.old) }
         ensures counted { faults self.old ≤ faults self.new };
 }

@@ -1,32 +1,34 @@
-ghost use Rattle.std.specs.Prelude.{◌≡◌, ℕ, []};
+ghost use Rattle.std.specs.Prelude.{◌≡◌, ◌<◌, ◌≤◌, ◌⊎◌, [], length, Ok, IfOk, OnErr};
+ghost use Rattle.std.specs.Io.KnownBytes.{WriteAppends};
+ghost use Rattle.ficus_outside.specs.Faults.{Rose};
+ghost use Rattle.ficus_outside.specs.Stream.{StreamState};
 
-use crate::faults::Faults;
+use crate::writer_sink::WriterSink;
 use crate::{Failed, Sink};
-use std::io::Print;
+use std::io;
+use std::io::{Print, Write};
 use std::marker::Model;
 
 /// The standard output of a runtime. It keeps no buffer, and tells nothing of what was put.
 #[derive(Drop)]
 pub struct StdSink<R: Print + Clone + Drop> {
-    rt: R,
-    faults: Faults,
+    sink: WriterSink<Output<R>>,
 }
 
 // Contracts see the count of faults.
 impl<R: Print + Clone + Drop> Model for StdSink<R> {
-    ghost Value = { ℕ };
+    ghost Value = { StreamState };
 
-    ghost view = { λ s. s.faults };
+    ghost view = { λ s. s.sink };
 }
 
 impl<R: Print + Clone + Drop> StdSink<R> {
     /// The standard output of `rt`, with no fault counted.
     pub fn new(rt: R) -> StdSink<R>
-        ensures { result ≡ 0 }
+        ensures { result.faults ≡ 0 }
     {
         StdSink {
-            rt,
-            faults: Faults::new(),
+            sink: WriterSink::new(Output { rt }),
         }
     }
 }
@@ -36,13 +38,25 @@ impl<R: Print + Clone + Drop> Sink for StdSink<R> {
 
     ghost written = { λ _. [] };
 
-    ghost faults = { λ faults. faults };
+    ghost faults = { λ s. s.faults };
 
     fn put(&mut self, bytes: &[u8]) -> Result<usize, Failed> {
-        // A write that takes nothing of a piece is a fault too.
-        match self.rt.write_some(bytes) {
-            Ok(count) if 0 < count || bytes.is_empty() => Ok(count),
-            _ => Err(self.faults.raise()),
-        }
+        self.sink.put(bytes)
+    }
+}
+
+// The output of a runtime as a writer that owns the runtime.
+#[derive(Drop)]
+struct Output<R: Print + Clone + Drop> {
+    rt: R,
+}
+
+impl<R: Print + Clone + Drop> Write for Output<R> {
+    fn write(&mut self, bytes: &[u8]) -> io::Result<usize> {
+        self.rt.write_some(bytes)
+    }
+
+    fn flush(&mut self) -> io::Result<()> {
+        Ok(())
     }
 }

@@ -1,36 +1,37 @@
-ghost use Rattle.std.specs.Prelude.{◌≡◌, ℕ, []};
+ghost use Rattle.std.specs.Prelude.{◌≡◌, ◌≤◌, [], length, IfOk, OnOk, OnErr};
+ghost use Rattle.std.specs.Io.KnownBytes.{ReadConsumes};
+ghost use Rattle.ficus_outside.specs.Faults.{Rose};
+ghost use Rattle.ficus_outside.specs.Stream.{StreamState};
 
-use crate::faults::Faults;
+use crate::reader_source::ReaderSource;
 use crate::{Failed, Source};
-use std::io::{Input, Read};
+use std::io::Input;
 use std::marker::Model;
 
 /// The standard input of a runtime. It tells nothing of what is left.
 #[derive(Drop)]
 pub struct StdSource<R: Input + Clone + Drop> {
     // One reader for the life of the source, so that what it has read ahead isn't lost between two calls.
-    reader: R::Reader,
+    source: ReaderSource<R::Reader>,
     // Kept as long as its reader.
     rt: R,
-    faults: Faults,
 }
 
-// Contracts see the count of faults.
+// Contracts see the count of faults, and the bytes that are known of the reader.
 impl<R: Input + Clone + Drop> Model for StdSource<R> {
-    ghost Value = { ℕ };
+    ghost Value = { StreamState };
 
-    ghost view = { λ s. s.faults };
+    ghost view = { λ s. s.source };
 }
 
 impl<R: Input + Clone + Drop> StdSource<R> {
     /// The standard input of `rt`, with no fault counted.
     pub fn new(rt: R) -> StdSource<R>
-        ensures { result ≡ 0 }
+        ensures { result.faults ≡ 0 }
     {
         StdSource {
-            reader: rt.reader(),
+            source: ReaderSource::new(rt.reader()),
             rt,
-            faults: Faults::new(),
         }
     }
 }
@@ -40,12 +41,17 @@ impl<R: Input + Clone + Drop> Source for StdSource<R> {
 
     ghost left = { λ _. [] };
 
-    ghost faults = { λ faults. faults };
+    ghost faults = { λ s. s.faults };
 
-    fn take(&mut self, into: &mut [u8]) -> Result<usize, Failed> {
-        match self.reader.read(into) {
-            Ok(count) => Ok(count),
-            Err(_) => Err(self.faults.raise()),
-        }
+    fn take(&mut self, into: &mut [u8]) -> Result<usize, Failed>
+        ensures within { IfOk result (λ count. count ≤ length into.new) }
+        ensures failed { OnErr result (Rose self.old.faults self.new.faults) }
+        ensures steady { OnOk result (self.new.faults ≡ self.old.faults) }
+        ensures counted { self.old.faults ≤ self.new.faults }
+
+        // What it gives is what the reader gave, its end the reader's end, and with a fault nothing is lost.
+        ensures read { ReadConsumes self.old.known self.new.known result into.new }
+    {
+        self.source.take(into)
     }
 }

@@ -1,3 +1,4 @@
+mod Faults
 mod Lines
 mod Serves
 mod Endings

@@ -27,10 +27,25 @@ kept_within (line ∷ lines) =
       | inr over ↦ rw over (omega (arith, kept_within lines))
     ]
 
-pub commands_within : (bytes : List ℕ) (commands : List Command) → IsScript bytes commands → length commands ≤ length bytes
+pub commands_within : (bytes : List ℕ) (commands : List Command) → IsScript bytes commands
+    → length commands ≤ length bytes
 commands_within bytes commands script =
-    omega (arith, lines_within bytes, kept_within (lines_of bytes), ap length script.spelled, length-map commands command_text)
+    omega (
+      arith,
+      lines_within bytes,
+      kept_within (lines_of bytes),
+      ap length script.spelled,
+      length-map commands
+          command_text,
+    )
 
 pub bad_line_within : (bytes : List ℕ) (number : ℕ) → IsFirstBadLine bytes number → number ≤ length bytes
 bad_line_within bytes number first =
-    omega (arith, lines_within bytes, first.counted, ap length first.lines, length-append first.before (first.bad ∷ first.behind))
+    omega (
+      arith,
+      lines_within bytes,
+      first.counted,
+      ap length first.lines,
+      length-append first.before
+          (first.bad ∷ first.behind),
+    )

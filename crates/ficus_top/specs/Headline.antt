@@ -15,18 +15,21 @@ use Rattle.ficus_top.specs.Words.{AreWords}
 abbrev pub Replay : ℕ → List Command → List Answer → List Event → Type 0
 Replay members commands answers H = Run (default_volume members) (start members) commands answers H
 
--- what was put are the texts of the answers to the script's commands, in order, and nothing else
-pub record Answers (members : ℕ) (script old new : List ℕ) : Type 0 where
+-- The source's bytes are a script, and the run over its commands was served: over a sink that tells, what was put are
+-- the texts of its answers, in order, and nothing else.
+pub record Answers (tells : Type 0) (members : ℕ) (script old new : List ℕ) : Type 0 where
   pub commands : List Command
   pub read : IsScript script commands
   pub after : List Event
-  pub serves : Serves (default_volume members) (start members) commands after old new
+  pub serves : Serves tells (default_volume members) (start members) commands after old new
 
--- what was put is a front of the texts of the answers to some first commands of the script
-pub record AnswersFront (members : ℕ) (script old new : List ℕ) : Type 0 where
+-- The source's bytes are a script, and the run over some first ones of its commands was served: over a sink that tells,
+-- what was put is a front of the texts of its answers, which ends in the last of them at the earliest.
+pub record AnswersFront (tells : Type 0) (members : ℕ) (script old new : List ℕ) : Type 0 where
   pub commands : List Command
   pub read : IsScript script commands
-  pub serves : ServesFront (default_volume members) (start members) commands old new
+  pub after : List Event
+  pub serves : ServesFront tells (default_volume members) (start members) commands after old new
 
 -- the code is one of those that the program ends with
 abbrev pub IsCode : ℕ → Type 0
@@ -36,7 +39,11 @@ IsCode code = (code ≡ 0) ⊎ (code ≡ 1) ⊎ (code ≡ 2) ⊎ (code ≡ 3) �
 abbrev pub IsIdleCode : ℕ → Type 0
 IsIdleCode code = (code ≡ 1) ⊎ (code ≡ 2) ⊎ (code ≡ 4) ⊎ (code ≡ 8)
 
--- the most bytes of a script
+-- a code with which a run ends only after the whole script was read
+abbrev pub IsReadCode : ℕ → Type 0
+IsReadCode code = (code ≡ 0) ⊎ (code ≡ 2) ⊎ (code ≡ 5)
+
+-- the most bytes of a script: 1 MiB
 abbrev pub script_limit : ℕ
 script_limit = 1048576
 

@@ -10,28 +10,45 @@ use Rattle.ficus_world.specs.Run.{Run}
 use Rattle.ficus_world.specs.World.{Whole, WorldStandsFor}
 use Rattle.ficus_top.specs.Outside.{PutsFront}
 
+-- A world with fewer stored events has room for those of a script's commands, which are three each at most.
+abbrev pub serving_limit : ℕ
+serving_limit = 4000000000
+
 -- the texts of the answers, one after the other
 abbrev pub texts_of : List Answer → List ℕ
 texts_of answers = flat_map answer_text_of answers
 
--- After the history H the commands have these answers, which lead to the history after them, and the texts of the
--- answers were put, in order, and nothing else.
-pub record Serves (volume : Volume) (H : List Event) (commands : List Command) (after : List Event) (old new : List ℕ) : Type 0 where
+-- After the history H the commands have these answers, which lead to the history after them. Over a sink that tells,
+-- the texts of the answers were put, in order, and nothing else.
+pub record Serves (tells : Type 0) (volume : Volume) (H : List Event) (commands : List Command) (after : List Event)
+    (old new : List ℕ) : Type 0 where
   pub answers : List Answer
   pub run : Run volume H commands answers after
-  pub put : new ≡ old ++ texts_of answers
+  pub put : tells → new ≡ old ++ texts_of answers
 
--- After the history H some first commands have these answers, and a front of their texts was put, and nothing else.
-pub record ServesFront (volume : Volume) (H : List Event) (commands : List Command) (old new : List ℕ) : Type 0 where
+-- After the history H some first commands have these answers, which lead to the history after them: the last of them,
+-- at most, wasn't put whole. Over a sink that tells, the texts of the others were put, a front of its own, and nothing
+-- else.
+pub record ServesFront (tells : Type 0) (volume : Volume) (H : List Event) (commands : List Command)
+    (after : List Event) (old new : List ℕ) : Type 0 where
   pub count : ℕ
   pub within : count ≤ length commands
-  pub answers : List Answer
-  pub after : List Event
-  pub run : Run volume H (take count commands) answers after
-  pub put : PutsFront old (texts_of answers) new
+  pub whole : List Answer
+  pub last : List Answer
+  pub at_most_one : length last ≤ 1
+  pub run : Run volume H (take count commands) (whole ++ last) after
+  pub put : tells → PutsFront (old ++ texts_of whole) (texts_of last) new
 
 -- the commands were served, and the world stands for the history after them
-pub record ServesWorld (volume : Volume) (H : List Event) (commands : List Command) (world : Whole) (old new : List ℕ) : Type 0 where
+pub record ServesWorld (tells : Type 0) (volume : Volume) (H : List Event) (commands : List Command) (world : Whole)
+    (old new : List ℕ) : Type 0 where
   pub after : List Event
-  pub serves : Serves volume H commands after old new
+  pub serves : Serves tells volume H commands after old new
+  pub stands : WorldStandsFor volume after world
+
+-- some first commands were served, and the world stands for the history after them
+pub record ServesWorldFront (tells : Type 0) (volume : Volume) (H : List Event) (commands : List Command)
+    (world : Whole) (old new : List ℕ) : Type 0 where
+  pub after : List Event
+  pub serves : ServesFront tells volume H commands after old new
   pub stands : WorldStandsFor volume after world

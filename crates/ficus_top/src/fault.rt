@@ -2,7 +2,7 @@ use ficus_ids::Memory;
 use ficus_outside::Failed;
 
 /// Why a run ended before every command was answered.
-#[derive(Clone, Copy, Debug)]
+#[derive(Clone, Copy)]
 pub(crate) enum Fault {
     /// The words aren't those of a mode.
     Usage,
@@ -35,7 +35,7 @@ impl From<AnsweringFault> for Fault {
 }
 
 /// Why the script wasn't read.
-#[derive(Clone, Copy, Debug)]
+#[derive(Clone, Copy)]
 pub(crate) enum ReadingFault {
     /// The line of this number, counted from 1, is the first that may stand in no script.
     BadLine(u32),
@@ -59,7 +59,7 @@ impl From<Failed> for ReadingFault {
 }
 
 /// Why not every command was answered.
-#[derive(Clone, Copy, Debug)]
+#[derive(Clone, Copy)]
 pub(crate) enum AnsweringFault {
     /// Memory was refused.
     Memory,

@@ -7,8 +7,6 @@ mod read;
 mod replay;
 mod serving;
 mod status;
-#[cfg(test)]
-mod tests;
 mod words;
 
 pub use replay::ficus;

@@ -6,9 +6,10 @@ use ficus_outside::{Failed, Sink};
 
 /// Puts all the bytes. Where the sink fails, a front of them was put.
 pub(crate) fn put_all<K: Sink>(output: &mut K, bytes: &[u8]) -> Result<(), Failed>
-    ensures put { K.tells → OnOk result (K.written output.new ≡ K.written output.old ++ bytes.now) }
-    ensures front { K.tells → OnErr result (PutsFront (K.written output.old) bytes.now (K.written output.new)) }
+    ensures put { OnOk result (K.tells → K.written output.new ≡ K.written output.old ++ bytes.now) }
+    ensures front { OnErr result (K.tells → PutsFront (K.written output.old) bytes.now (K.written output.new)) }
     ensures failed { OnErr result (Rose (K.faults output.old) (K.faults output.new)) }
+    ensures steady { OnOk result (K.faults output.new ≡ K.faults output.old) }
     ensures counted { K.faults output.old ≤ K.faults output.new }
 {
     let mut rest = bytes;

@@ -1,4 +1,4 @@
-ghost use Rattle.std.specs.Prelude.{◌≡◌, ◌↔◌, ◌+◌, ◌<◌, ◌≤◌, [], length, take, All, IfOk, OnErr, IfErr, IsErrOf, IsTrue};
+ghost use Rattle.std.specs.Prelude.{◌≡◌, ◌↔◌, ◌+◌, ◌<◌, ◌≤◌, [], length, take, All, IfOk, OnOk, OnErr, IfErr, IsErrOf, IsTrue};
 ghost use Rattle.ficus_outside.specs.Faults.{Rose};
 ghost use Rattle.ficus_script.specs.Command.{IsCommand};
 ghost use Rattle.ficus_script.specs.Script.{IsScript};
@@ -21,9 +21,11 @@ pub(crate) fn read_commands<S: Source>(
 ) -> Result<Vec<Command>, ReadingFault>
     ensures each { IfOk result (λ commands. All IsCommand commands.items) }
     ensures count { IfOk result (λ commands. length commands.items ≤ script_limit) }
-    ensures script { S.tells → IfOk result (λ commands. TakesAll (S.left input.old) (S.left input.new) × IsScript (S.left input.old) commands.items) }
+    ensures script { S.tells → IfOk result (λ commands.
+        TakesAll (S.left input.old) (S.left input.new) × IsScript (S.left input.old) commands.items) }
     ensures until { S.tells → IfErr result (TakesUntil (S.left input.old) (S.left input.new)) }
     ensures failed { IsErrOf result ReadingFault.Source → Rose (S.faults input.old) (S.faults input.new) }
+    ensures told { S.faults input.old < S.faults input.new → IsErrOf result ReadingFault.Source }
     ensures counted { S.faults input.old ≤ S.faults input.new }
 {
     let bytes = read_bytes(alloc, input)?;
@@ -40,6 +42,7 @@ fn read_bytes<S: Source>(alloc: Global, input: &mut S) -> Result<Vec<u8>, Readin
     ensures all { S.tells → IfOk result (λ bytes. (S.left input.old ≡ bytes.items) × (S.left input.new ≡ [])) }
     ensures until { S.tells → IfErr result (TakesUntil (S.left input.old) (S.left input.new)) }
     ensures failed { IsErrOf result ReadingFault.Source → Rose (S.faults input.old) (S.faults input.new) }
+    ensures told { S.faults input.old < S.faults input.new → IsErrOf result ReadingFault.Source }
     ensures counted { S.faults input.old ≤ S.faults input.new }
 {
     let mut bytes = room(alloc)?;
@@ -72,6 +75,7 @@ fn fill<S: Source>(input: &mut S, into: &mut [u8]) -> Result<usize, Failed>
     ensures gives { S.tells → IfOk result (λ count. Gives (S.left input.old) (take count into.new) (S.left input.new)) }
     ensures end { S.tells → IfOk result (λ count. count < length into.new → S.left input.new ≡ []) }
     ensures failed { OnErr result (Rose (S.faults input.old) (S.faults input.new)) }
+    ensures steady { OnOk result (S.faults input.new ≡ S.faults input.old) }
     ensures below { S.tells → OnErr result (GivesBelow (S.left input.old) (length into.new) (S.left input.new)) }
     ensures counted { S.faults input.old ≤ S.faults input.new }
 {

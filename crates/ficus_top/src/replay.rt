@@ -8,7 +8,7 @@ ghost use Rattle.ficus_script.specs.Script.{IsScript, IsFirstBadLine};
 ghost use Rattle.ficus_script.specs.declared.answer.Answer.{Answer as AnswerValue};
 ghost use Rattle.ficus_script.specs.declared.command.Command.{Command as CommandValue};
 ghost use Rattle.ficus_top.specs.Ending.{Takes, IsAnswering, IsIdle};
-ghost use Rattle.ficus_top.specs.Headline.{Answers, AnswersFront, Replay, IsCode, IsIdleCode, IsRead, IsBadLineCode, script_limit};
+ghost use Rattle.ficus_top.specs.Headline.{Answers, AnswersFront, Replay, IsCode, IsIdleCode, IsReadCode, IsRead, IsBadLineCode, script_limit};
 ghost use Rattle.ficus_top.specs.Outside.{GivesCount};
 ghost use Rattle.ficus_top.specs.Serving.{Serves, ServesFront};
 ghost use Rattle.ficus_top.specs.Words.{texts, AreWords, AreNoWords};
@@ -38,11 +38,17 @@ pub fn ficus<S: Source, K: Sink>(
     input: &mut S,
     output: &mut K,
 ) -> Status
-    // Code 1 comes exactly where the words aren't those of a mode.
+    // Code 1 comes exactly where the words aren't those of a mode. The source isn't asked then.
     ensures usage { (result.code ≡ 1) ↔ AreNoWords (texts words.now.items) }
+    ensures unasked { result.code ≡ 1 → input.new ≡ input.old }
 
-    // Code 8 comes exactly where the source gave a byte more than a script may have.
-    ensures too_long { S.tells → (result.code ≡ 8) ↔ GivesCount (S.left input.old) 1048577 (S.left input.new) }
+    // Code 8 comes exactly where the source gave a byte more than a script may have, and wherever it has one more.
+    ensures too_long { S.tells
+        → (result.code ≡ 8) ↔ GivesCount (S.left input.old) (script_limit + 1) (S.left input.new) }
+    ensures too_long_comes { S.tells → (members : ℕ) → AreWords (texts words.now.items) members
+        → (Rose (S.faults input.old) (S.faults input.new) → ⊥) → script_limit < length (S.left input.old)
+        → (result.code ≡ 8) ⊎ (result.code ≡ 3) }
+    ensures within { S.tells → IsReadCode result.code → length (S.left input.old) ≤ script_limit }
 
     // Code 2 names the first line that may stand in no script, and comes wherever there is one.
     ensures bad_line { S.tells → result.code ≡ 2 → IsFirstBadLine (S.left input.old) result.line }
@@ -50,19 +56,23 @@ pub fn ficus<S: Source, K: Sink>(
         → IsRead (texts words.now.items) members (S.left input.old) (S.faults input.old) (S.faults input.new)
         → IsFirstBadLine (S.left input.old) line → IsBadLineCode line result.code result.line }
 
-    // Codes 4 and 5 come only where the source or the sink has failed in this call.
+    // Codes 4 and 5 come only where the source or the sink has failed in this call, and wherever one has.
     ensures read_fault { result.code ≡ 4 → Rose (S.faults input.old) (S.faults input.new) }
+    ensures read_fault_comes { S.faults input.old < S.faults input.new → result.code ≡ 4 }
     ensures write_fault { result.code ≡ 5 → Rose (K.faults output.old) (K.faults output.new) }
+    ensures write_fault_comes { K.faults output.old < K.faults output.new → result.code ≡ 5 }
 
     // With code 0, what was put are the texts of the answers to the script's commands, and the source is empty.
-    ensures answers { S.tells → K.tells → result.code ≡ 0 → (members : ℕ) → AreWords (texts words.now.items) members
-        → Answers members (S.left input.old) (K.written output.old) (K.written output.new) × (S.left input.new ≡ []) }
+    ensures answers { S.tells → result.code ≡ 0 → (members : ℕ) → AreWords (texts words.now.items) members
+        → Answers K.tells members (S.left input.old) (K.written output.old) (K.written output.new)
+        × (S.left input.new ≡ []) }
 
     // With codes 3 and 5, what was put is a front of them; with code 3 maybe before the script was read.
-    ensures prefix { S.tells → K.tells → (members : ℕ) → AreWords (texts words.now.items) members
-        → (result.code ≡ 5 → AnswersFront members (S.left input.old) (K.written output.old) (K.written output.new))
-        × (result.code ≡ 3 → (K.written output.new ≡ K.written output.old)
-        ⊎ AnswersFront members (S.left input.old) (K.written output.old) (K.written output.new)) }
+    ensures prefix { S.tells → (members : ℕ) → AreWords (texts words.now.items) members
+        → (result.code ≡ 5
+        → AnswersFront K.tells members (S.left input.old) (K.written output.old) (K.written output.new))
+        × (result.code ≡ 3 → (output.new ≡ output.old)
+        ⊎ AnswersFront K.tells members (S.left input.old) (K.written output.old) (K.written output.new)) }
 
     // The history that the answers leave is lawful.
     ensures lawful { (members : ℕ) (commands : List CommandValue) (answers : List AnswerValue) (H : List Event)
@@ -76,7 +86,7 @@ pub fn ficus<S: Source, K: Sink>(
 
     // No other code comes, and nothing is put before the commands.
     ensures codes { IsCode result.code }
-    ensures idle { K.tells → IsIdleCode result.code → K.written output.new ≡ K.written output.old }
+    ensures idle { IsIdleCode result.code → output.new ≡ output.old }
     ensures numbers { (result.code ≢ 2 → result.line ≡ 0) × (result.replica ≡ 0) }
     ensures counted { (S.faults input.old ≤ S.faults input.new) × (K.faults output.old ≤ K.faults output.new) }
 {
@@ -91,14 +101,22 @@ fn run<S: Source, K: Sink>(
     output: &mut K,
 ) -> Result<(), Fault>
     ensures usage { IsErrOf result Fault.Usage ↔ AreNoWords (texts words.now.items) }
+    ensures unasked { IsErrOf result Fault.Usage → input.new ≡ input.old }
     ensures takes { S.tells → Takes (S.left input.old) (S.left input.new) result }
-    ensures answers { S.tells → K.tells → OnOk result ((members : ℕ) → AreWords (texts words.now.items) members
-        → Answers members (S.left input.old) (K.written output.old) (K.written output.new)) }
-    ensures prefix { S.tells → K.tells → IfErr result (λ fault. IsAnswering fault → (members : ℕ) → AreWords (texts words.now.items) members
-        → AnswersFront members (S.left input.old) (K.written output.old) (K.written output.new)) }
-    ensures idle { K.tells → IfErr result (λ fault. IsIdle fault → K.written output.new ≡ K.written output.old) }
-    ensures read_fault { IsErrOf result (Fault.Reading ReadingFault.Source) → Rose (S.faults input.old) (S.faults input.new) }
-    ensures write_fault { IsErrOf result (Fault.Answering AnsweringFault.Sink) → Rose (K.faults output.old) (K.faults output.new) }
+    ensures answers { S.tells → OnOk result ((members : ℕ) → AreWords (texts words.now.items) members
+        → Answers K.tells members (S.left input.old) (K.written output.old) (K.written output.new)) }
+    ensures prefix { S.tells → IfErr result (λ fault. IsAnswering fault
+        → (members : ℕ) → AreWords (texts words.now.items) members
+        → AnswersFront K.tells members (S.left input.old) (K.written output.old) (K.written output.new)) }
+    ensures idle { IfErr result (λ fault. IsIdle fault → output.new ≡ output.old) }
+    ensures read_fault { IsErrOf result (Fault.Reading ReadingFault.Source)
+        → Rose (S.faults input.old) (S.faults input.new) }
+    ensures read_fault_comes { S.faults input.old < S.faults input.new
+        → IsErrOf result (Fault.Reading ReadingFault.Source) }
+    ensures write_fault { IsErrOf result (Fault.Answering AnsweringFault.Sink)
+        → Rose (K.faults output.old) (K.faults output.new) }
+    ensures write_fault_comes { K.faults output.old < K.faults output.new
+        → IsErrOf result (Fault.Answering AnsweringFault.Sink) }
     ensures counted { (S.faults input.old ≤ S.faults input.new) × (K.faults output.old ≤ K.faults output.new) }
 {
     let Some(members) = read_words(words.as_slice()) else {
@@ -119,11 +137,14 @@ fn answer_commands<K: Sink>(
     requires members { IsCount members }
     requires commands { All IsCommand commands.now }
     requires count { length commands.now ≤ script_limit }
-    ensures answers { K.tells → OnOk result ((after : List Event)
-        × Serves (default_volume members) (start members) commands.now after (K.written output.old) (K.written output.new)) }
-    ensures prefix { K.tells → OnErr result
-        (ServesFront (default_volume members) (start members) commands.now (K.written output.old) (K.written output.new)) }
+    ensures answers { OnOk result ((after : List Event)
+        × Serves K.tells (default_volume members) (start members) commands.now after
+        (K.written output.old) (K.written output.new)) }
+    ensures prefix { OnErr result ((after : List Event)
+        × ServesFront K.tells (default_volume members) (start members) commands.now after
+        (K.written output.old) (K.written output.new)) }
     ensures failed { IsErrOf result AnsweringFault.Sink → Rose (K.faults output.old) (K.faults output.new) }
+    ensures told { K.faults output.old < K.faults output.new → IsErrOf result AnsweringFault.Sink }
     ensures counted { K.faults output.old ≤ K.faults output.new }
 {
     let mut world = World::fresh(alloc, members)?;

@@ -5,7 +5,8 @@ ghost use Rattle.ficus_outside.specs.Faults.{Rose};
 ghost use Rattle.ficus_script.specs.Answer.{answer_text_of};
 ghost use Rattle.ficus_script.specs.Command.{IsCommand};
 ghost use Rattle.ficus_top.specs.Outside.{PutsFront};
-ghost use Rattle.ficus_top.specs.Serving.{ServesFront, ServesWorld};
+ghost use Rattle.ficus_top.specs.Serving.{serving_limit, ServesWorld, ServesWorldFront};
+ghost use Rattle.ficus_top.specs.Headline.{script_limit};
 ghost use Rattle.ficus_world.specs.World.{WorldStandsFor};
 
 use crate::fault::{AnsweringFault, Fault};
@@ -25,14 +26,22 @@ pub fn serve<K: Sink>(
     output: &mut K,
 ) -> Status
     requires commands { All IsCommand commands.now }
-    requires count { length commands.now ≤ 1048576 }
-    requires room { length world.old.history.events < 4000000000 }
+    requires count { length commands.now ≤ script_limit }
+    requires room { length world.old.history.events < serving_limit }
     ensures codes { (result.code ≡ 0) ⊎ (result.code ≡ 3) ⊎ (result.code ≡ 5) }
-    ensures answers { K.tells → result.code ≡ 0 → (volume : Volume) (H : List Event) → WorldStandsFor volume H world.old
-        → ServesWorld volume H commands.now world.new (K.written output.old) (K.written output.new) }
-    ensures prefix { K.tells → (result.code ≡ 3) ⊎ (result.code ≡ 5) → (volume : Volume) (H : List Event) → WorldStandsFor volume H world.old
-        → ServesFront volume H commands.now (K.written output.old) (K.written output.new) }
+
+    // Whatever history the world stood for before: what was answered, what of it was put, and for which history the
+    // world stands now.
+    ensures answers { result.code ≡ 0 → (volume : Volume) (H : List Event) → WorldStandsFor volume H world.old
+        → ServesWorld K.tells volume H commands.now world.new (K.written output.old) (K.written output.new) }
+    ensures prefix { (result.code ≡ 3) ⊎ (result.code ≡ 5)
+        → (volume : Volume) (H : List Event) → WorldStandsFor volume H world.old
+        → ServesWorldFront K.tells volume H commands.now world.new (K.written output.old) (K.written output.new) }
+
+    // Code 5 comes only where the sink has failed in this call, and wherever it has.
     ensures write_fault { result.code ≡ 5 → Rose (K.faults output.old) (K.faults output.new) }
+    ensures write_fault_comes { K.faults output.old < K.faults output.new → result.code ≡ 5 }
+
     ensures numbers { (result.line ≡ 0) × (result.replica ≡ 0) }
     ensures counted { K.faults output.old ≤ K.faults output.new }
 {
@@ -48,13 +57,14 @@ pub(crate) fn answer_all<K: Sink>(
     output: &mut K,
 ) -> Result<(), AnsweringFault>
     requires commands { All IsCommand commands.now }
-    requires count { length commands.now ≤ 1048576 }
-    requires room { length world.old.history.events < 4000000000 }
-    ensures answers { K.tells → OnOk result ((volume : Volume) (H : List Event) → WorldStandsFor volume H world.old
-        → ServesWorld volume H commands.now world.new (K.written output.old) (K.written output.new)) }
-    ensures prefix { K.tells → OnErr result ((volume : Volume) (H : List Event) → WorldStandsFor volume H world.old
-        → ServesFront volume H commands.now (K.written output.old) (K.written output.new)) }
+    requires count { length commands.now ≤ script_limit }
+    requires room { length world.old.history.events < serving_limit }
+    ensures answers { OnOk result ((volume : Volume) (H : List Event) → WorldStandsFor volume H world.old
+        → ServesWorld K.tells volume H commands.now world.new (K.written output.old) (K.written output.new)) }
+    ensures prefix { OnErr result ((volume : Volume) (H : List Event) → WorldStandsFor volume H world.old
+        → ServesWorldFront K.tells volume H commands.now world.new (K.written output.old) (K.written output.new)) }
     ensures failed { IsErrOf result AnsweringFault.Sink → Rose (K.faults output.old) (K.faults output.new) }
+    ensures told { K.faults output.old < K.faults output.new → IsErrOf result AnsweringFault.Sink }
     ensures counted { K.faults output.old ≤ K.faults output.new }
 {
     for command in commands {
@@ -72,11 +82,13 @@ fn answer_one<K: Sink>(
 ) -> Result<(), AnsweringFault>
     requires command { IsCommand command.now }
     requires room { length world.old.history.events < 4294967280 }
-    ensures answer { K.tells → OnOk result ((volume : Volume) (H : List Event) → WorldStandsFor volume H world.old
-        → ServesWorld volume H (command.now ∷ []) world.new (K.written output.old) (K.written output.new)) }
-    ensures front { K.tells → OnErr result ((volume : Volume) (H : List Event) → WorldStandsFor volume H world.old
-        → ServesFront volume H (command.now ∷ []) (K.written output.old) (K.written output.new)) }
+    ensures answer { OnOk result ((volume : Volume) (H : List Event) → WorldStandsFor volume H world.old
+        → ServesWorld K.tells volume H (command.now ∷ []) world.new (K.written output.old) (K.written output.new)) }
+    ensures front { OnErr result ((volume : Volume) (H : List Event) → WorldStandsFor volume H world.old
+        → ServesWorldFront K.tells volume H (command.now ∷ []) world.new
+        (K.written output.old) (K.written output.new)) }
     ensures failed { IsErrOf result AnsweringFault.Sink → Rose (K.faults output.old) (K.faults output.new) }
+    ensures told { K.faults output.old < K.faults output.new → IsErrOf result AnsweringFault.Sink }
     ensures counted { K.faults output.old ≤ K.faults output.new }
     ensures grows { length world.new.history.events ≤ length world.old.history.events + 3 }
 {
@@ -86,9 +98,11 @@ fn answer_one<K: Sink>(
 
 // Puts the text of the answer.
 fn put_answer<K: Sink>(alloc: Global, answer: &Answer, output: &mut K) -> Result<(), AnsweringFault>
-    ensures put { K.tells → OnOk result (K.written output.new ≡ K.written output.old ++ answer_text_of answer.now) }
-    ensures front { K.tells → OnErr result (PutsFront (K.written output.old) (answer_text_of answer.now) (K.written output.new)) }
+    ensures put { OnOk result (K.tells → K.written output.new ≡ K.written output.old ++ answer_text_of answer.now) }
+    ensures front { OnErr result (K.tells
+        → PutsFront (K.written output.old) (answer_text_of answer.now) (K.written output.new)) }
     ensures failed { IsErrOf result AnsweringFault.Sink → Rose (K.faults output.old) (K.faults output.new) }
+    ensures told { K.faults output.old < K.faults output.new → IsErrOf result AnsweringFault.Sink }
     ensures counted { K.faults output.old ≤ K.faults output.new }
 {
     let text = answer_text(alloc, answer)?;

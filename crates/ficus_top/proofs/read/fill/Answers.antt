@@ -5,14 +5,16 @@ use borrow.Rule.Slice.PartMut.{put_mid, post_of}
 use Rattle.ficus_top.proofs.read.fill.Goals as goal
 
 -- what a write to the part from n on leaves: the front as it was, and then a front of the part
-front_filled : (xs ys : List ℕ) (n k count : ℕ) → n ≤ length xs → count ≤ length ys → take (n + count) (put_mid n k xs ys) ≡ take n xs ++ take count ys
+front_filled : (xs ys : List ℕ) (n k count : ℕ) → n ≤ length xs → count ≤ length ys
+    → take (n + count) (put_mid n k xs ys) ≡ take n xs ++ take count ys
 front_filled xs ys n k count within part =
     let front : length (take n xs) ≡ n = length-take-le n xs within in
     ap (λ (m : ℕ). take (m + count) (put_mid n k xs ys)) (sym front)
     ∙ take-append-add (take n xs) (ys ++ post_of n k xs) count
     ∙ ap (λ (l : List ℕ). take n xs ++ l) (take-append-le count ys (post_of n k xs) part)
 
-length_kept : (xs ys : List ℕ) (n : ℕ) → n ≤ length xs → length ys ≡ length xs - n → length (put_mid n (length xs - n) xs ys) ≡ length xs
+length_kept : (xs ys : List ℕ) (n : ℕ) → n ≤ length xs → length ys ≡ length xs - n
+    → length (put_mid n (length xs - n) xs ys) ≡ length xs
 length_kept xs ys n within part = simp (length-append, length-drop, length-take) (omega arith)
 
 pub loop-filled-preserved : goal.loop-filled-preserved
@@ -29,6 +31,7 @@ loop-filled-preserved g c =
           c.loop-filled.invariant.gives tells
           ∙ ap (λ (l : List ℕ). take n xs ++ l) (took.taken tells)
           ∙ sym (append_assoc (take n xs) (take count ys) (g.S.Source.left c.take.new.self))
-          ∙ ap (λ (l : List ℕ). l ++ g.S.Source.left c.take.new.self) (sym (front_filled xs ys n (length xs - n) count c.loop-filled.invariant.within took.within));
-      counted = omega (arith, c.take.ensures.counted);
+          ∙ ap (λ (l : List ℕ). l ++ g.S.Source.left c.take.new.self)
+          (sym (front_filled xs ys n (length xs - n) count c.loop-filled.invariant.within took.within));
+      steady = took.steady ∙ c.loop-filled.invariant.steady;
     }

@@ -4,7 +4,11 @@ use Rattle.ficus_top.proofs.read.read_commands.Goals as goal
 
 pub returns-in-Ok-clause-count : goal.returns-in-Ok-clause-count
 returns-in-Ok-clause-count g c =
-    omega (arith, commands_within c.deref.result.now c.in-Ok.commands.items c.in-Ok.ensures.script, c.in_ok-bytes.ensures.limit)
+    omega (
+      arith,
+      commands_within c.deref.result.now c.in-Ok.commands.items c.in-Ok.ensures.script,
+      c.in_ok-bytes.ensures.limit,
+    )
 
 pub overflow_cast-result : goal.overflow_cast-result
 overflow_cast-result g c =

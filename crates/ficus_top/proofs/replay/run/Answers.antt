@@ -13,36 +13,50 @@ use Rattle.ficus_top.proofs.Endings.{one_members}
 use Rattle.ficus_top.proofs.replay.run.Goals as goal
 
 -- what was answered over a fresh volume, from the words and the script that were read
-module _ {words : List (List ℕ)} {read members : ℕ} (are : AreWords words read) (also : AreWords words members) {script old new : List ℕ} {commands some : List Command} (is_script : IsScript script commands) (same : some ≡ commands) where
-  answers_front : ServesFront (default_volume read) (start read) some old new → AnswersFront members script old new
+module _ {tells : Type 0} {words : List (List ℕ)} {read members : ℕ} (are : AreWords words read)
+    (also : AreWords words members) {script old new : List ℕ} {commands some : List Command}
+    (is_script : IsScript script commands) (same : some ≡ commands) (after : List Event) where
+  answers_front : ServesFront tells (default_volume read) (start read) some after old new
+      → AnswersFront tells members script old new
   answers_front serves = record {
     commands = commands;
     read = is_script;
-    serves = subst (λ (n : ℕ). ServesFront (default_volume n) (start n) commands old new) (one_members are also) (subst (λ (cs : List Command). ServesFront (default_volume read) (start read) cs old new) same serves);
+    after = after;
+    serves = subst (λ (n : ℕ). ServesFront tells (default_volume n) (start n) commands after old new)
+        (one_members are also) (subst (λ (cs : List Command). ServesFront tells (default_volume read) (start read) cs
+        after old new) same serves);
   }
 
-  answers : (after : List Event) → Serves (default_volume read) (start read) some after old new → Answers members script old new
-  answers after serves = record {
+  answers : Serves tells (default_volume read) (start read) some after old new → Answers tells members script old new
+  answers serves = record {
     commands = commands;
     read = is_script;
     after = after;
-    serves = subst (λ (n : ℕ). Serves (default_volume n) (start n) commands after old new) (one_members are also) (subst (λ (cs : List Command). Serves (default_volume read) (start read) cs after old new) same serves);
+    serves = subst (λ (n : ℕ). Serves tells (default_volume n) (start n) commands after old new) (one_members are also)
+        (subst (λ (cs : List Command). Serves tells (default_volume read) (start read) cs after old new) same serves);
   }
 
 pub returns-in_default-clause-usage : goal.returns-in_default-clause-usage
-returns-in_default-clause-usage g c =
-    (λ is. subst (λ (words : List (String Global)). AreNoWords (texts words)) c.as_slice.ensures.value c.in_default.ensures.none, λ none. refl)
+returns-in_default-clause-usage g c = (
+  λ is. subst (λ (words : List (String Global)). AreNoWords (texts words)) c.as_slice.ensures.value
+      c.in_default.ensures.none,
+  λ none. refl,
+)
 
 pub returns-in_err-answer_commands-clause-prefix :
     goal.returns-in_err-answer_commands-clause-prefix
-returns-in_err-answer_commands-clause-prefix g c = λ source_tells sink_tells.
-    let p = err_from_is_err_and c.from_residual-in_err-answer_commands.result c.from_residual-in_err-answer_commands.ensures.1 in
+returns-in_err-answer_commands-clause-prefix g c = λ source_tells.
+    let p = err_from_is_err_and c.from_residual-in_err-answer_commands.result
+    c.from_residual-in_err-answer_commands.ensures.1 in
     rw p.1 (λ answering members also.
-    let are = subst (λ (words : List (String Global)). AreWords (texts words) c.in-Some.members) c.as_slice.ensures.value c.in-Some.ensures.found in
-    answers_front are also (c.in_ok-commands.ensures.script source_tells).1 c.deref.ensures.value (c.in_err-answer_commands.ensures.prefix sink_tells))
+    let are = subst (λ (words : List (String Global)). AreWords (texts words) c.in-Some.members)
+    c.as_slice.ensures.value c.in-Some.ensures.found in
+    let front = c.in_err-answer_commands.ensures.prefix in
+    answers_front are also (c.in_ok-commands.ensures.script source_tells).1 c.deref.ensures.value front.0 front.1)
 
 pub returns-clause-answers : goal.returns-clause-answers
-returns-clause-answers g c = λ source_tells sink_tells members also.
-    let are = subst (λ (words : List (String Global)). AreWords (texts words) c.in-Some.members) c.as_slice.ensures.value c.in-Some.ensures.found in
-    let served = c.in_ok-answer_commands.ensures.answers sink_tells in
+returns-clause-answers g c = λ source_tells members also.
+    let are = subst (λ (words : List (String Global)). AreWords (texts words) c.in-Some.members)
+    c.as_slice.ensures.value c.in-Some.ensures.found in
+    let served = c.in_ok-answer_commands.ensures.answers in
     answers are also (c.in_ok-commands.ensures.script source_tells).1 c.deref.ensures.value served.0 served.1

@@ -17,7 +17,9 @@ same_texts : (text other : List ℕ) → false ≡ not (bytes_eq text other) →
 same_texts text other equal = (bytes_eq-Decides text other).0 (true_from_not (bytes_eq text other) equal)
 
 -- Four words, of which all but the first are known.
-known_words : (words : List (String Global)) (mode option count : String Global) → 4 ≤ length words → length words < 5 → mode ≡ get_or words 1 mode → option ≡ get_or words 2 option → count ≡ get_or words 3 count → (program : List ℕ) × (texts words ≡ program ∷ string_bytes mode ∷ string_bytes option ∷ string_bytes count ∷ [])
+known_words : (words : List (String Global)) (mode option count : String Global) → 4 ≤ length words → length words < 5
+    → mode ≡ get_or words 1 mode → option ≡ get_or words 2 option → count ≡ get_or words 3 count → (program : List ℕ)
+    × (texts words ≡ program ∷ string_bytes mode ∷ string_bytes option ∷ string_bytes count ∷ [])
 known_words (program ∷ second ∷ third ∷ fourth ∷ []) mode option count least most is_mode is_option is_count =
     (string_bytes program, cc)
 known_words [] mode option count least most is_mode is_option is_count = absurd (omega arith)
@@ -26,7 +28,11 @@ known_words (a ∷ b ∷ []) mode option count least most is_mode is_option is_c
 known_words (a ∷ b ∷ c ∷ []) mode option count least most is_mode is_option is_count = absurd (omega arith)
 known_words (a ∷ b ∷ c ∷ d ∷ e ∷ words) mode option count least most is_mode is_option is_count = absurd (omega arith)
 
-found_words : (words : List (String Global)) (mode option count : String Global) (found : Option ℕ) → 4 ≤ length words → length words < 5 → mode ≡ get_or words 1 mode → option ≡ get_or words 2 option → count ≡ get_or words 3 count → string_bytes mode ≡ codes "replay" → string_bytes option ≡ codes "--members" → IfSome found (λ members. IsCount members × (string_bytes count ≡ decimal members)) → IfSome found (AreWords (texts words))
+found_words : (words : List (String Global)) (mode option count : String Global) (found : Option ℕ) → 4 ≤ length words
+    → length words < 5 → mode ≡ get_or words 1 mode → option ≡ get_or words 2 option → count ≡ get_or words 3 count
+    → string_bytes mode ≡ codes "replay" → string_bytes option ≡ codes "--members"
+    → IfSome found (λ members. IsCount members × (string_bytes count ≡ decimal members))
+    → IfSome found (AreWords (texts words))
 found_words words mode option count None least most is_mode is_option is_count mode_is option_is members = tt
 found_words words mode option count (Some n) least most is_mode is_option is_count mode_is option_is members =
     let known = known_words words mode option count least most is_mode is_option is_count in
@@ -35,7 +41,10 @@ found_words words mode option count (Some n) least most is_mode is_option is_cou
 
 pub returns-clause-found : goal.returns-clause-found
 returns-clause-found c =
-    found_words c.args.words.now c.mode-item.result c.option-item.result c.count-item.result c.read_members.result (omega (arith, c.in-len4.len_at_least)) (omega (arith, c.in-len4.len_below)) c.mode-item.is c.option-item.is c.count-item.is
+    found_words c.args.words.now c.mode-item.result c.option-item.result c.count-item.result c.read_members.result
+    (omega (arith, c.in-len4.len_at_least)) (omega (arith, c.in-len4.len_below)) c.mode-item.is c.option-item.is
+    c.count-item.is
     (sym c.as_str.ensures.value ∙ same_texts c.as_str.result.now (codes "replay") c.if-ne.ensures)
     (sym c.as_str-else-ne.ensures.value ∙ same_texts c.as_str-else-ne.result.now (codes "--members") c.if-ne-2.ensures)
-    (subst (λ (text : List ℕ). IfSome c.read_members.result (λ members. IsCount members × (text ≡ decimal members))) c.as_str-2.ensures.value c.read_members.ensures.found)
+    (subst (λ (text : List ℕ). IfSome c.read_members.result (λ members. IsCount members × (text ≡ decimal members)))
+    c.as_str-2.ensures.value c.read_members.ensures.found)

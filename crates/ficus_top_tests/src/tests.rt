@@ -1,7 +1,8 @@
-use crate::{Status, ficus, serve, status_text};
+// The program over sources and sinks in memory.
 use ficus_ids::Members;
 use ficus_outside::{MemSink, MemSource};
 use ficus_script::read_script;
+use ficus_top::{Status, ficus, serve, status_text};
 use ficus_world::World;
 use std::alloc::Global;
 use std::test::Fail;
@@ -9,9 +10,12 @@ use std::test::Fail;
 const TWO_MEMBERS: &str = "ficus replay --members 2";
 
 // Scripts of two members with their answers: an indented line is a line of an answer.
-const ROWS: [&str; 5] = [
+const SCRIPTS: [&str; 6] = [
     // An empty script.
     "",
+    // A last line needs no end, and a name has 64 bytes at most.
+    "1 mkdir /nnnnnnnnnnnnnnnnnnnnnnnnnnnnnnnnnnnnnnnnnnnnnnnnnnnnnnnnnnnnnnnn
+    ok 1.1",
     // A name is taken once.
     "1 mkdir /a
     ok 1.1
@@ -118,8 +122,10 @@ fn parts(alloc: Global, row: &str) -> Result<(String, String), Fail> {
             answers.push_str(answer)?;
             answers.push('\n')?;
         } else {
+            if !script.is_empty() {
+                script.push('\n')?;
+            }
             script.push_str(line)?;
-            script.push('\n')?;
         }
     }
     Ok((script, answers))
@@ -127,7 +133,7 @@ fn parts(alloc: Global, row: &str) -> Result<(String, String), Fail> {
 
 #[test]
 fn scripts_are_answered(rt: HostRuntime) -> Result<(), Fail> {
-    for row in ROWS {
+    for row in SCRIPTS {
         let (script, answers) = parts(rt.alloc(), row)?;
         let ran = run(rt.alloc(), TWO_MEMBERS, script.as_bytes(), &[], &[])?;
         assert_eq!(rt; ran.status, ended(0, 0), "{row}");
@@ -136,81 +142,87 @@ fn scripts_are_answered(rt: HostRuntime) -> Result<(), Fail> {
     Ok(())
 }
 
-#[test]
-fn a_last_line_needs_no_end_and_a_name_has_64_bytes_at_most(rt: HostRuntime) -> Result<(), Fail> {
-    let name = vec![in rt.alloc(); b'n'; 64]?;
-    let mut script = b"1 mkdir /".to_vec(rt.alloc())?;
-    script.extend_from_slice(&name)?;
-    let ran = run(rt.alloc(), TWO_MEMBERS, &script, &[], &[])?;
-    assert_eq!(rt; ran.status, ended(0, 0));
-    assert_eq!(rt; ran.written.as_slice(), b"ok 1.1\n".as_slice());
-    script.push(b'n')?;
-    let ran = run(rt.alloc(), TWO_MEMBERS, &script, &[], &[])?;
-    assert_eq!(rt; ran.status, ended(2, 1));
-    Ok(())
-}
+// Words and scripts that are refused, with the code and the line that it names.
+const REFUSED: [(&str, &str, u8, u32); 17] = [
+    ("", "1 mkdir /a\n", 1, 0),
+    ("ficus", "1 mkdir /a\n", 1, 0),
+    ("ficus run", "1 mkdir /a\n", 1, 0),
+    ("ficus replay --members", "1 mkdir /a\n", 1, 0),
+    ("ficus replay --members 1", "1 mkdir /a\n", 1, 0),
+    ("ficus replay --members 9", "1 mkdir /a\n", 1, 0),
+    ("ficus replay --members 258", "1 mkdir /a\n", 1, 0),
+    ("ficus replay --members 02", "1 mkdir /a\n", 1, 0),
+    ("ficus replay --members 2 3", "1 mkdir /a\n", 1, 0),
+    ("ficus replay --member 2", "1 mkdir /a\n", 1, 0),
+    ("ficus --members 2 replay", "1 frob /a\n", 1, 0),
+    (TWO_MEMBERS, "1 mkdir /a\n1 mkdir /b\n1 frob /a\n", 2, 3),
+    (TWO_MEMBERS, "1 mkdir /a\n1 frob /a", 2, 2),
+    (TWO_MEMBERS, "1 mkdir /a#b\n", 2, 1),
+    (TWO_MEMBERS, "1 mkdir /a#1.1\n", 2, 1),
+    (
+        TWO_MEMBERS,
+        "# a note\n\n1 mkdir /a\n1 ls\n1 frob /a\n",
+        2,
+        4,
+    ),
+    // A name of 65 bytes.
+    (
+        TWO_MEMBERS,
+        "1 mkdir /nnnnnnnnnnnnnnnnnnnnnnnnnnnnnnnnnnnnnnnnnnnnnnnnnnnnnnnnnnnnnnnnn\n",
+        2,
+        1,
+    ),
+];
 
 #[test]
-fn the_first_bad_line_is_named_and_nothing_is_put(rt: HostRuntime) -> Result<(), Fail> {
-    for (script, line) in [
-        ("1 mkdir /a\n1 mkdir /b\n1 frob /a\n", 3),
-        ("1 mkdir /a\n1 frob /a", 2),
-        ("1 mkdir /a#b\n", 1),
-        ("1 mkdir /a#1.1\n", 1),
-        ("# a note\n\n1 mkdir /a\n1 ls\n1 frob /a\n", 4),
-    ] {
-        let ran = run(rt.alloc(), TWO_MEMBERS, script.as_bytes(), &[], &[])?;
-        assert_eq!(rt; ran.status, ended(2, line), "{script:?}");
-        assert_eq!(rt; ran.written.as_slice(), b"".as_slice(), "{script:?}");
+fn words_and_scripts_are_refused(rt: HostRuntime) -> Result<(), Fail> {
+    for (words, script, code, line) in REFUSED {
+        let ran = run(rt.alloc(), words, script.as_bytes(), &[], &[])?;
+        assert_eq!(rt; ran.status, ended(code, line), "{words:?} {script:?}");
+        assert_eq!(rt;
+            ran.written.as_slice(),
+            b"".as_slice(),
+            "{words:?} {script:?}"
+        );
     }
     Ok(())
 }
 
-#[test]
-fn words_of_no_mode_are_refused(rt: HostRuntime) -> Result<(), Fail> {
-    for words in [
-        "",
-        "ficus",
-        "ficus run",
-        "ficus replay --members",
-        "ficus replay --members 1",
-        "ficus replay --members 9",
-        "ficus replay --members 258",
-        "ficus replay --members 02",
-        "ficus replay --members 2 3",
-        "ficus replay --member 2",
-        "ficus --members 2 replay",
-    ] {
-        let ran = run(rt.alloc(), words, b"1 mkdir /a\n", &[], &[])?;
-        assert_eq!(rt; ran.status, ended(1, 0), "{words:?}");
-        assert_eq!(rt; ran.written.as_slice(), b"".as_slice(), "{words:?}");
-    }
-    Ok(())
+fn empty_lines(alloc: Global, count: usize) -> Result<Vec<u8>, Fail> {
+    Ok(vec![in alloc; b'\n'; count]?)
 }
 
 #[test]
 fn a_script_has_a_mebibyte_at_most(rt: HostRuntime) -> Result<(), Fail> {
-    let mut script = vec![in rt.alloc(); b'\n'; 1_048_576]?;
-    let ran = run(rt.alloc(), TWO_MEMBERS, &script, &[], &[])?;
-    assert_eq!(rt; ran.status, ended(0, 0));
-    script.push(b'\n')?;
-    let ran = run(rt.alloc(), TWO_MEMBERS, &script, &[], &[])?;
-    assert_eq!(rt; ran.status, ended(8, 0));
+    for (bytes, code) in [(1_048_576, 0), (1_048_577, 8)] {
+        let script = empty_lines(rt.alloc(), bytes)?;
+        let ran = run(rt.alloc(), TWO_MEMBERS, &script, &[], &[])?;
+        assert_eq!(rt; ran.status, ended(code, 0), "{bytes} bytes");
+    }
     Ok(())
 }
 
 #[test]
 fn a_source_or_a_sink_fails_at_each_call_in_turn(rt: HostRuntime) -> Result<(), Fail> {
     let script = b"1 mkdir /a\n1 mkdir /a\n";
-    for call in [1, 2] {
-        let ran = run(rt.alloc(), TWO_MEMBERS, script, &[call], &[])?;
-        assert_eq!(rt; ran.status, ended(4, 0), "at call {call}");
-        assert_eq!(rt; ran.written.as_slice(), b"".as_slice(), "at call {call}");
-    }
-    for (call, before) in [(1, ""), (2, "ok 1.1\n")] {
-        let ran = run(rt.alloc(), TWO_MEMBERS, script, &[], &[call])?;
-        assert_eq!(rt; ran.status, ended(5, 0), "at call {call}");
-        assert_eq!(rt; ran.written.as_slice(), before.as_bytes(), "at call {call}");
+    for (source_fails, sink_fails, code, written) in [
+        ([1], [0], 4, ""),
+        ([2], [0], 4, ""),
+        ([0], [1], 5, ""),
+        ([0], [2], 5, "ok 1.1\n"),
+        ([0], [3], 0, "ok 1.1\nno exists\n"),
+    ] {
+        let ran = run(rt.alloc(), TWO_MEMBERS, script, &source_fails, &sink_fails)?;
+        assert_eq!(rt;
+            ran.status,
+            ended(code, 0),
+            "{source_fails:?} {sink_fails:?}"
+        );
+        assert_eq!(rt;
+            ran.written.as_slice(),
+            written.as_bytes(),
+            "{source_fails:?} {sink_fails:?}"
+        );
     }
     Ok(())
 }
@@ -219,15 +231,25 @@ fn a_source_or_a_sink_fails_at_each_call_in_turn(rt: HostRuntime) -> Result<(), 
 fn a_world_goes_on_from_where_it_was_left(rt: HostRuntime) -> Result<(), Fail> {
     let members = Members::new(2).ok_or("two members")?;
     let mut world = World::fresh(rt.alloc(), members)?;
-    let mut output = MemSink::new(rt.alloc(), Vec::new(rt.alloc()))?;
-    for script in ["1 mkdir /a\n", "1 mkdir /a\n1 mkdir /b\n"] {
+    let mut output = MemSink::new(rt.alloc(), [4].to_vec(rt.alloc())?)?;
+    for (script, code, events) in [
+        ("1 mkdir /a\n", 0, 3),
+        ("1 mkdir /a\n1 mkdir /b\n", 0, 4),
+        // The answer isn't put, and what it answers is done.
+        ("1 mkdir /c\n1 mkdir /d\n", 5, 5),
+        ("1 mkdir /c\n1 mkdir /d\n", 0, 6),
+    ] {
         let commands = read_script(rt.alloc(), script.as_bytes())?;
         assert!(rt; commands.len() <= 2);
         assert!(rt; world.history().len() < 100);
         let status = serve(rt.alloc(), &mut world, &commands, &mut output);
-        assert_eq!(rt; status, ended(0, 0), "{script:?}");
+        assert_eq!(rt; status, ended(code, 0), "{script:?}");
+        assert_eq!(rt; world.history().len(), events, "{script:?}");
     }
-    assert_eq!(rt; output.written(), b"ok 1.1\nno exists\nok 1.2\n".as_slice());
+    assert_eq!(rt;
+        output.written(),
+        b"ok 1.1\nno exists\nok 1.2\nno exists\nok 1.4\n".as_slice()
+    );
     Ok(())
 }
 

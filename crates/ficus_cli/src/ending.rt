@@ -1,0 +1,46 @@
+ghost use Rattle.std.specs.Prelude.{◌≡◌, ◌≢◌, OnOk};
+ghost use Rattle.std.specs.Io.KnownBytes.{Appends};
+ghost use Rattle.std.specs.Process.{exit_status};
+ghost use Rattle.ficus_top.specs.Status.{status_text_of};
+
+use ficus_top::{Status, status_text};
+use std::alloc::Global;
+use std::io;
+use std::io::{ErrorKind, Write};
+use std::process::ExitCode;
+
+/// How the program ends where it doesn't get its words: 3 for want of memory; 10, which the library never answers,
+/// where the system doesn't give them as text.
+pub(crate) fn status_without_words(cause: ErrorKind) -> Status
+    ensures memory { cause ≡ ErrorKind.OutOfMemory → result ≡ record { code = 3; line = 0; replica = 0 } }
+    ensures no_text { cause ≢ ErrorKind.OutOfMemory → result ≡ record { code = 10; line = 0; replica = 0 } }
+{
+    let code = if cause == ErrorKind::OutOfMemory {
+        3
+    } else {
+        10
+    };
+    Status {
+        code,
+        line: 0,
+        replica: 0,
+    }
+}
+
+/// Writes the line of the status, and gives its code to the system. Where there is no memory for the line, or the
+/// system refuses it, nothing can be done.
+pub(crate) fn end<W: Write>(alloc: Global, status: &Status, errors: &mut W) -> ExitCode
+    ensures { exit_status result ≡ status.now.code }
+{
+    let _ = write_line(alloc, status, errors);
+    ExitCode::from(status.code)
+}
+
+// Writes the line of the status, and nothing else.
+fn write_line<W: Write>(alloc: Global, status: &Status, errors: &mut W) -> io::Result<()>
+    ensures { OnOk result
+        (Appends (W.contents errors.old) (W.contents errors.new) (status_text_of status.now.code status.now.line)) }
+{
+    let text = status_text(alloc, status).map_err(|_| ErrorKind::OutOfMemory)?;
+    errors.write_all(&text)
+}

@@ -1,0 +1,79 @@
+ghost use Rattle.std.specs.Prelude.{◌≡◌, ◌≢◌, ◌<◌, ◌≤◌, ◌⊎◌, [], length, Ok, IfOk, IfErr, OnErr, IsErr};
+ghost use Rattle.std.specs.Io.{WritesAtMost};
+ghost use Rattle.std.specs.Io.KnownBytes.{WriteAppends};
+ghost use Rattle.std.specs.IoError.{error_kind};
+ghost use Rattle.ficus_outside.specs.Faults.{Rose};
+ghost use Rattle.ficus_outside.specs.Stream.{StreamState};
+
+use crate::faults::Faults;
+use crate::{Failed, Sink};
+use std::io;
+use std::io::{ErrorKind, Write};
+use std::marker::Model;
+
+/// A writer as a sink. It counts the writer's faults, keeps no buffer, and tells nothing of what was put.
+#[derive(Drop)]
+pub(crate) struct WriterSink<W: Write + Drop> {
+    writer: W,
+    faults: Faults,
+}
+
+impl<W: Write + Drop> Model for WriterSink<W> {
+    ghost Value = { StreamState };
+
+    ghost view = { λ s. record { known = W.contents s.writer; faults = s.faults } };
+}
+
+impl<W: Write + Drop> WriterSink<W> {
+    /// The writer, with no fault counted.
+    pub(crate) fn new(writer: W) -> WriterSink<W>
+        ensures { result ≡ record { known = W.contents writer; faults = 0 } }
+    {
+        WriterSink {
+            writer,
+            faults: Faults::new(),
+        }
+    }
+}
+
+impl<W: Write + Drop> Sink for WriterSink<W> {
+    ghost tells = { ⊥ };
+
+    ghost written = { λ _. [] };
+
+    ghost faults = { λ s. s.faults };
+
+    fn put(&mut self, bytes: &[u8]) -> Result<usize, Failed>
+        ensures within { IfOk result (λ count. count ≤ length bytes.now) }
+        ensures failed { OnErr result (Rose self.old.faults self.new.faults) }
+        ensures none { 0 < length bytes.now → result ≡ Ok 0 → Rose self.old.faults self.new.faults }
+        ensures steady { IfOk result (λ count. (0 < count) ⊎ (length bytes.now ≡ 0)
+            → self.new.faults ≡ self.old.faults) }
+        ensures counted { self.old.faults ≤ self.new.faults }
+
+        // The writer holds what was taken besides, and with a fault nothing.
+        ensures written { WriteAppends self.old.known self.new.known result bytes.now }
+    {
+        let written = write_through(&mut self.writer, bytes);
+        self.faults.settle(written, bytes)
+    }
+}
+
+// One write, tried again where it was interrupted.
+fn write_through<W: Write>(writer: &mut W, bytes: &[u8]) -> io::Result<usize>
+    ensures within { WritesAtMost result bytes.now }
+    ensures written { WriteAppends (W.contents writer.old) (W.contents writer.new) result bytes.now }
+    ensures tried { IfErr result (λ error. error_kind error ≢ ErrorKind.Interrupted) }
+{
+    for _ in 0..u64::MAX {
+        match writer.write(bytes) {
+            Ok(count) => return Ok(count),
+            Err(error) => {
+                if error.kind() != ErrorKind::Interrupted {
+                    return Err(error);
+                }
+            }
+        }
+    }
+    Err(ErrorKind::TimedOut.into())
+}

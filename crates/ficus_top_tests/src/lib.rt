@@ -1,0 +1,5 @@
+//! Tests of the program as one call.
+#![tactic(auto)]
+
+#[cfg(test)]
+mod tests;
