@@ -40,7 +40,7 @@ use Rattle.ficus_replica.specs.SavedOf.{is_saved, generation_of, IsHeldAs, AreHe
 use Rattle.ficus_replica.specs.View.{held_live, without_state}
 use Rattle.ficus_replica.proofs.Directories.{directories_keep}
 use Rattle.ficus_replica.proofs.Images.{image_then}
-use Rattle.ficus_replica.proofs.MergeFits.{merged_tables}
+use Rattle.ficus_codec.proofs.MergeFits.{merged_tables}
 use Rattle.ficus_replica.proofs.Merged.{AreLive, AreOne, merged_entries}
 use Rattle.ficus_replica.proofs.OpenAsks.{open_none}
 use Rattle.ficus_replica.proofs.Saves.{accept_is_saved, ask_is_saved, generation_saved, saved_then, written_kept}

@@ -8,8 +8,8 @@ use Rattle.ficus_model.specs.Known.{Knows}
 use Rattle.ficus_model.specs.Lawful.{Volume, IsAllowed, HasBytesLeft, HasPlace}
 use Rattle.ficus_model.specs.Live.{IsBound, IsTaken}
 use Rattle.ficus_laws.proofs.Shown.{reached_within, tree_in_reach}
-use Rattle.ficus_replica.specs.View.{IsBoundIn, IsTakenIn, history_view}
-use Rattle.ficus_replica.proofs.Walks.{IsWalkedTo}
+use Rattle.ficus_rules.specs.View.{IsBoundIn, IsTakenIn, history_view}
+use Rattle.ficus_rules.proofs.Walks.{IsWalkedTo}
 
 -- the operation may be done after the history, by a member that is left updates and bytes
 pub record MayBeDone (volume : Volume) (H : List Event) (r : ℕ) (op : Op) : Type 0 where

@@ -1,4 +1,4 @@
--- The changes, each by its rule; and what a change gives over the tables it gives over the history.
+-- What a change gives over the tables it gives over the history.
 use Rattle.std.proofs.Common.{◌≡◌, ℕ, ◌+◌, ◌-◌, ◌^◌, ◌<◌, List, Result, Ok, Err, refl, subst, arith}
 use Rattle.ficus_ids.specs.Members.{IsMember}
 use Rattle.ficus_ids.specs.declared.kind.Kind.TheVariants.{Dir}
@@ -12,22 +12,16 @@ use Rattle.ficus_replica.specs.declared.replica.Next.{Next}
 use Rattle.ficus_replica.specs.declared.replica.Replica.{Replica}
 use Rattle.ficus_replica.specs.Change.{Change, ChangeRule, Changed, ChangeGives, ChangedAfter, ChangeStands, Make}
 use Rattle.ficus_replica.specs.Effect.{Applied, EntersName}
-use Rattle.ficus_replica.specs.Rule.{Once, Along}
 use Rattle.ficus_replica.specs.SavedOf.{MakesDirectory, StandsFor}
-use Rattle.ficus_replica.specs.View.{View, SameView, tables_view, history_view}
+use Rattle.ficus_rules.specs.View.{View, history_view}
+use Rattle.ficus_replica.specs.View.{tables_view}
 use Rattle.ficus_replica.proofs.Allowed.{MayBeDone}
 use Rattle.ficus_replica.proofs.Effects.{FitsSaved, applied_stands, applied_fits}
-use Rattle.ficus_replica.proofs.Makes.{make_once, make_along, make_directory, make_may, make_fits}
+use Rattle.ficus_replica.proofs.Makes.{make_directory, make_may, make_fits}
 use Rattle.ficus_replica.proofs.OpenAsks.{open_kept}
-use Rattle.ficus_replica.proofs.Rules.{memory_along}
+use Rattle.ficus_rules.proofs.Rules.{memory_along}
+pub use Rattle.ficus_rules.proofs.Changes.{change_once, change_along}
 use Rattle.ficus_replica.proofs.Views.{stands_same}
-
-pub change_once : (view : View) (change : Change) → Once (ChangeRule view change)
-change_once view (Make path kind) = make_once view path kind
-
-pub change_along : {one other : View} → SameView one other → (change : Change) →
-    Along (ChangeRule one change) (ChangeRule other change)
-change_along same (Make path kind) = make_along same path kind
 
 -- so far each change makes a directory
 abbrev pub IsOfDirectory : Change → Type 0
@@ -37,7 +31,7 @@ change_directory : (view : View) (change : Change) (op : Op) → IsOfDirectory c
     MakesDirectory op
 change_directory view (Make path kind) op dir rule = make_directory view path kind op dir rule
 
-pub change_may : (volume : Volume) (H : List Event) (r : ℕ) (change : Change) (op : Op) →
+change_may : (volume : Volume) (H : List Event) (r : ℕ) (change : Change) (op : Op) →
     ChangeRule (history_view volume H r) change (Ok op) → MayBeDone volume H r op
 change_may volume H r (Make path kind) op rule = make_may volume H r path kind op rule
 
@@ -49,7 +43,7 @@ change_ready old (Make path kind) op fits rule name = make_fits old path kind op
 module _ {volume : Volume} {H : List Event} {r : ℕ} {old : Replica} (lawful : IsLawful volume H)
     (member : IsMember volume.members r) (stands : StandsFor volume H r old) (change : Change)
     (directory : IsOfDirectory change) where
-  pub changed_after : (next : Next) → Changed old change next → ChangedAfter volume H r change next
+  changed_after : (next : Next) → Changed old change next → ChangedAfter volume H r change next
   changed_after next changed =
       let answer = change_along (stands_same stands) change (Ok next.op) changed.answer in
       let may = change_may volume H r change next.op answer in

@@ -2,10 +2,7 @@ pub mod Rules
 pub mod Directories
 pub mod Views
 pub mod Tables
-pub mod Walks
 pub mod WalkSteps
-pub mod Listings
-pub mod Lists
 pub mod Trees
 pub mod Looks
 pub mod Saves
@@ -20,6 +17,5 @@ pub mod Changes
 pub mod Events
 pub mod Asks
 pub mod Merged
-pub mod MergeFits
 pub mod Accepts
 pub mod Pulls

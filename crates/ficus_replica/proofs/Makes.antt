@@ -1,10 +1,9 @@
--- `make`: its answer is one, the same over views that show the same, and what it does may be done and fits tables.
+-- `make`: what it does may be done, and fits tables.
 use Rattle.std.proofs.Common.{◌≡◌, ℕ, List, Ok, ap, subst, sym, arith}
 use Rattle.std.specs.Prelude.{Some, IfSome}
 use Rattle.ficus_ids.specs.Name.{IsName}
 use Rattle.ficus_ids.specs.declared.kind.Kind.{Kind}
 use Rattle.ficus_ids.specs.declared.kind.Kind.TheVariants.{Dir}
-use Rattle.ficus_ids.specs.declared.refusal.Refusal.TheVariants.{Exists, Spent}
 use Rattle.ficus_model.specs.declared.event.Event.{Event}
 use Rattle.ficus_model.specs.declared.event.Op.{Op}
 use Rattle.ficus_model.specs.declared.event.Op.TheVariants.{Make}
@@ -14,27 +13,15 @@ use Rattle.ficus_path.specs.declared.path.Path.{Path}
 use Rattle.ficus_codec.specs.Saved.{FitsImage}
 use Rattle.ficus_replica.specs.declared.replica.Replica.{Replica}
 use Rattle.ficus_replica.specs.Effect.{EntersName, next_id}
-use Rattle.ficus_replica.specs.Make.{MakeRule}
-use Rattle.ficus_replica.specs.Rule.{Once, Along}
+use Rattle.ficus_rules.proofs.Walks.{parent_walked}
+use Rattle.ficus_rules.specs.Make.{MakeRule}
 use Rattle.ficus_replica.specs.SavedOf.{MakesDirectory}
-use Rattle.ficus_replica.specs.View.{View, SameView, tables_view, history_view}
-use Rattle.ficus_replica.specs.Walk.{last_name}
+use Rattle.ficus_rules.specs.View.{View, history_view}
+use Rattle.ficus_replica.specs.View.{tables_view}
+use Rattle.ficus_rules.specs.Walk.{last_name}
 use Rattle.ficus_replica.proofs.Allowed.{MayBeDone, new_place}
 use Rattle.ficus_replica.proofs.Effects.{FitsSaved, enters_one, next_issuable}
 use Rattle.ficus_replica.proofs.Places.{reached_place}
-use Rattle.ficus_replica.proofs.Rules.{then_once, unless_once, gives_once, then_along, unless_along, gives_along}
-use Rattle.ficus_replica.proofs.Views.{taken_same}
-use Rattle.ficus_replica.proofs.Walks.{parent_once, parent_along, parent_walked}
-
-pub make_once : (view : View) (path : Path) (kind : Kind) → Once (MakeRule view path kind)
-make_once view path kind = then_once (parent_once view path) (λ dir. unless_once _ _ (unless_once _ _ (gives_once _)))
-
-pub make_along : {one other : View} → SameView one other → (path : Path) (kind : Kind) →
-    Along (MakeRule one path kind) (MakeRule other path kind)
-make_along same path kind =
-    then_along (parent_along same.shown path)
-    (λ dir walked. unless_along Exists (taken_same same.shown dir (last_name path))
-    (unless_along Spent same.spent (gives_along (Make dir (last_name path) kind))))
 
 -- so far a `make` is asked for a directory
 pub make_directory : (view : View) (path : Path) (kind : Kind) (op : Op) → kind ≡ Dir →

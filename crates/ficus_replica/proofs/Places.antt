@@ -7,7 +7,8 @@ use Rattle.ficus_model.specs.Reached.IsReached.{Base, Through}
 use Rattle.ficus_codec.specs.Saved.{FitsImage, IsOfPast, IsEntryOfPast}
 use Rattle.ficus_codec.specs.Tables.{FitsEntry, IsIssuable, MayHoldEntries}
 use Rattle.ficus_replica.specs.declared.replica.Replica.{Replica}
-use Rattle.ficus_replica.specs.View.{IsReachedIn, held_live, tables_view}
+use Rattle.ficus_rules.specs.View.{IsReachedIn}
+use Rattle.ficus_replica.specs.View.{held_live, tables_view}
 
 module _ (old : Replica) (fits : FitsImage old.saved) where
   -- where an entry may be made

@@ -8,8 +8,10 @@ use Rattle.ficus_entry.specs.declared.entry.Entry.{Entry}
 use Rattle.ficus_entry.specs.declared.entry.State.{State}
 use Rattle.ficus_entry.specs.declared.entry.State.TheVariants.{Live}
 use Rattle.ficus_names.specs.Binds.{BindsIn}
+use Rattle.ficus_rules.specs.View.{IsBoundIn, IsDirectoryIn, IsReachedIn}
+use Rattle.ficus_rules.proofs.Views.{HasDirectoriesOnly}
 use Rattle.ficus_replica.specs.declared.replica.Replica.{Replica}
-use Rattle.ficus_replica.specs.View.{View, IsBoundIn, IsDirectoryIn, IsReachedIn, without_state, held_live, tables_view}
+use Rattle.ficus_replica.specs.View.{without_state, held_live, tables_view}
 
 -- a live entry is what tables hold of it
 pub held_as_live : (entry : Entry) → entry.state ≡ Live → entry ≡ held_live (without_state entry)
@@ -34,10 +36,6 @@ tables_bound replica dir name target = (
     leads = bound.leads;
   },
 )
-
--- whatever an entry leads to is a directory
-pub record HasDirectoriesOnly (view : View) : Type 0 where
-  pub kind : (dir target : Id) (name : List ℕ) → IsBoundIn view dir name target → view.kinds target Dir
 
 pub tables_directories : (replica : Replica) → HasDirectoriesOnly (tables_view replica)
 tables_directories replica = record { kind = λ dir target name bound. (refl, record { entry = bound.entry; inside = bound.live; leads = bound.leads }) }

@@ -16,21 +16,12 @@ use Rattle.ficus_names.specs.declared.listing.ShownName.{ShownName}
 use Rattle.ficus_reach.specs.Leads.{LeadsIn}
 use Rattle.ficus_reach.specs.ReachedLaws.{IsReached-along}
 use Rattle.ficus_replica.specs.declared.replica.Replica.{Replica}
-use Rattle.ficus_replica.specs.Lines.{line_of, AreLines}
-use Rattle.ficus_replica.specs.Rule.{Once, Along}
-use Rattle.ficus_replica.specs.Told.{Lines}
-use Rattle.ficus_replica.specs.Tree.{TreeRule}
-use Rattle.ficus_replica.specs.View.{View, SameShown, IsBoundIn, LeadsWithin, IsReachedIn, without_state, held_live, tables_view}
-use Rattle.ficus_replica.proofs.Listings.{no_lines, lines_more, lines_along, lines_once}
-use Rattle.ficus_replica.proofs.Rules.{tells_once, tells_along}
-use Rattle.ficus_replica.proofs.Tables.{HasDirectoriesOnly, held_as_live}
-use Rattle.ficus_replica.proofs.Views.{HasOneKind, same_itself, reached_same}
-
-pub tree_once : {view : View} → HasOneKind view → Once (TreeRule view)
-tree_once kinds = tells_once Lines (lines_once kinds)
-
-pub tree_along : {one other : View} → SameShown one other → Along (TreeRule one) (TreeRule other)
-tree_along same = tells_along Lines (λ lines are. lines_along same (reached_same same) are)
+use Rattle.ficus_rules.specs.Lines.{line_of, AreLines}
+use Rattle.ficus_rules.specs.View.{View, IsBoundIn, LeadsWithin, IsReachedIn}
+use Rattle.ficus_replica.specs.View.{without_state, held_live, tables_view}
+use Rattle.ficus_rules.proofs.Listings.{no_lines, lines_more, lines_along}
+use Rattle.ficus_replica.proofs.Tables.{held_as_live}
+use Rattle.ficus_rules.proofs.Views.{HasDirectoriesOnly, same_itself}
 
 module _ (view : View) where
   -- the lines of the first objects

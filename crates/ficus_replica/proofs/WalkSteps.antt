@@ -17,11 +17,12 @@ use Rattle.ficus_names.specs.Binds.{BindsIn}
 use Rattle.ficus_names.specs.Find.{FindsOnly, FindAnswer}
 use Rattle.ficus_names.specs.FindLaws.{FindAnswer-along}
 use Rattle.ficus_replica.specs.declared.replica.Replica.{Replica}
-use Rattle.ficus_replica.specs.View.{IsBoundIn, IsTakenIn, IsDirectoryIn, tables_view}
-use Rattle.ficus_replica.specs.Walk.{BaseRule, PartsRule, WalkRule, DirectoryRule, last_name, name_of}
-use Rattle.ficus_replica.proofs.Rules.{then_goes}
+use Rattle.ficus_rules.specs.View.{IsBoundIn, IsTakenIn, IsDirectoryIn}
+use Rattle.ficus_replica.specs.View.{tables_view}
+use Rattle.ficus_rules.specs.Walk.{BaseRule, PartsRule, WalkRule, DirectoryRule, last_name, name_of}
+use Rattle.ficus_rules.proofs.Rules.{then_goes}
 use Rattle.ficus_replica.proofs.Tables.{tables_bound, tables_directories, reached_directory}
-use Rattle.ficus_replica.proofs.Walks.{base_reached, walk_reached, found_bound}
+use Rattle.ficus_rules.proofs.Walks.{base_reached, walk_reached, found_bound}
 
 module _ (replica : Replica) where
   -- what is found among the entries is found in what the tables show

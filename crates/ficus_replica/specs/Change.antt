@@ -1,26 +1,17 @@
--- The changes of a replica: what each answers, what it gives, and what it is for the history.
+-- What the changes of a replica give, and what they are for the history.
 use Rattle.std.specs.Prelude.{◌≡◌, ℕ, List, ◌∷◌, [], ◌++◌, Result, Ok, Err}
-use Rattle.ficus_ids.specs.declared.kind.Kind.{Kind}
 use Rattle.ficus_ids.specs.declared.refusal.Refusal.{Refusal}
 use Rattle.ficus_model.specs.declared.event.Event.{Event}
 use Rattle.ficus_model.specs.declared.event.Event.TheVariants.{Update}
-use Rattle.ficus_model.specs.declared.event.Op.{Op}
 use Rattle.ficus_model.specs.Lawful.{Volume}
-use Rattle.ficus_path.specs.declared.path.Path.{Path}
 use Rattle.ficus_replica.specs.declared.replica.Next.{Next}
 use Rattle.ficus_replica.specs.declared.replica.Replica.{Replica}
 use Rattle.ficus_replica.specs.Effect.{Applied}
-use Rattle.ficus_replica.specs.Make.{MakeRule}
-use Rattle.ficus_replica.specs.Rule.{UnlessMemory}
+pub use Rattle.ficus_rules.specs.Change.{Change, ChangeRule, Make}
+use Rattle.ficus_rules.specs.Rule.{UnlessMemory}
 use Rattle.ficus_replica.specs.SavedOf.{StandsAfter}
-use Rattle.ficus_replica.specs.View.{View, tables_view, history_view}
-
-pub data Change : Type 0 where
-  Make : Path → Kind → Change
-
--- which operation the change is, or why it is refused
-abbrev pub ChangeRule : View → Change → Result Op Refusal → Type 0
-ChangeRule view (Make path kind) = MakeRule view path kind
+use Rattle.ficus_rules.specs.View.{history_view}
+use Rattle.ficus_replica.specs.View.{tables_view}
 
 -- the operation is the rule's, over what the replica holds; what is saved is what it makes of it, and no more
 pub record Changed (old : Replica) (change : Change) (next : Next) : Type 0 where

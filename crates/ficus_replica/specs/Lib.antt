@@ -1,11 +1,6 @@
-pub mod View
 pub mod Rule
-pub mod Walk
-pub mod Lines
 pub mod Told
-pub mod Make
-pub mod List
-pub mod Tree
+pub mod View
 pub mod Look
 pub mod SavedOf
 pub mod Effect

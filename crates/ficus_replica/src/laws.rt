@@ -1,47 +1,11 @@
-ghost use Rattle.std.specs.Prelude.{◌≡◌, ℕ, List, Result};
+ghost use Rattle.std.specs.Prelude.{◌≡◌, ℕ, List};
 ghost use Rattle.ficus_codec.specs.declared.saved.Saved.{Saved};
-ghost use Rattle.ficus_ids.specs.declared.refusal.Refusal.{Refusal};
 ghost use Rattle.ficus_model.specs.Lawful.{Volume};
 ghost use Rattle.ficus_model.specs.declared.event.Event.{Event};
-ghost use Rattle.ficus_model.specs.declared.event.Op.{Op};
-ghost use Rattle.ficus_replica.specs.Change.{Change, ChangeRule, ChangeGives};
-ghost use Rattle.ficus_replica.specs.Look.{Look, LookRule};
 ghost use Rattle.ficus_replica.specs.SavedOf.{IsSavedOf};
-ghost use Rattle.ficus_replica.specs.Told.{Told};
-ghost use Rattle.ficus_replica.specs.View.{SameShown, SameView, history_view};
 
 /// A history has one saved record for a replica.
 pub fn one_saved()
     ensures { (volume : Volume) (H : List Event) (replica : ℕ) (one other : Saved)
         → IsSavedOf volume H replica one → IsSavedOf volume H replica other → one ≡ other }
-{}
-
-/// After a history, a change has one answer.
-pub fn one_change()
-    ensures { (volume : Volume) (H : List Event) (replica : ℕ) (change : Change) (one other : Result Op Refusal)
-        → ChangeRule (history_view volume H replica) change one
-        → ChangeRule (history_view volume H replica) change other → one ≡ other }
-{}
-
-/// After a history, a look has one answer.
-pub fn one_look()
-    ensures { (volume : Volume) (H : List Event) (replica : ℕ) (look : Look) (one other : Result Told Refusal)
-        → LookRule (history_view volume H replica) look one
-        → LookRule (history_view volume H replica) look other → one ≡ other }
-{}
-
-/// Where two replicas are shown the same, each change is answered alike.
-pub fn same_view_same_change()
-    ensures { (volume : Volume) (H : List Event) (replica other : ℕ) (change : Change) (answer : Result Op Refusal)
-        → SameView (history_view volume H replica) (history_view volume H other)
-        → ChangeRule (history_view volume H replica) change answer
-        → ChangeRule (history_view volume H other) change answer }
-{}
-
-/// Where two replicas are shown the same, each look is answered alike, whether or not they may still make updates.
-pub fn same_shown_same_look()
-    ensures { (volume : Volume) (H : List Event) (replica other : ℕ) (look : Look) (answer : Result Told Refusal)
-        → SameShown (history_view volume H replica) (history_view volume H other)
-        → LookRule (history_view volume H replica) look answer
-        → LookRule (history_view volume H other) look answer }
 {}

@@ -12,7 +12,7 @@ mod replica;
 mod tree;
 mod walk;
 
-pub use laws::{one_change, one_look, one_saved, same_view_same_change, same_shown_same_look};
+pub use laws::one_saved;
 pub use replica::{Asked, Next, Replica};
 
 #[cfg(test)]

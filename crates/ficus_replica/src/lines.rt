@@ -1,5 +1,5 @@
 ghost use Rattle.std.specs.Prelude.{◌≡◌, ◌++◌, OnOk, map};
-ghost use Rattle.ficus_replica.specs.Lines.{line_of};
+ghost use Rattle.ficus_rules.specs.Lines.{line_of};
 
 use ficus_ids::{Id, Kind, Memory};
 use ficus_names::{Line, ShownName};

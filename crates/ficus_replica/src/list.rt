@@ -11,7 +11,7 @@ impl Replica {
     ghost use Rattle.ficus_model.specs.declared.event.Event.{Event};
     ghost use Rattle.ficus_replica.specs.Look.{LookGives, LookStands, List as ListLook};
     ghost use Rattle.ficus_replica.specs.SavedOf.{StandsFor};
-    ghost use Rattle.ficus_replica.specs.Told.{answer_told, vec_lines};
+    ghost use Rattle.ficus_rules.specs.Told.{answer_told, vec_lines};
 
     /// The shown names of the directory at a path. Refused as the walk is, and with `NotDir` exactly where
     /// the object is a file.

@@ -11,8 +11,8 @@ impl Replica {
     ghost use Rattle.ficus_model.specs.declared.event.Event.{Event};
     ghost use Rattle.ficus_path.specs.Path.{IsNew};
     ghost use Rattle.ficus_replica.specs.Change.{ChangeGives, ChangeStands, Make as MakeChange};
-    ghost use Rattle.ficus_replica.specs.Make.{MakeRule};
-    ghost use Rattle.ficus_replica.specs.Rule.{UnlessMemory};
+    ghost use Rattle.ficus_rules.specs.Make.{MakeRule};
+    ghost use Rattle.ficus_rules.specs.Rule.{UnlessMemory};
     ghost use Rattle.ficus_replica.specs.SavedOf.{StandsFor};
     ghost use Rattle.ficus_replica.specs.View.{tables_view};
 

@@ -11,7 +11,7 @@ impl Replica {
     ghost use Rattle.ficus_model.specs.declared.event.Event.{Event};
     ghost use Rattle.ficus_replica.specs.Look.{LookGives, LookStands, Tree};
     ghost use Rattle.ficus_replica.specs.SavedOf.{StandsFor};
-    ghost use Rattle.ficus_replica.specs.Told.{vec_lines};
+    ghost use Rattle.ficus_rules.specs.Told.{vec_lines};
 
     /// The shown names of every directory that is reached from the root, by directory, then as in `list`.
     pub fn tree(&self, alloc: Global) -> Result<Vec<Line>, Memory>

@@ -6,8 +6,9 @@ use ficus_path::{Base, Part, Path};
 impl Replica {
     ghost use Rattle.std.specs.Prelude.{◌↔◌, IsTrue};
     ghost use Rattle.ficus_path.specs.Path.{IsEntry, IsNew};
-    ghost use Rattle.ficus_replica.specs.View.{IsTakenIn, tables_view};
-    ghost use Rattle.ficus_replica.specs.Walk.{BaseRule, WalkRule, DirectoryRule, ParentRule, last_name};
+    ghost use Rattle.ficus_rules.specs.View.{IsTakenIn};
+    ghost use Rattle.ficus_replica.specs.View.{tables_view};
+    ghost use Rattle.ficus_rules.specs.Walk.{BaseRule, WalkRule, DirectoryRule, ParentRule, last_name};
 
     // The object to which the parts lead from the base, or the refusal that comes first.
     fn walk(&self, base: Base, parts: &[Part]) -> Result<Id, Refusal>
@@ -67,7 +68,7 @@ impl Replica {
 ghost use Rattle.std.specs.Prelude.{◌≡◌, Some, None};
 ghost use Rattle.std.specs.List.{last_or};
 ghost use Rattle.ficus_path.specs.Path.{IsEntry as NamesEntry};
-ghost use Rattle.ficus_replica.specs.Walk.{last_name as name_at_end};
+ghost use Rattle.ficus_rules.specs.Walk.{last_name as name_at_end};
 
 /// The name of the last part of a path that names an entry.
 pub(crate) fn last_name(path: &Path) -> &Name

@@ -1,6 +1,6 @@
 use Rattle.std.proofs.Common.{◌≡◌, ◌++◌, map}
 use Rattle.std.specs.Vec.Iter.{into_iter_items}
-use Rattle.ficus_replica.specs.Lines.{line_of}
+use Rattle.ficus_rules.specs.Lines.{line_of}
 use Rattle.ficus_replica.proofs.lines.add_lines.Given as goal
 
 abbrev pub invariant-loop-shown : goal.invariant-loop-shown

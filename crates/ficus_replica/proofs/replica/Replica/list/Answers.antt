@@ -1,10 +1,10 @@
 use Rattle.std.proofs.Common.{rules, ◌≡◌, ◌++◌, map, Ok, refl, ap, ◌∙◌}
 use Rattle.ficus_names.specs.ListingLaws.{IsListing-along}
-use Rattle.ficus_replica.specs.Lines.{line_of}
+use Rattle.ficus_rules.specs.Lines.{line_of}
 use Rattle.ficus_replica.specs.Look.{List as ListLook}
-use Rattle.ficus_replica.specs.Told.{answer_told, vec_lines}
+use Rattle.ficus_rules.specs.Told.{answer_told, vec_lines}
 use Rattle.ficus_replica.specs.View.{tables_view}
-use Rattle.ficus_replica.proofs.Listings.{lines_of_one}
+use Rattle.ficus_rules.proofs.Listings.{lines_of_one}
 use Rattle.ficus_replica.proofs.Looks.{look_stands}
 use Rattle.ficus_replica.proofs.Tables.{tables_bound, tables_directories}
 use Rattle.ficus_replica.proofs.replica.Replica.list.Goals as goal

@@ -10,8 +10,8 @@ use Rattle.ficus_path.specs.declared.path.Base.TheVariants.{Root}
 use Rattle.ficus_path.specs.declared.path.Part.{Part}
 use Rattle.ficus_path.specs.declared.path.Path.{Path}
 use Rattle.ficus_names.specs.Find.{FindAnswer}
-use Rattle.ficus_replica.specs.Rule.{Then, Where, Gives}
-use Rattle.ficus_replica.specs.View.{View, IsBoundIn, IsDirectoryIn}
+use Rattle.ficus_rules.specs.Rule.{Then, Where, Gives}
+use Rattle.ficus_rules.specs.View.{View, IsBoundIn, IsDirectoryIn}
 
 -- the object at which a walk begins
 abbrev pub BaseRule : View → Base → Result Id Refusal → Type 0

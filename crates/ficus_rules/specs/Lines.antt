@@ -10,7 +10,7 @@ use Rattle.ficus_model.specs.ShownNames.{IsShownAs}
 use Rattle.ficus_names.specs.Listing.{shown_cmp}
 use Rattle.ficus_names.specs.declared.listing.Line.{Line}
 use Rattle.ficus_names.specs.declared.listing.ShownName.{ShownName}
-use Rattle.ficus_replica.specs.View.{View, IsBoundIn}
+use Rattle.ficus_rules.specs.View.{View, IsBoundIn}
 
 -- the line that shows a name of a directory: it leads to a directory, which is in no conflict
 abbrev pub line_of : Id → ShownName → Line

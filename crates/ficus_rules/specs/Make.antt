@@ -6,9 +6,9 @@ use Rattle.ficus_ids.specs.declared.refusal.Refusal.TheVariants.{Exists, Spent}
 use Rattle.ficus_model.specs.declared.event.Op.{Op}
 use Rattle.ficus_model.specs.declared.event.Op.TheVariants.{Make}
 use Rattle.ficus_path.specs.declared.path.Path.{Path}
-use Rattle.ficus_replica.specs.Rule.{Then, Unless, Gives}
-use Rattle.ficus_replica.specs.View.{View, IsTakenIn}
-use Rattle.ficus_replica.specs.Walk.{ParentRule, last_name}
+use Rattle.ficus_rules.specs.Rule.{Then, Unless, Gives}
+use Rattle.ficus_rules.specs.View.{View, IsTakenIn}
+use Rattle.ficus_rules.specs.Walk.{ParentRule, last_name}
 
 -- the parent walk; `exists`; `spent`; else a Make
 abbrev pub MakeRule : View → Path → Kind → Result Op Refusal → Type 0

@@ -2,11 +2,11 @@
 use Rattle.std.specs.Prelude.{◌≡◌, Result}
 use Rattle.ficus_ids.specs.declared.refusal.Refusal.{Refusal}
 use Rattle.ficus_path.specs.declared.path.Path.{Path}
-use Rattle.ficus_replica.specs.Lines.{AreLines}
-use Rattle.ficus_replica.specs.Rule.{Then, Tells}
-use Rattle.ficus_replica.specs.Told.{Told, Lines}
-use Rattle.ficus_replica.specs.View.{View}
-use Rattle.ficus_replica.specs.Walk.{DirectoryRule}
+use Rattle.ficus_rules.specs.Lines.{AreLines}
+use Rattle.ficus_rules.specs.Rule.{Then, Tells}
+use Rattle.ficus_rules.specs.Told.{Told, Lines}
+use Rattle.ficus_rules.specs.View.{View}
+use Rattle.ficus_rules.specs.Walk.{DirectoryRule}
 
 -- the walk; `notdir`; else the shown names of the directory
 abbrev pub ListRule : View → Path → Result Told Refusal → Type 0

@@ -1,5 +1,0 @@
-use Rattle.ficus_replica.proofs.Changes.{change_along}
-use Rattle.ficus_replica.proofs.laws.same_view_same_change.Goals as goal
-
-pub returns : goal.returns
-returns c = λ volume H replica other change answer same. change_along same change answer

@@ -1,0 +1,9 @@
+pub mod Rules
+pub mod Views
+pub mod Walks
+pub mod Listings
+pub mod Lists
+pub mod Makes
+pub mod Trees
+pub mod Changes
+pub mod Looks

@@ -1,0 +1,62 @@
+-- Views that show the same.
+use Rattle.std.proofs.Common.{◌≡◌, ◌↔◌, ℕ, List, inl, inr}
+use Rattle.ficus_ids.specs.declared.id.Id.{Id}
+use Rattle.ficus_ids.specs.declared.kind.Kind.{Kind}
+use Rattle.ficus_ids.specs.declared.kind.Kind.TheVariants.{Dir}
+use Rattle.ficus_laws.proofs.Shown.{reached_within}
+use Rattle.ficus_rules.specs.View.{View, SameView, IsBoundIn, IsTakenIn, IsDirectoryIn, IsReachedIn}
+
+pub same_itself : (view : View) → SameView view view
+same_itself view = record {
+  live = λ entry. (λ live. live, λ live. live);
+  kinds = λ object kind. (λ is. is, λ is. is);
+  spent =
+      (λ spent. spent, λ spent. spent);
+}
+
+pub same_back : {one other : View} → SameView one other → SameView other one
+same_back same = record {
+  live = λ entry. ((same.live entry).1, (same.live entry).0);
+  kinds = λ object kind. ((same.kinds object kind).1, (same.kinds object kind).0);
+  spent = (same.spent.1, same.spent.0);
+}
+
+module _ {one other : View} (same : SameView one other) where
+  pub bound_there : {dir target : Id} {name : List ℕ} → IsBoundIn one dir name target → IsBoundIn other dir name target
+  bound_there bound = record {
+    entry = bound.entry;
+    live = (same.live bound.entry).0 bound.live;
+    in_dir = bound.in_dir;
+    named = bound.named;
+    leads = bound.leads;
+  }
+
+module _ {one other : View} (same : SameView one other) where
+  pub bound_same : (dir : Id) (name : List ℕ) (target : Id) →
+      IsBoundIn one dir name target ↔ IsBoundIn other dir name target
+  bound_same dir name target = (λ bound. bound_there same bound, λ bound. bound_there (same_back same) bound)
+
+  pub taken_same : (dir : Id) (name : List ℕ) → IsTakenIn one dir name ↔ IsTakenIn other dir name
+  taken_same dir name = (λ taken. (taken.0, bound_there same taken.1), λ taken. (taken.0, bound_there (same_back same) taken.1))
+
+  pub directory_there : (object : Id) → IsDirectoryIn one object → IsDirectoryIn other object
+  directory_there object (inl root) = inl root
+  directory_there object (inr kind) = inr ((same.kinds object Dir).0 kind)
+
+module _ {one other : View} (same : SameView one other) where
+  pub directory_same : (object : Id) → IsDirectoryIn one object ↔ IsDirectoryIn other object
+  directory_same object = (directory_there same object, directory_there (same_back same) object)
+
+  pub reached_same : (object : Id) → IsReachedIn one object ↔ IsReachedIn other object
+  reached_same object = (
+    λ reached. reached_within (λ from to leads. (leads.0, bound_there same leads.1)) reached,
+    λ reached. reached_within (λ from to leads. (leads.0, bound_there (same_back same) leads.1)) reached,
+  )
+
+-- each object is of one kind
+pub record HasOneKind (view : View) : Type 0 where
+  pub one : (object : Id) (kind other : Kind) → view.kinds object kind → view.kinds object other → kind ≡ other
+
+-- whatever an entry leads to is a directory
+pub record HasDirectoriesOnly (view : View) : Type 0 where
+  pub kind : (dir target : Id) (name : List ℕ) → IsBoundIn view dir name target → view.kinds target Dir

@@ -1,0 +1,10 @@
+pub mod View
+pub mod Rule
+pub mod Walk
+pub mod Lines
+pub mod Told
+pub mod Make
+pub mod List
+pub mod Tree
+pub mod Change
+pub mod Look

@@ -1,0 +1,6 @@
+//! What each command answers, over what is shown.
+#![tactic(auto)]
+
+mod laws;
+
+pub use laws::{one_change, one_look, same_view_same_change, same_view_same_look};
