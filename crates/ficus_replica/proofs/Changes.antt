@@ -31,7 +31,7 @@ change_directory : (view : View) (change : Change) (op : Op) → IsOfDirectory c
     MakesDirectory op
 change_directory view (Make path kind) op dir rule = make_directory view path kind op dir rule
 
-change_may : (volume : Volume) (H : List Event) (r : ℕ) (change : Change) (op : Op) →
+pub change_may : (volume : Volume) (H : List Event) (r : ℕ) (change : Change) (op : Op) →
     ChangeRule (history_view volume H r) change (Ok op) → MayBeDone volume H r op
 change_may volume H r (Make path kind) op rule = make_may volume H r path kind op rule
 
@@ -43,7 +43,7 @@ change_ready old (Make path kind) op fits rule name = make_fits old path kind op
 module _ {volume : Volume} {H : List Event} {r : ℕ} {old : Replica} (lawful : IsLawful volume H)
     (member : IsMember volume.members r) (stands : StandsFor volume H r old) (change : Change)
     (directory : IsOfDirectory change) where
-  changed_after : (next : Next) → Changed old change next → ChangedAfter volume H r change next
+  pub changed_after : (next : Next) → Changed old change next → ChangedAfter volume H r change next
   changed_after next changed =
       let answer = change_along (stands_same stands) change (Ok next.op) changed.answer in
       let may = change_may volume H r change next.op answer in

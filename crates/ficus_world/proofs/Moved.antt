@@ -8,8 +8,8 @@ use Rattle.ficus_ids.specs.declared.refusal.Refusal.{Refusal}
 use Rattle.ficus_ids.specs.declared.refusal.Refusal.TheVariants.{Member as NoMember, Memory}
 use Rattle.ficus_model.specs.declared.event.Event.TheVariants.{Update}
 use Rattle.ficus_replica.specs.declared.replica.Next.{Next}
-use Rattle.ficus_replica.specs.Change.{ChangeRule}
-use Rattle.ficus_replica.specs.Rule.{UnlessMemory}
+use Rattle.ficus_rules.specs.Change.{ChangeRule}
+use Rattle.ficus_rules.specs.Rule.{UnlessMemory}
 use Rattle.ficus_replica.specs.View.{tables_view}
 use Rattle.ficus_script.specs.declared.answer.Answer.{Answer}
 use Rattle.ficus_script.specs.declared.command.Command.{Command}

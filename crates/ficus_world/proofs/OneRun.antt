@@ -4,9 +4,9 @@ use Rattle.ficus_ids.specs.declared.refusal.Refusal.{Refusal}
 use Rattle.ficus_model.specs.declared.event.Event.{Event}
 use Rattle.ficus_model.specs.declared.event.Event.TheVariants.{Update, Ask, Serve, Accept}
 use Rattle.ficus_model.specs.Lawful.{Volume, MayCome}
-use Rattle.ficus_replica.specs.Look.{Look}
-use Rattle.ficus_replica.specs.Rule.{Once}
-use Rattle.ficus_replica.specs.View.{history_view}
+use Rattle.ficus_rules.specs.Look.{Look}
+use Rattle.ficus_rules.specs.Rule.{Once}
+use Rattle.ficus_rules.specs.View.{history_view}
 use Rattle.ficus_script.specs.declared.command.Command.{Command}
 use Rattle.ficus_script.specs.declared.answer.Answer.{Answer}
 use Rattle.ficus_world.specs.Actions.{AtMember, Wants, Adds, AddsWhereMayCome, Decides, Updates, Serves, after}
@@ -14,9 +14,9 @@ use Rattle.ficus_world.specs.ModelWorld.{ModelWorld, Outcome}
 use Rattle.ficus_world.specs.Run.{Does, Step, Run}
 use Rattle.ficus_world.specs.Run.Run.{End, Then}
 use Rattle.ficus_world.specs.Sort.{Sort, Changes, Looks, Pulls, sort_of, answer_of, LookAnswer, answer_as}
-use Rattle.ficus_replica.proofs.Changes.{change_once}
-use Rattle.ficus_replica.proofs.Looks.{look_once, history_kinds}
-use Rattle.ficus_replica.proofs.Rules.{then_once, where_once, gives_once}
+use Rattle.ficus_rules.proofs.Changes.{change_once}
+use Rattle.ficus_rules.proofs.Looks.{look_once, history_kinds}
+use Rattle.ficus_rules.proofs.Rules.{then_once, where_once, gives_once}
 use Rattle.ficus_world.proofs.Sequences.{IsSure, OnceByOutcome, sequence_sure, sequence_once, by_rule_sure, by_rule_once, adds_sure, adds_once}
 
 -- what a look is answered after a history is one thing
@@ -24,7 +24,7 @@ pub look_answer_once : (volume : Volume) (H : List Event) (r : ℕ) (look : Look
     → Once (LookAnswer (history_view volume H r) look)
 look_answer_once volume H r look =
     then_once (look_once (history_view volume H r) (history_kinds volume H r) look)
-    (λ told. gives_once (answer_of look told))
+    (λ told. gives_once (answer_of told))
 
 module _ (good : ModelWorld → Type 0) (refusal : Refusal) where
   wants_sure : IsSure (Wants good refusal)

@@ -2,7 +2,7 @@
 use Rattle.std.proofs.Common.{◌≡◌, Result, Ok, Err, refl, sym, ap, subst, ◌∙◌}
 use Rattle.ficus_ids.specs.declared.refusal.Refusal.{Refusal}
 use Rattle.ficus_model.specs.declared.event.Event.{Event}
-use Rattle.ficus_replica.specs.Rule.{Once}
+use Rattle.ficus_rules.specs.Rule.{Once}
 use Rattle.ficus_world.specs.Actions.{ModelAction, after, unchanged, Adds}
 use Rattle.ficus_world.specs.Actions.Adds.{Added}
 use Rattle.ficus_world.specs.ModelWorld.{ModelWorld, AllDone, Effect}

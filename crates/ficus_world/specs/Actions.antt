@@ -8,10 +8,10 @@ use Rattle.ficus_model.specs.declared.event.Event.TheVariants.{Update, Ask, Serv
 use Rattle.ficus_model.specs.declared.event.Op.{Op}
 use Rattle.ficus_model.specs.Lawful.{Volume, MayCome}
 use Rattle.ficus_laws.specs.Updates.{next_number}
-use Rattle.ficus_replica.specs.Change.{Change, ChangeRule}
-use Rattle.ficus_replica.specs.Look.{Look}
-use Rattle.ficus_replica.specs.Rule.{Where, Gives}
-use Rattle.ficus_replica.specs.View.{history_view}
+use Rattle.ficus_rules.specs.Change.{Change, ChangeRule}
+use Rattle.ficus_rules.specs.Look.{Look}
+use Rattle.ficus_rules.specs.Rule.{Where, Gives}
+use Rattle.ficus_rules.specs.View.{history_view}
 use Rattle.ficus_script.specs.declared.answer.Answer.{Answer}
 use Rattle.ficus_script.specs.declared.answer.Answer.TheVariants.{Done}
 use Rattle.ficus_world.specs.ModelWorld.{ModelWorld, AllDone, Effect}

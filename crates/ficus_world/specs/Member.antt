@@ -4,7 +4,7 @@ use Rattle.ficus_ids.specs.declared.refusal.Refusal.{Refusal}
 use Rattle.ficus_replica.specs.declared.replica.Next.{Next}
 use Rattle.ficus_replica.specs.declared.replica.Replica.{Replica}
 use Rattle.ficus_replica.specs.Change.{ChangeGives}
-use Rattle.ficus_replica.specs.Rule.{UnlessMemory}
+use Rattle.ficus_rules.specs.Rule.{UnlessMemory}
 use Rattle.ficus_replica.specs.View.{tables_view}
 use Rattle.ficus_script.specs.declared.answer.Answer.{Answer}
 use Rattle.ficus_world.specs.Sort.{Sort, Changes, Looks, Pulls, LookAnswer}

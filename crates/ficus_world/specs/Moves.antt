@@ -11,9 +11,9 @@ use Rattle.ficus_entry.specs.declared.entry.Entry.{Entry}
 use Rattle.ficus_replica.specs.declared.replica.Replica.{Replica}
 use Rattle.ficus_replica.specs.Accept.{AcceptGives}
 use Rattle.ficus_replica.specs.Ask.{AskGives}
-use Rattle.ficus_replica.specs.Change.{Change, ChangeRule}
+use Rattle.ficus_rules.specs.Change.{Change, ChangeRule}
 use Rattle.ficus_replica.specs.Effect.{Applied}
-use Rattle.ficus_replica.specs.Look.{Look}
+use Rattle.ficus_rules.specs.Look.{Look}
 use Rattle.ficus_replica.specs.View.{tables_view}
 use Rattle.ficus_script.specs.declared.command.Command.{Command}
 use Rattle.ficus_script.specs.declared.answer.Answer.{Answer}

@@ -5,11 +5,12 @@ use Rattle.ficus_ids.specs.declared.kind.Kind.TheVariants.{Dir}
 use Rattle.ficus_ids.specs.declared.refusal.Refusal.{Refusal}
 use Rattle.ficus_model.specs.declared.event.Op.{Op}
 use Rattle.ficus_model.specs.declared.event.Op.TheVariants as op
-use Rattle.ficus_replica.specs.Change.{Change, Make}
-use Rattle.ficus_replica.specs.Look.{Look, List, Tree, LookRule}
-use Rattle.ficus_replica.specs.Rule.{Then, Gives}
-use Rattle.ficus_replica.specs.Told.{Told, Lines}
-use Rattle.ficus_replica.specs.View.{View}
+use Rattle.ficus_rules.specs.Change.{Change, Make}
+use Rattle.ficus_rules.specs.Look.{Look, List, Tree, LookRule}
+use Rattle.ficus_rules.specs.Rule.{Then, Gives}
+use Rattle.ficus_rules.specs.Told.{Told}
+use Rattle.ficus_rules.specs.Told as told
+use Rattle.ficus_rules.specs.View.{View}
 use Rattle.ficus_script.specs.declared.command.Command.{Command}
 use Rattle.ficus_script.specs.declared.command.Command.TheVariants as command
 use Rattle.ficus_script.specs.declared.answer.Answer.{Answer}
@@ -40,13 +41,13 @@ answer_to number (op.Adopt file dir name) = answer.Made number
 answer_to number (op.Discard file) = answer.Done
 
 -- what is answered where a look tells this
-abbrev pub answer_of : Look → Told → Answer
-answer_of (List path) (Lines lines) = answer.Names lines
-answer_of Tree (Lines lines) = answer.Tree lines
+abbrev pub answer_of : Told → Answer
+answer_of (told.Names lines) = answer.Names lines
+answer_of (told.Tree lines) = answer.Tree lines
 
 -- what a look at what is shown is answered, or why it is refused
 abbrev pub LookAnswer : View → Look → Result Answer Refusal → Type 0
-LookAnswer view look = Then (LookRule view look) (λ told. Gives (answer_of look told))
+LookAnswer view look = Then (LookRule view look) (λ told. Gives (answer_of told))
 
 -- a refusal is an answer too
 abbrev pub answer_as : Result Answer Refusal → Answer

@@ -13,7 +13,7 @@ use std::alloc::Global;
 
 impl World {
     ghost use Rattle.ficus_model.specs.Lawful.{Volume};
-    ghost use Rattle.ficus_replica.specs.Rule.{UnlessMemory};
+    ghost use Rattle.ficus_rules.specs.Rule.{UnlessMemory};
     ghost use Rattle.ficus_script.specs.Command.{IsCommand};
     ghost use Rattle.ficus_world.specs.ModelWorld.{ModelWorld};
     ghost use Rattle.ficus_world.specs.Follows.{Follows};

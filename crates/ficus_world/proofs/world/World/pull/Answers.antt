@@ -2,7 +2,7 @@ use Rattle.std.proofs.Common.{◌≡◌, rules, ◌-◌, Err, ap, ◌∙◌, ◌
 use Rattle.ficus_model.specs.declared.event.Event.TheVariants.{Accept}
 use Rattle.std.specs.Prelude.{slice_set}
 use Rattle.ficus_ids.specs.declared.refusal.Refusal.TheVariants.{Memory}
-use Rattle.ficus_replica.proofs.Rules.{or_memory}
+use Rattle.ficus_rules.proofs.Rules.{or_memory}
 use Rattle.ficus_world.specs.Moves.{ArePeers, MovesBySort}
 use Rattle.ficus_world.specs.Sort.{Pulls}
 use Rattle.ficus_world.specs.World.{Whole}
