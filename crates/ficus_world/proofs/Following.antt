@@ -1,13 +1,12 @@
 -- What a command does to a world that stands for one of the model, it does to that one.
-use Rattle.std.proofs.Common.{◌≡◌, ◌≢◌, ℕ, ◌+◌, List, [], ◌∷◌, ◌++◌, length, Result, Ok, Err, refl, sym, ap, subst, ◌∙◌, inl, inr, arith}
-use Rattle.std.specs.Prelude.{IfOk}
+use Rattle.std.proofs.Common.{◌≡◌, ◌≢◌, ℕ, ◌+◌, [], ◌∷◌, ◌++◌, length, Result, Ok, Err, refl, sym, ap, subst, ◌∙◌, inl, arith}
 use Rattle.std.proofs.lemmas.List.{length_push}
 use Rattle.ficus_ids.specs.Members.{IsMember}
 use Rattle.ficus_ids.specs.declared.refusal.Refusal.{Refusal}
 use Rattle.ficus_ids.specs.declared.refusal.Refusal.TheVariants.{Member as NoMember, Memory, Stale}
 use Rattle.ficus_model.specs.declared.event.Event.TheVariants.{Update, Ask, Serve, Accept}
 use Rattle.ficus_model.specs.declared.event.Op.{Op}
-use Rattle.ficus_model.specs.Events.{IsAt, through}
+use Rattle.ficus_model.specs.Events.{through}
 use Rattle.ficus_model.specs.Lawful.{Volume, MayCome}
 use Rattle.ficus_laws.specs.Accepts.{asked, answered}
 use Rattle.ficus_laws.proofs.Positions.{at_more, at_end}
@@ -22,7 +21,6 @@ use Rattle.ficus_replica.specs.SavedOf.{StandsFor, generation_of}
 use Rattle.ficus_script.specs.declared.command.Command.{Command}
 use Rattle.ficus_script.specs.declared.command.Command.TheVariants.{MkDir, Ls, Tree, Pull}
 use Rattle.ficus_script.specs.declared.answer.Answer.{Answer}
-use Rattle.ficus_script.specs.declared.answer.Answer.TheVariants.{Done}
 use Rattle.ficus_world.specs.declared.member.Member.{Member}
 use Rattle.ficus_world.specs.Actions.{unchanged, happened, AtMember, Updates}
 use Rattle.ficus_world.specs.Actions.Adds.{Added}
@@ -103,8 +101,8 @@ module _ (volume : Volume) (W : ModelWorld) (old : Whole) (stands : WorldStandsF
         effect = happened W (Update by op);
         does = Goes (at_member by member is) (Goes (Says now.answer) (numbered by member op is));
         stands =
-            advanced_stands volume W old stands (Update by op) (Update by op) refl now.after.lawful by member next is refl
-            now.after.stands;
+            advanced_stands volume W old stands (Update by op) (Update by op) refl now.after.lawful by member next is
+            refl now.after.stands;
       }
 
   follow_look : (by : ℕ) (look : Look) (result : Result Answer Refusal) (new : Whole)
@@ -176,7 +174,8 @@ module _ (volume : Volume) (W : ModelWorld) (old : Whole) (stands : WorldStandsF
       serves : (peer : Member) → IsNumbered asked_world.members to peer
           → IsServed (answered W.events by to) by to waiting.saved.generation peer.replica.saved.entries serve
       serves peer peer_is =
-          standing_serves volume (answered W.events by to) by to waiting.saved.generation serve (length W.events) peer.replica
+          standing_serves volume (answered W.events by to) by to waiting.saved.generation serve (length W.events)
+          peer.replica
           (subst (λ K. StandsFor volume K to peer.replica)
           (sym (through_end (asked W.events by to) (Serve to (length W.events))))
           (replica_stands volume answered_model answered_world answered_stand to peer peer_is))

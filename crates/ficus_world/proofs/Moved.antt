@@ -1,5 +1,5 @@
 -- What the code of each sort of command does moves the world as its sort says.
-use Rattle.std.proofs.Common.{◌≡◌, ◌≢◌, ◌↔◌, ℕ, Bool, true, false, List, length, Result, Ok, Err, refl, sym, subst}
+use Rattle.std.proofs.Common.{◌≡◌, ◌≢◌, ◌↔◌, ℕ, Bool, true, false, length, Result, Ok, Err, refl, sym, subst}
 use Rattle.std.specs.Prelude.{IsTrue, IfOk}
 use Rattle.std.proofs.lemmas.Result.{IfOk-weaker}
 use Rattle.ficus_ids.specs.Members.{IsMember}
@@ -8,6 +8,7 @@ use Rattle.ficus_ids.specs.declared.refusal.Refusal.{Refusal}
 use Rattle.ficus_ids.specs.declared.refusal.Refusal.TheVariants.{Member as NoMember, Memory}
 use Rattle.ficus_model.specs.declared.event.Event.TheVariants.{Update}
 use Rattle.ficus_replica.specs.declared.replica.Next.{Next}
+use Rattle.ficus_model.specs.declared.event.Op.{Op}
 use Rattle.ficus_rules.specs.Change.{ChangeRule}
 use Rattle.ficus_rules.specs.Rule.{UnlessMemory}
 use Rattle.ficus_replica.specs.View.{tables_view}
@@ -37,14 +38,16 @@ refused_along rule other refusal there is = there is
 module _ (old : Whole) (by : ℕ) where
   pub no_change : (sort : Sort) → IsChangeBy by sort → (IsMember (length old.members) by → ⊥)
       → MovesBySort sort old (Err NoMember) old
-  no_change (Changes r change) same none = Ends (FindsNone (λ member. none (subst (IsMember (length old.members)) same member)))
+  no_change (Changes r change) same none =
+      Ends (FindsNone (λ member. none (subst (IsMember (length old.members)) same member)))
   no_change (Looks r look) not none = absurd not
   no_change (Pulls r to) not none = absurd not
 
   pub no_look : (sort : Sort) → IsLookBy by sort → (IsMember (length old.members) by → ⊥)
       → MovesBySort sort old (Err NoMember) old
   no_look (Changes r change) not none = absurd not
-  no_look (Looks r look) same none = Ends (FindsNone (λ member. none (subst (IsMember (length old.members)) same member)))
+  no_look (Looks r look) same none =
+      Ends (FindsNone (λ member. none (subst (IsMember (length old.members)) same member)))
   no_look (Pulls r to) not none = absurd not
 
   module _ (member : Member) (is : IsNumbered old.members by member) where
@@ -52,15 +55,17 @@ module _ (old : Whole) (by : ℕ) where
     finds same = subst (λ n. IsNumbered old.members n member) (sym same) is
 
     -- what the change leaves
-    abbrev changed : Next → Whole
+    abbrev pub changed : Next → Whole
     changed next = advanced old by member next.replica (Update by next.op)
 
+    abbrev pub numbered : Op → Answer
+    numbered op = answer_to (next_number_of by member) op
+
     pub change_moves : (sort : Sort) (next : Next) → IsChangeBy by sort → GivesChange member.replica sort (Ok next)
-        → MovesBySort sort old (Ok (answer_to (next_number_of by member) next.op))
-        (advanced old by member next.replica (Update by next.op))
+        → MovesBySort sort old (Ok (numbered next.op)) (changed next)
     change_moves (Changes r change) next same gives =
         Goes (Finds (finds same)) (Goes (Says gives.answer)
-        (subst (λ n. KeepsUpdate n member next.op old (Ok (answer_to (next_number_of by member) next.op)) (changed next))
+        (subst (λ n. KeepsUpdate n member next.op old (Ok (numbered next.op)) (changed next))
         (sym same) (Keeps gives.applied gives.ask)))
     change_moves (Looks r look) next not gives = absurd not
     change_moves (Pulls r to) next not gives = absurd not
@@ -70,7 +75,8 @@ module _ (old : Whole) (by : ℕ) where
         → UnlessMemory (λ answer. MovesBySort sort old answer old) (Err refusal)
     change_refused (Changes r change) refusal same gives =
         refused_along (ChangeRule (tables_view member.replica) change)
-        (λ answer. MovesBySort (Changes r change) old answer old) refusal (λ refused. Goes (Finds (finds same)) (Ends (Says refused))) gives
+        (λ answer. MovesBySort (Changes r change) old answer old) refusal
+        (λ refused. Goes (Finds (finds same)) (Ends (Says refused))) gives
     change_refused (Looks r look) refusal not gives = absurd not
     change_refused (Pulls r to) refusal not gives = absurd not
 
@@ -80,7 +86,8 @@ module _ (old : Whole) (by : ℕ) where
     look_moves (Looks r look) (Ok answer) same gives = Goes (Finds (finds same)) (Says gives)
     look_moves (Looks r look) (Err refusal) same gives =
         refused_along (LookAnswer (tables_view member.replica) look)
-        (λ answer. MovesBySort (Looks r look) old answer old) refusal (λ refused. Goes (Finds (finds same)) (Says refused)) gives
+        (λ answer. MovesBySort (Looks r look) old answer old) refusal
+        (λ refused. Goes (Finds (finds same)) (Says refused)) gives
     look_moves (Pulls r to) answer not gives = absurd not
 
 -- what isn't want of memory is as the rule says

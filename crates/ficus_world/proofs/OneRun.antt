@@ -1,15 +1,14 @@
 -- A run follows from its commands, and from what the outside does.
-use Rattle.std.proofs.Common.{◌≡◌, ℕ, List, [], ◌∷◌, Result, Ok, Err, refl, sym, ap, ap₂, subst, ◌∙◌}
+use Rattle.std.proofs.Common.{◌≡◌, ℕ, List, ◌∷◌, refl, sym, ap, ap₂, subst, ◌∙◌}
 use Rattle.ficus_ids.specs.declared.refusal.Refusal.{Refusal}
 use Rattle.ficus_model.specs.declared.event.Event.{Event}
-use Rattle.ficus_model.specs.declared.event.Event.TheVariants.{Update, Ask, Serve, Accept}
-use Rattle.ficus_model.specs.Lawful.{Volume, MayCome}
+use Rattle.ficus_model.specs.Lawful.{Volume}
 use Rattle.ficus_rules.specs.Look.{Look}
 use Rattle.ficus_rules.specs.Rule.{Once}
 use Rattle.ficus_rules.specs.View.{history_view}
 use Rattle.ficus_script.specs.declared.command.Command.{Command}
 use Rattle.ficus_script.specs.declared.answer.Answer.{Answer}
-use Rattle.ficus_world.specs.Actions.{AtMember, Wants, Adds, AddsWhereMayCome, Decides, Updates, Serves, after}
+use Rattle.ficus_world.specs.Actions.{Wants, AddsWhereMayCome, after}
 use Rattle.ficus_world.specs.ModelWorld.{ModelWorld, Outcome}
 use Rattle.ficus_world.specs.Run.{Does, Step, Run}
 use Rattle.ficus_world.specs.Run.Run.{End, Then}
@@ -67,7 +66,8 @@ pub run_once : {volume : Volume} {W V U : ModelWorld} {commands : List Command} 
     {answers others : List Answer} → Run volume W commands outcomes answers V
     → Run volume W commands outcomes others U → (answers ≡ others) × (V ≡ U)
 run_once End End = (refl, refl)
-run_once {volume} {U = U} (Then {commands = commands} {outcomes = outcomes} step rest) (Then {answers = others} step_too rest_too) =
+run_once {volume} {U = U} (Then {commands = commands} {outcomes = outcomes} step rest)
+    (Then {answers = others} step_too rest_too) =
     let same = step_once step step_too in
     let ends = run_once rest (subst (λ M. Run volume M commands outcomes others U) (sym same.1) rest_too) in
     (ap₂ (λ (first : Answer) (more : List Answer). first ∷ more) same.0 ends.0, ends.1)

@@ -1,5 +1,5 @@
 -- What the code of a pull does moves the world as its sort says.
-use Rattle.std.proofs.Common.{◌≡◌, ◌≢◌, ℕ, ◌+◌, ◌-◌, List, [], ◌∷◌, ◌++◌, length, Result, Ok, Err, refl, sym, ap, ap₂, subst, ◌∙◌, append_assoc}
+use Rattle.std.proofs.Common.{◌≡◌, ◌≢◌, ℕ, ◌+◌, ◌-◌, List, [], ◌∷◌, ◌++◌, length, Ok, Err, ap₂, subst, append_assoc}
 use Rattle.std.specs.Prelude.{slice_set}
 use Rattle.std.proofs.lemmas.List.{set-set, length_push}
 use Rattle.ficus_ids.specs.declared.refusal.Refusal.{Refusal}
@@ -9,10 +9,9 @@ use Rattle.ficus_model.specs.declared.event.Event.TheVariants.{Ask, Serve, Accep
 use Rattle.ficus_replica.specs.declared.replica.Replica.{Replica}
 use Rattle.ficus_replica.specs.Accept.{AcceptGives}
 use Rattle.ficus_replica.specs.Ask.{AskGives}
-use Rattle.ficus_script.specs.declared.answer.Answer.{Answer}
 use Rattle.ficus_script.specs.declared.answer.Answer.TheVariants.{Done}
 use Rattle.ficus_world.specs.declared.member.Member.{Member}
-use Rattle.ficus_world.specs.Moves.{ArePeers, advanced, MovesBySort}
+use Rattle.ficus_world.specs.Moves.{ArePeers, MovesBySort}
 use Rattle.ficus_world.specs.Moves.KeepsAsk.{Sends}
 use Rattle.ficus_world.specs.Moves.HandsOver.{Hands}
 use Rattle.ficus_world.specs.Moves.TakesServed.{Accepts, Refuses}
@@ -58,7 +57,8 @@ module _ (old : Whole) (by to : ℕ) (was peer : Member) (waiting : Replica) (pe
       → AcceptGives waiting to waiting.saved.generation peer.replica.saved.entries (Ok next)
       → MovesBySort (Pulls by to) old (Ok Done) (world_with old by next (with_accepted old by to))
   pull_moves next gives =
-      subst (λ new. MovesBySort (Pulls by to) old (Ok Done) new) (λ i. record { members = members i; events = events i })
+      subst (λ new. MovesBySort (Pulls by to) old (Ok Done) new)
+      (λ i. record { members = members i; events = events i })
       (Goes (Sends peers is asks) (Goes (Hands peer_kept) (Accepts holder_is gives)))
     where
       members : slice_set (slice_set old.members (by - 1) waits) (by - 1) (record { replica = next })

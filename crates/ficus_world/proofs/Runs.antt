@@ -1,5 +1,5 @@
 -- Commands leave a lawful history.
-use Rattle.std.proofs.Common.{◌≡◌, ℕ, ◌+◌, ◌<◌, List, [], ◌∷◌, ◌++◌, length, Result, Ok, Err, refl, sym, ap, subst, inl, inr, arith}
+use Rattle.std.proofs.Common.{◌≡◌, ℕ, ◌<◌, List, length, Result, Err, refl, sym, subst, inl, inr, arith}
 use Rattle.std.specs.Prelude.{All}
 use Rattle.std.specs.List.{range_with_len}
 use Rattle.std.proofs.lemmas.List.Elements.{All-map}
@@ -18,12 +18,11 @@ use Rattle.ficus_laws.proofs.Lawful.{lawful_more}
 use Rattle.ficus_laws.proofs.Pull.{length_asked, serve_may_come, accept_may_come}
 use Rattle.ficus_script.specs.declared.command.Command.{Command}
 use Rattle.ficus_script.specs.declared.answer.Answer.{Answer}
-use Rattle.ficus_world.specs.Actions.{AddsWhereMayCome, Serves, Takes}
+use Rattle.ficus_world.specs.Actions.{AddsWhereMayCome}
 use Rattle.ficus_world.specs.Actions.Adds.{Added}
 use Rattle.ficus_world.specs.ModelWorld.{ModelWorld, Outcome, Effect}
 use Rattle.ficus_world.specs.Run.{Does, Step, Run}
 use Rattle.ficus_world.specs.Run.Run.{End, Then}
-use Rattle.ficus_world.specs.Sequence.{Sequence}
 use Rattle.ficus_world.specs.Sequence.Sequence.{Ends, Goes}
 use Rattle.ficus_world.specs.Sequence.ByRule.{Says}
 use Rattle.ficus_world.specs.Sort.{Sort, Changes, Looks, Pulls, sort_of}
@@ -46,7 +45,8 @@ module _ (volume : Volume) where
   does_lawful (Changes by change) W result left lawful (Goes (Says member) (Ends (Says refused))) = lawful
   does_lawful (Changes by change) W result left lawful (Goes (Says member) (Goes {a = op} (Says decided) Added)) =
       let may = change_may volume W.events by change op decided in
-      lawful_more volume W.events (Update by op) lawful (record { member = member.0; left = may.left; bytes = may.bytes; allowed = may.allowed })
+      lawful_more volume W.events (Update by op) lawful
+      (record { member = member.0; left = may.left; bytes = may.bytes; allowed = may.allowed })
   does_lawful (Looks by look) W result left lawful (Ends (Says none)) = lawful
   does_lawful (Looks by look) W result left lawful (Goes (Says member) (Says told)) = lawful
   does_lawful (Pulls by to) W result left lawful (Ends (Ends (Says none))) = lawful

@@ -41,7 +41,8 @@ module _ {A B : Type 0} (first : ModelAction A) (rest : A → ModelAction B) (su
         let e = (same_first old (Err r) (Ok a) left m is too).0 in absurd (cc)
     sequence_once old one other left right (Goes {a = a} {middle = m} is behind) (Ends {refusal = r} too) outcome =
         let e = (same_first old (Ok a) (Err r) m right is too).0 in absurd (cc)
-    sequence_once old one other left right (Goes {a = a} {middle = m} is behind) (Goes {a = b} {middle = n} too then) outcome =
+    sequence_once old one other left right (Goes {a = a} {middle = m} is behind)
+        (Goes {a = b} {middle = n} too then) outcome =
         let e = same_first old (Ok a) (Ok b) m n is too in
         let f = e.0 in
         let same : b ≡ a = cc in

@@ -49,7 +49,8 @@ module _ (volume : Volume) (count : ℕ) (members : List Member) (next : Member)
           fresh.each r member (number_read members r member member older found)
       go (inr h) =
           let last : r ≡ count + 1 = omega (arith, one, most) in
-          let found : member ≡ next = sym read ∙ get_or_push members next member (r - 1) (omega (arith, fresh.counted)) in
+          let found : member ≡ next =
+          sym read ∙ get_or_push members next member (r - 1) (omega (arith, fresh.counted)) in
           subst (λ n. IsFresh volume n member) (sym last) (subst (IsFresh volume (count + 1)) (sym found) next_fresh)
 
   pub fresh_more : AreFresh volume (count + 1) (members ++ next ∷ [])
@@ -95,6 +96,6 @@ fresh_world_stands count world events fresh = record {
   };
   each = λ r member standing is standing_is.
       stands_up (default_volume count) (restarts count) r member standing
-      (restarted_stands (default_volume count) (restarts count) r member.replica (restarts_alone (range_with_len 1 count))
-      (fresh.each r member is).stands);
+      (restarted_stands (default_volume count) (restarts count) r member.replica
+      (restarts_alone (range_with_len 1 count)) (fresh.each r member is).stands);
 }

@@ -5,7 +5,6 @@ use Rattle.ficus_model.specs.declared.event.Event.{Event}
 use Rattle.ficus_model.specs.declared.event.Event.TheVariants.{Restart}
 use Rattle.ficus_model.specs.Lawful.{Volume}
 use Rattle.ficus_codec.specs.Saved.{FitsImage}
-use Rattle.ficus_replica.specs.declared.replica.Replica.{Replica}
 use Rattle.ficus_replica.specs.SavedOf.{StandsFor}
 use Rattle.ficus_world.specs.declared.member.Member.{Member}
 use Rattle.ficus_world.specs.declared.world.TheConstants.{DEFAULT_IDS, DEFAULT_BYTES}

@@ -37,6 +37,7 @@ pub fn pulls_are_never_stale()
 /// Replicas that know the same updates answer looks alike.
 pub fn same_updates_answer_same()
     ensures { (volume : Volume) (H : List Event) (replica other : ℕ) (look : Look)
-        (answer again : Result Answer Refusal) → KnowSameUpdates H replica other → LookAnswer (history_view volume H replica) look answer
+        (answer again : Result Answer Refusal) → KnowSameUpdates H replica other
+        → LookAnswer (history_view volume H replica) look answer
         → LookAnswer (history_view volume H other) look again → answer ≡ again }
 {}

@@ -13,7 +13,9 @@ pub loop-before-preserved : goal.loop-before-preserved
 loop-before-preserved c =
     let before = c.loop-before.before in
     record {
-      events = c.push.ensures.events ∙ ap (λ events. events ++ Restart (before + 1) ∷ []) c.loop-before.invariant.events ∙ sym (restarts_more before);
+      events = c.push.ensures.events
+          ∙ ap (λ events. events ++ Restart (before + 1) ∷ []) c.loop-before.invariant.events
+          ∙ sym (restarts_more before);
       room = omega (arith, c.loop-before.invariant.room, c.push.ensures.room);
       few = c.loop-before.invariant.few;
     }

@@ -5,10 +5,20 @@ use Rattle.ficus_world.proofs.member.Member.look.Goals as goal
 
 pub returns-in_ok-lines-in-Ls : goal.returns-in_ok-lines-in-Ls
 returns-in_ok-lines-in-Ls c = record {
-  gives = rw c.in-Ls.is (told.Names c.in_ok-lines-in-Ls.lines.items, c.in_ok-lines-in-Ls.ensures.gives, ap Names c.of.ensures);
+  gives =
+      rw c.in-Ls.is (
+        told.Names c.in_ok-lines-in-Ls.lines.items,
+        c.in_ok-lines-in-Ls.ensures.gives,
+        ap Names c.of.ensures,
+      );
 }
 
 pub returns-in_ok-lines-in-Tree : goal.returns-in_ok-lines-in-Tree
 returns-in_ok-lines-in-Tree c = record {
-  gives = rw c.in-Tree.is (told.Tree c.in_ok-lines-in-Tree.lines.items, c.in_ok-lines-in-Tree.ensures.gives, ap Tree c.of-in-Tree.ensures);
+  gives =
+      rw c.in-Tree.is (
+        told.Tree c.in_ok-lines-in-Tree.lines.items,
+        c.in_ok-lines-in-Tree.ensures.gives,
+        ap Tree c.of-in-Tree.ensures,
+      );
 }

@@ -7,13 +7,16 @@ use Rattle.ficus_world.proofs.world.World.step.Goals as goal
 
 pub returns-clause-moves : goal.returns-clause-moves
 returns-clause-moves c =
-    answered_moves c.args.self.now c.carry_out.new.self c.args.command.now c.carry_out.result c.answered.result c.carry_out.ensures.moves c.answered.ensures.answer
+    answered_moves c.args.self.now c.carry_out.new.self c.args.command.now c.carry_out.result c.answered.result
+    c.carry_out.ensures.moves c.answered.ensures.answer
 
 pub returns-clause-stands : goal.returns-clause-stands
 returns-clause-stands c = λ volume W stands.
     let old = c.args.self.now in
     let new = c.carry_out.new.self in
     let command = c.args.command.now in
-    IfOk-weaker c.answered.result (λ answer. Moves old command answer new) (λ answer. Follows volume W command answer new)
+    IfOk-weaker c.answered.result (λ answer. Moves old command answer new)
+    (λ answer. Follows volume W command answer new)
     (λ answer moves. follow volume W old stands command answer new moves)
-    (answered_moves old new command c.carry_out.result c.answered.result c.carry_out.ensures.moves c.answered.ensures.answer)
+    (answered_moves old new command c.carry_out.result c.answered.result c.carry_out.ensures.moves
+    c.answered.ensures.answer)
