@@ -1,4 +1,3 @@
-pub mod Rules
 pub mod Directories
 pub mod Views
 pub mod Tables

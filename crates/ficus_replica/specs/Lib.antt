@@ -1,5 +1,3 @@
-pub mod Rule
-pub mod Told
 pub mod View
 pub mod Look
 pub mod SavedOf
