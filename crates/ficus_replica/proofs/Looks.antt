@@ -13,4 +13,4 @@ use Rattle.ficus_replica.proofs.Views.{stands_same}
 
 pub look_stands : {volume : Volume} {H : ListOf Event} {r : ℕ} {replica : Replica} → StandsFor volume H r replica →
     (look : Look) (result : Result Told Refusal) → LookGives replica look result → LookStands volume H r look result
-look_stands stands look result gives = memory_along (look_along (stands_same stands) look) result gives
+look_stands stands look result gives = memory_along (look_along (stands_same stands).shown look) result gives

@@ -37,8 +37,7 @@ module _ {volume : Volume} {H : List Event} {r : ℕ} {replica : Replica} (stand
   -- this alone carries an answer over the tables to one over the history, and back
   pub stands_same : SameView (tables_view replica) (history_view volume H r)
   stands_same = record {
-    live = live_history;
-    kinds = kinds_history;
+    shown = record { live = live_history; kinds = kinds_history };
     spent = (
       λ spent. omega (arith, stands.saved.ids, stands.saved.next),
       λ spent. omega (arith, stands.saved.ids, stands.saved.next),

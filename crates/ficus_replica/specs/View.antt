@@ -5,7 +5,7 @@ use Rattle.ficus_ids.specs.declared.kind.Kind.TheVariants.{Dir}
 use Rattle.ficus_model.specs.Live.{Entry as ModelEntry}
 use Rattle.ficus_entry.specs.declared.entry.Entry.{Entry}
 use Rattle.ficus_entry.specs.declared.entry.State.TheVariants.{Live}
-pub use Rattle.ficus_rules.specs.View.{View, SameView, history_view}
+pub use Rattle.ficus_rules.specs.View.{View, SameShown, SameView, history_view}
 use Rattle.ficus_replica.specs.declared.replica.Replica.{Replica}
 
 -- an entry, as tables hold it while it is live

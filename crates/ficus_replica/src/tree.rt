@@ -11,13 +11,13 @@ impl Replica {
     ghost use Rattle.ficus_model.specs.declared.event.Event.{Event};
     ghost use Rattle.ficus_replica.specs.Look.{LookGives, LookStands, Tree};
     ghost use Rattle.ficus_replica.specs.SavedOf.{StandsFor};
-    ghost use Rattle.ficus_rules.specs.Told.{vec_lines};
+    ghost use Rattle.ficus_rules.specs.Told.{told_tree};
 
     /// The shown names of every directory that is reached from the root, by directory, then as in `list`.
     pub fn tree(&self, alloc: Global) -> Result<Vec<Line>, Memory>
-        ensures gives { IfOk result (λ lines. LookGives self.now Tree (Ok (vec_lines lines))) }
+        ensures gives { IfOk result (λ lines. LookGives self.now Tree (Ok (told_tree lines))) }
         ensures stands { (volume : Volume) (H : List Event) → StandsFor volume H self.now.saved.me self.now
-            → IfOk result (λ lines. LookStands volume H self.now.saved.me Tree (Ok (vec_lines lines))) }
+            → IfOk result (λ lines. LookStands volume H self.now.saved.me Tree (Ok (told_tree lines))) }
     {
         let entries = &self.saved.entries;
         let directories = Directories::new(alloc, entries)?;

@@ -20,7 +20,7 @@ use Rattle.ficus_names.specs.ListingLaws.{shown_cmp_total, IsShownAs-along, one_
 use Rattle.ficus_names.specs.declared.listing.Line.{Line}
 use Rattle.ficus_names.specs.declared.listing.ShownName.{ShownName}
 use Rattle.ficus_rules.specs.Lines.{line_of, line_cmp, IsShownLine, HasLine, AreLines}
-use Rattle.ficus_rules.specs.View.{View, SameView, IsBoundIn}
+use Rattle.ficus_rules.specs.View.{View, SameShown, IsBoundIn}
 use Rattle.ficus_rules.proofs.Views.{HasDirectoriesOnly, HasOneKind, bound_same, bound_there, same_back}
 
 into_map : {X Y : Type 0} (f : X → Y) (xs : List X) (x : X) → Contains xs x → Contains (map f xs) (f x)
@@ -145,7 +145,7 @@ module _ (view : View) where
 line_total : IsTotalOrder line_cmp
 line_total = then_total (on_total (λ (line : Line). line.dir) id_cmp_total) (on_total (λ (line : Line). line.shown) shown_cmp_total)
 
-module _ {one other : View} (same : SameView one other) where
+module _ {one other : View} (same : SameShown one other) where
   line_shown : {line : Line} → IsShownLine one line → IsShownLine other line
   line_shown {line} is = record {
     shown = IsShownAs-along (bound_same same line.dir) line.shown is.shown;

@@ -5,7 +5,7 @@ use Rattle.ficus_model.specs.Lawful.{Volume}
 use Rattle.ficus_laws.proofs.Issued.{made_once}
 use Rattle.ficus_rules.specs.Look.{Look, List, Tree, LookRule}
 use Rattle.ficus_rules.specs.Rule.{Once, Along}
-use Rattle.ficus_rules.specs.View.{View, SameView, history_view}
+use Rattle.ficus_rules.specs.View.{View, SameShown, history_view}
 use Rattle.ficus_rules.proofs.Lists.{list_once, list_along}
 use Rattle.ficus_rules.proofs.Trees.{tree_once, tree_along}
 use Rattle.ficus_rules.proofs.Views.{HasOneKind}
@@ -14,7 +14,7 @@ pub look_once : (view : View) → HasOneKind view → (look : Look) → Once (Lo
 look_once view kinds (List path) = list_once view kinds path
 look_once view kinds Tree = tree_once kinds
 
-pub look_along : {one other : View} → SameView one other → (look : Look) →
+pub look_along : {one other : View} → SameShown one other → (look : Look) →
     Along (LookRule one look) (LookRule other look)
 look_along same (List path) = list_along same path
 look_along same Tree = tree_along same

@@ -17,6 +17,6 @@ make_once view path kind = then_once (parent_once view path) (λ dir. unless_onc
 pub make_along : {one other : View} → SameView one other → (path : Path) (kind : Kind) →
     Along (MakeRule one path kind) (MakeRule other path kind)
 make_along same path kind =
-    then_along (parent_along same path)
-    (λ dir walked. unless_along Exists (taken_same same dir (last_name path))
+    then_along (parent_along same.shown path)
+    (λ dir walked. unless_along Exists (taken_same same.shown dir (last_name path))
     (unless_along Spent same.spent (gives_along (Make dir (last_name path) kind))))

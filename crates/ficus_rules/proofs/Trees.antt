@@ -1,14 +1,14 @@
 -- `tree`: its answer is one, and the same over views that show the same.
 use Rattle.ficus_rules.specs.Rule.{Once, Along}
-use Rattle.ficus_rules.specs.Told.{Lines}
+use Rattle.ficus_rules.specs.Told.{Tree}
 use Rattle.ficus_rules.specs.Tree.{TreeRule}
-use Rattle.ficus_rules.specs.View.{View, SameView}
+use Rattle.ficus_rules.specs.View.{View, SameShown}
 use Rattle.ficus_rules.proofs.Listings.{lines_along, lines_once}
 use Rattle.ficus_rules.proofs.Rules.{tells_once, tells_along}
 use Rattle.ficus_rules.proofs.Views.{HasOneKind, reached_same}
 
 pub tree_once : {view : View} → HasOneKind view → Once (TreeRule view)
-tree_once kinds = tells_once Lines (lines_once kinds)
+tree_once kinds = tells_once Tree (lines_once kinds)
 
-pub tree_along : {one other : View} → SameView one other → Along (TreeRule one) (TreeRule other)
-tree_along same = tells_along Lines (λ lines are. lines_along same (reached_same same) are)
+pub tree_along : {one other : View} → SameShown one other → Along (TreeRule one) (TreeRule other)
+tree_along same = tells_along Tree (λ lines are. lines_along same (reached_same same) are)

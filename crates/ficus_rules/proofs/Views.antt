@@ -4,24 +4,18 @@ use Rattle.ficus_ids.specs.declared.id.Id.{Id}
 use Rattle.ficus_ids.specs.declared.kind.Kind.{Kind}
 use Rattle.ficus_ids.specs.declared.kind.Kind.TheVariants.{Dir}
 use Rattle.ficus_laws.proofs.Shown.{reached_within}
-use Rattle.ficus_rules.specs.View.{View, SameView, IsBoundIn, IsTakenIn, IsDirectoryIn, IsReachedIn}
+use Rattle.ficus_rules.specs.View.{View, SameShown, IsBoundIn, IsTakenIn, IsDirectoryIn, IsReachedIn}
 
-pub same_itself : (view : View) → SameView view view
-same_itself view = record {
-  live = λ entry. (λ live. live, λ live. live);
-  kinds = λ object kind. (λ is. is, λ is. is);
-  spent =
-      (λ spent. spent, λ spent. spent);
-}
+pub same_itself : (view : View) → SameShown view view
+same_itself view = record { live = λ entry. (λ live. live, λ live. live); kinds = λ object kind. (λ is. is, λ is. is) }
 
-pub same_back : {one other : View} → SameView one other → SameView other one
+pub same_back : {one other : View} → SameShown one other → SameShown other one
 same_back same = record {
   live = λ entry. ((same.live entry).1, (same.live entry).0);
   kinds = λ object kind. ((same.kinds object kind).1, (same.kinds object kind).0);
-  spent = (same.spent.1, same.spent.0);
 }
 
-module _ {one other : View} (same : SameView one other) where
+module _ {one other : View} (same : SameShown one other) where
   pub bound_there : {dir target : Id} {name : List ℕ} → IsBoundIn one dir name target → IsBoundIn other dir name target
   bound_there bound = record {
     entry = bound.entry;
@@ -31,7 +25,7 @@ module _ {one other : View} (same : SameView one other) where
     leads = bound.leads;
   }
 
-module _ {one other : View} (same : SameView one other) where
+module _ {one other : View} (same : SameShown one other) where
   pub bound_same : (dir : Id) (name : List ℕ) (target : Id) →
       IsBoundIn one dir name target ↔ IsBoundIn other dir name target
   bound_same dir name target = (λ bound. bound_there same bound, λ bound. bound_there (same_back same) bound)
@@ -43,7 +37,7 @@ module _ {one other : View} (same : SameView one other) where
   directory_there object (inl root) = inl root
   directory_there object (inr kind) = inr ((same.kinds object Dir).0 kind)
 
-module _ {one other : View} (same : SameView one other) where
+module _ {one other : View} (same : SameShown one other) where
   pub directory_same : (object : Id) → IsDirectoryIn one object ↔ IsDirectoryIn other object
   directory_same object = (directory_there same object, directory_there (same_back same) object)
 

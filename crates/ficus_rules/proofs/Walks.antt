@@ -14,7 +14,7 @@ use Rattle.ficus_path.specs.declared.path.Path.{Path}
 use Rattle.ficus_names.specs.Find.{FindAnswer}
 use Rattle.ficus_names.specs.FindLaws.{one_answer, FindAnswer-along}
 use Rattle.ficus_rules.specs.Rule.{Then, Where, Gives, Once, Along}
-use Rattle.ficus_rules.specs.View.{View, SameView, IsBoundIn, IsDirectoryIn, IsReachedIn}
+use Rattle.ficus_rules.specs.View.{View, SameShown, IsBoundIn, IsDirectoryIn, IsReachedIn}
 use Rattle.ficus_rules.specs.Walk.{BaseRule, PartsRule, WalkRule, DirectoryRule, ParentRule}
 use Rattle.ficus_rules.proofs.Rules.{then_once, where_once, gives_once, then_along, where_along, gives_along}
 use Rattle.ficus_rules.proofs.Views.{bound_same, directory_same}
@@ -35,7 +35,7 @@ directory_once view base parts = then_once (walk_once view base parts) (λ objec
 pub parent_once : (view : View) (path : Path) → Once (ParentRule view path)
 parent_once view path = directory_once view path.base _
 
-module _ {one other : View} (same : SameView one other) where
+module _ {one other : View} (same : SameShown one other) where
   base_along : (base : PathBase) → Along (BaseRule one base) (BaseRule other base)
   base_along Root = gives_along ROOT
 

@@ -4,7 +4,7 @@ use Rattle.ficus_ids.specs.declared.refusal.Refusal.{Refusal}
 use Rattle.ficus_path.specs.declared.path.Path.{Path}
 use Rattle.ficus_rules.specs.Lines.{AreLines}
 use Rattle.ficus_rules.specs.Rule.{Then, Tells}
-use Rattle.ficus_rules.specs.Told.{Told, Lines}
+use Rattle.ficus_rules.specs.Told.{Told, Names}
 use Rattle.ficus_rules.specs.View.{View}
 use Rattle.ficus_rules.specs.Walk.{DirectoryRule}
 
@@ -12,4 +12,4 @@ use Rattle.ficus_rules.specs.Walk.{DirectoryRule}
 abbrev pub ListRule : View → Path → Result Told Refusal → Type 0
 ListRule view path =
     Then (DirectoryRule view path.base path.parts) (λ dir.
-    Tells Lines (AreLines view (λ shown. shown ≡ dir)))
+    Tells Names (AreLines view (λ shown. shown ≡ dir)))

@@ -3,11 +3,16 @@ use Rattle.std.specs.Prelude.{List, Result, Ok, Err, Vec}
 use Rattle.std.specs.declared.alloc.Global.{Global}
 use Rattle.ficus_names.specs.declared.listing.Line.{Line}
 
+-- the names of a directory; or those of each directory that is reached
 pub data Told : Type 0 where
-  Lines : List Line → Told
+  Names : List Line → Told
+  Tree : List Line → Told
 
-abbrev pub vec_lines : Vec Line Global → Told
-vec_lines lines = Lines lines.items
+abbrev pub told_names : Vec Line Global → Told
+told_names lines = Names lines.items
+
+abbrev pub told_tree : Vec Line Global → Told
+told_tree lines = Tree lines.items
 
 -- an answer, told in this way
 abbrev pub answer_told : {A E : Type 0} → (A → Told) → Result A E → Result Told E

@@ -3,9 +3,9 @@ use Rattle.std.specs.Prelude.{Result}
 use Rattle.ficus_ids.specs.declared.refusal.Refusal.{Refusal}
 use Rattle.ficus_rules.specs.Lines.{AreLines}
 use Rattle.ficus_rules.specs.Rule.{Tells}
-use Rattle.ficus_rules.specs.Told.{Told, Lines}
+use Rattle.ficus_rules.specs.Told.{Told, Tree}
 use Rattle.ficus_rules.specs.View.{View, IsReachedIn}
 
 -- the shown names of each directory that is reached from the root
 abbrev pub TreeRule : View → Result Told Refusal → Type 0
-TreeRule view = Tells Lines (AreLines view (IsReachedIn view))
+TreeRule view = Tells Tree (AreLines view (IsReachedIn view))

@@ -17,10 +17,14 @@ pub record View : Type 1 where
   pub kinds : Id → Kind → Type 0
   pub spent : Type 0
 
--- both show the same
-pub record SameView (one other : View) : Type 0 where
+-- both show the same entries and the same objects
+pub record SameShown (one other : View) : Type 0 where
   pub live : (entry : ModelEntry) → one.live entry ↔ other.live entry
   pub kinds : (object : Id) (kind : Kind) → one.kinds object kind ↔ other.kinds object kind
+
+-- both show the same, and of both all updates are made or of neither
+pub record SameView (one other : View) : Type 0 where
+  pub shown : SameShown one other
   pub spent : one.spent ↔ other.spent
 
 -- a live entry of the directory has the name and leads to the object

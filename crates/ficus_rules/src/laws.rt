@@ -6,7 +6,7 @@ ghost use Rattle.ficus_model.specs.declared.event.Op.{Op};
 ghost use Rattle.ficus_rules.specs.Change.{Change, ChangeRule};
 ghost use Rattle.ficus_rules.specs.Look.{Look, LookRule};
 ghost use Rattle.ficus_rules.specs.Told.{Told};
-ghost use Rattle.ficus_rules.specs.View.{SameView, history_view};
+ghost use Rattle.ficus_rules.specs.View.{SameShown, SameView, history_view};
 
 /// After a history, a change has one answer.
 pub fn one_change()
@@ -30,10 +30,10 @@ pub fn same_view_same_change()
         → ChangeRule (history_view volume H other) change answer }
 {}
 
-/// Where two replicas are shown the same, each look is answered alike.
-pub fn same_view_same_look()
+/// Where two replicas are shown the same, each look is answered alike, whether or not they may still make updates.
+pub fn same_shown_same_look()
     ensures { (volume : Volume) (H : List Event) (replica other : ℕ) (look : Look) (answer : Result Told Refusal)
-        → SameView (history_view volume H replica) (history_view volume H other)
+        → SameShown (history_view volume H replica) (history_view volume H other)
         → LookRule (history_view volume H replica) look answer
         → LookRule (history_view volume H other) look answer }
 {}

@@ -1,26 +1,26 @@
 -- What the program promises of one run.
 use Rattle.std.specs.Prelude.{◌≡◌, ◌⊎◌, ℕ, ◌≤◌, List, length}
-use Rattle.ficus_model.specs.declared.event.Event.{Event}
 use Rattle.ficus_outside.specs.Faults.{Rose}
 use Rattle.ficus_script.specs.declared.command.Command.{Command}
 use Rattle.ficus_script.specs.declared.answer.Answer.{Answer}
 use Rattle.ficus_script.specs.Script.{IsScript}
+use Rattle.ficus_world.specs.ModelWorld.{ModelWorld, Outcome}
 use Rattle.ficus_world.specs.Run.{Run}
 use Rattle.ficus_world.specs.Start.{default_volume, start}
 use Rattle.ficus_top.specs.Serving.{Serves, ServesFront}
 use Rattle.ficus_top.specs.Words.{AreWords}
 
--- The commands, over a fresh volume with so many members, are answered with these answers, and leave this
--- history.
-abbrev pub Replay : ℕ → List Command → List Answer → List Event → Type 0
-Replay members commands answers H = Run (default_volume members) (start members) commands answers H
+-- The commands, over a fresh volume with so many members and with these outcomes, are answered with these answers, and
+-- leave this world.
+abbrev pub Replay : ℕ → List Command → List Outcome → List Answer → ModelWorld → Type 0
+Replay members commands outcomes answers W = Run (default_volume members) (start members) commands outcomes answers W
 
 -- The source's bytes are a script, and the run over its commands was served: over a sink that tells, what was put are
 -- the texts of its answers, in order, and nothing else.
 pub record Answers (tells : Type 0) (members : ℕ) (script old new : List ℕ) : Type 0 where
   pub commands : List Command
   pub read : IsScript script commands
-  pub after : List Event
+  pub after : ModelWorld
   pub serves : Serves tells (default_volume members) (start members) commands after old new
 
 -- The source's bytes are a script, and the run over some first ones of its commands was served: over a sink that tells,
@@ -28,7 +28,7 @@ pub record Answers (tells : Type 0) (members : ℕ) (script old new : List ℕ) 
 pub record AnswersFront (tells : Type 0) (members : ℕ) (script old new : List ℕ) : Type 0 where
   pub commands : List Command
   pub read : IsScript script commands
-  pub after : List Event
+  pub after : ModelWorld
   pub serves : ServesFront tells (default_volume members) (start members) commands after old new
 
 -- the code is one of those that the program ends with

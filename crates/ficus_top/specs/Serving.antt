@@ -1,11 +1,11 @@
--- What commands are answered with, from a history on, and what is put of it.
+-- What commands are answered with, from a world of the model on, and what is put of it.
 use Rattle.std.specs.Prelude.{◌≡◌, ℕ, ◌≤◌, List, ◌++◌, length, take}
 use Rattle.std.specs.List.{flat_map}
-use Rattle.ficus_model.specs.declared.event.Event.{Event}
 use Rattle.ficus_model.specs.Lawful.{Volume}
 use Rattle.ficus_script.specs.declared.command.Command.{Command}
 use Rattle.ficus_script.specs.declared.answer.Answer.{Answer}
 use Rattle.ficus_script.specs.Answer.{answer_text_of}
+use Rattle.ficus_world.specs.ModelWorld.{ModelWorld, Outcome}
 use Rattle.ficus_world.specs.Run.{Run}
 use Rattle.ficus_world.specs.World.{Whole, WorldStandsFor}
 use Rattle.ficus_top.specs.Outside.{PutsFront}
@@ -18,37 +18,39 @@ serving_limit = 4000000000
 abbrev pub texts_of : List Answer → List ℕ
 texts_of answers = flat_map answer_text_of answers
 
--- After the history H the commands have these answers, which lead to the history after them. Over a sink that tells,
--- the texts of the answers were put, in order, and nothing else.
-pub record Serves (tells : Type 0) (volume : Volume) (H : List Event) (commands : List Command) (after : List Event)
+-- From the world W on the commands have these answers, which lead to the world after them. Over a sink that tells, the
+-- texts of the answers were put, in order, and nothing else.
+pub record Serves (tells : Type 0) (volume : Volume) (W : ModelWorld) (commands : List Command) (after : ModelWorld)
     (old new : List ℕ) : Type 0 where
+  pub outcomes : List Outcome
   pub answers : List Answer
-  pub run : Run volume H commands answers after
+  pub run : Run volume W commands outcomes answers after
   pub put : tells → new ≡ old ++ texts_of answers
 
--- After the history H some first commands have these answers, which lead to the history after them: the last of them,
--- at most, wasn't put whole. Over a sink that tells, the texts of the others were put, a front of its own, and nothing
+-- From the world W on some first commands have these answers, which lead to the world after them: the last of them, at
+-- most, wasn't put whole. Over a sink that tells, the texts of the others were put, a front of its own, and nothing
 -- else.
-pub record ServesFront (tells : Type 0) (volume : Volume) (H : List Event) (commands : List Command)
-    (after : List Event) (old new : List ℕ) : Type 0 where
+pub record ServesFront (tells : Type 0) (volume : Volume) (W : ModelWorld) (commands : List Command)
+    (after : ModelWorld) (old new : List ℕ) : Type 0 where
   pub count : ℕ
   pub within : count ≤ length commands
+  pub outcomes : List Outcome
   pub whole : List Answer
   pub last : List Answer
   pub at_most_one : length last ≤ 1
-  pub run : Run volume H (take count commands) (whole ++ last) after
+  pub run : Run volume W (take count commands) outcomes (whole ++ last) after
   pub put : tells → PutsFront (old ++ texts_of whole) (texts_of last) new
 
--- the commands were served, and the world stands for the history after them
-pub record ServesWorld (tells : Type 0) (volume : Volume) (H : List Event) (commands : List Command) (world : Whole)
+-- the commands were served, and the world stands for what they led to
+pub record ServesWorld (tells : Type 0) (volume : Volume) (W : ModelWorld) (commands : List Command) (world : Whole)
     (old new : List ℕ) : Type 0 where
-  pub after : List Event
-  pub serves : Serves tells volume H commands after old new
+  pub after : ModelWorld
+  pub serves : Serves tells volume W commands after old new
   pub stands : WorldStandsFor volume after world
 
--- some first commands were served, and the world stands for the history after them
-pub record ServesWorldFront (tells : Type 0) (volume : Volume) (H : List Event) (commands : List Command)
+-- some first commands were served, and the world stands for what they led to
+pub record ServesWorldFront (tells : Type 0) (volume : Volume) (W : ModelWorld) (commands : List Command)
     (world : Whole) (old new : List ℕ) : Type 0 where
-  pub after : List Event
-  pub serves : ServesFront tells volume H commands after old new
+  pub after : ModelWorld
+  pub serves : ServesFront tells volume W commands after old new
   pub stands : WorldStandsFor volume after world

@@ -1,7 +1,6 @@
 ghost use Rattle.std.specs.Prelude.{◌≡◌, ◌≢◌, ◌⊎◌, ◌↔◌, ◌+◌, ◌<◌, ◌≤◌, ℕ, List, [], length, All, OnOk, OnErr, IfErr, IsErrOf};
 ghost use Rattle.ficus_ids.specs.Members.{IsCount};
 ghost use Rattle.ficus_model.specs.Lawful.{IsLawful};
-ghost use Rattle.ficus_model.specs.declared.event.Event.{Event};
 ghost use Rattle.ficus_outside.specs.Faults.{Rose};
 ghost use Rattle.ficus_script.specs.Command.{IsCommand};
 ghost use Rattle.ficus_script.specs.Script.{IsScript, IsFirstBadLine};
@@ -12,6 +11,7 @@ ghost use Rattle.ficus_top.specs.Headline.{Answers, AnswersFront, Replay, IsCode
 ghost use Rattle.ficus_top.specs.Outside.{GivesCount};
 ghost use Rattle.ficus_top.specs.Serving.{Serves, ServesFront};
 ghost use Rattle.ficus_top.specs.Words.{texts, AreWords, AreNoWords};
+ghost use Rattle.ficus_world.specs.ModelWorld.{ModelWorld, Outcome};
 ghost use Rattle.ficus_world.specs.Start.{default_volume, start};
 
 use crate::fault::{AnsweringFault, Fault, ReadingFault};
@@ -75,8 +75,9 @@ pub fn ficus<S: Source, K: Sink>(
         ⊎ AnswersFront K.tells members (S.left input.old) (K.written output.old) (K.written output.new)) }
 
     // The history that the answers leave is lawful.
-    ensures lawful { (members : ℕ) (commands : List CommandValue) (answers : List AnswerValue) (H : List Event)
-        → Replay members commands answers H → IsLawful (default_volume members) H }
+    ensures lawful { (members : ℕ) (commands : List CommandValue) (outcomes : List Outcome)
+        (answers : List AnswerValue) (W : ModelWorld) → Replay members commands outcomes answers W
+        → IsLawful (default_volume members) W.events }
 
     // Valid words and a script are answered, unless memory is wanted or the outside failed in this call.
     ensures complete { S.tells → (members : ℕ) (commands : List CommandValue)
@@ -137,10 +138,10 @@ fn answer_commands<K: Sink>(
     requires members { IsCount members }
     requires commands { All IsCommand commands.now }
     requires count { length commands.now ≤ script_limit }
-    ensures answers { OnOk result ((after : List Event)
+    ensures answers { OnOk result ((after : ModelWorld)
         × Serves K.tells (default_volume members) (start members) commands.now after
         (K.written output.old) (K.written output.new)) }
-    ensures prefix { OnErr result ((after : List Event)
+    ensures prefix { OnErr result ((after : ModelWorld)
         × ServesFront K.tells (default_volume members) (start members) commands.now after
         (K.written output.old) (K.written output.new)) }
     ensures failed { IsErrOf result AnsweringFault.Sink → Rose (K.faults output.old) (K.faults output.new) }

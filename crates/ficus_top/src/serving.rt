@@ -1,13 +1,13 @@
 ghost use Rattle.std.specs.Prelude.{◌≡◌, ◌⊎◌, ◌+◌, ◌<◌, ◌≤◌, ◌∷◌, [], ◌++◌, List, length, All, OnOk, OnErr, IsErrOf};
 ghost use Rattle.ficus_model.specs.Lawful.{Volume};
-ghost use Rattle.ficus_model.specs.declared.event.Event.{Event};
 ghost use Rattle.ficus_outside.specs.Faults.{Rose};
 ghost use Rattle.ficus_script.specs.Answer.{answer_text_of};
 ghost use Rattle.ficus_script.specs.Command.{IsCommand};
 ghost use Rattle.ficus_top.specs.Outside.{PutsFront};
 ghost use Rattle.ficus_top.specs.Serving.{serving_limit, ServesWorld, ServesWorldFront};
 ghost use Rattle.ficus_top.specs.Headline.{script_limit};
-ghost use Rattle.ficus_world.specs.World.{WorldStandsFor};
+ghost use Rattle.ficus_world.specs.ModelWorld.{ModelWorld};
+ghost use Rattle.ficus_world.specs.World.{WorldStandsFor, event_limit};
 
 use crate::fault::{AnsweringFault, Fault};
 use crate::put::put_all;
@@ -27,16 +27,15 @@ pub fn serve<K: Sink>(
 ) -> Status
     requires commands { All IsCommand commands.now }
     requires count { length commands.now ≤ script_limit }
-    requires room { length world.old.history.events < serving_limit }
+    requires room { length world.old.events < serving_limit }
     ensures codes { (result.code ≡ 0) ⊎ (result.code ≡ 3) ⊎ (result.code ≡ 5) }
 
-    // Whatever history the world stood for before: what was answered, what of it was put, and for which history the
-    // world stands now.
-    ensures answers { result.code ≡ 0 → (volume : Volume) (H : List Event) → WorldStandsFor volume H world.old
-        → ServesWorld K.tells volume H commands.now world.new (K.written output.old) (K.written output.new) }
+    // Whatever the world stood for before: what was answered, what of it was put, and for what the world stands now.
+    ensures answers { result.code ≡ 0 → (volume : Volume) (W : ModelWorld) → WorldStandsFor volume W world.old
+        → ServesWorld K.tells volume W commands.now world.new (K.written output.old) (K.written output.new) }
     ensures prefix { (result.code ≡ 3) ⊎ (result.code ≡ 5)
-        → (volume : Volume) (H : List Event) → WorldStandsFor volume H world.old
-        → ServesWorldFront K.tells volume H commands.now world.new (K.written output.old) (K.written output.new) }
+        → (volume : Volume) (W : ModelWorld) → WorldStandsFor volume W world.old
+        → ServesWorldFront K.tells volume W commands.now world.new (K.written output.old) (K.written output.new) }
 
     // Code 5 comes only where the sink has failed in this call, and wherever it has.
     ensures write_fault { result.code ≡ 5 → Rose (K.faults output.old) (K.faults output.new) }
@@ -58,11 +57,11 @@ pub(crate) fn answer_all<K: Sink>(
 ) -> Result<(), AnsweringFault>
     requires commands { All IsCommand commands.now }
     requires count { length commands.now ≤ script_limit }
-    requires room { length world.old.history.events < serving_limit }
-    ensures answers { OnOk result ((volume : Volume) (H : List Event) → WorldStandsFor volume H world.old
-        → ServesWorld K.tells volume H commands.now world.new (K.written output.old) (K.written output.new)) }
-    ensures prefix { OnErr result ((volume : Volume) (H : List Event) → WorldStandsFor volume H world.old
-        → ServesWorldFront K.tells volume H commands.now world.new (K.written output.old) (K.written output.new)) }
+    requires room { length world.old.events < serving_limit }
+    ensures answers { OnOk result ((volume : Volume) (W : ModelWorld) → WorldStandsFor volume W world.old
+        → ServesWorld K.tells volume W commands.now world.new (K.written output.old) (K.written output.new)) }
+    ensures prefix { OnErr result ((volume : Volume) (W : ModelWorld) → WorldStandsFor volume W world.old
+        → ServesWorldFront K.tells volume W commands.now world.new (K.written output.old) (K.written output.new)) }
     ensures failed { IsErrOf result AnsweringFault.Sink → Rose (K.faults output.old) (K.faults output.new) }
     ensures told { K.faults output.old < K.faults output.new → IsErrOf result AnsweringFault.Sink }
     ensures counted { K.faults output.old ≤ K.faults output.new }
@@ -81,16 +80,16 @@ fn answer_one<K: Sink>(
     output: &mut K,
 ) -> Result<(), AnsweringFault>
     requires command { IsCommand command.now }
-    requires room { length world.old.history.events < 4294967280 }
-    ensures answer { OnOk result ((volume : Volume) (H : List Event) → WorldStandsFor volume H world.old
-        → ServesWorld K.tells volume H (command.now ∷ []) world.new (K.written output.old) (K.written output.new)) }
-    ensures front { OnErr result ((volume : Volume) (H : List Event) → WorldStandsFor volume H world.old
-        → ServesWorldFront K.tells volume H (command.now ∷ []) world.new
+    requires room { length world.old.events < event_limit }
+    ensures answer { OnOk result ((volume : Volume) (W : ModelWorld) → WorldStandsFor volume W world.old
+        → ServesWorld K.tells volume W (command.now ∷ []) world.new (K.written output.old) (K.written output.new)) }
+    ensures front { OnErr result ((volume : Volume) (W : ModelWorld) → WorldStandsFor volume W world.old
+        → ServesWorldFront K.tells volume W (command.now ∷ []) world.new
         (K.written output.old) (K.written output.new)) }
     ensures failed { IsErrOf result AnsweringFault.Sink → Rose (K.faults output.old) (K.faults output.new) }
     ensures told { K.faults output.old < K.faults output.new → IsErrOf result AnsweringFault.Sink }
     ensures counted { K.faults output.old ≤ K.faults output.new }
-    ensures grows { length world.new.history.events ≤ length world.old.history.events + 3 }
+    ensures grows { length world.new.events ≤ length world.old.events + 3 }
 {
     let answer = world.step(alloc, command)?;
     put_answer(alloc, &answer, output)

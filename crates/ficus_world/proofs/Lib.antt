@@ -1,9 +1,12 @@
+pub mod Sequences
+pub mod OneRun
+pub mod Agreement
 pub mod Runs
 pub mod Replaced
 pub mod LastPart
-pub mod MovesStand
+pub mod Standing
+pub mod Following
+pub mod Moved
 pub mod SoundWorlds
-pub mod Refusals
+pub mod Pulled
 pub mod Starts
-pub mod Agreement
-pub mod OneRun

@@ -1,32 +1,65 @@
--- A replica in the place of another.
-use Rattle.std.proofs.Common.{◌≡◌, ◌≢◌, ℕ, ◌-◌, ◌<◌, ◌≤◌, List, length, get_or, Some, sym, ap, ◌∙◌, inl, inr, ◌⊎◌, arith}
+-- One of a list in the place of another.
+use Rattle.std.proofs.Common.{◌≡◌, ◌≢◌, ℕ, ◌-◌, ◌<◌, ◌≤◌, List, length, get_or, Some, sym, ap, subst, ◌∙◌, inl, inr, ◌⊎◌, arith}
 use Rattle.std.specs.Prelude.{slice_set}
 use Rattle.std.proofs.lemmas.Bool.{cases_eq}
 use Rattle.std.proofs.lemmas.List.{get_or-set_same, get_or-set_other, length-set}
-use Rattle.std.proofs.lemmas.Option.{slice_get_within, slice_get-get_or, get_or_from_slice_get}
-use Rattle.ficus_replica.specs.declared.replica.Replica.{Replica}
-use Rattle.ficus_world.specs.World.{IsReplica}
+use Rattle.std.proofs.lemmas.Option.{slice_get-get_or, get_or_from_slice_get}
+use Rattle.ficus_ids.specs.Members.{IsMember}
+use Rattle.ficus_world.specs.World.{IsNumbered}
 
-module _ (replicas : List Replica) (r q : ℕ) (next found : Replica) (from_one : 1 ≤ r) (q_from_one : 1 ≤ q) (is : IsReplica (slice_set replicas (r - 1) next) q found) where
-  within : q - 1 < length replicas
-  within = omega (arith, slice_get_within (slice_set replicas (r - 1) next) (q - 1) found is.is, length-set replicas (r - 1) next)
+module _ {A : Type 0} (list : List A) (r : ℕ) where
+  -- what stands at a place within the list
+  pub number_read : (x d : A) → IsMember (length list) r → get_or list (r - 1) d ≡ x → IsNumbered list r x
+  number_read x d member is =
+      let one = member.at_least in
+      let most = member.at_most in
+      record { member = member; is = slice_get-get_or list (r - 1) d (omega arith) ∙ ap Some is }
 
-  read : get_or (slice_set replicas (r - 1) next) (q - 1) found ≡ found
-  read = get_or_from_slice_get (slice_set replicas (r - 1) next) (q - 1) found found is.is
+module _ {A : Type 0} (list : List A) (r : ℕ) (next : A) where
+  stays_within : {q : ℕ} → IsMember (length list) q → IsMember (length (slice_set list (r - 1) next)) q
+  stays_within {q} member = subst (λ n. IsMember n q) (sym (length-set list (r - 1) next)) member
+
+  -- the new one stands in its place
+  pub number_set : IsMember (length list) r → IsNumbered (slice_set list (r - 1) next) r next
+  number_set member =
+      let one = member.at_least in
+      let most = member.at_most in
+      number_read (slice_set list (r - 1) next) r next next (stays_within member)
+      (get_or-set_same list (r - 1) next next (omega arith))
+
+  -- and another one in its own
+  pub number_kept : {q : ℕ} {x : A} → 1 ≤ r → IsNumbered list q x → r ≢ q → IsNumbered (slice_set list (r - 1) next) q x
+  number_kept {q} {x} from_one is differs =
+      let one = is.member.at_least in
+      let other : q - 1 ≢ r - 1 = omega arith in
+      number_read (slice_set list (r - 1) next) q x x (stays_within is.member)
+      (get_or-set_other list (r - 1) (q - 1) next x other ∙ get_or_from_slice_get list (q - 1) x x is.is)
+
+module _ {A : Type 0} (list : List A) (r q : ℕ) (next found : A) (from_one : 1 ≤ r)
+    (is : IsNumbered (slice_set list (r - 1) next) q found) where
+  member : IsMember (length list) q
+  member = subst (λ n. IsMember n q) (length-set list (r - 1) next) is.member
+
+  read : get_or (slice_set list (r - 1) next) (q - 1) found ≡ found
+  read = get_or_from_slice_get (slice_set list (r - 1) next) (q - 1) found found is.is
 
   same_place : q ≡ r → found ≡ next
   same_place same =
-      let h : q - 1 < length replicas = within in
+      let one = member.at_least in
+      let most = member.at_most in
+      let h : q - 1 < length list = omega arith in
       let at : q - 1 ≡ r - 1 = ap (λ n. n - 1) same in
-      sym read ∙ ap (λ place. get_or (slice_set replicas place next) (q - 1) found) (sym at) ∙ get_or-set_same replicas (q - 1) next found h
+      sym read ∙ ap (λ place. get_or (slice_set list place next) (q - 1) found) (sym at)
+      ∙ get_or-set_same list (q - 1) next found h
 
-  other_place : q ≢ r → IsReplica replicas q found
+  other_place : q ≢ r → IsNumbered list q found
   other_place differs =
-      let apart : q - 1 ≢ r - 1 = omega arith in
-      record { is = slice_get-get_or replicas (q - 1) found within ∙ ap Some (sym (get_or-set_other replicas (r - 1) (q - 1) next found apart) ∙ read) }
+      let one = member.at_least in
+      let other : q - 1 ≢ r - 1 = omega arith in
+      number_read list q found found member (sym (get_or-set_other list (r - 1) (q - 1) next found other) ∙ read)
 
-  -- the new replica stands in its place, and the others in theirs
-  pub replaced : ((q ≡ r) × (found ≡ next)) ⊎ ((r ≢ q) × IsReplica replicas q found)
+  -- the new one stands in its place, and the others in theirs
+  pub replaced : ((q ≡ r) × (found ≡ next)) ⊎ ((r ≢ q) × IsNumbered list q found)
   replaced =
       elim (cases_eq q r) [
         | inl same ↦ inl (same, same_place same)

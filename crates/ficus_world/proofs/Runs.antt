@@ -1,73 +1,89 @@
--- Runs of commands: one command more, and that they leave lawful histories.
-use Rattle.std.proofs.Common.{◌≡◌, ℕ, ◌<◌, List, [], ◌∷◌, ◌++◌, Ok, sym, subst, arith}
+-- Commands leave a lawful history.
+use Rattle.std.proofs.Common.{◌≡◌, ℕ, ◌<◌, List, length, Result, Err, refl, sym, subst, inl, inr, arith}
 use Rattle.std.specs.Prelude.{All}
 use Rattle.std.specs.List.{range_with_len}
-use Rattle.std.proofs.lemmas.List.{append-nil}
 use Rattle.std.proofs.lemmas.List.Elements.{All-map}
 use Rattle.std.proofs.lemmas.List.FromFn.{length-range_with_len, get_or-range_with_len}
 use Rattle.std.proofs.lemmas.Option.{get_or_from_slice_get}
 use Rattle.ficus_ids.specs.Members.{IsMember}
-use Rattle.ficus_ids.specs.declared.kind.Kind.TheVariants.{Dir}
+use Rattle.ficus_ids.specs.declared.refusal.Refusal.{Refusal}
+use Rattle.ficus_ids.specs.declared.refusal.Refusal.TheVariants.{Stale}
 use Rattle.ficus_model.specs.declared.event.Event.{Event}
 use Rattle.ficus_model.specs.declared.event.Event.TheVariants.{Update, Ask, Serve, Accept, Collect, Restart}
-use Rattle.ficus_model.specs.declared.event.Op.TheVariants.{Make}
-use Rattle.ficus_model.specs.Events.{before, count_of}
-use Rattle.ficus_model.specs.Known.{Knows}
-use Rattle.ficus_model.specs.Lawful.{Volume, HasPlace, MayCome, IsLawful}
+use Rattle.ficus_model.specs.Events.{before}
+use Rattle.ficus_model.specs.Lawful.{Volume, MayCome, IsLawful}
+use Rattle.ficus_laws.specs.Accepts.{asked, answered}
 use Rattle.ficus_laws.proofs.Positions.{at_within}
 use Rattle.ficus_laws.proofs.Lawful.{lawful_more}
-use Rattle.ficus_laws.proofs.Shown.{tree_in_reach}
-use Rattle.ficus_laws.proofs.Pull.{lawful_pulled, pulled_is}
-use Rattle.ficus_path.specs.declared.path.Path.{Path}
-use Rattle.ficus_replica.specs.AnswerOf.{Place}
-use Rattle.ficus_replica.specs.AnswerOf.MakeAnswer.{Makes}
-use Rattle.ficus_replica.specs.Stands.{MakeAnswerAfter}
-use Rattle.ficus_replica.proofs.Shown.{directory_is, directory_reached}
+use Rattle.ficus_laws.proofs.Pull.{length_asked, serve_may_come, accept_may_come}
 use Rattle.ficus_script.specs.declared.command.Command.{Command}
-use Rattle.ficus_script.specs.declared.command.Command.TheVariants.{MkDir, Ls, Tree, Pull}
 use Rattle.ficus_script.specs.declared.answer.Answer.{Answer}
-use Rattle.ficus_script.specs.declared.answer.Answer.TheVariants.{Done, Made, Names, Tree as Lines, Refused}
-use Rattle.ficus_world.specs.Run.{ArePeers, Allows, Step, Run}
+use Rattle.ficus_world.specs.Actions.{AddsWhereMayCome}
+use Rattle.ficus_world.specs.Actions.Adds.{Added}
+use Rattle.ficus_world.specs.ModelWorld.{ModelWorld, Outcome, Effect}
+use Rattle.ficus_world.specs.Run.{Does, Step, Run}
 use Rattle.ficus_world.specs.Run.Run.{End, Then}
-use Rattle.ficus_world.specs.Start.{default_volume, start}
+use Rattle.ficus_world.specs.Sequence.Sequence.{Ends, Goes}
+use Rattle.ficus_world.specs.Sequence.ByRule.{Says}
+use Rattle.ficus_world.specs.Sort.{Sort, Changes, Looks, Pulls, sort_of}
+use Rattle.ficus_world.specs.Start.{default_volume, restarts}
+use Rattle.ficus_replica.proofs.Changes.{change_may}
 
--- commands, and then one more
-pub run_more : {volume : Volume} {H M N : List Event} {commands : List Command} {answers : List Answer} {command : Command} {answer : Answer} → Run volume H commands answers M → Step volume M command answer N → Run volume H (commands ++ command ∷ []) (answers ++ answer ∷ []) N
-run_more End step = Then step End
-run_more (Then first rest) step = Then first (run_more rest step)
+module _ (volume : Volume) where
+  -- where an event may come, the history with it is lawful
+  adds_lawful : {A : Type 0} (given : ModelWorld → A) (event : Event) (refusal : Refusal) (W : ModelWorld)
+      (result : Result A Refusal) (left : Effect) → IsLawful volume W.events
+      → AddsWhereMayCome volume given event refusal W result left → IsLawful volume left.after.events
+  adds_lawful given event refusal W result left lawful (Ends (Says is)) = lawful
+  adds_lawful given event refusal W result left lawful (Goes (Says may) Added) =
+      lawful_more volume W.events event lawful may.0
 
--- a new entry goes to a place for it, while updates are left
-made_place : (volume : Volume) (H : List Event) (r : ℕ) (path : Path) (place : Place) → MakeAnswerAfter volume H r path (Ok place) → HasPlace H (Knows H r) place.dir place.name × (count_of r H < volume.ids)
-made_place volume H r path place (Makes splits ends free left) = (record { parent = record { directory = directory_is ends; reached = tree_in_reach (directory_reached ends) }; free = free }, omega arith)
+  -- what commands of each sort do leaves a lawful history lawful
+  does_lawful : (sort : Sort) (W : ModelWorld) (result : Result Answer Refusal) (left : Effect)
+      → IsLawful volume W.events → Does volume sort W result left → IsLawful volume left.after.events
+  does_lawful (Changes by change) W result left lawful (Ends (Says none)) = lawful
+  does_lawful (Changes by change) W result left lawful (Goes (Says member) (Ends (Says refused))) = lawful
+  does_lawful (Changes by change) W result left lawful (Goes (Says member) (Goes {a = op} (Says decided) Added)) =
+      let may = change_may volume W.events by change op decided in
+      lawful_more volume W.events (Update by op) lawful
+      (record { member = member.0; left = may.left; bytes = may.bytes; allowed = may.allowed })
+  does_lawful (Looks by look) W result left lawful (Ends (Says none)) = lawful
+  does_lawful (Looks by look) W result left lawful (Goes (Says member) (Says told)) = lawful
+  does_lawful (Pulls by to) W result left lawful (Ends (Ends (Says none))) = lawful
+  does_lawful (Pulls by to) W result left lawful (Ends (Goes (Says may) added)) = elim added [ ]
+  does_lawful (Pulls by to) W result left lawful (Goes (Goes (Says may) Added) (Ends added)) = elim added [ ]
+  does_lawful (Pulls by to) W result left lawful (Goes (Goes (Says may) Added) (Goes Added takes)) =
+      adds_lawful _ _ Stale _ result left
+      (lawful_more volume (asked W.events by to) (Serve to (length W.events))
+      (lawful_more volume W.events (Ask by to) lawful may.0) (serve_may_come W.events by to volume may.0.other))
+      takes
 
-none_lawful : (volume : Volume) (H added : List Event) → added ≡ [] → IsLawful volume H → IsLawful volume (H ++ added)
-none_lawful volume H added none lawful = subst (λ events. IsLawful volume (H ++ events)) (sym none) (subst (IsLawful volume) (sym (append-nil H)) lawful)
+  -- what is served in a pull is taken
+  pull_answers : (W : ModelWorld) (by to : ℕ) (result : Result Answer Refusal) (left : Effect)
+      → Does volume (Pulls by to) W result left → result ≡ Err Stale → ⊥
+  pull_answers W by to result left (Ends (Ends (Says (inl refused)))) is = let e = refused.1 in cc
+  pull_answers W by to result left (Ends (Ends (Says (inr none)))) is = none.1
+  pull_answers W by to result left (Ends (Goes (Says may) added)) is = elim added [ ]
+  pull_answers W by to result left (Goes (Goes (Says may) Added) (Ends added)) is = elim added [ ]
+  pull_answers W by to result left (Goes (Goes (Says may) Added) (Goes Added (Goes (Says answers) Added))) is = cc
+  pull_answers W by to result left (Goes (Goes (Says may) Added) (Goes Added (Ends (Says (inr none))))) is = none.1
+  pull_answers W by to result left (Goes (Goes (Says may) Added) (Goes Added (Ends (Says (inl refused))))) is =
+      refused.0
+      (subst (λ serve. MayCome volume (answered W.events by to) (Accept by serve)) (sym (length_asked W.events by to))
+      (accept_may_come W.events by to volume may.0.member))
 
--- the events that a command may append leave a lawful history lawful
-allowed_lawful : (volume : Volume) (H : List Event) (command : Command) (answer : Answer) (added : List Event) → Allows volume H command answer added → IsLawful volume H → IsLawful volume (H ++ added)
-allowed_lawful volume H (MkDir by path) (Made id) added makes lawful =
-    let place = makes.place in
-    let fits = made_place volume H by path place makes.answer in
-    subst (λ events. IsLawful volume (H ++ events)) (sym makes.added_is) (lawful_more volume H (Update by (Make place.dir place.name Dir)) lawful (record { member = makes.member; left = fits.1; bytes = tt; allowed = fits.0 }))
-allowed_lawful volume H (MkDir by path) (Refused refusal) added allows lawful = none_lawful volume H added allows.0 lawful
-allowed_lawful volume H (MkDir by path) other added allows lawful = absurd allows
-allowed_lawful volume H (Ls by path) (Names lines) added allows lawful = none_lawful volume H added allows.0 lawful
-allowed_lawful volume H (Ls by path) (Refused refusal) added allows lawful = none_lawful volume H added allows.0 lawful
-allowed_lawful volume H (Ls by path) other added allows lawful = absurd allows
-allowed_lawful volume H (Tree by) (Lines lines) added allows lawful = none_lawful volume H added allows.0 lawful
-allowed_lawful volume H (Tree by) (Refused refusal) added allows lawful = none_lawful volume H added allows.0 lawful
-allowed_lawful volume H (Tree by) other added allows lawful = absurd allows
-allowed_lawful volume H (Pull by to) Done added allows lawful =
-    let peers : ArePeers volume by to = allows.1 in
-    let pulled = subst (IsLawful volume) (pulled_is H by to) (lawful_pulled H by to volume peers.first peers.second peers.differ lawful) in
-    subst (λ events. IsLawful volume (H ++ events)) (sym allows.0) pulled
-allowed_lawful volume H (Pull by to) (Refused refusal) added allows lawful = none_lawful volume H added allows.0 lawful
-allowed_lawful volume H (Pull by to) other added allows lawful = absurd allows
+  pub pull_never_stale : (W : ModelWorld) (by to : ℕ) (left : Effect)
+      → Does volume (Pulls by to) W (Err Stale) left → ⊥
+  pull_never_stale W by to left does = pull_answers W by to (Err Stale) left does refl
 
-pub step_lawful : {volume : Volume} {old new : List Event} {command : Command} {answer : Answer} → Step volume old command answer new → IsLawful volume old → IsLawful volume new
-step_lawful {volume} {old} {new} {command} {answer} step lawful = subst (IsLawful volume) (sym step.appended) (allowed_lawful volume old command answer step.added step.allowed lawful)
+step_lawful : {volume : Volume} {old new : ModelWorld} {command : Command} {outcome : Outcome} {answer : Answer}
+    → Step volume old command outcome answer new → IsLawful volume old.events → IsLawful volume new.events
+step_lawful {volume} {old} {new} {command} {outcome} step lawful =
+    does_lawful volume (sort_of command) old step.result (record { outcome = outcome; after = new }) lawful step.does
 
-pub run_lawful : {volume : Volume} {old new : List Event} {commands : List Command} {answers : List Answer} → Run volume old commands answers new → IsLawful volume old → IsLawful volume new
+pub run_lawful : {volume : Volume} {old new : ModelWorld} {commands : List Command} {outcomes : List Outcome}
+    {answers : List Answer} → Run volume old commands outcomes answers new → IsLawful volume old.events
+    → IsLawful volume new.events
 run_lawful End lawful = lawful
 run_lawful (Then step rest) lawful = run_lawful rest (step_lawful step lawful)
 
@@ -79,7 +95,8 @@ IsRestartOf members (Serve by ask) = ⊥
 IsRestartOf members (Accept by serve) = ⊥
 IsRestartOf members (Collect by) = ⊥
 
-restart_may_come : (volume : Volume) (H : List Event) (event : Event) → IsRestartOf volume.members event → MayCome volume H event
+restart_may_come : (volume : Volume) (H : List Event) (event : Event) → IsRestartOf volume.members event
+    → MayCome volume H event
 restart_may_come volume H (Restart by) member = member
 restart_may_come volume H (Update by op) none = absurd none
 restart_may_come volume H (Ask by to) none = absurd none
@@ -87,19 +104,20 @@ restart_may_come volume H (Serve by ask) none = absurd none
 restart_may_come volume H (Accept by serve) none = absurd none
 restart_may_come volume H (Collect by) none = absurd none
 
-members_restart : (members : ℕ) → All (IsRestartOf members) (start members)
+members_restart : (members : ℕ) → All (IsRestartOf members) (restarts members)
 members_restart members = All-map (IsRestartOf members) (λ r. Restart r) (range_with_len 1 members) member
   where
     member : All (IsMember members) (range_with_len 1 members)
     member k d within =
         let below : k < members = omega (arith, length-range_with_len 1 members) in
-        subst (IsMember members) (sym (get_or-range_with_len 1 members k d below)) (record { at_least = omega arith; at_most = omega arith })
+        subst (IsMember members) (sym (get_or-range_with_len 1 members k d below))
+        (record { at_least = omega arith; at_most = omega arith })
 
 -- members may start in a history without events
-pub start_lawful : (members : ℕ) → IsLawful (default_volume members) (start members)
+pub start_lawful : (members : ℕ) → IsLawful (default_volume members) (restarts members)
 start_lawful members = record {
   each = λ position event at.
-      let is = get_or_from_slice_get (start members) position event event at.is in
-      restart_may_come (default_volume members) (before position (start members)) event
+      let is = get_or_from_slice_get (restarts members) position event event at.is in
+      restart_may_come (default_volume members) (before position (restarts members)) event
       (subst (IsRestartOf members) is (members_restart members position event (at_within at)));
 }

@@ -1,85 +1,101 @@
--- How a run begins: fresh replicas, and the restart of each.
-use Rattle.std.proofs.Common.{◌≡◌, ℕ, ◌+◌, ◌-◌, ◌<◌, ◌≤◌, List, [], ◌∷◌, ◌++◌, length, get_or, Some, refl, sym, ap, subst, ◌∙◌, inl, inr, ◌⊎◌, arith}
+-- How a run begins: members that have heard of nothing, and the restart of each.
+use Rattle.std.proofs.Common.{◌≡◌, ℕ, ◌+◌, ◌-◌, ◌<◌, ◌≤◌, List, [], ◌∷◌, ◌++◌, length, get_or, refl, sym, ap, subst, ◌∙◌, inl, inr, ◌⊎◌, arith}
 use Rattle.std.specs.Prelude.{map}
 use Rattle.std.specs.List.{range_with_len}
 use Rattle.std.proofs.lemmas.Bool.{cases_lt}
-use Rattle.std.proofs.lemmas.List.{get_or_push, get_or_append_left, length_push}
+use Rattle.std.proofs.lemmas.List.{get_or_push, get_or_append_left, length_push, length-replicate}
 use Rattle.std.proofs.lemmas.List.FromFn.{map-range_with_len_more, length-map-range_with_len}
-use Rattle.std.proofs.lemmas.Option.{slice_get-get_or, get_or_from_slice_get}
+use Rattle.std.proofs.lemmas.Option.{get_or_from_slice_get}
 use Rattle.ficus_ids.specs.Members.{IsCount, IsMember}
 use Rattle.ficus_model.specs.declared.event.Event.{Event}
 use Rattle.ficus_model.specs.declared.event.Event.TheVariants.{Restart}
 use Rattle.ficus_model.specs.Events.{raised}
 use Rattle.ficus_model.specs.Lawful.{Volume}
-use Rattle.ficus_model.specs.Stored.{Stored}
-use Rattle.ficus_replica.specs.declared.replica.Replica.{Replica}
-use Rattle.ficus_replica.specs.SavedOf.{StandsFor}
-use Rattle.ficus_replica.proofs.EventsStand.{restarts_alone, restarted_stands}
-use Rattle.ficus_world.specs.World.{Whole, IsReplica, IsSound, IsWorld, WorldStandsFor}
-use Rattle.ficus_world.specs.Start.{default_volume, start, IsFresh, AreFresh}
+use Rattle.ficus_replica.proofs.Events.{restarts_alone, restarted_stands}
+use Rattle.ficus_world.specs.declared.member.Member.{Member}
+use Rattle.ficus_world.specs.World.{Whole, IsNumbered, IsSound, IsWorld, WorldStandsFor}
+use Rattle.ficus_world.specs.Start.{default_volume, restarts, start, IsFresh, AreFresh}
+use Rattle.ficus_world.proofs.Replaced.{number_read}
 use Rattle.ficus_world.proofs.Runs.{start_lawful}
+use Rattle.ficus_world.proofs.Standing.{stands_up}
 
-pub start_more : (count : ℕ) → start (count + 1) ≡ start count ++ Restart (count + 1) ∷ []
-start_more count = map-range_with_len_more (λ r. Restart r) 1 count (count + 1) (omega arith)
+pub restarts_more : (count : ℕ) → restarts (count + 1) ≡ restarts count ++ Restart (count + 1) ∷ []
+restarts_more count = map-range_with_len_more (λ r. Restart r) 1 count (count + 1) (omega arith)
 
-pub length_start : (count : ℕ) → length (start count) ≡ count
-length_start count = length-map-range_with_len (λ r. Restart r) 1 count
+pub length_restarts : (count : ℕ) → length (restarts count) ≡ count
+length_restarts count = length-map-range_with_len (λ r. Restart r) 1 count
 
--- one more fresh replica behind the others
-module _ (volume : Volume) (count : ℕ) (replicas : List Replica) (next : Replica) (fresh : AreFresh volume count replicas) (next_fresh : IsFresh volume (count + 1) next) where
-  each_fresh : (r : ℕ) (replica : Replica) → IsMember (count + 1) r → IsReplica (replicas ++ next ∷ []) r replica → IsFresh volume r replica
-  each_fresh r replica member is = go (cases_lt (r - 1) count)
+-- one more fresh member behind the others
+module _ (volume : Volume) (count : ℕ) (members : List Member) (next : Member) (fresh : AreFresh volume count members)
+    (next_fresh : IsFresh volume (count + 1) next) where
+  each_fresh : (r : ℕ) (member : Member) → IsNumbered (members ++ next ∷ []) r member → IsFresh volume r member
+  each_fresh r member is = go (cases_lt (r - 1) count)
     where
-      read : get_or (replicas ++ next ∷ []) (r - 1) replica ≡ replica
-      read = get_or_from_slice_get (replicas ++ next ∷ []) (r - 1) replica replica is.is
+      read : get_or (members ++ next ∷ []) (r - 1) member ≡ member
+      read = get_or_from_slice_get (members ++ next ∷ []) (r - 1) member member is.is
 
-      go : (r - 1 < count) ⊎ (count ≤ r - 1) → IsFresh volume r replica
+      one : 1 ≤ r
+      one = is.member.at_least
+
+      most : r ≤ count + 1
+      most = omega (arith, is.member.at_most, length_push members next, fresh.counted)
+
+      go : (r - 1 < count) ⊎ (count ≤ r - 1) → IsFresh volume r member
       go (inl h) =
-          let within : r - 1 < length replicas = omega (arith, fresh.counted) in
-          let found : get_or replicas (r - 1) replica ≡ replica = sym (get_or_append_left replicas (next ∷ []) replica (r - 1) within) ∙ read in
-          let was : IsReplica replicas r replica = record { is = slice_get-get_or replicas (r - 1) replica within ∙ ap Some found } in
-          let older : IsMember count r = record { at_least = member.at_least; at_most = omega (arith, member.at_least) } in
-          fresh.each r replica older was
+          let within : r - 1 < length members = omega (arith, fresh.counted) in
+          let found : get_or members (r - 1) member ≡ member =
+          sym (get_or_append_left members (next ∷ []) member (r - 1) within) ∙ read in
+          let older : IsMember (length members) r = record { at_least = one; at_most = omega (arith, one) } in
+          fresh.each r member (number_read members r member member older found)
       go (inr h) =
-          let last : r ≡ count + 1 = omega (arith, member.at_least, member.at_most) in
-          let found : replica ≡ next = sym read ∙ get_or_push replicas next replica (r - 1) (omega (arith, fresh.counted)) in
-          subst (λ n. IsFresh volume n replica) (sym last) (subst (IsFresh volume (count + 1)) (sym found) next_fresh)
+          let last : r ≡ count + 1 = omega (arith, one, most) in
+          let found : member ≡ next =
+          sym read ∙ get_or_push members next member (r - 1) (omega (arith, fresh.counted)) in
+          subst (λ n. IsFresh volume n member) (sym last) (subst (IsFresh volume (count + 1)) (sym found) next_fresh)
 
-  pub fresh_more : AreFresh volume (count + 1) (replicas ++ next ∷ [])
-  fresh_more = record { counted = omega (arith, length_push replicas next, fresh.counted); each = each_fresh }
+  pub fresh_more : AreFresh volume (count + 1) (members ++ next ∷ [])
+  fresh_more = record { counted = omega (arith, length_push members next, fresh.counted); each = each_fresh }
 
-pub fresh_none : (volume : Volume) (replicas : List Replica) → replicas ≡ [] → AreFresh volume 0 replicas
-fresh_none volume replicas none = record { counted = ap length none; each = λ r replica member is. absurd (omega (arith, member.at_least, member.at_most)) }
+pub fresh_none : (volume : Volume) (members : List Member) → members ≡ [] → AreFresh volume 0 members
+fresh_none volume members none = record {
+  counted = ap length none;
+  each = λ r member is. absurd (omega (arith, is.member.at_least, is.member.at_most, ap length none));
+}
 
-module _ {members : ℕ} {replicas : List Replica} (fresh : AreFresh (default_volume members) members replicas) where
-  pub fresh_world : (history : Stored) → IsCount members → IsWorld members replicas history
-  fresh_world history count = record { count = count; each_member = fresh.counted; sound = sound }
+module _ {count : ℕ} {members : List Member} (fresh : AreFresh (default_volume count) count members) where
+  pub fresh_world : (events : List Event) → IsCount count → IsWorld members events
+  fresh_world events counted = record { count = subst IsCount (sym fresh.counted) counted; sound = sound }
     where
-      sound : (r : ℕ) (replica : Replica) → IsMember members r → IsReplica replicas r replica → IsSound members (length history.events) r replica
-      sound r replica member is =
-          let one = fresh.each r replica member is in
+      sound : (r : ℕ) (member : Member) → IsNumbered members r member
+          → IsSound (length members) (length events) r member.replica
+      sound r member is =
+          let one = fresh.each r member is in
           let saved = one.stands.saved in
           record {
             me = saved.me;
-            members = saved.members;
+            members = saved.members ∙ sym fresh.counted;
             fits = one.fits;
             generation = omega (arith, saved.generation);
           }
-
-  replica_stands : (r : ℕ) (replica : Replica) → IsMember members r → IsReplica replicas r replica → StandsFor (default_volume members) (start members) r replica
-  replica_stands r replica member is =
-      restarted_stands (default_volume members) (start members) r replica (restarts_alone (range_with_len 1 members)) (fresh.each r replica member is).stands
 
 -- no position is raised
 restarts_raised : (members : List ℕ) → map (λ r. Restart r) members ≡ map (raised 0) (map (λ r. Restart r) members)
 restarts_raised [] = refl
 restarts_raised (r ∷ members) = ap (λ (rest : List Event). Restart r ∷ rest) (restarts_raised members)
 
--- a fresh world stands for the history that has the restarts alone
-pub fresh_world_stands : (members : ℕ) (world : Whole) → world.members ≡ members → world.history.events ≡ start members → AreFresh (default_volume members) members world.replicas → WorldStandsFor (default_volume members) (start members) world
-fresh_world_stands members world count events fresh = record {
-  members = count;
-  lawful = start_lawful members;
-  stored = record { earlier = []; is = restarts_raised (range_with_len 1 members) ∙ ap (λ (stored : List Event). map (raised 0) stored) (sym events) };
-  each = λ r replica member is. replica_stands fresh r replica member is;
+-- a fresh world stands for the one that has the restarts alone
+pub fresh_world_stands : (count : ℕ) (world : Whole) → world.events ≡ restarts count
+    → AreFresh (default_volume count) count world.members → WorldStandsFor (default_volume count) (start count) world
+fresh_world_stands count world events fresh = record {
+  members = fresh.counted;
+  standings = length-replicate count _;
+  lawful = start_lawful count;
+  stored = record {
+    earlier = [];
+    is = restarts_raised (range_with_len 1 count) ∙ ap (λ (stored : List Event). map (raised 0) stored) (sym events);
+  };
+  each = λ r member standing is standing_is.
+      stands_up (default_volume count) (restarts count) r member standing
+      (restarted_stands (default_volume count) (restarts count) r member.replica
+      (restarts_alone (range_with_len 1 count)) (fresh.each r member is).stands);
 }

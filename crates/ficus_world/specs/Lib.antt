@@ -1,4 +1,10 @@
-pub mod World
+pub mod Sequence
+pub mod ModelWorld
+pub mod Sort
+pub mod Actions
 pub mod Run
+pub mod World
 pub mod Moves
+pub mod Member
+pub mod Follows
 pub mod Start

@@ -1,106 +1,117 @@
--- What one command does to a world, over what its replicas hold.
-use Rattle.std.specs.Prelude.{◌≡◌, ◌≢◌, ◌⊎◌, ℕ, ◌-◌, [], ◌∷◌, ◌++◌, length, Ok, Err, slice_set}
+-- What a command does to a world, action by action, over what its members hold.
+use Rattle.std.specs.Prelude.{◌≡◌, ◌≢◌, ℕ, ◌-◌, List, [], ◌∷◌, ◌++◌, length, Result, Ok, Err, slice_set}
 use Rattle.ficus_ids.specs.Members.{IsMember}
 use Rattle.ficus_ids.specs.declared.id.Id.{Id}
-use Rattle.ficus_ids.specs.declared.kind.Kind.TheVariants.{Dir}
 use Rattle.ficus_ids.specs.declared.refusal.Refusal.{Refusal}
-use Rattle.ficus_ids.specs.declared.refusal.Refusal.TheVariants.{Member, BadMessage}
-use Rattle.ficus_model.specs.declared.event.Event.TheVariants.{Update}
-use Rattle.ficus_path.specs.declared.path.Path.{Path}
-use Rattle.ficus_names.specs.Binds.{BindsIn}
+use Rattle.ficus_ids.specs.declared.refusal.Refusal.TheVariants.{Member as NoMember, Memory}
+use Rattle.ficus_model.specs.declared.event.Event.{Event}
+use Rattle.ficus_model.specs.declared.event.Event.TheVariants.{Update, Ask, Serve, Accept}
+use Rattle.ficus_model.specs.declared.event.Op.{Op}
+use Rattle.ficus_entry.specs.declared.entry.Entry.{Entry}
 use Rattle.ficus_replica.specs.declared.replica.Replica.{Replica}
-use Rattle.ficus_replica.specs.declared.replica.Next.{Next}
-use Rattle.ficus_replica.specs.AnswerOf.{MakeAnswer, ListAnswer, TreeAnswer}
-use Rattle.ficus_replica.specs.Gives.{IsSpent, Made as ReplicaMade, AskGives, Accepted, FitsPast}
-use Rattle.ficus_replica.specs.Held.{HeldDirectory, HeldKind}
+use Rattle.ficus_replica.specs.Accept.{AcceptGives}
+use Rattle.ficus_replica.specs.Ask.{AskGives}
+use Rattle.ficus_rules.specs.Change.{Change, ChangeRule}
+use Rattle.ficus_replica.specs.Effect.{Applied}
+use Rattle.ficus_rules.specs.Look.{Look}
+use Rattle.ficus_replica.specs.View.{tables_view}
 use Rattle.ficus_script.specs.declared.command.Command.{Command}
-use Rattle.ficus_script.specs.declared.command.Command.TheVariants.{MkDir, Ls, Tree, Pull}
 use Rattle.ficus_script.specs.declared.answer.Answer.{Answer}
-use Rattle.ficus_script.specs.declared.answer.Answer.TheVariants.{Done, Made, Names, Tree as Lines, Refused}
-use Rattle.ficus_world.specs.World.{Whole, IsReplica}
-use Rattle.ficus_world.specs.Run.{serve_events, pull_events}
+use Rattle.ficus_script.specs.declared.answer.Answer.TheVariants.{Done}
+use Rattle.ficus_world.specs.declared.member.Member.{Member}
+use Rattle.ficus_world.specs.Sequence.{Action, Sequence, ByRule}
+use Rattle.ficus_world.specs.Sort.{Sort, Changes, Looks, Pulls, sort_of, answer_to, LookAnswer, answer_as}
+use Rattle.ficus_world.specs.World.{Whole, IsNumbered}
 
--- all is as before
-pub record Stays (old new : Whole) : Type 0 where
-  pub members : new.members ≡ old.members
-  pub replicas : new.replicas ≡ old.replicas
-  pub events : new.history.events ≡ old.history.events
+abbrev pub WholeAction : Type 0 → Type 1
+WholeAction A = Action Whole Whole A
 
--- this replica takes the place of replica r, with one update of it at the end of the events
-pub record Updates (old new : Whole) (r : ℕ) (next : Next) : Type 0 where
-  pub members : new.members ≡ old.members
-  pub replicas : new.replicas ≡ slice_set old.replicas (r - 1) next.replica
-  pub events : new.history.events ≡ old.history.events ++ Update r next.op ∷ []
+-- the world as it is
+abbrev pub itself : Whole → Whole
+itself world = world
 
-pub record MovesMake (old new : Whole) (by : ℕ) (path : Path) (id : Id) : Type 0 where
-  pub member : IsMember old.members by
-  pub replica : Replica
-  pub is : IsReplica old.replicas by replica
-  pub next : Next
-  pub made : ReplicaMade replica path Dir next
-  pub id_is : id ≡ record { replica = by; number = replica.saved.next }
-  pub updates : Updates old new by next
+-- member `by`, who was this one, holds this replica now, and this event is stored too
+abbrev pub advanced : Whole → ℕ → Member → Replica → Event → Whole
+advanced old by was replica event = record {
+  members = slice_set old.members (by - 1) (record was { replica = replica });
+  events = old.events ++ event ∷ [];
+}
 
--- member r answers so, by what it holds
-pub record Answers (old : Whole) (r : ℕ) (rule : Replica → Type 0) : Type 0 where
-  pub member : IsMember old.members r
-  pub replica : Replica
-  pub is : IsReplica old.replicas r replica
-  pub answer : rule replica
+-- finds the member of this number, and is refused where there is none
+pub data FindsMember (by : ℕ) (old : Whole) : Result Member Refusal → Whole → Type 0 where
+  Finds : {member : Member} → IsNumbered old.members by member → FindsMember by old (Ok member) old
+  FindsNone : (IsMember (length old.members) by → ⊥) → FindsMember by old (Err NoMember) old
 
--- there is no such member, or the member refuses by what it holds
-pub data MovesRefused (old : Whole) (by : ℕ) (rule : Replica → Refusal → Type 0) : Refusal → Type 0 where
-  NoMember : (IsMember old.members by → ⊥) → MovesRefused old by rule Member
-  ByRule : {refusal : Refusal} → Answers old by (λ replica. rule replica refusal) → MovesRefused old by rule refusal
+-- the change is the operation that its rule gives, by what the member holds
+abbrev pub TablesDecide : Member → Change → WholeAction Op
+TablesDecide member change = ByRule itself (λ world. ChangeRule (tables_view member.replica) change)
 
--- member r asks member s
-pub record PullAsks (old : Whole) (r s : ℕ) : Type 0 where
-  pub first : IsMember old.members r
-  pub second : IsMember old.members s
+-- the number of the member's next update
+abbrev pub next_number_of : ℕ → Member → Id
+next_number_of by member = record { replica = by; number = member.replica.saved.next }
+
+-- the member holds what the operation makes of what it saves, and the update is stored
+pub data KeepsUpdate (by : ℕ) (was : Member) (op : Op) (old : Whole) :
+    Result Answer Refusal → Whole → Type 0 where
+  Keeps : {new : Replica} → Applied was.replica.saved op new.saved → new.ask ≡ was.replica.ask
+      → KeepsUpdate by was op old (Ok (answer_to (next_number_of by was) op)) (advanced old by was new (Update by op))
+
+-- the look is answered as its rule says, by what the member holds
+abbrev pub TablesShow : Member → Look → WholeAction Answer
+TablesShow member look = ByRule itself (λ world. LookAnswer (tables_view member.replica) look)
+
+-- two different members
+pub record ArePeers (members r s : ℕ) : Type 0 where
+  pub first : IsMember members r
+  pub second : IsMember members s
   pub differ : r ≢ s
-  pub puller : Replica
-  pub puller_is : IsReplica old.replicas r puller
-  pub peer : Replica
-  pub peer_is : IsReplica old.replicas s peer
-  pub asked : Replica
-  pub asks : AskGives puller s asked
 
--- r asks s, and takes what s holds
-pub record MovesPull (old new : Whole) (r s : ℕ) : Type 0 where
-  pub ask : PullAsks old r s
-  pub accepted : Replica
-  pub accepts : Accepted ask.asked s ask.asked.saved.generation ask.peer.saved.entries accepted
-  pub members : new.members ≡ old.members
-  pub replicas : new.replicas ≡ slice_set old.replicas (r - 1) accepted
-  pub events : new.history.events ≡ old.history.events ++ pull_events r s (length old.history.events)
+-- an ask: where it is stored, and its number
+pub record Sent : Type 0 where
+  pub position : ℕ
+  pub number : ℕ
 
--- no two different members
-abbrev pub AreNoPeers : Whole → ℕ → ℕ → Type 0
-AreNoPeers old r s = IsMember old.members r → IsMember old.members s → r ≢ s → ⊥
+-- what was served: where that is stored, to the ask of which number, and the tables
+pub record Served : Type 0 where
+  pub position : ℕ
+  pub number : ℕ
+  pub entries : List Entry
 
--- The ask and the serving of a pull took place, and what was served was refused. No world that stands for a
--- history comes to it.
-pub record MovesPullRefused (old new : Whole) (r s : ℕ) : Type 0 where
-  pub ask : PullAsks old r s
-  pub misfit : FitsPast ask.asked ask.peer.saved.entries → ⊥
-  pub members : new.members ≡ old.members
-  pub replicas : new.replicas ≡ slice_set old.replicas (r - 1) ask.asked
-  pub events : new.history.events ≡ old.history.events ++ serve_events r s (length old.history.events)
+-- one of two different members asks the other
+pub data KeepsAsk (by to : ℕ) (old : Whole) : Result Sent Refusal → Whole → Type 0 where
+  Sends : {was : Member} {asked : Replica} → ArePeers (length old.members) by to → IsNumbered old.members by was
+      → AskGives was.replica to asked
+      → KeepsAsk by to old (Ok (record { position = length old.events; number = asked.saved.generation }))
+      (advanced old by was asked (Ask by to))
+  NoPeers : (ArePeers (length old.members) by to → ⊥) → KeepsAsk by to old (Err NoMember) old
 
--- a pull is refused: there are no two such members, or what was served doesn't fit
-abbrev pub PullRefused : Whole → Whole → ℕ → ℕ → Refusal → Type 0
-PullRefused old new r s refusal = (Stays old new × (refusal ≡ Member) × AreNoPeers old r s) ⊎ (MovesPullRefused old new r s × (refusal ≡ BadMessage))
+-- the member serves what it holds
+pub data HandsOver (to : ℕ) (ask : Sent) (old : Whole) : Result Served Refusal → Whole → Type 0 where
+  Hands : {peer : Member} → IsNumbered old.members to peer
+      → HandsOver to ask old
+      (Ok (record { position = length old.events; number = ask.number; entries = peer.replica.saved.entries }))
+      (record old { events = old.events ++ Serve to ask.position ∷ [] })
 
-abbrev pub Moves : Whole → Command → Answer → Whole → Type 0
-Moves old (MkDir by path) (Made id) new = MovesMake old new by path id
-Moves old (MkDir by path) (Refused refusal) new = Stays old new × MovesRefused old by (λ replica r. MakeAnswer (BindsIn replica.saved.entries) HeldDirectory (IsSpent replica) path (Err r)) refusal
-Moves old (MkDir by path) other new = ⊥
-Moves old (Ls by path) (Names lines) new = Stays old new × Answers old by (λ replica. ListAnswer (BindsIn replica.saved.entries) HeldDirectory HeldKind path (Ok lines))
-Moves old (Ls by path) (Refused refusal) new = Stays old new × MovesRefused old by (λ replica r. ListAnswer (BindsIn replica.saved.entries) HeldDirectory HeldKind path (Err r)) refusal
-Moves old (Ls by path) other new = ⊥
-Moves old (Tree by) (Lines lines) new = Stays old new × Answers old by (λ replica. TreeAnswer (BindsIn replica.saved.entries) HeldKind lines)
-Moves old (Tree by) (Refused refusal) new = Stays old new × MovesRefused old by (λ replica r. ⊥) refusal
-Moves old (Tree by) other new = ⊥
-Moves old (Pull by to) Done new = MovesPull old new by to
-Moves old (Pull by to) (Refused refusal) new = PullRefused old new by to refusal
-Moves old (Pull by to) other new = ⊥
+-- the member takes what was served, or refuses it
+pub data TakesServed (by to : ℕ) (served : Served) (old : Whole) : Result Answer Refusal → Whole → Type 0 where
+  Accepts : {was : Member} {new : Replica} → IsNumbered old.members by was
+      → AcceptGives was.replica to served.number served.entries (Ok new)
+      → TakesServed by to served old (Ok Done) (advanced old by was new (Accept by served.position))
+  Refuses : {was : Member} {refusal : Refusal} → IsNumbered old.members by was → refusal ≢ Memory
+      → AcceptGives was.replica to served.number served.entries (Err refusal)
+      → TakesServed by to served old (Err refusal) old
+
+-- what commands of each sort do to a world, action by action
+abbrev pub MovesBySort : Sort → WholeAction Answer
+MovesBySort (Changes by change) =
+    Sequence itself (FindsMember by) (λ member. Sequence itself (TablesDecide member change) (KeepsUpdate by member))
+MovesBySort (Looks by look) =
+    Sequence itself (FindsMember by) (λ member. TablesShow member look)
+MovesBySort (Pulls by to) =
+    Sequence itself (KeepsAsk by to) (λ ask. Sequence itself (HandsOver to ask) (TakesServed by to))
+
+-- one command: its answer, and the world after it
+pub record Moves (old : Whole) (command : Command) (answer : Answer) (new : Whole) : Type 0 where
+  pub result : Result Answer Refusal
+  pub does : MovesBySort (sort_of command) old result new
+  pub answer_is : answer ≡ answer_as result

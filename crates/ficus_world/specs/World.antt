@@ -1,22 +1,35 @@
--- What contracts see of a world, and what it means that it stands for a history.
+-- What contracts see of a world, and what it means that it stands for a world of the model.
 use Rattle.std.specs.Prelude.{◌≡◌, ℕ, ◌+◌, ◌-◌, ◌^◌, ◌≤◌, List, ◌++◌, length, map, slice_get, Some}
 use Rattle.ficus_ids.specs.Members.{IsCount, IsMember}
 use Rattle.ficus_model.specs.declared.event.Event.{Event}
 use Rattle.ficus_model.specs.Events.{raised}
 use Rattle.ficus_model.specs.Lawful.{Volume, IsLawful}
-use Rattle.ficus_model.specs.Stored.{Stored}
 use Rattle.ficus_codec.specs.Saved.{FitsImage}
 use Rattle.ficus_replica.specs.declared.replica.Replica.{Replica}
 use Rattle.ficus_replica.specs.SavedOf.{StandsFor}
+use Rattle.ficus_world.specs.declared.member.Member.{Member}
+use Rattle.ficus_world.specs.ModelWorld.{Standing, Up, ModelWorld}
 
+-- the members, and the events of this run
 pub record Whole : Type 0 where
-  pub members : ℕ
-  pub replicas : List Replica
-  pub history : Stored
+  pub members : List Member
+  pub events : List Event
 
--- replica r of the world, from 1
-pub record IsReplica (replicas : List Replica) (r : ℕ) (replica : Replica) : Type 0 where
-  pub is : slice_get replicas (r - 1) ≡ Some replica
+-- A command is carried out while fewer events are stored than this: it stores three at most, and a position is below
+-- 2^32.
+abbrev pub event_limit : ℕ
+event_limit = 2 ^ 32 - 16
+
+-- the r-th of a list, from 1
+pub record IsNumbered {A : Type 0} (list : List A) (r : ℕ) (x : A) : Type 0 where
+  pub member : IsMember (length list) r
+  pub is : slice_get list (r - 1) ≡ Some x
+
+-- what member r holds
+pub record IsReplica (members : List Member) (r : ℕ) (replica : Replica) : Type 0 where
+  pub member : Member
+  pub is : IsNumbered members r member
+  pub holds : replica ≡ member.replica
 
 -- what holds of each replica of every world
 pub record IsSound (count events r : ℕ) (replica : Replica) : Type 0 where
@@ -26,19 +39,26 @@ pub record IsSound (count events r : ℕ) (replica : Replica) : Type 0 where
   pub generation : replica.saved.generation ≤ 2 ^ 62 + events
 
 -- what holds of every world
-pub record IsWorld (members : ℕ) (replicas : List Replica) (history : Stored) : Type 0 where
-  pub count : IsCount members
-  pub each_member : length replicas ≡ members
-  pub sound : (r : ℕ) (replica : Replica) → IsMember members r → IsReplica replicas r replica → IsSound members (length history.events) r replica
+pub record IsWorld (members : List Member) (events : List Event) : Type 0 where
+  pub count : IsCount (length members)
+  pub sound : (r : ℕ) (member : Member) → IsNumbered members r member
+      → IsSound (length members) (length events) r member.replica
 
 -- the stored events are the last part of the history
 pub record IsLastPart (events H : List Event) : Type 0 where
   pub earlier : List Event
   pub is : H ≡ earlier ++ map (raised (length earlier)) events
 
--- The world stands for the history: its stored events are the last part of it, and so does each replica.
-pub record WorldStandsFor (volume : Volume) (H : List Event) (world : Whole) : Type 0 where
-  pub members : world.members ≡ volume.members
-  pub lawful : IsLawful volume H
-  pub stored : IsLastPart world.history.events H
-  pub each : (r : ℕ) (replica : Replica) → IsMember volume.members r → IsReplica world.replicas r replica → StandsFor volume H r replica
+-- what a member holds that stands so: a replica that is up stands for the history
+abbrev pub MemberStandsFor : Volume → List Event → ℕ → Member → Standing → Type 0
+MemberStandsFor volume H r member Up = StandsFor volume H r member.replica
+
+-- The world stands for one of the model: what happened there is lawful, and ends with the stored events; there are as
+-- many members, and each stands as the model says.
+pub record WorldStandsFor (volume : Volume) (W : ModelWorld) (world : Whole) : Type 0 where
+  pub members : length world.members ≡ volume.members
+  pub standings : length W.standings ≡ volume.members
+  pub lawful : IsLawful volume W.events
+  pub stored : IsLastPart world.events W.events
+  pub each : (r : ℕ) (member : Member) (standing : Standing) → IsNumbered world.members r member
+      → IsNumbered W.standings r standing → MemberStandsFor volume W.events r member standing

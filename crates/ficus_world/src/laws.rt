@@ -1,36 +1,43 @@
-ghost use Rattle.std.specs.Prelude.{◌≡◌, ℕ, List, Result};
+ghost use Rattle.std.specs.Prelude.{◌≡◌, ℕ, List, Result, Err};
 ghost use Rattle.ficus_ids.specs.declared.refusal.Refusal.{Refusal};
+ghost use Rattle.ficus_ids.specs.declared.refusal.Refusal.TheVariants.{Stale};
 ghost use Rattle.ficus_laws.specs.Laws.{KnowSameUpdates};
 ghost use Rattle.ficus_model.specs.Lawful.{Volume, IsLawful};
 ghost use Rattle.ficus_model.specs.declared.event.Event.{Event};
-ghost use Rattle.ficus_names.specs.declared.listing.Line.{Line};
-ghost use Rattle.ficus_path.specs.declared.path.Path.{Path};
-ghost use Rattle.ficus_replica.specs.Stands.{ListAnswerAfter, TreeAnswerAfter};
+ghost use Rattle.ficus_rules.specs.Look.{Look};
+ghost use Rattle.ficus_rules.specs.View.{history_view};
 ghost use Rattle.ficus_script.specs.declared.answer.Answer.{Answer};
 ghost use Rattle.ficus_script.specs.declared.command.Command.{Command};
-ghost use Rattle.ficus_world.specs.Run.{Run};
+ghost use Rattle.ficus_world.specs.ModelWorld.{ModelWorld, Outcome, Effect};
+ghost use Rattle.ficus_world.specs.Run.{Does, Run};
+ghost use Rattle.ficus_world.specs.Sort.{Pulls, LookAnswer};
 ghost use Rattle.ficus_world.specs.Start.{default_volume, start};
 
 /// Commands leave a lawful history, whatever they are.
 pub fn runs_are_lawful()
-    ensures { (members : ℕ) (commands : List Command) (answers : List Answer) (H : List Event)
-        → Run (default_volume members) (start members) commands answers H → IsLawful (default_volume members) H }
+    ensures { (members : ℕ) (commands : List Command) (outcomes : List Outcome) (answers : List Answer)
+        (W : ModelWorld) → Run (default_volume members) (start members) commands outcomes answers W
+        → IsLawful (default_volume members) W.events }
 {}
 
-/// A run follows from its commands: after one history the same commands have the same answers, and lead to the
-/// same history.
+/// A run follows from its commands and from what the outside does: from one world the same commands with the same
+/// outcomes have the same answers, and lead to the same world.
 pub fn one_run()
-    ensures { (volume : Volume) (H after later : List Event) (commands : List Command) (answers others : List Answer)
-        → Run volume H commands answers after → Run volume H commands others later → (answers ≡ others) × (after ≡ later) }
+    ensures { (volume : Volume) (W after later : ModelWorld) (commands : List Command) (outcomes : List Outcome)
+        (answers others : List Answer) → Run volume W commands outcomes answers after
+        → Run volume W commands outcomes others later → (answers ≡ others) × (after ≡ later) }
 {}
 
-/// Replicas that know the same updates answer alike: a path gives the same lines at both, or is refused in the
-/// same way, and both show the same tree.
+/// What is served in a pull is taken.
+pub fn pulls_are_never_stale()
+    ensures { (volume : Volume) (W : ModelWorld) (by to : ℕ) (left : Effect)
+        → Does volume (Pulls by to) W (Err Stale) left → ⊥ }
+{}
+
+/// Replicas that know the same updates answer looks alike.
 pub fn same_updates_answer_same()
-    ensures lists { (H : List Event) (replica other : ℕ) (path : Path) (answer again : Result (List Line) Refusal)
-        → KnowSameUpdates H replica other → ListAnswerAfter H replica path answer → ListAnswerAfter H other path again
-        → answer ≡ again }
-    ensures trees { (H : List Event) (replica other : ℕ) (lines again : List Line)
-        → KnowSameUpdates H replica other → TreeAnswerAfter H replica lines → TreeAnswerAfter H other again
-        → lines ≡ again }
+    ensures { (volume : Volume) (H : List Event) (replica other : ℕ) (look : Look)
+        (answer again : Result Answer Refusal) → KnowSameUpdates H replica other
+        → LookAnswer (history_view volume H replica) look answer
+        → LookAnswer (history_view volume H other) look again → answer ≡ again }
 {}

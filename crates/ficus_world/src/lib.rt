@@ -3,9 +3,9 @@
 
 mod fresh;
 mod laws;
-mod record;
+mod member;
 mod step;
 mod world;
 
-pub use laws::{one_run, runs_are_lawful, same_updates_answer_same};
+pub use laws::{one_run, pulls_are_never_stale, runs_are_lawful, same_updates_answer_same};
 pub use world::World;

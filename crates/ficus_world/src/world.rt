@@ -1,8 +1,9 @@
-ghost use Rattle.std.specs.Prelude.{◌≡◌, ◌-◌, ◌↔◌, length, IfOk, IsSome, IfSome};
+ghost use Rattle.std.specs.Prelude.{◌≡◌, ◌↔◌, length, IfOk, IsTrue, IsSome, IfSome};
 
-use crate::fresh::{fresh_history, fresh_replicas};
+use crate::fresh::{fresh_history, fresh_members};
+use crate::member::Member;
 use ficus_ids::{Members, Memory};
-use ficus_model::{Event, History};
+use ficus_model::History;
 use ficus_replica::Replica;
 use std::alloc::Global;
 use std::marker::Model;
@@ -13,11 +14,10 @@ pub const DEFAULT_IDS: u32 = 100_000;
 /// The most bytes that one replica writes over its life, where nothing else is said.
 pub const DEFAULT_BYTES: u32 = 4_194_304;
 
-/// The replicas of a volume, and the history of this run.
+/// The members of a volume, and the history of this run.
 #[derive(Drop)]
 pub struct World {
-    pub(crate) members: Members,
-    pub(crate) replicas: Vec<Replica>,
+    pub(crate) members: Vec<Member>,
     pub(crate) history: History,
 }
 
@@ -26,55 +26,60 @@ impl Model for World {
 
     ghost Value = { Whole };
 
-    ghost view = { λ w. record { members = w.members; replicas = w.replicas.items; history = w.history } };
+    ghost view = { λ w. record { members = w.members.items; events = w.history.events } };
 
-    ghost invariant = { λ w. IsWorld w.members w.replicas.items w.history };
+    ghost invariant = { λ w. IsWorld w.members.items w.history.events };
 }
 
 impl World {
     ghost use Rattle.ficus_ids.specs.Members.{IsMember};
-    ghost use Rattle.ficus_model.specs.Lawful.{Volume};
-    ghost use Rattle.ficus_world.specs.World.{IsReplica, IsSound, IsWorld, WorldStandsFor};
-    ghost use Rattle.ficus_world.specs.Start.{default_volume, start};
+    ghost use Rattle.ficus_world.specs.World.{IsNumbered, IsReplica, IsSound, WorldStandsFor};
+    ghost use Rattle.ficus_world.specs.Start.{default_volume, restarts, start};
 
-    /// Fresh replicas with the default limits. The history is one restart of each member.
+    /// Members that have heard of nothing, with the default limits. The history is one restart of each.
     pub fn fresh(alloc: Global, members: Members) -> Result<World, Memory>
-        ensures members { IfOk result (λ world. world.members ≡ members) }
-        ensures events { IfOk result (λ world. world.history.events ≡ start members) }
+        ensures members { IfOk result (λ world. length world.members ≡ members) }
+        ensures events { IfOk result (λ world. world.events ≡ restarts members) }
         ensures stands { IfOk result (WorldStandsFor (default_volume members) (start members)) }
     {
         Ok(World {
-            members,
-            replicas: fresh_replicas(alloc, members)?,
+            members: fresh_members(alloc, members)?,
             history: fresh_history(alloc, members)?,
         })
     }
 
     /// The events of this run.
     pub fn history(&self) -> &History
-        ensures { result.now ≡ self.now.history }
+        ensures { result.now.events ≡ self.now.events }
     {
         &self.history
     }
 
     /// The replica with this number, or `None` exactly where the number is no member.
     pub fn replica(&self, number: u8) -> Option<&Replica>
-        ensures member { IsSome result ↔ IsMember self.now.members number }
-        ensures replica { IfSome result (λ replica. IsReplica self.now.replicas number replica.now) }
+        ensures member { IsSome result ↔ IsMember (length self.now.members) number }
+        ensures replica { IfSome result (λ replica. IsReplica self.now.members number replica.now) }
     {
-        if self.members.has(number) {
-            Some(self.member(number))
+        if self.has(number) {
+            Some(&self.member(number).replica)
         } else {
             None
         }
     }
 
-    /// The replica of a member.
-    pub(crate) fn member(&self, number: u8) -> &Replica
-        requires { IsMember self.now.members number }
-        ensures is { IsReplica self.now.replicas number result.now }
-        ensures sound { IsSound self.now.members (length self.now.history.events) number result.now }
+    /// Whether it is the number of a member.
+    pub(crate) fn has(&self, number: u8) -> bool
+        ensures { IsTrue result ↔ IsMember (length self.now.members) number }
     {
-        &self.replicas[number as usize - 1]
+        1 <= number && number as usize <= self.members.len()
+    }
+
+    /// The member of this number.
+    pub(crate) fn member(&self, number: u8) -> &Member
+        requires { IsMember (length self.now.members) number }
+        ensures is { IsNumbered self.now.members number result.now }
+        ensures sound { IsSound (length self.now.members) (length self.now.events) number result.now.replica }
+    {
+        &self.members[number as usize - 1]
     }
 }

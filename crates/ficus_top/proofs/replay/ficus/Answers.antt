@@ -44,4 +44,4 @@ returns-clause-complete g c = λ tells members commands read is_script no_fault.
     no_fault)
 
 pub returns-clause-lawful : goal.returns-clause-lawful
-returns-clause-lawful g c = λ members commands answers H run. run_lawful run (start_lawful members)
+returns-clause-lawful g c = λ members commands outcomes answers W run. run_lawful run (start_lawful members)

@@ -2,9 +2,9 @@ use Rattle.std.proofs.Common.{◌≡◌, ℕ, List, subst, refl}
 use Rattle.std.specs.Prelude.{String}
 use Rattle.std.specs.declared.alloc.Global.{Global}
 use Rattle.std.proofs.lemmas.Result.{err_from_is_err_and}
-use Rattle.ficus_model.specs.declared.event.Event.{Event}
 use Rattle.ficus_script.specs.declared.command.Command.{Command}
 use Rattle.ficus_script.specs.Script.{IsScript}
+use Rattle.ficus_world.specs.ModelWorld.{ModelWorld}
 use Rattle.ficus_world.specs.Start.{default_volume, start}
 use Rattle.ficus_top.specs.Headline.{Answers, AnswersFront}
 use Rattle.ficus_top.specs.Serving.{Serves, ServesFront}
@@ -15,7 +15,7 @@ use Rattle.ficus_top.proofs.replay.run.Goals as goal
 -- what was answered over a fresh volume, from the words and the script that were read
 module _ {tells : Type 0} {words : List (List ℕ)} {read members : ℕ} (are : AreWords words read)
     (also : AreWords words members) {script old new : List ℕ} {commands some : List Command}
-    (is_script : IsScript script commands) (same : some ≡ commands) (after : List Event) where
+    (is_script : IsScript script commands) (same : some ≡ commands) (after : ModelWorld) where
   answers_front : ServesFront tells (default_volume read) (start read) some after old new
       → AnswersFront tells members script old new
   answers_front serves = record {

@@ -9,16 +9,16 @@ use Rattle.ficus_top.proofs.serving.answer_all.Goals as goal
 
 pub loop-command-init : goal.loop-command-init
 loop-command-init g c = record {
-  served = λ volume H stands. record { after = H; serves = serves_none H _; stands = stands };
+  served = λ volume W stands. record { after = W; serves = serves_none W _; stands = stands };
   grows = omega arith;
   steady = refl;
 }
 
 pub loop-command-preserved : goal.loop-command-preserved
 loop-command-preserved g c = record {
-  served = λ volume H stands.
+  served = λ volume W stands.
       world_more c.args.commands.now c.loop-command.command-index c.command-item.result c.answer_one.new.world
-      c.loop-command-test.true c.command-item.is (c.loop-command.invariant.served volume H stands)
+      c.loop-command-test.true c.command-item.is (c.loop-command.invariant.served volume W stands)
       (λ M. c.in_ok-answer_one.ensures.answer volume M);
   grows = omega arith;
   steady = untold _ _ _ _ _ c.answer_one.ensures.told c.answer_one.ensures.counted c.in_ok-answer_one.was
@@ -28,16 +28,16 @@ loop-command-preserved g c = record {
 pub returns-in_err-answer_one-clause-prefix : goal.returns-in_err-answer_one-clause-prefix
 returns-in_err-answer_one-clause-prefix g c =
     let p = err_from_is_err_and c.from_residual.result c.from_residual.ensures.1 in
-    rw p.1 (λ volume H stands.
+    rw p.1 (λ volume W stands.
     front_next c.args.commands.now c.loop-command.command-index c.command-item.result c.answer_one.new.world
-    c.loop-command-test.true c.command-item.is (c.loop-command.invariant.served volume H stands)
+    c.loop-command-test.true c.command-item.is (c.loop-command.invariant.served volume W stands)
     (λ M. c.in_err-answer_one.ensures.front volume M))
 
 pub returns-clause-answers : goal.returns-clause-answers
-returns-clause-answers g c = λ volume H stands.
+returns-clause-answers g c = λ volume W stands.
     let commands = c.args.commands.now in
-    let served = c.loop-command.invariant.served volume H stands in
+    let served = c.loop-command.invariant.served volume W stands in
     let all : take c.loop-command.command-index commands ≡ commands = take_all c.loop-command.command-index commands
     c.loop-command-test.false in
-    subst (λ (some : List Command). ServesWorld g.K.Sink.tells volume H some c.loop-command.world
+    subst (λ (some : List Command). ServesWorld g.K.Sink.tells volume W some c.loop-command.world
     (g.K.Sink.written c.args.output.now) (g.K.Sink.written c.loop-command.output)) all served

@@ -1,10 +1,10 @@
 use Rattle.std.proofs.Common.{◌≡◌, ◌+◌, ◌≤◌}
-use Rattle.ficus_world.specs.Start.{start}
+use Rattle.ficus_world.specs.Start.{restarts}
 use Rattle.ficus_world.proofs.fresh.fresh_history.Given as goal
 
 abbrev pub invariant-loop-before : goal.invariant-loop-before
 invariant-loop-before l = record {
-  events : l.history.events ≡ start l.before;
+  events : l.history.events ≡ restarts l.before;
   room : l.count ≤ l.history.room + l.before;
   few : l.count ≤ 8;
 }

@@ -2,7 +2,7 @@ use Rattle.std.proofs.Common.{rules, ◌≡◌, ◌++◌, map, Ok, refl, ap, ◌
 use Rattle.ficus_names.specs.ListingLaws.{IsListing-along}
 use Rattle.ficus_rules.specs.Lines.{line_of}
 use Rattle.ficus_replica.specs.Look.{List as ListLook}
-use Rattle.ficus_rules.specs.Told.{answer_told, vec_lines}
+use Rattle.ficus_rules.specs.Told.{answer_told, told_names}
 use Rattle.ficus_replica.specs.View.{tables_view}
 use Rattle.ficus_rules.proofs.Listings.{lines_of_one}
 use Rattle.ficus_replica.proofs.Looks.{look_stands}
@@ -14,7 +14,7 @@ returns-in_err-dir-clause-gives c = search rules
 
 pub returns-in_err-dir-clause-stands : goal.returns-in_err-dir-clause-stands
 returns-in_err-dir-clause-stands c =
-    λ volume H stands. look_stands stands (ListLook c.args.path.now) (answer_told vec_lines c.from_residual.result) (returns-in_err-dir-clause-gives c)
+    λ volume H stands. look_stands stands (ListLook c.args.path.now) (answer_told told_names c.from_residual.result) (returns-in_err-dir-clause-gives c)
 
 pub returns-clause-gives : goal.returns-clause-gives
 returns-clause-gives c =
@@ -35,4 +35,4 @@ returns-clause-gives c =
 
 pub returns-clause-stands : goal.returns-clause-stands
 returns-clause-stands c =
-    λ volume H stands. look_stands stands (ListLook c.args.path.now) (Ok (vec_lines c.add_lines.new.lines)) (returns-clause-gives c)
+    λ volume H stands. look_stands stands (ListLook c.args.path.now) (Ok (told_names c.add_lines.new.lines)) (returns-clause-gives c)

@@ -3,7 +3,7 @@ use Rattle.ficus_ids.specs.Rising.{IsRisingBy}
 use Rattle.ficus_ids.specs.declared.id.Id.{Id}
 use Rattle.ficus_names.specs.ListingLaws.{IsListing-along}
 use Rattle.ficus_replica.specs.Look.{Tree}
-use Rattle.ficus_rules.specs.Told.{vec_lines}
+use Rattle.ficus_rules.specs.Told.{told_tree}
 use Rattle.ficus_replica.specs.View.{tables_view}
 use Rattle.ficus_replica.proofs.Looks.{look_stands}
 use Rattle.ficus_replica.proofs.Tables.{tables_bound, tables_directories}
@@ -40,4 +40,4 @@ returns-clause-gives c =
     )
 
 pub returns-clause-stands : goal.returns-clause-stands
-returns-clause-stands c = λ volume H stands. look_stands stands Tree (Ok (vec_lines c.loop-dir.lines)) (returns-clause-gives c)
+returns-clause-stands c = λ volume H stands. look_stands stands Tree (Ok (told_tree c.loop-dir.lines)) (returns-clause-gives c)

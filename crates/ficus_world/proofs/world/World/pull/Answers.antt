@@ -1,49 +1,75 @@
-use Rattle.std.proofs.Common.{rules, inr, refl}
-use Rattle.ficus_world.specs.Moves.{PullAsks}
+use Rattle.std.proofs.Common.{◌≡◌, rules, ◌-◌, Err, sym, subst, ap, ◌∙◌, length, length-append, arith}
+use Rattle.std.specs.Prelude.{slice_set}
+use Rattle.ficus_ids.specs.declared.refusal.Refusal.TheVariants.{Memory}
+use Rattle.ficus_rules.proofs.Rules.{or_memory}
+use Rattle.ficus_world.specs.Moves.{ArePeers, MovesBySort}
+use Rattle.ficus_world.specs.Moves.KeepsAsk.{NoPeers}
+use Rattle.ficus_world.specs.Sequence.Sequence.{Ends}
+use Rattle.ficus_world.specs.Sort.{Pulls}
+use Rattle.ficus_world.specs.World.{Whole}
+use Rattle.ficus_world.proofs.Moved.{not_so}
+use Rattle.ficus_world.proofs.Pulled.{pull_moves, pull_refused}
+use Rattle.ficus_world.proofs.SoundWorlds.{sound_more, world_after, asked_sound, accepted_sound}
 use Rattle.ficus_world.proofs.world.World.pull.Goals as goal
 
-pub returns-in-Ok-clause-moves : goal.returns-in-Ok-clause-moves
-returns-in-Ok-clause-moves c =
-    let asks : PullAsks c.args.self.now c.args.by c.args.to = record {
-      first = search rules;
-      second = search rules;
-      differ = search rules;
-      puller = c.member.result.now;
-      puller_is = search rules;
-      peer = c.member-2.result.now;
-      peer_is = search rules;
-      asked = c.in_ok-asked.asked;
-      asks = search rules;
-    } in
-    record {
-      ask = asks;
-      accepted = c.in-Ok.accepted;
-      accepts = search rules;
-      members = search rules;
-      replicas = search rules;
-      events = search rules;
-    }
+pub returns-then-not-are_peers-clause-moves : goal.returns-then-not-are_peers-clause-moves
+returns-then-not-are_peers-clause-moves c =
+    Ends (NoPeers (not_so c.are_peers.result c.are_peers.ensures c.if-not-are_peers.true))
 
-pub returns-in-Err-BadMessage-clause-moves : goal.returns-in-Err-BadMessage-clause-moves
-returns-in-Err-BadMessage-clause-moves c =
-    let asks : PullAsks c.args.self.now c.args.by c.args.to = record {
-      first = search rules;
-      second = search rules;
-      differ = search rules;
-      puller = c.member.result.now;
-      puller_is = search rules;
-      peer = c.member-2.result.now;
-      peer_is = search rules;
-      asked = c.in_ok-asked.asked;
-      asks = search rules;
+pub invariant_of-self-in-Err : goal.invariant_of-self-in-Err
+invariant_of-self-in-Err c =
+    let peers = subst (λ (w : Whole). ArePeers (length w.members) c.args.by c.args.to) (sym c.self.view_is)
+    (c.are_peers.ensures.0 c.if-not-are_peers.false) in
+    let events = rw c.in_ok-reserve.ensures.events at c.push_serve.ensures.events in
+    let longer = ap length events ∙ length-append c.self.inside.history.events _ in
+    let sound = rw c.in_ok-reserve.ensures.events at c.member.ensures.sound in
+    let asked = asked_sound sound c.in_ok-asked.ensures.gives c.in_ok-asked.ensures.fits in
+    world_after c.self.invariant peers.first (sound_more asked (omega arith)) (omega arith)
+
+pub returns-in-Err-clause-moves : goal.returns-in-Err-clause-moves
+returns-in-Err-clause-moves c =
+    let by = c.args.by in
+    let to = c.args.to in
+    let refusal = c.in-Err.refusal in
+    let old : Whole = record { members = c.self.inside.members.items; events = c.self.inside.history.events } in
+    let new : Whole = record {
+      members = slice_set old.members (by - 1) (record { replica = c.in_ok-asked.asked });
+      events = c.push_serve.new.history.events;
     } in
-    inr (
-      record {
-        ask = asks;
-        misfit = search rules;
-        members = search rules;
-        replicas = search rules;
-        events = search rules;
-      },
-      refl,
-    )
+    let peers = subst (λ (w : Whole). ArePeers (length w.members) by to) (sym c.self.view_is)
+    (c.are_peers.ensures.0 c.if-not-are_peers.false) in
+    let no_memory : refusal ≡ Memory → ⊥ = search rules in
+    let moves = pull_refused old by to c.member.result.now c.member-2.result.now c.in_ok-asked.asked peers
+    c.member.ensures.is c.member-2.ensures.is c.in_ok-asked.ensures.gives refusal no_memory c.in-Err.ensures.gives in
+    let here : MovesBySort (Pulls by to) c.args.self.now (Err refusal) new =
+    rw (c.push_serve.ensures.events, c.in_ok-reserve.ensures.events, ← c.self.view_is) moves in
+    or_memory (λ answer. MovesBySort (Pulls by to) c.args.self.now answer new) (Err refusal) here
+
+pub invariant_of-self-4 : goal.invariant_of-self-4
+invariant_of-self-4 c =
+    let peers = subst (λ (w : Whole). ArePeers (length w.members) c.args.by c.args.to) (sym c.self.view_is)
+    (c.are_peers.ensures.0 c.if-not-are_peers.false) in
+    let events = rw c.in_ok-reserve.ensures.events at c.push_serve-serve.ensures.events in
+    let served = ap length events ∙ length-append c.self.inside.history.events _ in
+    let longer = ap length c.push.ensures.events ∙ length-append c.push_serve-serve.new.history.events _ in
+    let sound = rw c.in_ok-reserve.ensures.events at c.member.ensures.sound in
+    let asked = asked_sound sound c.in_ok-asked.ensures.gives c.in_ok-asked.ensures.fits in
+    let accepted = accepted_sound asked c.in-Ok.ensures.gives c.in-Ok.ensures.fits in
+    world_after c.self.invariant peers.first (sound_more accepted (omega arith)) (omega arith)
+
+pub returns-clause-moves : goal.returns-clause-moves
+returns-clause-moves c =
+    let by = c.args.by in
+    let to = c.args.to in
+    let old : Whole = record { members = c.self.inside.members.items; events = c.self.inside.history.events } in
+    let peers = subst (λ (w : Whole). ArePeers (length w.members) by to) (sym c.self.view_is)
+    (c.are_peers.ensures.0 c.if-not-are_peers.false) in
+    let moves = pull_moves old by to c.member.result.now c.member-2.result.now c.in_ok-asked.asked peers
+    c.member.ensures.is c.member-2.ensures.is c.in_ok-asked.ensures.gives c.in-Ok.accepted c.in-Ok.ensures.gives in
+    rw (
+      c.push.ensures.events,
+      c.push_serve-serve.ensures.events,
+      c.push_serve-serve.ensures.position,
+      c.in_ok-reserve.ensures.events,
+      ← c.self.view_is,
+    ) moves

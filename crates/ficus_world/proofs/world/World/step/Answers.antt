@@ -1,23 +1,22 @@
-use Rattle.ficus_script.specs.declared.command.Command.TheVariants.{MkDir, Ls, Tree, Pull}
-use Rattle.ficus_world.proofs.MovesStand.{if_ok_stands}
+use Rattle.std.proofs.lemmas.Result.{IfOk-weaker}
+use Rattle.ficus_world.specs.Follows.{Follows}
+use Rattle.ficus_world.specs.Moves.{Moves}
+use Rattle.ficus_world.proofs.Following.{follow}
+use Rattle.ficus_world.proofs.Moved.{answered_moves}
 use Rattle.ficus_world.proofs.world.World.step.Goals as goal
 
-pub returns-in-MkDir-clause-stands : goal.returns-in-MkDir-clause-stands
-returns-in-MkDir-clause-stands c = λ volume H stands.
-    let command = MkDir c.in-MkDir.by c.in-MkDir.path in
-    rw c.in-MkDir.is (if_ok_stands volume H c.args.self.now command c.make_dir.new.self c.make_dir.result stands c.make_dir.ensures.moves)
+pub returns-clause-moves : goal.returns-clause-moves
+returns-clause-moves c =
+    answered_moves c.args.self.now c.carry_out.new.self c.args.command.now c.carry_out.result c.answered.result
+    c.carry_out.ensures.moves c.answered.ensures.answer
 
-pub returns-in-Ls-clause-stands : goal.returns-in-Ls-clause-stands
-returns-in-Ls-clause-stands c = λ volume H stands.
-    let command = Ls c.in-Ls.by c.in-Ls.path in
-    rw c.in-Ls.is (if_ok_stands volume H c.args.self.now command c.args.self.now c.list.result stands c.list.ensures)
-
-pub returns-in-Tree-clause-stands : goal.returns-in-Tree-clause-stands
-returns-in-Tree-clause-stands c = λ volume H stands.
-    let command = Tree c.in-Tree.by in
-    rw c.in-Tree.is (if_ok_stands volume H c.args.self.now command c.args.self.now c.tree.result stands c.tree.ensures)
-
-pub returns-in-Pull-clause-stands : goal.returns-in-Pull-clause-stands
-returns-in-Pull-clause-stands c = λ volume H stands.
-    let command = Pull c.in-Pull.by c.in-Pull.to in
-    rw c.in-Pull.is (if_ok_stands volume H c.args.self.now command c.pull.new.self c.pull.result stands c.pull.ensures.moves)
+pub returns-clause-stands : goal.returns-clause-stands
+returns-clause-stands c = λ volume W stands.
+    let old = c.args.self.now in
+    let new = c.carry_out.new.self in
+    let command = c.args.command.now in
+    IfOk-weaker c.answered.result (λ answer. Moves old command answer new)
+    (λ answer. Follows volume W command answer new)
+    (λ answer moves. follow volume W old stands command answer new moves)
+    (answered_moves old new command c.carry_out.result c.answered.result c.carry_out.ensures.moves
+    c.answered.ensures.answer)

@@ -1,5 +1,5 @@
 use Rattle.ficus_rules.proofs.Looks.{look_along}
-use Rattle.ficus_rules.proofs.laws.same_view_same_look.Goals as goal
+use Rattle.ficus_rules.proofs.laws.same_shown_same_look.Goals as goal
 
 pub returns : goal.returns
 returns c = λ volume H replica other look answer same. look_along same look answer

@@ -1,0 +1,274 @@
+-- What a command does to a world that stands for one of the model, it does to that one.
+use Rattle.std.proofs.Common.{◌≡◌, ◌≢◌, ℕ, ◌+◌, [], ◌∷◌, ◌++◌, length, Result, Ok, Err, refl, sym, ap, subst, ◌∙◌, inl, arith}
+use Rattle.std.proofs.lemmas.List.{length_push}
+use Rattle.ficus_ids.specs.Members.{IsMember}
+use Rattle.ficus_ids.specs.declared.refusal.Refusal.{Refusal}
+use Rattle.ficus_ids.specs.declared.refusal.Refusal.TheVariants.{Member as NoMember, Memory, Stale}
+use Rattle.ficus_model.specs.declared.event.Event.TheVariants.{Update, Ask, Serve, Accept}
+use Rattle.ficus_model.specs.declared.event.Op.{Op}
+use Rattle.ficus_model.specs.Events.{through}
+use Rattle.ficus_model.specs.Lawful.{Volume, MayCome}
+use Rattle.ficus_laws.specs.Accepts.{asked, answered}
+use Rattle.ficus_laws.proofs.Positions.{at_more, at_end}
+use Rattle.ficus_laws.proofs.Pull.{length_asked, serve_may_come, accept_may_come}
+use Rattle.ficus_replica.specs.declared.replica.Replica.{Replica}
+use Rattle.ficus_replica.specs.Accept.{AcceptGives, AcceptStands, IsServed}
+use Rattle.ficus_replica.specs.Ask.{AskGives}
+use Rattle.ficus_rules.specs.Change.{Change}
+use Rattle.ficus_replica.specs.Change.{ChangedAfter}
+use Rattle.ficus_rules.specs.Look.{Look}
+use Rattle.ficus_replica.specs.SavedOf.{StandsFor, generation_of}
+use Rattle.ficus_script.specs.declared.command.Command.{Command}
+use Rattle.ficus_script.specs.declared.command.Command.TheVariants.{MkDir, Ls, Tree, Pull}
+use Rattle.ficus_script.specs.declared.answer.Answer.{Answer}
+use Rattle.ficus_world.specs.declared.member.Member.{Member}
+use Rattle.ficus_world.specs.Actions.{unchanged, happened, AtMember, Updates}
+use Rattle.ficus_world.specs.Actions.Adds.{Added}
+use Rattle.ficus_world.specs.Follows.{Follows}
+use Rattle.ficus_world.specs.ModelWorld.{ModelWorld, Effect}
+use Rattle.ficus_world.specs.Moves.{next_number_of, ArePeers, Served, advanced, TakesServed, MovesBySort, Moves}
+use Rattle.ficus_world.specs.Moves.FindsMember.{Finds, FindsNone}
+use Rattle.ficus_world.specs.Moves.KeepsUpdate.{Keeps}
+use Rattle.ficus_world.specs.Moves.KeepsAsk.{Sends, NoPeers}
+use Rattle.ficus_world.specs.Moves.HandsOver.{Hands}
+use Rattle.ficus_world.specs.Moves.TakesServed.{Accepts, Refuses}
+use Rattle.ficus_world.specs.Run.{Does}
+use Rattle.ficus_world.specs.Sequence.Sequence.{Ends, Goes}
+use Rattle.ficus_world.specs.Sequence.ByRule.{Says}
+use Rattle.ficus_world.specs.Sort.{Sort, Changes, Looks, Pulls, sort_of, answer_to}
+use Rattle.ficus_world.specs.World.{Whole, IsNumbered, WorldStandsFor}
+use Rattle.ficus_replica.proofs.Accepts.{accept_gives_stands}
+use Rattle.ficus_replica.proofs.Asks.{asks_stands}
+use Rattle.ficus_rules.proofs.Changes.{change_along}
+use Rattle.ficus_replica.proofs.Changes.{IsOfDirectory, changed_after}
+use Rattle.ficus_replica.proofs.OpenAsks.{through_end, through_more}
+use Rattle.ficus_replica.proofs.Pulls.{standing_serves}
+use Rattle.ficus_replica.proofs.Views.{stands_same}
+use Rattle.ficus_world.proofs.Agreement.{look_answer_along}
+use Rattle.ficus_world.proofs.Standing.{member_of, member_from, replica_stands, raise, raised_length, advanced_stands, served_stands}
+
+-- so far each change makes a directory
+abbrev IsOfDirectories : Sort → Type 0
+IsOfDirectories (Changes by change) = IsOfDirectory change
+IsOfDirectories (Looks by look) = Unit {0}
+IsOfDirectories (Pulls by to) = Unit {0}
+
+of_directories : (command : Command) → IsOfDirectories (sort_of command)
+of_directories (MkDir by path) = refl
+of_directories (Ls by path) = tt
+of_directories (Tree by) = tt
+of_directories (Pull by to) = tt
+
+-- the model does so too, and the world stands for what that leaves
+record FollowsBySort (volume : Volume) (W : ModelWorld) (sort : Sort) (result : Result Answer Refusal) (new : Whole) :
+    Type 0 where
+  pub effect : Effect
+  pub does : Does volume sort W result effect
+  pub stands : WorldStandsFor volume effect.after new
+
+module _ (volume : Volume) (W : ModelWorld) (old : Whole) (stands : WorldStandsFor volume W old) where
+  at_member : (by : ℕ) (member : Member) → IsNumbered old.members by member → AtMember volume by W (Ok tt) (unchanged W)
+  at_member by member is = Says (member_of volume W old stands by is.member, refl)
+
+  at_none : (by : ℕ) → (IsMember (length old.members) by → ⊥) → AtMember volume by W (Err NoMember) (unchanged W)
+  at_none by none = Says (inl ((λ member. none (member_from volume W old stands by member)), refl))
+
+  -- the number of the update is that in the code
+  numbered : (by : ℕ) (member : Member) (op : Op) → IsNumbered old.members by member
+      → Updates by op W (Ok (answer_to (next_number_of by member) op)) (happened W (Update by op))
+  numbered by member op is =
+      subst (λ n. Updates by op W (Ok (answer_to (record { replica = by; number = n }) op)) (happened W (Update by op)))
+      (sym (replica_stands volume W old stands by member is).saved.next) Added
+
+  follow_change : (by : ℕ) (change : Change) (result : Result Answer Refusal) (new : Whole) → IsOfDirectory change
+      → MovesBySort (Changes by change) old result new → FollowsBySort volume W (Changes by change) result new
+  follow_change by change result new dir (Ends (FindsNone none)) =
+      record { effect = unchanged W; does = Ends (at_none by none); stands = stands }
+  follow_change by change result new dir (Goes (Finds {member = member} is) (Ends {refusal = refusal} (Says refused))) =
+      let same = stands_same (replica_stands volume W old stands by member is) in
+      record {
+        effect = unchanged W;
+        does = Goes (at_member by member is) (Ends (Says (change_along same change (Err refusal) refused)));
+        stands = stands;
+      }
+  follow_change by change result new dir
+      (Goes (Finds {member = member} is) (Goes {a = op} (Says decided) (Keeps {new = next} applied ask))) =
+      let now : ChangedAfter volume W.events by change (record { replica = next; op = op }) =
+      changed_after stands.lawful (member_of volume W old stands by is.member)
+      (replica_stands volume W old stands by member is) change dir (record { replica = next; op = op })
+      (record { answer = decided; applied = applied; ask = ask }) in
+      record {
+        effect = happened W (Update by op);
+        does = Goes (at_member by member is) (Goes (Says now.answer) (numbered by member op is));
+        stands =
+            advanced_stands volume W old stands (Update by op) (Update by op) refl now.after.lawful by member next is
+            refl now.after.stands;
+      }
+
+  follow_look : (by : ℕ) (look : Look) (result : Result Answer Refusal) (new : Whole)
+      → MovesBySort (Looks by look) old result new → FollowsBySort volume W (Looks by look) result new
+  follow_look by look result new (Ends (FindsNone none)) =
+      record { effect = unchanged W; does = Ends (at_none by none); stands = stands }
+  follow_look by look result new (Goes (Finds {member = member} is) (Says answer)) =
+      let same = stands_same (replica_stands volume W old stands by member is) in
+      record {
+        effect = unchanged W;
+        does = Goes (at_member by member is) (Says (look_answer_along same.shown look result answer));
+        stands = stands;
+      }
+
+  -- the pull of one member from another
+  module _ (by to : ℕ) where
+    may_ask : ArePeers (length old.members) by to → MayCome volume W.events (Ask by to)
+    may_ask peers = record {
+      member = member_of volume W old stands by peers.first;
+      other = member_of volume W old stands to peers.second;
+      differ = peers.differ;
+    }
+
+    may_not_ask : (ArePeers (length old.members) by to → ⊥) → MayCome volume W.events (Ask by to) → ⊥
+    may_not_ask none may =
+        none (record {
+          first = member_from volume W old stands by may.member;
+          second = member_from volume W old stands to may.other;
+          differ = may.differ;
+        })
+
+    module _ (was : Member) (waiting : Replica) (peers : ArePeers (length old.members) by to)
+        (is : IsNumbered old.members by was) (asks : AskGives was.replica to waiting) where
+      -- the member waits for the answer
+      abbrev asked_model : ModelWorld
+      asked_model = (happened W (Ask by to)).after
+
+      abbrev asked_world : Whole
+      asked_world = advanced old by was waiting (Ask by to)
+
+      waits : StandsFor volume (asked W.events by to) by waiting
+      waits = asks_stands volume W.events by to was.replica waiting (replica_stands volume W old stands by was is) asks
+
+      asked_stand : WorldStandsFor volume asked_model asked_world
+      asked_stand =
+          advanced_stands volume W old stands (Ask by to) (Ask by to) refl (may_ask peers) by was waiting is refl waits
+
+      -- the peer has served
+      abbrev serve : ℕ
+      serve = length (asked W.events by to)
+
+      abbrev answered_model : ModelWorld
+      answered_model = (happened asked_model (Serve to (length W.events))).after
+
+      abbrev answered_world : Whole
+      answered_world = record asked_world { events = asked_world.events ++ Serve to (length old.events) ∷ [] }
+
+      answered_stand : WorldStandsFor volume answered_model answered_world
+      answered_stand =
+          served_stands volume asked_model asked_world asked_stand to (length old.events) (length W.events)
+          (omega (
+            arith,
+            raised_length volume asked_model asked_world asked_stand,
+            length_push old.events (Ask by to),
+            length_asked W.events by to,
+          ))
+          (serve_may_come W.events by to volume (may_ask peers).other)
+
+      serves : (peer : Member) → IsNumbered asked_world.members to peer
+          → IsServed (answered W.events by to) by to waiting.saved.generation peer.replica.saved.entries serve
+      serves peer peer_is =
+          standing_serves volume (answered W.events by to) by to waiting.saved.generation serve (length W.events)
+          peer.replica
+          (subst (λ K. StandsFor volume K to peer.replica)
+          (sym (through_end (asked W.events by to) (Serve to (length W.events))))
+          (replica_stands volume answered_model answered_world answered_stand to peer peer_is))
+          (at_more (Serve to (length W.events) ∷ []) (at_end W.events (Ask by to)))
+          (at_end (asked W.events by to) (Serve to (length W.events)))
+          (waits.saved.generation ∙ ap (generation_of by) (sym through_ask))
+        where
+          through_ask : through (length W.events) (answered W.events by to) ≡ asked W.events by to
+          through_ask =
+              sym (through_more (asked W.events by to) (Serve to (length W.events)) (length W.events)
+              (omega (arith, length_asked W.events by to)))
+              ∙ through_end W.events (Ask by to)
+
+      may_accept : MayCome volume (answered W.events by to) (Accept by serve)
+      may_accept =
+          subst (λ position. MayCome volume (answered W.events by to) (Accept by position))
+          (sym (length_asked W.events by to))
+          (accept_may_come W.events by to volume (may_ask peers).member)
+
+      takes : (peer holder : Member) (result : Result Replica Refusal) → IsNumbered asked_world.members to peer
+          → IsNumbered answered_world.members by holder
+          → AcceptGives holder.replica to waiting.saved.generation peer.replica.saved.entries result
+          → AcceptStands volume (answered W.events by to) by serve result
+      takes peer holder result peer_is holder_is gives =
+          accept_gives_stands volume (answered W.events by to) by to waiting.saved.generation
+          peer.replica.saved.entries serve holder.replica result answered_stand.lawful
+          (replica_stands volume answered_model answered_world answered_stand by holder holder_is) (serves peer peer_is)
+          gives
+
+      -- so it is never refused
+      never_refused : (refusal : Refusal) → refusal ≢ Memory
+          → AcceptStands volume (answered W.events by to) by serve (Err refusal) → ⊥
+      never_refused Stale no_memory never = never may_accept
+      never_refused Memory no_memory so = no_memory refl
+      never_refused refusal no_memory none = none
+
+      -- what the peer has served
+      abbrev served : Member → Served
+      served peer = record {
+        position = length asked_world.events;
+        number = waiting.saved.generation;
+        entries = peer.replica.saved.entries;
+      }
+
+      -- the stored position of the Serve is raised to that in the history
+      serve_raised : length asked_world.events + raise volume answered_model answered_world answered_stand ≡ serve
+      serve_raised =
+          omega (
+            arith,
+            raised_length volume answered_model answered_world answered_stand,
+            length_push asked_world.events (Serve to (length old.events)),
+            length_push (asked W.events by to) (Serve to (length W.events)),
+          )
+
+      follow_taking : (peer : Member) (result : Result Answer Refusal) (new : Whole)
+          → IsNumbered asked_world.members to peer → TakesServed by to (served peer) answered_world result new
+          → FollowsBySort volume W (Pulls by to) result new
+      follow_taking peer result new peer_is (Refuses {was = holder} {refusal = refusal} holder_is no_memory gives) =
+          absurd (never_refused refusal no_memory (takes peer holder (Err refusal) peer_is holder_is gives))
+      follow_taking peer result new peer_is (Accepts {was = holder} {new = next} holder_is gives) =
+          let now = takes peer holder (Ok next) peer_is holder_is gives in
+          let stored = length asked_world.events in
+          record {
+            effect = happened answered_model (Accept by serve);
+            does = Goes (Goes (Says (may_ask peers, refl)) Added) (Goes Added (Goes (Says (may_accept, refl)) Added));
+            stands =
+                advanced_stands volume answered_model answered_world answered_stand (Accept by stored) (Accept by serve)
+                (ap (λ n. Accept by n) serve_raised) may_accept by holder next holder_is refl now.stands;
+          }
+
+    follow_pull : (result : Result Answer Refusal) (new : Whole) → MovesBySort (Pulls by to) old result new
+        → FollowsBySort volume W (Pulls by to) result new
+    follow_pull result new (Ends (NoPeers none)) =
+        record { effect = unchanged W; does = Ends (Ends (Says (inl (may_not_ask none, refl)))); stands = stands }
+    follow_pull result new (Goes (Sends peers is asks) (Ends hands)) = elim hands [ ]
+    follow_pull result new
+        (Goes (Sends {was = was} {asked = waiting} peers is asks) (Goes (Hands {peer = peer} peer_is) taking)) =
+        follow_taking was waiting peers is asks peer result new peer_is taking
+
+  follow_sort : (sort : Sort) (result : Result Answer Refusal) (new : Whole) → IsOfDirectories sort
+      → MovesBySort sort old result new → FollowsBySort volume W sort result new
+  follow_sort (Changes by change) result new dir moves = follow_change by change result new dir moves
+  follow_sort (Looks by look) result new dir moves = follow_look by look result new moves
+  follow_sort (Pulls by to) result new dir moves = follow_pull by to result new moves
+
+  -- whatever a command does to the world, it does to what the world stands for
+  pub follow : (command : Command) (answer : Answer) (new : Whole) → Moves old command answer new
+      → Follows volume W command answer new
+  follow command answer new moves =
+      let follows = follow_sort (sort_of command) moves.result new (of_directories command) moves.does in
+      record {
+        outcome = follows.effect.outcome;
+        after = follows.effect.after;
+        step = record { result = moves.result; does = follows.does; answer_is = moves.answer_is };
+        stands = follows.stands;
+      }

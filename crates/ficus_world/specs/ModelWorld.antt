@@ -1,0 +1,21 @@
+-- Worlds of the model.
+use Rattle.std.specs.Prelude.{List}
+use Rattle.ficus_model.specs.declared.event.Event.{Event}
+
+-- how a member stands
+pub data Standing : Type 0 where
+  Up : Standing
+
+-- all that has happened, and how each member stands
+pub record ModelWorld : Type 0 where
+  pub events : List Event
+  pub standings : List Standing
+
+-- what the outside does in a step
+pub data Outcome : Type 0 where
+  AllDone : Outcome
+
+-- what an action leaves: what the outside did in it, and the world after it
+pub record Effect : Type 0 where
+  pub outcome : Outcome
+  pub after : ModelWorld
