@@ -2,3 +2,4 @@ pub mod Using
 pub mod Before
 pub mod Dropped
 pub mod Finishing
+pub mod FileDone
