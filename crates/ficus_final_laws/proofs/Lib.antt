@@ -3,3 +3,4 @@ pub mod Before
 pub mod Dropped
 pub mod Finishing
 pub mod FileDone
+pub mod Conflict
