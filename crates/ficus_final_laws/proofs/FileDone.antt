@@ -1,17 +1,14 @@
 -- A lawful history in which a file is done, and an answer is taken afterwards.
-use Rattle.std.proofs.Common.{◌≡◌, ◌⊎◌, ℕ, zero, suc, ◌∙◌, List, [], ◌∷◌, Some, None, refl, sym, ap, subst, inl, inr, arith}
-use Rattle.std.specs.Prelude.{Contains, slice_get}
-use Rattle.ficus_ids.specs.ListLaws.{here}
-use Rattle.ficus_ids.specs.Members.{IsMember}
+use Rattle.std.proofs.Common.{◌≡◌, ◌⊎◌, ℕ, zero, suc, [], ◌∷◌, Some, refl, sym, subst, inl, inr, arith}
+use Rattle.std.specs.Prelude.{slice_get}
 use Rattle.ficus_ids.specs.declared.id.Id.{Id}
 use Rattle.ficus_ids.specs.declared.kind.Kind.TheVariants.{Dir, Plain}
-use Rattle.ficus_model.specs.declared.event.Event.{Event}
-use Rattle.ficus_model.specs.declared.event.Event.TheVariants.{Update, Ask, Serve, Accept, Collect}
+use Rattle.ficus_model.specs.declared.event.Event.TheVariants.{Update, Ask, Serve, Accept}
 use Rattle.ficus_model.specs.declared.event.Op.{Op}
-use Rattle.ficus_model.specs.Events.{IsAt, IsOf, IsUpdate, before}
+use Rattle.ficus_model.specs.Events.{IsAt, IsUpdate, before}
 use Rattle.ficus_model.specs.Known.{Knows, HasInPast}
 use Rattle.ficus_model.specs.Live.{Entry, entered_by, IsEntered, IsMade}
-use Rattle.ficus_model.specs.Versions.{version_of, IsVersion, IsCovering, IsUncovered}
+use Rattle.ficus_model.specs.Versions.{version_of, IsCovering, IsUncovered}
 use Rattle.ficus_model.specs.View.{IsFilled, HasUnseen, IsOrphan}
 use Rattle.ficus_model.specs.Lawful.{IsLawful}
 use Rattle.ficus_model.specs.Held.{IsDropped, IsDone}
@@ -23,14 +20,8 @@ use Rattle.ficus_laws.proofs.Pull.{lawful_pulled}
 use Rattle.ficus_version_laws.proofs.Objects.{none_is}
 use Rattle.ficus_removal_laws.specs.Example.{drop_volume, drop_history}
 use Rattle.ficus_removal_laws.proofs.Dropping.{dropped_more}
-use Rattle.ficus_removal_laws.proofs.Example.{drop_lawful, drop_dropped}
+use Rattle.ficus_removal_laws.proofs.Example.{first, second, drop_lawful, drop_dropped}
 use Rattle.ficus_final_laws.specs.Examples.{example_file, makes_file, removes_file, done_volume, done_history}
-
-first : IsMember 2 1
-first = record { at_least = omega arith; at_most = omega arith }
-
-second : IsMember 2 2
-second = record { at_least = omega arith; at_most = omega arith }
 
 pub history_lawful : IsLawful done_volume done_history
 history_lawful = lawful_pulled drop_history 2 1 drop_volume second first (omega arith) drop_lawful

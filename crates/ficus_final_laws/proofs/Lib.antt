@@ -3,4 +3,5 @@ pub mod Before
 pub mod Dropped
 pub mod Finishing
 pub mod FileDone
+pub mod ConflictUpdates
 pub mod Conflict

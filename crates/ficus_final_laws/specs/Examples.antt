@@ -1,5 +1,5 @@
 -- Two histories of two members, in which what the laws speak of happens.
-use Rattle.std.specs.Prelude.{ℕ, List, [], ◌∷◌, ◌++◌, codes}
+use Rattle.std.specs.Prelude.{List, [], ◌∷◌, codes}
 use Rattle.ficus_ids.specs.declared.id.Id.{Id}
 use Rattle.ficus_ids.specs.declared.id.TheConstants.{ROOT}
 use Rattle.ficus_ids.specs.declared.kind.Kind.TheVariants.{Plain}

@@ -19,6 +19,7 @@ pub fn files_are_done()
 pub fn files_are_orphans()
     ensures lawful { IsLawful conflict_volume conflict_history }
     ensures conflict { IsInConflict (before 9 conflict_history) (Knows (before 9 conflict_history) 1) example_file }
-    ensures settled { IsInConflict (before 10 conflict_history) (Knows (before 10 conflict_history) 1) example_file → ⊥ }
+    ensures settled { IsInConflict (before 10 conflict_history) (Knows (before 10 conflict_history) 1) example_file
+        → ⊥ }
     ensures orphan { IsOrphan conflict_history (Knows conflict_history 1) example_file }
 {}
