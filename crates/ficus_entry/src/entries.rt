@@ -1,4 +1,4 @@
-ghost use Rattle.std.specs.Prelude.{◌≡◌, ◌↔◌, ◌≤◌, ◌<◌, ◌==◌, [], length, slice_get, Some, IsTrue, IfOk, IfErr, OnOk, OnErr};
+ghost use Rattle.std.specs.Prelude.{◌≡◌, ◌↔◌, ◌≤◌, ◌<◌, ◌==◌, [], length, slice_get, vec_len, vec_capacity, Some, IsTrue, IfOk, IfErr, OnOk, OnErr};
 ghost use Rattle.std.specs.Option.{option_copied};
 ghost use Rattle.ficus_entry.specs.Entry.{IsRising, Holds, HoldsUnder, IsFoundAt, IsPlace, AddsEntry, PutsEntry};
 ghost use Rattle.ficus_entry.specs.Kill.{HoldsLive, IsKilled};
@@ -186,8 +186,14 @@ impl Entries {
         ensures kept { OnErr result (self.new ≡ self.old) }
         ensures rising { IsRising self.new }
     {
-        self.changed.reserve(table.list.len())?;
-        self.changed.clear();
+        if table.list.len() <= self.changed.capacity() {
+            self.changed.clear();
+            self.table = table;
+            return Ok(());
+        }
+        // Made afresh, since room that grew would be copied, and so take memory although nothing is in it.
+        let changed = room_for(self.allocator(), table.list.len())?;
+        self.changed = changed;
         self.table = table;
         Ok(())
     }
@@ -235,4 +241,15 @@ impl Entries {
     {
         self.table.search(id)
     }
+}
+
+// Room for so many changes, and some more.
+fn room_for(alloc: Global, count: usize) -> Result<Vec<Changed>, Memory>
+    ensures items { IfOk result (λ changed. changed.items ≡ []) }
+    ensures len { IfOk result (λ changed. vec_len changed ≡ 0) }
+    ensures capacity { IfOk result (λ changed. count ≤ vec_capacity changed) }
+{
+    let room = (count / ROOM).saturating_add(1).saturating_mul(ROOM);
+    let changed = Vec::with_capacity(alloc, room.max(count))?;
+    Ok(changed)
 }
