@@ -18,6 +18,7 @@ use Rattle.ficus_world.specs.ModelWorld.{ModelWorld, AllDone, Effect}
 use Rattle.ficus_world.specs.Sequence.{Action, Sequence, ByRule}
 use Rattle.ficus_world.specs.Sort.{answer_to, LookAnswer}
 
+-- an action on a world of the model
 abbrev pub ModelAction : Type 0 → Type 1
 ModelAction A = Action ModelWorld Effect A
 

@@ -23,6 +23,7 @@ use Rattle.ficus_world.specs.Sequence.{Action, Sequence, ByRule}
 use Rattle.ficus_world.specs.Sort.{Sort, Changes, Looks, Pulls, sort_of, answer_to, LookAnswer, answer_as}
 use Rattle.ficus_world.specs.World.{Whole, IsNumbered}
 
+-- an action on a world as contracts see it
 abbrev pub WholeAction : Type 0 → Type 1
 WholeAction A = Action Whole Whole A
 
@@ -105,8 +106,7 @@ pub data TakesServed (by to : ℕ) (served : Served) (old : Whole) : Result Answ
 abbrev pub MovesBySort : Sort → WholeAction Answer
 MovesBySort (Changes by change) =
     Sequence itself (FindsMember by) (λ member. Sequence itself (TablesDecide member change) (KeepsUpdate by member))
-MovesBySort (Looks by look) =
-    Sequence itself (FindsMember by) (λ member. TablesShow member look)
+MovesBySort (Looks by look) = Sequence itself (FindsMember by) (λ member. TablesShow member look)
 MovesBySort (Pulls by to) =
     Sequence itself (KeepsAsk by to) (λ ask. Sequence itself (HandsOver to ask) (TakesServed by to))
 

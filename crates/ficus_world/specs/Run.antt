@@ -13,8 +13,7 @@ use Rattle.ficus_world.specs.Sort.{Sort, Changes, Looks, Pulls, sort_of, answer_
 abbrev pub Does : Volume → Sort → ModelAction Answer
 Does volume (Changes by change) =
     Sequence after (AtMember volume by) (λ member. Sequence after (Decides volume by change) (Updates by))
-Does volume (Looks by look) =
-    Sequence after (AtMember volume by) (λ member. Sees volume by look)
+Does volume (Looks by look) = Sequence after (AtMember volume by) (λ member. Sees volume by look)
 Does volume (Pulls by to) =
     Sequence after (Asks volume by to) (λ ask. Sequence after (Serves to ask) (Takes volume by))
 

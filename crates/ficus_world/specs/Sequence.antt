@@ -1,8 +1,8 @@
--- Actions on a world, one after the other. An action says, from the world before it, what it gives or the refusal at
--- which it ends, and what it leaves.
+-- Actions on a world, one after the other.
 use Rattle.std.specs.Prelude.{Result, Ok, Err}
 use Rattle.ficus_ids.specs.declared.refusal.Refusal.{Refusal}
 
+-- An action says, from the world before it, what it gives or the refusal at which it ends, and what it leaves.
 abbrev pub Action : Type 0 → Type 0 → Type 0 → Type 1
 Action World Left A = World → Result A Refusal → Left → Type 0
 

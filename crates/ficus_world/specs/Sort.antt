@@ -22,6 +22,7 @@ pub data Sort : Type 0 where
   Looks : ℕ → Look → Sort
   Pulls : ℕ → ℕ → Sort
 
+-- what each command asks for
 abbrev pub sort_of : Command → Sort
 sort_of (command.MkDir by path) = Changes by (Make path Dir)
 sort_of (command.Ls by path) = Looks by (List path)

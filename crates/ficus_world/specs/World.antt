@@ -31,7 +31,8 @@ pub record IsReplica (members : List Member) (r : ℕ) (replica : Replica) : Typ
   pub is : IsNumbered members r member
   pub holds : replica ≡ member.replica
 
--- what holds of each replica of every world
+-- What holds of each replica of every world. It has saved 2^62 times at most before this run, and once at most for
+-- each event, so that there is a generation for the next.
 pub record IsSound (count events r : ℕ) (replica : Replica) : Type 0 where
   pub me : replica.saved.me ≡ r
   pub members : replica.saved.members ≡ count
