@@ -63,7 +63,8 @@ update_is {position} {other = other} {op = op} h v u =
     subst (λ found. IsOneOf position found op) same.0 (subst (IsOneOf position other) same.1 h)
 
 -- there are no others
-pub one_of : (position : ℕ) {number : Id} {op : Op} → IsUpdate conflict_history position number op → IsOneOf position number op
+pub one_of : (position : ℕ) {number : Id} {op : Op} → IsUpdate conflict_history position number op →
+    IsOneOf position number op
 one_of zero u = update_is Making makes u
 one_of (suc zero) u = let e = u.at.is in cc
 one_of (suc (suc zero)) u = let e = u.at.is in cc
@@ -111,8 +112,8 @@ removed_late {removed = removed} WritingSecond inside = absurd (not_inside_none 
 removed_late {removed = removed} Settling inside = absurd (not_inside_none removed inside)
 removed_late Removing inside = omega arith
 
-pub covers_late : {position : ℕ} {number : Id} {op : Op} → IsOneOf position number op → covered_by op ≡ Some example_file →
-    position ≡ 10
+pub covers_late : {position : ℕ} {number : Id} {op : Op} → IsOneOf position number op →
+    covered_by op ≡ Some example_file → position ≡ 10
 covers_late Making covers = absurd (none_is example_file covers)
 covers_late WritingFirst covers = absurd (none_is example_file covers)
 covers_late WritingSecond covers = absurd (none_is example_file covers)

@@ -3,4 +3,4 @@
 
 mod laws;
 
-pub use laws::{one_change, one_look, same_view_same_change, same_shown_same_look};
+pub use laws::{one_change, one_look, same_shown_same_look, same_view_same_change};
