@@ -9,12 +9,13 @@ use Rattle.ficus_entry.specs.Entry.{IsRising}
 use Rattle.ficus_entry.specs.declared.entry.Entry.{Entry}
 use Rattle.ficus_entry.specs.declared.entry.State.{State}
 use Rattle.ficus_entry.specs.declared.entry.State.TheVariants.{Live, Dead}
+use Rattle.ficus_codec.specs.declared.saved.TheConstants.{UPDATE_LIMIT}
 
 -- some member may have issued it
 pub record IsIssuable (members : ℕ) (id : Id) : Type 0 where
   pub replica : IsMember members id.replica
   pub at_least : 1 ≤ id.number
-  pub at_most : id.number ≤ 100000
+  pub at_most : id.number ≤ UPDATE_LIMIT
 
 -- entries may lie in it
 abbrev pub MayHoldEntries : ℕ → Id → Type 0

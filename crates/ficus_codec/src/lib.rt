@@ -3,4 +3,4 @@
 
 mod saved;
 
-pub use saved::Saved;
+pub use saved::{BYTE_LIMIT, Saved, UPDATE_LIMIT};

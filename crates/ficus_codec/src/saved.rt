@@ -1,6 +1,12 @@
 use ficus_entry::Entries;
 use ficus_ids::Members;
 
+/// The most updates that a volume allows one replica over its life.
+pub const UPDATE_LIMIT: u32 = 100_000;
+
+/// The most bytes that a volume allows one replica to write over its life: 4 MiB.
+pub const BYTE_LIMIT: u32 = 4_194_304;
+
 /// What a replica saves: all that outlives a restart.
 #[derive(Drop)]
 pub struct Saved {
@@ -8,9 +14,9 @@ pub struct Saved {
     pub me: u8,
     /// How many replicas the volume has.
     pub members: Members,
-    /// The most updates that one replica makes over its life, from 1 to 100,000.
+    /// The most updates that one replica makes over its life, from 1 to `UPDATE_LIMIT`.
     pub ids: u32,
-    /// The most bytes that one replica writes over its life, at most 4,194,304.
+    /// The most bytes that one replica writes over its life, at most `BYTE_LIMIT`.
     pub bytes: u32,
     /// The number of its next update, from 1.
     pub next: u32,

@@ -32,6 +32,7 @@ pub struct Next {
 impl Replica {
     ghost use Rattle.ficus_ids.specs.Members.{IsMember};
     ghost use Rattle.ficus_codec.specs.Saved.{FitsImage};
+    ghost use Rattle.ficus_codec.specs.declared.saved.TheConstants.{UPDATE_LIMIT, BYTE_LIMIT};
     ghost use Rattle.ficus_model.specs.Lawful.{Volume};
     ghost use Rattle.ficus_model.specs.declared.event.Event.{Event};
     ghost use Rattle.ficus_model.specs.declared.event.Event.TheVariants.{Restart};
@@ -41,8 +42,8 @@ impl Replica {
     pub fn fresh(alloc: Global, me: u8, members: Members, ids: u32, bytes: u32) -> Replica
         requires me { IsMember members me }
         requires ids_at_least { 1 ≤ ids }
-        requires ids_at_most { ids ≤ 100000 }
-        requires bytes { bytes ≤ 4194304 }
+        requires ids_at_most { ids ≤ UPDATE_LIMIT }
+        requires bytes { bytes ≤ BYTE_LIMIT }
         ensures saved { result.saved ≡ fresh_saved (record { members = members; ids = ids; bytes = bytes }) me }
         ensures ask { result.ask ≡ None }
         ensures fits { FitsImage result.saved }

@@ -2,6 +2,7 @@ ghost use Rattle.std.specs.Prelude.{◌≡◌, ◌↔◌, length, IfOk, IsTrue, 
 
 use crate::fresh::{fresh_history, fresh_members};
 use crate::member::Member;
+use ficus_codec::{BYTE_LIMIT, UPDATE_LIMIT};
 use ficus_ids::{Members, Memory};
 use ficus_model::History;
 use ficus_replica::Replica;
@@ -9,10 +10,10 @@ use std::alloc::Global;
 use std::marker::Model;
 
 /// The most updates of one replica over its life, where nothing else is said.
-pub const DEFAULT_IDS: u32 = 100_000;
+pub const DEFAULT_IDS: u32 = UPDATE_LIMIT;
 
 /// The most bytes that one replica writes over its life, where nothing else is said.
-pub const DEFAULT_BYTES: u32 = 4_194_304;
+pub const DEFAULT_BYTES: u32 = BYTE_LIMIT;
 
 /// The members of a volume, and the history of this run.
 #[derive(Drop)]
