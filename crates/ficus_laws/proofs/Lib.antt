@@ -14,3 +14,4 @@ pub mod Places
 pub mod OpenAsk
 pub mod Past
 pub mod Views
+pub mod Deciding

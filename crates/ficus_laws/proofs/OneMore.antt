@@ -57,7 +57,7 @@ same_of_other H event replica other = record {
     go number op (inl was) = was
     go number op (inr (of, rest)) = absurd (other of)
 
-quiet_takes : (event : Event) (served : ℕ) → IsQuiet event → Takes event served → ⊥
+pub quiet_takes : (event : Event) (served : ℕ) → IsQuiet event → Takes event served → ⊥
 quiet_takes (Update by op) served quiet takes = quiet
 quiet_takes (Ask by to) served quiet takes = takes
 quiet_takes (Serve by ask) served quiet takes = takes

@@ -118,7 +118,7 @@ module _ {H K : List Event} {U V : ℕ → Type 0} (more : UpdatesWithin K V H U
   target_made number (Discard file) entry u may enters =
       known_target ATTIC (codes "discarded") enters (may.is_file.kind, may.is_file.made)
 
-some_inside : (entries : List Id) → entries ≢ [] → (id : Id) × Contains entries id
+pub some_inside : (entries : List Id) → entries ≢ [] → (id : Id) × Contains entries id
 some_inside [] some = absurd (some refl)
 some_inside (id ∷ entries) some = (id, here id entries)
 

@@ -1,0 +1,14 @@
+pub mod Counting
+pub mod Past
+pub mod Comparing
+pub mod Latest
+pub mod Taking
+pub mod Listing
+pub mod Advancing
+pub mod Objects
+pub mod Covering
+pub mod Making
+pub mod Pigeonhole
+pub mod Few
+pub mod Orphaned
+pub mod Existing

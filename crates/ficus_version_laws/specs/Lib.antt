@@ -1,0 +1,5 @@
+pub mod Compared
+pub mod Listed
+pub mod Covers
+pub mod Views
+pub mod Laws
