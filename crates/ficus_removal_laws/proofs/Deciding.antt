@@ -1,0 +1,159 @@
+-- Whether a replica knows a position can be decided.
+use Rattle.std.proofs.Common.{◌≡◌, ◌⊎◌, ℕ, zero, suc, ◌+◌, ◌<◌, ◌≤◌, List, length, refl, subst, inl, inr, arith}
+use Rattle.std.proofs.lemmas.Bool.{cases_lt, cases_eq}
+use Rattle.ficus_model.specs.declared.event.Event.{Event}
+use Rattle.ficus_model.specs.declared.event.Event.TheVariants.{Update, Ask, Serve, Accept, Collect, Restart}
+use Rattle.ficus_model.specs.Events.{IsAt, IsOf, actor}
+use Rattle.ficus_model.specs.Known.{HasSeen, Knows}
+use Rattle.ficus_model.specs.Known.HasSeen.{Itself, Earlier, Heard}
+use Rattle.ficus_laws.proofs.Positions.{at_exists, at_same, of_at, of_same, of_within}
+use Rattle.ficus_laws.proofs.Seen.{seen_within}
+
+-- it holds, or it doesn't
+abbrev pub Decided : Type 0 → Type 0
+Decided P = P ⊎ (P → ⊥)
+
+pub both_decided : {P Q : Type 0} → Decided P → Decided Q → Decided (P × Q)
+both_decided (inl p) (inl q) = inl (p, q)
+both_decided (inl p) (inr none) = inr (λ both. none both.1)
+both_decided (inr none) q = inr (λ both. none both.0)
+
+-- the last number below n of which P holds
+pub record IsLast (P : ℕ → Type 0) (n last : ℕ) : Type 0 where
+  pub below : last < n
+  pub holds : P last
+  pub latest : (other : ℕ) → other < n → P other → other ≤ last
+
+abbrev pub HasLast : (ℕ → Type 0) → ℕ → Type 0
+HasLast P n = (last : ℕ) × IsLast P n last
+
+abbrev pub NoneBelow : (ℕ → Type 0) → ℕ → Type 0
+NoneBelow P n = (number : ℕ) → number < n → P number → ⊥
+
+below_or_at : {number n : ℕ} → number < suc n → (number < n) ⊎ (number ≡ n)
+below_or_at {number} {n} h = go (cases_lt number n)
+  where
+    go : (number < n) ⊎ (n ≤ number) → (number < n) ⊎ (number ≡ n)
+    go (inl l) = inl l
+    go (inr g) = inr (omega arith)
+
+-- what can be decided holds of a last number below n, or of none
+pub last_or_none : (P : ℕ → Type 0) (n : ℕ) → ((number : ℕ) → number < n → Decided (P number)) →
+    HasLast P n ⊎ NoneBelow P n
+last_or_none P zero decide = inr (λ number h holds. omega arith)
+last_or_none P (suc n) decide = go (decide n (omega arith)) (last_or_none P n (λ number h. decide number (omega arith)))
+  where
+    latest : {last : ℕ} → IsLast P n last → (P n → ⊥) → (other : ℕ) → (other < n) ⊎ (other ≡ n) → P other → other ≤ last
+    latest found none other (inl h) holds = found.latest other h holds
+    latest found none other (inr is) holds = absurd (none (subst P is holds))
+
+    nowhere : NoneBelow P n → (P n → ⊥) → (other : ℕ) → (other < n) ⊎ (other ≡ n) → P other → ⊥
+    nowhere below none other (inl h) holds = below other h holds
+    nowhere below none other (inr is) holds = none (subst P is holds)
+
+    go : Decided (P n) → HasLast P n ⊎ NoneBelow P n → HasLast P (suc n) ⊎ NoneBelow P (suc n)
+    go (inl holds) rest = inl (n, record { below = omega arith; holds = holds; latest = λ other h p. omega arith })
+    go (inr none) (inl (last, found)) = inl (
+      last,
+      record {
+        below = omega (arith, found.below);
+        holds = found.holds;
+        latest = λ other h p. latest found none other (below_or_at h) p;
+      },
+    )
+    go (inr none) (inr below) = inr (λ other h p. nowhere below none other (below_or_at h) p)
+
+pub of_decided : (H : List Event) (position replica : ℕ) → Decided (IsOf H position replica)
+of_decided H position replica = go (cases_lt position (length H))
+  where
+    is : (event : Event) → IsAt H position event → Decided (actor event ≡ replica) → Decided (IsOf H position replica)
+    is event at (inl same) = inl (record { event = event; at = at; of = same })
+    is event at (inr differs) = inr (λ own. differs (of_same (of_at at) own))
+
+    go : (position < length H) ⊎ (length H ≤ position) → Decided (IsOf H position replica)
+    go (inl h) = let found = at_exists H position h in is found.0 found.1 (cases_eq (actor found.0) replica)
+    go (inr h) = inr (λ own. omega (arith, of_within own))
+
+-- an event that hasn't seen a position: it is another, no earlier event of its replica has, and it wasn't told
+refuted : {H : List Event} {at seen replica : ℕ} → IsOf H at replica → (at ≡ seen → ⊥) →
+    ((old : ℕ) → old < at → IsOf H old replica × HasSeen H old seen → ⊥) →
+    ((taker served : ℕ) → served < at → IsAt H at (Accept taker served) → HasSeen H served seen → ⊥) → HasSeen H at seen →
+    ⊥
+refuted here other own told (Itself o) = other refl
+refuted {H} here other own told (Earlier {old = old} o p l s) =
+    own old l (subst (λ by. IsOf H old by) (of_same o here) p, s)
+refuted here other own told (Heard {served = served} {replica = taker} a l s) = told taker served l a s
+
+-- In each of these it is decided what the earlier events have seen of a position.
+module _ (H : List Event) (at seen : ℕ) (earlier : (old : ℕ) → old < at → Decided (HasSeen H old seen)) where
+  -- the event takes what was served where the position had been seen
+  abbrev IsToldOf : Type 0
+  IsToldOf = (taker : ℕ) × (served : ℕ) × (served < at) × IsAt H at (Accept taker served) × HasSeen H served seen
+
+  takes_nothing : (event : Event) → IsAt H at event → ((taker served : ℕ) → event ≡ Accept taker served → ⊥) →
+      Decided IsToldOf
+  takes_nothing event a none = inr (λ told. none told.0 told.1 (at_same a told.3))
+
+  told_decided : (event : Event) → IsAt H at event → Decided IsToldOf
+  told_decided (Accept by serve) a = go (cases_lt serve at)
+    where
+      same : {taker served : ℕ} → IsAt H at (Accept taker served) → served ≡ serve
+      same {taker} {served} b = let e : Accept by serve ≡ Accept taker served = at_same a b in cc
+
+      was : serve < at → Decided (HasSeen H serve seen) → Decided IsToldOf
+      was h (inl s) = inl (by, serve, h, a, s)
+      was h (inr none) = inr (λ told. none (subst (λ served. HasSeen H served seen) (same told.3) told.4))
+
+      go : (serve < at) ⊎ (at ≤ serve) → Decided IsToldOf
+      go (inl h) = was h (earlier serve h)
+      go (inr h) = inr (λ told. let e = same told.3 in let l = told.2 in omega arith)
+  told_decided (Update by op) a = takes_nothing (Update by op) a (λ taker served e. cc)
+  told_decided (Ask by to) a = takes_nothing (Ask by to) a (λ taker served e. cc)
+  told_decided (Serve by ask) a = takes_nothing (Serve by ask) a (λ taker served e. cc)
+  told_decided (Collect by) a = takes_nothing (Collect by) a (λ taker served e. cc)
+  told_decided (Restart by) a = takes_nothing (Restart by) a (λ taker served e. cc)
+
+  abbrev HasOwn : ℕ → ℕ → Type 0
+  HasOwn by old = IsOf H old by × HasSeen H old seen
+
+  seen_decided_after : Decided (HasSeen H at seen)
+  seen_decided_after = go (of_exists (cases_lt at (length H)))
+    where
+      of_exists : (at < length H) ⊎ (length H ≤ at) → ((event : Event) × IsAt H at event) ⊎ (length H ≤ at)
+      of_exists (inl h) = inl (at_exists H at h)
+      of_exists (inr h) = inr h
+
+      step : (event : Event) → IsAt H at event → Decided (at ≡ seen) →
+          HasLast (HasOwn (actor event)) at ⊎ NoneBelow (HasOwn (actor event)) at → Decided IsToldOf →
+          Decided (HasSeen H at seen)
+      step event a (inl same) own told = inl (subst (λ position. HasSeen H at position) same (Itself (of_at a)))
+      step event a (inr other) (inl (old, found)) told = inl (Earlier (of_at a) found.holds.0 found.below found.holds.1)
+      step event a (inr other) (inr none) (inl told) = inl (Heard told.3 told.2 told.4)
+      step event a (inr other) (inr none) (inr untold) =
+          inr (refuted (of_at a) other none (λ taker served h b s. untold (taker, served, h, b, s)))
+
+      go : ((event : Event) × IsAt H at event) ⊎ (length H ≤ at) → Decided (HasSeen H at seen)
+      go (inl (event, a)) = step event a (cases_eq at seen)
+          (last_or_none (HasOwn (actor event)) at (λ old h. both_decided (of_decided H old (actor event)) (earlier old h)))
+          (told_decided event a)
+      go (inr h) = inr (λ s. omega (arith, seen_within s))
+
+seen_decided_below : (H : List Event) (bound at seen : ℕ) → at < bound → Decided (HasSeen H at seen)
+seen_decided_below H zero at seen h = absurd (omega arith)
+seen_decided_below H (suc bound) at seen h =
+    seen_decided_after H at seen (λ old l. seen_decided_below H bound old seen (omega arith))
+
+pub seen_decided : (H : List Event) (at seen : ℕ) → Decided (HasSeen H at seen)
+seen_decided H at seen = seen_decided_below H (at + 1) at seen (omega arith)
+
+pub knows_decided : (H : List Event) (replica position : ℕ) → Decided (Knows H replica position)
+knows_decided H replica position = go (last_or_none
+    (λ at. IsOf H at replica × HasSeen H at position)
+    (length H)
+    (λ at h. both_decided (of_decided H at replica) (seen_decided H at position)))
+  where
+    go : HasLast (λ at. IsOf H at replica × HasSeen H at position) (length H) ⊎
+        NoneBelow (λ at. IsOf H at replica × HasSeen H at position) (length H) →
+        Decided (Knows H replica position)
+    go (inl (last, found)) = inl (record { last = last; own = found.holds.0; seen = found.holds.1 })
+    go (inr none) = inr (λ k. none k.last (of_within k.own) (k.own, k.seen))

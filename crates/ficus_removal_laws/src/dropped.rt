@@ -1,0 +1,33 @@
+ghost use Rattle.ficus_removal_laws.specs.Laws.{CollectDrops, DroppedIsInTwo, DroppedIsInOne, DroppedIsRemoved, LiveIsNotDropped, UnmarkedIsNotDropped, AbsentWasDropped, DroppedIsServed, AbsentIsFull, DroppedThereFills};
+
+/// A Collect drops exactly the entries for which the second set of its replica is full, and no other event
+/// drops any.
+pub fn collect_drops_exactly()
+    ensures { CollectDrops }
+{}
+
+/// Where a replica has dropped an entry, its second set is full, the first set of each member is full, and
+/// each member knows a removal.
+pub fn dropped_is_known_to_all()
+    ensures two { DroppedIsInTwo }
+    ensures one { DroppedIsInOne }
+    ensures removed { DroppedIsRemoved }
+{}
+
+/// An entry that is alive for a member nobody has dropped, nor one for which the first set of a member isn't
+/// full.
+pub fn live_is_never_dropped()
+    ensures live { LiveIsNotDropped }
+    ensures unmarked { UnmarkedIsNotDropped }
+{}
+
+/// What it means that one of both doesn't hold an entry when an answer is taken. The replica has dropped an
+/// entry exactly where it stands in the first set that is served, and then the server knew a removal. The
+/// server had dropped an entry exactly where the replica's first set is full, and then its second set is full
+/// once the answer is taken.
+pub fn absent_entries_are_explained()
+    ensures here { AbsentWasDropped }
+    ensures served { DroppedIsServed }
+    ensures there { AbsentIsFull }
+    ensures fills { DroppedThereFills }
+{}
