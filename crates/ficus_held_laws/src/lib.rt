@@ -1,0 +1,12 @@
+//! The laws of what a replica holds: which entries, in which state, and which objects, after each event.
+//!
+//! A law is the contract of a function with an empty body. Its lemmas stand in `proofs/`, for the proofs of
+//! the crates above.
+#![tactic(auto)]
+
+mod entries;
+
+pub use entries::{
+    accept_merges_entries, collect_drops_full_entries, held_entries_stand, others_keep_entries,
+    update_steps_entries,
+};
