@@ -8,7 +8,6 @@ use Rattle.ficus_model.specs.Known.{HasSeen, Knows}
 use Rattle.ficus_model.specs.Known.HasSeen.{Itself, Earlier, Heard}
 use Rattle.ficus_laws.proofs.Positions.{at_exists, at_same, of_at, of_same, of_within}
 use Rattle.ficus_laws.proofs.Seen.{seen_within}
-use Rattle.ficus_laws.proofs.Knowledge.{knows_within}
 
 -- it holds, or it doesn't
 abbrev pub Decided : Type 0 → Type 0
@@ -54,11 +53,14 @@ last_or_none P (suc n) decide = go (decide n (omega arith)) (last_or_none P n (�
 
     go : Decided (P n) → HasLast P n ⊎ NoneBelow P n → HasLast P (suc n) ⊎ NoneBelow P (suc n)
     go (inl holds) rest = inl (n, record { below = omega arith; holds = holds; latest = λ other h p. omega arith })
-    go (inr none) (inl (last, found)) = inl (last, record {
-      below = omega (arith, found.below);
-      holds = found.holds;
-      latest = λ other h p. latest found none other (below_or_at h) p;
-    })
+    go (inr none) (inl (last, found)) = inl (
+      last,
+      record {
+        below = omega (arith, found.below);
+        holds = found.holds;
+        latest = λ other h p. latest found none other (below_or_at h) p;
+      },
+    )
     go (inr none) (inr below) = inr (λ other h p. nowhere below none other (below_or_at h) p)
 
 pub of_decided : (H : List Event) (position replica : ℕ) → Decided (IsOf H position replica)

@@ -1,24 +1,24 @@
 -- Which identifiers have been issued.
-use Rattle.std.proofs.Common.{cond, drop, ◌++◌, ◌≡◌, ℕ, List, [], inl, inr, ◌⊎◌, sym, ap, subst, ◌∙◌, arith}
+use Rattle.std.proofs.Common.{cond, drop, ◌++◌, ◌≡◌, ℕ, List, inl, inr, ◌⊎◌, sym, ap, subst, ◌∙◌, arith}
 use Rattle.std.proofs.lemmas.List.{take-append-drop}
 use Rattle.std.proofs.lemmas.List.Sums.{sum_by-append}
 use Rattle.std.proofs.lemmas.Option.{same_Some}
 use Rattle.std.specs.Prelude.{Contains}
-use Rattle.ficus_ids.specs.ListLaws.{here_or_there, not_inside_none}
 use Rattle.ficus_ids.specs.Members.{IsMember}
 use Rattle.ficus_ids.specs.declared.id.Id.{Id}
 use Rattle.ficus_ids.specs.declared.kind.Kind.{Kind}
 use Rattle.ficus_model.specs.declared.event.Event.{Event}
 use Rattle.ficus_model.specs.declared.event.Event.TheVariants.{Update}
 use Rattle.ficus_model.specs.declared.event.Op.{Op}
-use Rattle.ficus_model.specs.declared.event.Op.TheVariants.{Make, Link, Remove, Move, Write, Settle, Resolve, Adopt, Discard}
+use Rattle.ficus_model.specs.declared.event.Op.TheVariants.{Make}
 use Rattle.ficus_model.specs.Events.{IsUpdate, before, is_update_of}
 use Rattle.ficus_model.specs.Known.{Knows}
 use Rattle.ficus_model.specs.Live.{Entry, entered_by, removed_by, IsEntered, IsRemoved, IsMade}
-use Rattle.ficus_model.specs.Lawful.{Volume, AreNames, IsAllowed, MayUpdate, IsLawful}
+use Rattle.ficus_model.specs.Lawful.{Volume, IsAllowed, MayUpdate, IsLawful}
 use Rattle.ficus_laws.specs.Updates.{next_number, IsIssued}
 use Rattle.ficus_laws.proofs.Positions.{of_at}
 use Rattle.ficus_laws.proofs.Lawful.{lawful_member}
+use Rattle.ficus_laws.proofs.Removable.{IsRemovable, is_removable}
 use Rattle.ficus_laws.proofs.Updates.{update_issued, update_once}
 
 -- what is issued stays issued
@@ -34,28 +34,14 @@ issued_later {H} {id} n i = subst (λ K. IsIssued K id) (take-append-drop n H) (
 pub entered_issued : {H : List Event} {U : ℕ → Type 0} {entry : Entry} → IsEntered H U entry → IsIssued H entry.id
 entered_issued e = update_issued e.update
 
--- the names that an operation may remove have been issued
-names_issued : {H : List Event} {U : ℕ → Type 0} {entries : List Id} {object id : Id} → AreNames H U entries object →
-    Contains entries id → IsIssued H id
-names_issued {H} {id = id} names inside =
-    let named = (names.all id).0 inside in
-    subst (IsIssued H) named.by (entered_issued named.bound.live.entered)
-
+-- what an operation may remove has been issued, or it is the next number
 removes_issued : (H : List Event) (U : ℕ → Type 0) (number id : Id) (op : Op) → IsAllowed H U op →
     Contains (removed_by number op) id → IsIssued H id ⊎ (id ≡ number)
-removes_issued H U number id (Make dir name kind) allowed removes = absurd (not_inside_none id removes)
-removes_issued H U number id (Link dir name target) allowed removes = absurd (not_inside_none id removes)
-removes_issued H U number id (Remove entries target) allowed removes = inl (names_issued allowed.names removes)
-removes_issued H U number id (Move entries dir name target) allowed removes = inl (names_issued allowed.names removes)
-removes_issued H U number id (Write file bytes) allowed removes = absurd (not_inside_none id removes)
-removes_issued H U number id (Settle file bytes) allowed removes = absurd (not_inside_none id removes)
-removes_issued H U number id (Resolve file bytes) allowed removes = absurd (not_inside_none id removes)
-removes_issued H U number id (Adopt file dir name) allowed removes = absurd (not_inside_none id removes)
-removes_issued H U number id (Discard file) allowed removes = inr (only (here_or_there number id [] removes))
+removes_issued H U number id op allowed removes = go (is_removable H U number id op allowed removes)
   where
-    only : (id ≡ number) ⊎ Contains [] id → id ≡ number
-    only (inl same) = same
-    only (inr none) = absurd (not_inside_none id none)
+    go : IsRemovable H U number op id → IsIssued H id ⊎ (id ≡ number)
+    go (inl alive) = inl (subst (IsIssued H) alive.named (entered_issued alive.live.entered))
+    go (inr discard) = inr discard.own
 
 -- in a lawful history, what is removed has been issued
 pub removed_issued : (volume : Volume) (H : List Event) {U : ℕ → Type 0} {id : Id} → IsLawful volume H →

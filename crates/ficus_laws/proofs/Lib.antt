@@ -6,6 +6,7 @@ pub mod Shown
 pub mod OneMore
 pub mod AfterUpdate
 pub mod Lawful
+pub mod Removable
 pub mod Issued
 pub mod Accept
 pub mod Pull

@@ -1,5 +1,5 @@
 -- The view depends only on which updates are known, also in another history.
-use Rattle.std.proofs.Common.{◌≡◌, ◌≢◌, ◌⊎◌, inl, inr, ℕ, Bool, ◌<◌, List, [], ◌∷◌, ◌++◌, length, sym, subst, arith}
+use Rattle.std.proofs.Common.{◌≡◌, ◌≢◌, ◌⊎◌, inl, inr, ℕ, Bool, ◌<◌, List, [], ◌∷◌, ◌++◌, length, subst, arith}
 use Rattle.ficus_ids.specs.declared.id.Id.{Id}
 use Rattle.ficus_ids.specs.declared.kind.Kind.{Kind}
 use Rattle.ficus_model.specs.declared.event.Event.{Event}
@@ -9,7 +9,7 @@ use Rattle.ficus_model.specs.Events.{IsUpdate, actor}
 use Rattle.ficus_model.specs.Known.{Knows, HasInPast}
 use Rattle.ficus_model.specs.Live.{IsBound, HasName, HasInside, IsFile}
 use Rattle.ficus_model.specs.ShownNames.{HasOther}
-use Rattle.ficus_model.specs.Versions.{IsVersion, IsCovering, HasBytes, IsShown, IsUncovered, ShowsBytes, IsInConflict}
+use Rattle.ficus_model.specs.Versions.{IsVersion, IsCovering, IsShown, IsUncovered, ShowsBytes, IsInConflict}
 use Rattle.ficus_model.specs.View.{IsFilled, HasUnseen, IsOrphan, IsTop, IsInReach, IsDetached, IsVisible, ShowsName, IsShared, ShowsConflict, ShowsVersion, ViewSame}
 use Rattle.ficus_laws.specs.Laws.{KnowSameUpdates}
 use Rattle.ficus_laws.specs.Views.{ShowSameView}
@@ -24,7 +24,8 @@ use Rattle.ficus_laws.proofs.Past.{agree_past}
 -- an update that the first knows stands at the same position of the second, with the same past, and is known there
 pub record KnowsWithin (H : List Event) (U : ℕ → Type 0) (K : List Event) (V : ℕ → Type 0) : Type 0 where
   pub known : {position : ℕ} {number : Id} {op : Op} → IsUpdate H position number op → U position → V position
-  pub update : {position : ℕ} {number : Id} {op : Op} → IsUpdate H position number op → U position → IsUpdate K position number op
+  pub update : {position : ℕ} {number : Id} {op : Op} → IsUpdate H position number op → U position →
+      IsUpdate K position number op
   pub past : {position earlier : ℕ} {number : Id} {op : Op} →
       IsUpdate H position number op → U position → HasInPast H position earlier → HasInPast K position earlier
 
@@ -37,7 +38,13 @@ pub same_turned : {H K : List Event} {U V : ℕ → Type 0} → KnowsSame H U K 
 same_turned s = record { there = s.back; back = s.there }
 
 updates_within : {H K : List Event} {U V : ℕ → Type 0} → KnowsWithin H U K V → UpdatesWithin H U K V
-updates_within w = record { has = λ number op u. record { position = u.position; known = w.known u.update u.known; update = w.update u.update u.known } }
+updates_within w = record {
+  has = λ number op u. record {
+    position = u.position;
+    known = w.known u.update u.known;
+    update = w.update u.update u.known;
+  };
+}
 
 pub same_updates : {H K : List Event} {U V : ℕ → Type 0} → KnowsSame H U K V → SameUpdates H U K V
 same_updates s = record { there = updates_within s.there; back = updates_within s.back }
@@ -74,7 +81,8 @@ kept_known H event replica kept = record {
 }
   where
     quiet_no_update : {position : ℕ} {number : Id} {op : Op} → IsQuiet event → position ≡ length H →
-        IsUpdate H position number op ⊎ ((position ≡ length H) × (event ≡ Update number.replica op) × (number ≡ next_number number.replica H)) → ⊥
+        IsUpdate H position number op ⊎
+        ((position ≡ length H) × (event ≡ Update number.replica op) × (number ≡ next_number number.replica H)) → ⊥
     quiet_no_update quiet end (inl u) = omega (arith, update_within u)
     quiet_no_update quiet end (inr (same, is, next)) = subst IsQuiet is quiet
 
@@ -89,7 +97,8 @@ kept_known H event replica kept = record {
     was (inr quiet) u k = untold quiet u (knows_untold event (λ served takes. quiet_takes event served quiet takes) k)
 
 -- replicas that know the same updates of one history
-pub equal_known : {H : List Event} {replica other : ℕ} → KnowSameUpdates H replica other → KnowsSame H (Knows H replica) H (Knows H other)
+pub equal_known : {H : List Event} {replica other : ℕ} → KnowSameUpdates H replica other →
+    KnowsSame H (Knows H replica) H (Knows H other)
 equal_known same = record {
   there = record { known = λ u k. (same _ _ _ u).0 k; update = λ u k. u; past = λ u k p. p };
   back = record { known = λ u k. (same _ _ _ u).1 k; update = λ u k. u; past = λ u k p. p };
@@ -120,11 +129,19 @@ module _ {H K : List Event} {U V : ℕ → Type 0} (same : KnowsSame H U K V) wh
   uncovered_within s = record {
     version = version_within_known same.there s.version s.known;
     known = same.there.known s.version.update s.known;
-    uncovered = λ cover c k p. s.uncovered cover (covering_within_known same.back c k) (same.back.known c.update k) (same.back.past c.update k p);
+    uncovered = λ cover c k p. s.uncovered cover
+        (covering_within_known same.back c k) (same.back.known c.update k)
+        (same.back.past c.update k p);
   }
 
   pub conflict_within : {file : Id} → IsInConflict H U file → IsInConflict K V file
-  conflict_within {file} c = record { one = c.one; other = c.other; shows_one = shows c.shows_one; shows_other = shows c.shows_other; differ = c.differ }
+  conflict_within {file} c = record {
+    one = c.one;
+    other = c.other;
+    shows_one = shows c.shows_one;
+    shows_other = shows c.shows_other;
+    differ = c.differ;
+  }
     where
       shows : {bytes : List ℕ} → ShowsBytes H U file bytes → ShowsBytes K V file bytes
       shows s = record {
@@ -140,7 +157,11 @@ module _ {H K : List Event} {U V : ℕ → Type 0} (same : KnowsSame H U K V) wh
   inside_within n = record { entry = n.entry; live = live_same (same_updates same) n.live; in_dir = n.in_dir }
 
   unseen_within : {object : Id} → HasUnseen H U object → HasUnseen K V object
-  unseen_within u = record { is_file = file_within (updates_within same.there) u.is_file; position = u.position; uncovered = uncovered_within u.uncovered }
+  unseen_within u = record {
+    is_file = file_within (updates_within same.there) u.is_file;
+    position = u.position;
+    uncovered = uncovered_within u.uncovered;
+  }
 
   kept_within : {object : Id} → IsFilled H U object ⊎ HasUnseen H U object → IsFilled K V object ⊎ HasUnseen K V object
   kept_within (inl f) = inl (record { made = made_within (updates_within same.there) f.made; inside = inside_within f.inside })
@@ -162,16 +183,21 @@ module _ {H K : List Event} {U V : ℕ → Type 0} (same : KnowsSame H U K V) wh
   pub reach_within : {object : Id} → IsInReach H U object → IsInReach K V object
   reach_within r = reached_from_more top_within (reached_within (λ dir target l. leads_same (same_updates same) l) r)
 
-  other_within : {dir target : Id} {name : List ℕ} → HasOther (IsBound H U dir) name target → HasOther (IsBound K V dir) name target
+  other_within : {dir target : Id} {name : List ℕ} → HasOther (IsBound H U dir) name target →
+      HasOther (IsBound K V dir) name target
   other_within o = record { other = o.other; bound = bound_same (same_updates same) o.bound; differs = o.differs }
 
 -- so their views are the same
 module _ {H K : List Event} {U V : ℕ → Type 0} (same : KnowsSame H U K V) where
-  name_within : {dir target : Id} {name : List ℕ} {suffixed : Bool} {kind : Kind} → ShowsName H U dir name target suffixed kind → ShowsName K V dir name target suffixed kind
+  name_within : {dir target : Id} {name : List ℕ} {suffixed : Bool} {kind : Kind} →
+      ShowsName H U dir name target suffixed kind → ShowsName K V dir name target suffixed kind
   name_within s = record {
     shown = record {
       bound = bound_same (same_updates same) s.shown.bound;
-      several = (λ yes_suffixed. other_within same (s.shown.several.0 yes_suffixed), λ o. s.shown.several.1 (other_within (same_turned same) o));
+      several = (
+        λ suffixed_is. other_within same (s.shown.several.0 suffixed_is),
+        λ o. s.shown.several.1 (other_within (same_turned same) o),
+      );
     };
     made = made_within (updates_within same.there) s.made;
   }

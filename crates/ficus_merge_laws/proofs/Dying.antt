@@ -95,7 +95,10 @@ module _ {members : ℕ} {H : List Event} {replica : ℕ} {id : Id} {one two : �
     removed = said.removed;
     held = said.held;
     first = λ peer. (λ inside. one_at_last ((first_right peer).0 inside), λ o. (first_right peer).1 (one_from_last o));
-    second = λ peer. (λ inside. two_at_last ((second_right peer).0 inside), λ t. (second_right peer).1 (two_from_last t));
+    second = λ peer. (
+      λ inside. two_at_last ((second_right peer).0 inside),
+      λ t. (second_right peer).1 (two_from_last t),
+    );
   }
 
 -- a row that says these sets gives what the history gives

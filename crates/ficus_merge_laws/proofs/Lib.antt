@@ -1,2 +1,3 @@
 pub mod Dying
 pub mod Rows
+pub mod Following

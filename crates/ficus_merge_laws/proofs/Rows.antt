@@ -1,5 +1,5 @@
 -- The rows of the merge table.
-use Rattle.std.proofs.Common.{◌≡◌, ◌⊎◌, ℕ, Bool, true, false, List, [], ◌∷◌, ◌++◌, Some, None, Option, MatchBool, refl, inl, inr}
+use Rattle.std.proofs.Common.{◌≡◌, ◌≢◌, ◌⊎◌, ℕ, Bool, true, false, List, [], ◌∷◌, ◌++◌, Some, None, Option, MatchBool, refl, inl, inr, ⊎_elim}
 use Rattle.std.specs.Prelude.{IsTrue, nat_le}
 use Rattle.std.proofs.lemmas.Bool.{or_cases, or_left, or_right, and_parts, and_from, leb-true, le-leb}
 use Rattle.ficus_ids.specs.Marks.{has, IsFull}
@@ -35,7 +35,18 @@ everyone_member members replica inside =
 
 member_everyone : (members replica : ℕ) → IsMember members replica → IsTrue (everyone members replica)
 member_everyone members replica m =
-    and_from (nat_le 1 replica) (nat_le replica members) (le-leb 1 replica m.at_least) (le-leb replica members m.at_most)
+    let low = le-leb 1 replica m.at_least in
+    and_from (nat_le 1 replica) (nat_le replica members) low (le-leb replica members m.at_most)
+
+-- who is in a union is in one of both sets
+from_union : {P : Type 0} (set peers : ℕ → Bool) (peer : ℕ) → (IsTrue (set peer) → P) → (IsTrue (peers peer) → P) →
+    IsTrue (union set peers peer) → P
+from_union set peers peer here there inside = ⊎_elim here there (or_cases (set peer) (peers peer) inside)
+
+to_union : {P Q : Type 0} (set peers : ℕ → Bool) (peer : ℕ) → (P → IsTrue (set peer)) → (Q → IsTrue (peers peer)) →
+    P ⊎ Q → IsTrue (union set peers peer)
+to_union set peers peer here there (inl p) = or_left (set peer) (peers peer) (here p)
+to_union set peers peer here there (inr q) = or_right (set peer) (peers peer) (there q)
 
 -- In each of these an answer is taken.
 module _ (volume : Volume) (H : List Event) (replica served server : ℕ) (id : Id)
@@ -55,7 +66,8 @@ module _ (volume : Volume) (H : List Event) (replica served server : ℕ) (id : 
   not_dropped : (IsDropped volume.members H replica id → ⊥) → IsDropped volume.members after_it replica id → ⊥
   not_dropped held d = go (dropped_cases (Accept replica served) d)
     where
-      go : IsDropped volume.members H replica id ⊎ ((Accept replica served ≡ Collect replica) × IsTwoFull volume.members H replica id) → ⊥
+      go : IsDropped volume.members H replica id ⊎
+          ((Accept replica served ≡ Collect replica) × IsTwoFull volume.members H replica id) → ⊥
       go (inl was) = held was
       go (inr (is, full)) = let clash : Accept replica served ≡ Collect replica = is in cc
 
@@ -67,7 +79,9 @@ module _ (volume : Volume) (H : List Event) (replica served server : ℕ) (id : 
   -- what wasn't held there and was removed there was dropped there
   absent_there : IsAbsent volume.members there server id → IsRemoved there (Knows there server) id →
       IsDropped volume.members there server id
-  absent_there absent r = absent (removed_entered volume there (answers.lawful_there volume H replica served server id answer) r)
+  absent_there absent r =
+      let lawful = answers.lawful_there volume H replica served server id answer in
+      absent (removed_entered volume there lawful r)
 
   -- who drops it there, every member knows of every member
   dropped_there_one : IsDropped volume.members there server id → (member : ℕ) → IsMember volume.members member →
@@ -76,6 +90,24 @@ module _ (volume : Volume) (H : List Event) (replica served server : ℕ) (id : 
 
   dropped_there_removed : IsDropped volume.members there server id → IsRemoved H (Knows H replica) id
   dropped_there_removed d = one_removed (dropped_there_one d replica replica_member)
+
+  -- what the replica dropped, the server knew to be removed
+  dropped_removed_there : IsDropped volume.members H replica id → IsRemoved there (Knows there server) id
+  dropped_removed_there d = answers.dropped_server_removed volume H replica served server id answer d
+
+  -- who then knows whom to know, one of both knew, but for the replica itself
+  abbrev OneOfBoth : ℕ → Type 0
+  OneOfBoth peer = KnowsThatKnows H replica peer id ⊎ KnowsThatKnows there server peer id
+
+  abbrev TwoOfBoth : ℕ → Type 0
+  TwoOfBoth peer =
+      KnowsThatAllKnow volume.members H replica peer id ⊎ KnowsThatAllKnow volume.members there server peer id
+
+  one_split : {peer : ℕ} → peer ≢ replica → KnowsThatKnows after_it replica peer id → OneOfBoth peer
+  one_split differs o = answers.one_split H replica served server answer.by differs o
+
+  two_split : {peer : ℕ} → peer ≢ replica → KnowsThatAllKnow volume.members after_it replica peer id → TwoOfBoth peer
+  two_split differs t = answers.two_split H replica served server answer.by differs t
 
   still_alive : (IsRemoved H (Knows H replica) id → ⊥) → (IsRemoved there (Knows there server) id → ⊥) →
       IsRemoved after_it (Knows after_it replica) id → ⊥
@@ -103,18 +135,22 @@ module _ (volume : Volume) (H : List Event) (replica served server : ℕ) (id : 
     removed = answers.removed_taken H replica served server answer.by theirs.removed;
     held = not_dropped (λ d. none (dropped_removed d replica_member));
     first = λ peer differs. (
-      λ inside. answers.one_taken H replica served server answer.by (one_from_last ((theirs.first peer).0 (with_other (has one) replica peer differs inside))),
-      λ o. with_more (has one) replica peer (first_back (answers.one_split H replica served server answer.by differs o)),
+      λ inside. first_taken (with_other (has one) replica peer differs inside),
+      λ o. with_more (has one) replica peer (first_back (one_split differs o)),
     );
     mine = with_itself (has one) replica;
     second = λ peer differs. (
       λ inside. second_taken inside,
-      λ t. second_back (answers.two_split H replica served server answer.by differs t),
+      λ t. second_back (two_split differs t),
     );
     own = λ inside. second_taken inside;
   }
     where
-      first_back : {peer : ℕ} → KnowsThatKnows H replica peer id ⊎ KnowsThatKnows there server peer id → IsTrue (has one peer)
+      first_taken : {peer : ℕ} → IsTrue (has one peer) → KnowsThatKnows after_it replica peer id
+      first_taken {peer} inside =
+          answers.one_taken H replica served server answer.by (one_from_last ((theirs.first peer).0 inside))
+
+      first_back : {peer : ℕ} → OneOfBoth peer → IsTrue (has one peer)
       first_back (inl mine) = absurd (none (one_removed mine))
       first_back {peer} (inr his) = (theirs.first peer).1 (one_at_last his)
 
@@ -122,9 +158,7 @@ module _ (volume : Volume) (H : List Event) (replica served server : ℕ) (id : 
       second_taken {peer} inside =
           answers.two_taken H replica served server answer.by (two_from_last ((theirs.second peer).0 inside))
 
-      second_back : {peer : ℕ} →
-          KnowsThatAllKnow volume.members H replica peer id ⊎ KnowsThatAllKnow volume.members there server peer id →
-          IsTrue (has two peer)
+      second_back : {peer : ℕ} → TwoOfBoth peer → IsTrue (has two peer)
       second_back (inl mine) = absurd (none (one_removed (all_one mine replica_member)))
       second_back {peer} (inr his) = (theirs.second peer).1 (two_at_last his)
 
@@ -137,23 +171,21 @@ module _ (volume : Volume) (H : List Event) (replica served server : ℕ) (id : 
     held = not_dropped mine.held;
     first = λ peer differs. (
       λ inside. one_more (Accept replica served ∷ []) (one_from_last ((mine.first peer).0 inside)),
-      λ o. first_back (answers.one_split H replica served server answer.by differs o),
+      λ o. first_back (one_split differs o),
     );
     mine = (mine.first replica).1 (one_at_last (one_of_itself mine.removed));
     second = λ peer differs. (
       λ inside. all_more (Accept replica served ∷ []) (two_from_last ((mine.second peer).0 inside)),
-      λ t. second_back (answers.two_split H replica served server answer.by differs t),
+      λ t. second_back (two_split differs t),
     );
     own = λ inside. all_more (Accept replica served ∷ []) (two_from_last ((mine.second replica).0 inside));
   }
     where
-      first_back : {peer : ℕ} → KnowsThatKnows H replica peer id ⊎ KnowsThatKnows there server peer id → IsTrue (has one peer)
+      first_back : {peer : ℕ} → OneOfBoth peer → IsTrue (has one peer)
       first_back {peer} (inl o) = (mine.first peer).1 (one_at_last o)
       first_back (inr his) = absurd (none (one_removed his))
 
-      second_back : {peer : ℕ} →
-          KnowsThatAllKnow volume.members H replica peer id ⊎ KnowsThatAllKnow volume.members there server peer id →
-          IsTrue (has two peer)
+      second_back : {peer : ℕ} → TwoOfBoth peer → IsTrue (has two peer)
       second_back {peer} (inl t) = (mine.second peer).1 (two_at_last t)
       second_back (inr his) = absurd (none (one_removed (all_one his server_member)))
 
@@ -166,39 +198,37 @@ module _ (volume : Volume) (H : List Event) (replica served server : ℕ) (id : 
     removed = answers.removed_kept H replica served server answer.by mine.removed;
     held = not_dropped mine.held;
     first = λ peer differs. (
-      λ inside. first_there (or_cases (has one peer) (has peers_one peer) inside),
-      λ o. first_back (answers.one_split H replica served server answer.by differs o),
+      λ inside. first_there inside,
+      λ o. first_back (one_split differs o),
     );
-    mine = or_left (has one replica) (has peers_one replica) ((mine.first replica).1 (one_at_last (one_of_itself mine.removed)));
+    mine = first_back (inl (one_of_itself mine.removed));
     second = λ peer differs. (
-      λ inside. second_there (or_cases (has two peer) (has peers_two peer) inside),
-      λ t. second_back (answers.two_split H replica served server answer.by differs t),
+      λ inside. second_there inside,
+      λ t. second_back (two_split differs t),
     );
-    own = λ inside. second_there (or_cases (has two replica) (has peers_two replica) inside);
+    own = λ inside. second_there inside;
   }
     where
-      first_there : {peer : ℕ} → IsTrue (has one peer) ⊎ IsTrue (has peers_one peer) → KnowsThatKnows after_it replica peer id
-      first_there {peer} (inl inside) = one_more (Accept replica served ∷ []) (one_from_last ((mine.first peer).0 inside))
-      first_there {peer} (inr inside) =
-          answers.one_taken H replica served server answer.by (one_from_last ((theirs.first peer).0 inside))
+      first_there : {peer : ℕ} → IsTrue (union (has one) (has peers_one) peer) → KnowsThatKnows after_it replica peer id
+      first_there {peer} = from_union (has one) (has peers_one) peer
+          (λ inside. one_more (Accept replica served ∷ []) (one_from_last ((mine.first peer).0 inside)))
+          (λ inside. answers.one_taken H replica served server answer.by (one_from_last ((theirs.first peer).0 inside)))
 
-      first_back : {peer : ℕ} → KnowsThatKnows H replica peer id ⊎ KnowsThatKnows there server peer id →
-          IsTrue (union (has one) (has peers_one) peer)
-      first_back {peer} (inl o) = or_left (has one peer) (has peers_one peer) ((mine.first peer).1 (one_at_last o))
-      first_back {peer} (inr his) = or_right (has one peer) (has peers_one peer) ((theirs.first peer).1 (one_at_last his))
+      first_back : {peer : ℕ} → OneOfBoth peer → IsTrue (union (has one) (has peers_one) peer)
+      first_back {peer} = to_union (has one) (has peers_one) peer
+          (λ o. (mine.first peer).1 (one_at_last o))
+          (λ o. (theirs.first peer).1 (one_at_last o))
 
-      second_there : {peer : ℕ} → IsTrue (has two peer) ⊎ IsTrue (has peers_two peer) →
+      second_there : {peer : ℕ} → IsTrue (union (has two) (has peers_two) peer) →
           KnowsThatAllKnow volume.members after_it replica peer id
-      second_there {peer} (inl inside) =
-          all_more (Accept replica served ∷ []) (two_from_last ((mine.second peer).0 inside))
-      second_there {peer} (inr inside) =
-          answers.two_taken H replica served server answer.by (two_from_last ((theirs.second peer).0 inside))
+      second_there {peer} = from_union (has two) (has peers_two) peer
+          (λ inside. all_more (Accept replica served ∷ []) (two_from_last ((mine.second peer).0 inside)))
+          (λ inside. answers.two_taken H replica served server answer.by (two_from_last ((theirs.second peer).0 inside)))
 
-      second_back : {peer : ℕ} →
-          KnowsThatAllKnow volume.members H replica peer id ⊎ KnowsThatAllKnow volume.members there server peer id →
-          IsTrue (union (has two) (has peers_two) peer)
-      second_back {peer} (inl t) = or_left (has two peer) (has peers_two peer) ((mine.second peer).1 (two_at_last t))
-      second_back {peer} (inr his) = or_right (has two peer) (has peers_two peer) ((theirs.second peer).1 (two_at_last his))
+      second_back : {peer : ℕ} → TwoOfBoth peer → IsTrue (union (has two) (has peers_two) peer)
+      second_back {peer} = to_union (has two) (has peers_two) peer
+          (λ t. (mine.second peer).1 (two_at_last t))
+          (λ t. (theirs.second peer).1 (two_at_last t))
 
   -- the server has dropped it
   given_up : IsDropped volume.members there server id → {one two : ℕ} → IsMarked volume.members H replica id one two →
@@ -220,12 +250,15 @@ module _ (volume : Volume) (H : List Event) (replica served server : ℕ) (id : 
   }
     where
       is_member : {peer position : ℕ} → IsOf after_it position peer → IsMember volume.members peer
-      is_member own = lawful_member volume after_it (lawful_more volume H (Accept replica served) answer.lawful answer.may) own
+      is_member own =
+          let lawful = lawful_more volume H (Accept replica served) answer.lawful answer.may in
+          lawful_member volume after_it lawful own
 
       all_known : {peer : ℕ} → IsTrue (everyone volume.members peer) →
           KnowsThatAllKnow volume.members after_it replica peer id
       all_known {peer} inside =
-          answers.two_taken H replica served server answer.by (dropped_two d (everyone_member volume.members peer inside))
+          let m = everyone_member volume.members peer inside in
+          answers.two_taken H replica served server answer.by (dropped_two d m)
 
   -- the replica has nothing, and the server's entry is removed
   absent_dead : {one two : ℕ} (after : Option State) (inside : Bool) → has one replica ≡ inside →
@@ -235,7 +268,9 @@ module _ (volume : Volume) (H : List Event) (replica served server : ℕ) (id : 
   absent_dead after true inside absent theirs is = rw is (stays_absent absent (λ entered. dropped))
     where
       dropped : IsDropped volume.members H replica id
-      dropped = answers.absent_dropped volume H replica served server id answer absent (one_from_last ((theirs.first replica).0 inside))
+      dropped =
+          let o = one_from_last ((theirs.first replica).0 inside) in
+          answers.absent_dropped volume H replica served server id answer absent o
   absent_dead {one} after false outside absent theirs dead = said_stands after replica_member (news none theirs) dead
     where
       none : IsRemoved H (Knows H replica) id → ⊥
@@ -272,7 +307,7 @@ module _ (volume : Volume) (H : List Event) (replica served server : ℕ) (id : 
   merge_stands None (Some Live) after here peers is = rw is (record {
     entered = answers.entered_taken H replica served server answer.by peers.entered;
     not_removed = still_alive
-        (λ r. peers.not_removed (answers.dropped_server_removed volume H replica served server id answer (absent_removed here r)))
+        (λ r. peers.not_removed (dropped_removed_there (absent_removed here r)))
         peers.not_removed;
   })
   merge_stands None (Some (Dead one two)) after here peers merges =

@@ -1,14 +1,17 @@
 -- What stands at a replica under an identifier, by the history: its state in the terms of the merge table.
-use Rattle.std.specs.Prelude.{◌↔◌, ℕ, List, Option, Some, None, IsTrue}
-use Rattle.ficus_ids.specs.Marks.{has}
+use Rattle.std.specs.Prelude.{◌≡◌, ◌↔◌, ℕ, List, Option, Some, None, IsTrue, Contains}
+use Rattle.ficus_ids.specs.Marks.{has, IsFull}
 use Rattle.ficus_ids.specs.declared.id.Id.{Id}
 use Rattle.ficus_entry.specs.declared.entry.State.{State}
 use Rattle.ficus_entry.specs.declared.entry.State.TheVariants.{Live, Dead}
 use Rattle.ficus_model.specs.declared.event.Event.{Event}
+use Rattle.ficus_model.specs.declared.event.Event.TheVariants.{Update, Ask, Serve, Accept, Collect, Restart}
+use Rattle.ficus_model.specs.declared.event.Op.{Op}
 use Rattle.ficus_model.specs.Known.{Knows}
-use Rattle.ficus_model.specs.Live.{IsRemoved}
+use Rattle.ficus_model.specs.Live.{Entry, entered_by, removed_by, IsRemoved}
 use Rattle.ficus_model.specs.Knowledge.{IsInOne, IsInTwo}
 use Rattle.ficus_model.specs.Held.{IsDropped}
+use Rattle.ficus_laws.specs.Updates.{next_number}
 use Rattle.ficus_removal_laws.specs.Marks.{IsEnteredAs, IsAbsent}
 
 -- the entry is alive
@@ -29,3 +32,30 @@ abbrev pub StandsAs : ℕ → List Event → ℕ → Id → Option State → Typ
 StandsAs members H replica id None = IsAbsent members H replica id
 StandsAs members H replica id (Some Live) = IsAlive H replica id
 StandsAs members H replica id (Some (Dead one two)) = IsMarked members H replica id one two
+
+-- the operation, as the next update of the replica after the history, enters an entry with this identifier
+pub record EntersAs (H : List Event) (replica : ℕ) (op : Op) (id : Id) : Type 0 where
+  pub entry : Entry
+  pub enters : entered_by (next_number replica H) op ≡ Some entry
+  pub named : entry.id ≡ id
+
+-- the event, as the next after the history, takes nothing, collects nothing, and neither enters nor removes the entry
+abbrev pub LeavesState : List Event → Event → Id → Type 0
+LeavesState H (Update by op) id = (EntersAs H by op id → ⊥) × (Contains (removed_by (next_number by H) op) id → ⊥)
+LeavesState H (Ask by to) id = Unit {0}
+LeavesState H (Serve by ask) id = Unit {0}
+LeavesState H (Accept by serve) id = ⊥
+LeavesState H (Collect by) id = ⊥
+LeavesState H (Restart by) id = Unit {0}
+
+-- A collection drops an entry whose second set is full, and leaves every other.
+abbrev pub Collects : ℕ → Option State → Option State → Type 0
+Collects members None after = after ≡ None
+Collects members (Some Live) after = after ≡ Some Live
+Collects members (Some (Dead one two)) after =
+    (IsFull two members → after ≡ None) × ((IsFull two members → ⊥) → after ≡ Some (Dead one two))
+
+-- A removal begins with the replica alone in the first set and nobody in the second.
+pub record IsKilled (replica one two : ℕ) : Type 0 where
+  pub first : (peer : ℕ) → IsTrue (has one peer) ↔ (peer ≡ replica)
+  pub second : (peer : ℕ) → IsTrue (has two peer) → ⊥

@@ -47,10 +47,13 @@ module _ (H : List Event) (replica served server : ℕ) (by_server : IsOf H serv
   known_there : {position : ℕ} → Knows there server position → position < served + 1
   known_there k = knows_below (served + 1) H k
 
-  pub removed_taken : {entry : Id} → IsRemoved there (Knows there server) entry → IsRemoved after (Knows after replica) entry
-  removed_taken r = removed_at served_agrees r (known_there r.known) (accept_brings H replica served server by_server r.known)
+  pub removed_taken : {entry : Id} → IsRemoved there (Knows there server) entry →
+      IsRemoved after (Knows after replica) entry
+  removed_taken r =
+      removed_at served_agrees r (known_there r.known) (accept_brings H replica served server by_server r.known)
 
-  pub entered_taken : {entry : Id} → IsEnteredAs there (Knows there server) entry → IsEnteredAs after (Knows after replica) entry
+  pub entered_taken : {entry : Id} → IsEnteredAs there (Knows there server) entry →
+      IsEnteredAs after (Knows after replica) entry
   entered_taken e = record {
     entry = e.entry;
     entered = record {
@@ -63,7 +66,8 @@ module _ (H : List Event) (replica served server : ℕ) (by_server : IsOf H serv
     named = e.named;
   }
 
-  pub entered_kept : {entry : Id} → IsEnteredAs H (Knows H replica) entry → IsEnteredAs after (Knows after replica) entry
+  pub entered_kept : {entry : Id} → IsEnteredAs H (Knows H replica) entry →
+      IsEnteredAs after (Knows after replica) entry
   entered_kept e = record {
     entry = e.entry;
     entered = entered_within (within_more H (Accept replica served ∷ []) replica) e.entered;
@@ -158,7 +162,9 @@ module _ (H : List Event) (replica served server : ℕ) (by_server : IsOf H serv
   heard_joined {peer} {position} differs later = record {
     known = known later.heard;
     own = of_more (Accept replica served ∷ []) (own later.heard);
-    last = λ other k o. last (other_known differs o k) (of_less (Accept replica served ∷ []) o (before_of_other H (Accept replica served) differs o));
+    last = λ other k o.
+        let h = before_of_other H (Accept replica served) differs o in
+        last (other_known differs o k) (of_less (Accept replica served ∷ []) o h);
   }
     where
       known : IsHeard H replica peer position ⊎ IsHeard there server peer position → Knows after replica position
@@ -192,7 +198,8 @@ module _ (volume : Volume) (H : List Event) (replica served server : ℕ) (entry
   heard_before : {position : ℕ} → Knows H replica position → IsOf H position server → position ≤ served
   heard_before {position} known own =
       let same = of_same answer.by (of_at answer.may.answer.served) in
-      let h = known_before_served volume H served replica answer.lawful answer.may.answer known (subst (IsOf H position) same own) in
+      let his = subst (IsOf H position) same own in
+      let h = known_before_served volume H served replica answer.lawful answer.may.answer known his in
       omega arith
 
   pub server_removed : KnowsThatKnows H replica server entry → IsRemoved answered (Knows answered server) entry
@@ -206,7 +213,8 @@ module _ (volume : Volume) (H : List Event) (replica served server : ℕ) (entry
   pub dropped_server_one : IsDropped volume.members H replica entry → KnowsThatKnows answered server replica entry
   dropped_server_one d = server_one (dropped_two d server_member) replica_member
 
-  pub dropped_server_removed : IsDropped volume.members H replica entry → IsRemoved answered (Knows answered server) entry
+  pub dropped_server_removed : IsDropped volume.members H replica entry →
+      IsRemoved answered (Knows answered server) entry
   dropped_server_removed d = one_removed (dropped_server_one d)
 
   -- what the server knew the replica to know, it knows

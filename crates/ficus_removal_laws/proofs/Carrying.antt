@@ -57,7 +57,8 @@ one_at {peer = peer} {entry = entry} same o h known = record {
 }
 
 pub one_through : {H : List Event} {replica middle peer position : ℕ} {entry : Id} → IsOf H position middle →
-    Knows H replica position → KnowsThatKnows (through position H) middle peer entry → KnowsThatKnows H replica peer entry
+    Knows H replica position → KnowsThatKnows (through position H) middle peer entry →
+    KnowsThatKnows H replica peer entry
 one_through {H} {position = position} own known o =
     let h = (of_from_before (position + 1) o.own).0 in
     one_at (agree_before (position + 1) H) o h (knows_through own known o.known)
@@ -78,7 +79,10 @@ all_at {members = members} {peer = peer} {entry = entry} same t h known = record
   position = t.position;
   known = known;
   own = agree_of same h t.own;
-  all = subst (λ L. (member : ℕ) → IsMember members member → KnowsThatKnows L peer member entry) (agree_take same (omega arith)) t.all;
+  all = subst
+      (λ L. (member : ℕ) → IsMember members member → KnowsThatKnows L peer member entry)
+      (agree_take same (omega arith))
+      t.all;
 }
 
 pub all_through : {members : ℕ} {H : List Event} {replica middle peer position : ℕ} {entry : Id} →
@@ -104,12 +108,14 @@ module _ {H : List Event} {peer position later : ℕ} (own : IsOf H position pee
   pub removed_later : {entry : Id} → IsRemoved (through position H) (Knows (through position H) peer) entry →
       IsRemoved (through later H) (Knows (through later H) peer) entry
   removed_later {entry} r =
-      removed_through inside (knows_own inside) (subst (λ L. IsRemoved L (Knows L peer) entry) (sym (through_earlier H h)) r)
+      let was = subst (λ L. IsRemoved L (Knows L peer) entry) (sym (through_earlier H h)) r in
+      removed_through inside (knows_own inside) was
 
   pub one_later : {member : ℕ} {entry : Id} → KnowsThatKnows (through position H) peer member entry →
       KnowsThatKnows (through later H) peer member entry
   one_later {member} {entry} o =
-      one_through inside (knows_own inside) (subst (λ L. KnowsThatKnows L peer member entry) (sym (through_earlier H h)) o)
+      let was = subst (λ L. KnowsThatKnows L peer member entry) (sym (through_earlier H h)) o in
+      one_through inside (knows_own inside) was
 
 -- where it is known that a replica knows, the removal is known
 pub one_removed : {H : List Event} {replica peer : ℕ} {entry : Id} → KnowsThatKnows H replica peer entry →

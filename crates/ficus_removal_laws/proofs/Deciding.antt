@@ -77,8 +77,8 @@ of_decided H position replica = go (cases_lt position (length H))
 -- an event that hasn't seen a position: it is another, no earlier event of its replica has, and it wasn't told
 refuted : {H : List Event} {at seen replica : ℕ} → IsOf H at replica → (at ≡ seen → ⊥) →
     ((old : ℕ) → old < at → IsOf H old replica × HasSeen H old seen → ⊥) →
-    ((taker served : ℕ) → served < at → IsAt H at (Accept taker served) → HasSeen H served seen → ⊥) → HasSeen H at seen →
-    ⊥
+    ((taker served : ℕ) → served < at → IsAt H at (Accept taker served) → HasSeen H served seen → ⊥) →
+    HasSeen H at seen → ⊥
 refuted here other own told (Itself o) = other refl
 refuted {H} here other own told (Earlier {old = old} o p l s) =
     own old l (subst (λ by. IsOf H old by) (of_same o here) p, s)
@@ -134,7 +134,10 @@ module _ (H : List Event) (at seen : ℕ) (earlier : (old : ℕ) → old < at �
 
       go : ((event : Event) × IsAt H at event) ⊎ (length H ≤ at) → Decided (HasSeen H at seen)
       go (inl (event, a)) = step event a (cases_eq at seen)
-          (last_or_none (HasOwn (actor event)) at (λ old h. both_decided (of_decided H old (actor event)) (earlier old h)))
+          (last_or_none
+          (HasOwn (actor event))
+          at
+          (λ old h. both_decided (of_decided H old (actor event)) (earlier old h)))
           (told_decided event a)
       go (inr h) = inr (λ s. omega (arith, seen_within s))
 

@@ -18,12 +18,16 @@ use Rattle.ficus_removal_laws.proofs.Carrying.{one_at, removed_at, removed_later
 pub heard_from : {H : List Event} {replica peer position : ℕ} → Knows H replica position → IsOf H position peer →
     (last : ℕ) × IsHeard H replica peer last × (position ≤ last)
 heard_from {H} {replica} {peer} {position} known own =
-    go (last_or_none heard (length H) (λ other h. both_decided (knows_decided H replica other) (of_decided H other peer)))
+    go (last_or_none
+    heard
+    (length H)
+    (λ other h. both_decided (knows_decided H replica other) (of_decided H other peer)))
   where
     heard : ℕ → Type 0
     heard other = Knows H replica other × IsOf H other peer
 
-    go : HasLast heard (length H) ⊎ NoneBelow heard (length H) → (last : ℕ) × IsHeard H replica peer last × (position ≤ last)
+    go : HasLast heard (length H) ⊎ NoneBelow heard (length H) →
+        (last : ℕ) × IsHeard H replica peer last × (position ≤ last)
     go (inl (last, found)) = (
       last,
       record {
@@ -58,7 +62,11 @@ pub two_at_last : {members : ℕ} {H : List Event} {replica peer : ℕ} {entry :
     KnowsThatAllKnow members H replica peer entry → IsInTwo members H replica peer entry
 two_at_last t =
     let last = heard_from t.known t.own in
-    record { position = last.0; heard = last.1; all = λ member m. one_at_last (one_later t.own last.2 (t.all member m)) }
+    record {
+      position = last.0;
+      heard = last.1;
+      all = λ member m. one_at_last (one_later t.own last.2 (t.all member m));
+    }
 
 -- what is known by an event of its own, a replica knew through that event and each later one
 knows_through_later : {H : List Event} {replica position later : ℕ} → (k : Knows H replica position) → k.last ≤ later →
@@ -103,4 +111,5 @@ two_of_itself {members} {H} {replica} {entry} is_member each = record {
     was : {member : ℕ} → KnowsThatKnows H replica member entry → KnowsThatKnows (through last.0 H) replica member entry
     was o =
         let h = last.1.last o.known.last (knows_own o.known.own) o.known.own in
-        one_at (agree_back (agree_before (last.0 + 1) H)) o (let l = seen_within o.known.seen in omega arith) (knows_through_later o.known h)
+        let l = seen_within o.known.seen in
+        one_at (agree_back (agree_before (last.0 + 1) H)) o (omega arith) (knows_through_later o.known h)

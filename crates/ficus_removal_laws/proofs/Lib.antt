@@ -5,3 +5,5 @@ pub mod Removing
 pub mod Dropping
 pub mod Marking
 pub mod Answering
+pub mod Taking
+pub mod Example

@@ -12,7 +12,7 @@ use Rattle.ficus_model.specs.Events.{IsOf, actor}
 use Rattle.ficus_model.specs.Known.{Knows}
 use Rattle.ficus_model.specs.Live.{removed_by, IsRemoved}
 use Rattle.ficus_model.specs.Lawful.{Volume, IsLawful}
-use Rattle.ficus_model.specs.Knowledge.{IsInOne, IsInTwo, KnowsThatKnows, KnowsThatAllKnow}
+use Rattle.ficus_model.specs.Knowledge.{IsInOne, KnowsThatKnows, KnowsThatAllKnow}
 use Rattle.ficus_model.specs.Held.{IsDropped}
 use Rattle.ficus_laws.specs.Known.{Takes}
 use Rattle.ficus_laws.specs.Updates.{next_number, IsQuiet}
@@ -23,7 +23,7 @@ use Rattle.ficus_laws.proofs.Lawful.{lawful_member}
 use Rattle.ficus_laws.proofs.Shown.{removed_within}
 use Rattle.ficus_laws.proofs.OneMore.{same_quiet}
 use Rattle.ficus_laws.proofs.AfterUpdate.{removed_after, removed_new}
-use Rattle.ficus_removal_laws.specs.Marks.{LeavesEntry, SameMarks, IsBegun}
+use Rattle.ficus_removal_laws.specs.Marks.{IsTwoFull, LeavesEntry, SameMarks, IsBegun}
 use Rattle.ficus_removal_laws.proofs.Carrying.{one_at, one_more, one_removed, all_at, all_more, all_one}
 use Rattle.ficus_removal_laws.proofs.Hearing.{one_from_last, one_at_last, two_from_last, two_at_last, one_of_itself, two_of_itself}
 use Rattle.ficus_removal_laws.proofs.Removing.{removal_first, removal_entered}
@@ -64,7 +64,8 @@ removed_quiet H event replica quiet r = removed_within (same_quiet H event repli
 
 -- an own event that leaves the entry makes no removal of it known
 own_leaves : (H : List Event) (event : Event) (entry : Id) → LeavesEntry H event entry →
-    IsRemoved (H ++ event ∷ []) (Knows (H ++ event ∷ []) (actor event)) entry → IsRemoved H (Knows H (actor event)) entry
+    IsRemoved (H ++ event ∷ []) (Knows (H ++ event ∷ []) (actor event)) entry →
+    IsRemoved H (Knows H (actor event)) entry
 own_leaves H (Update by op) entry leaves r = go (removed_after H by op r)
   where
     go : IsRemoved H (Knows H by) entry ⊎ Contains (removed_by (next_number by H) op) entry →
@@ -108,7 +109,8 @@ module _ (H : List Event) (event : Event) (untold : (served : ℕ) → Takes eve
       where
         go : (peer ≡ actor event) ⊎ (peer ≡ actor event → ⊥) → KnowsThatAllKnow members H (actor event) peer entry
         go (inl same) =
-            subst (λ x. KnowsThatAllKnow members H (actor event) x entry) (sym same) (two_of_itself is_member (λ member m. one_back (all_one t m)))
+            let own = two_of_itself is_member (λ member m. one_back (all_one t m)) in
+            subst (λ x. KnowsThatAllKnow members H (actor event) x entry) (sym same) own
         go (inr differs) = two_of_others differs t
 
     pub own_marks_same : SameMarks members H after (actor event) entry
@@ -144,11 +146,13 @@ marks_kept members H event replica entry is_member (inr leaves) = go (cases_eq (
   where
     own : IsMember members (actor event) → SameMarks members H (H ++ event ∷ []) (actor event) entry
     own is_member =
-        own_marks_same H event (leaves_untold H event entry leaves) members entry is_member (own_leaves H event entry leaves)
+        let no_new = own_leaves H event entry leaves in
+        own_marks_same H event (leaves_untold H event entry leaves) members entry is_member no_new
 
     go : (actor event ≡ replica) ⊎ (actor event ≡ replica → ⊥) → SameMarks members H (H ++ event ∷ []) replica entry
     go (inl same) =
-        subst (λ x. SameMarks members H (H ++ event ∷ []) x entry) same (own (subst (IsMember members) (sym same) is_member))
+        let its = subst (IsMember members) (sym same) is_member in
+        subst (λ x. SameMarks members H (H ++ event ∷ []) x entry) same (own its)
     go (inr other) = others_marks_same members H event replica entry other
 
 -- An update removes an entry.
@@ -174,18 +178,23 @@ module _ (volume : Volume) (H : List Event) (replica : ℕ) (op : Op) (entry : I
     where
       go : (peer ≡ replica) ⊎ (peer ≡ replica → ⊥) → peer ≡ replica
       go (inl same) = same
-      go (inr differs) = absurd (no_removal_before (one_removed (one_of_others H removal (λ served takes. takes) differs o)))
+      go (inr differs) =
+          let was = one_of_others H removal (λ served takes. takes) differs o in
+          absurd (no_removal_before (one_removed was))
 
   two_is_none : {peer : ℕ} → KnowsThatAllKnow volume.members then replica peer entry → ⊥
   two_is_none t =
-      let first : 1 ≡ replica = one_is_itself (all_one t (record { at_least = omega arith; at_most = omega (arith, several) })) in
-      let second : 2 ≡ replica = one_is_itself (all_one t (record { at_least = omega arith; at_most = several })) in
+      let one : IsMember volume.members 1 = record { at_least = omega arith; at_most = omega (arith, several) } in
+      let two : IsMember volume.members 2 = record { at_least = omega arith; at_most = several } in
+      let first : 1 ≡ replica = one_is_itself (all_one t one) in
+      let second : 2 ≡ replica = one_is_itself (all_one t two) in
       omega (arith, first, second)
 
   not_dropped : IsDropped volume.members then replica entry → ⊥
   not_dropped d = no_removal_before (go (dropped_cases removal d))
     where
-      go : IsDropped volume.members H replica entry ⊎ ((removal ≡ Collect replica) × ((member : ℕ) → IsMember volume.members member → IsInTwo volume.members H replica member entry)) →
+      go : IsDropped volume.members H replica entry ⊎
+          ((removal ≡ Collect replica) × IsTwoFull volume.members H replica entry) →
           IsRemoved H (Knows H replica) entry
       go (inl was) = dropped_removed was is_member
       go (inr (is, full)) = absurd cc
@@ -202,7 +211,9 @@ module _ (volume : Volume) (H : List Event) (replica : ℕ) (op : Op) (entry : I
         named = known.named;
         one = λ peer. (
           λ o. one_is_itself (one_from_last o),
-          λ same. subst (λ x. IsInOne then replica x entry) (sym same) (one_at_last (one_of_itself (removed_new H replica op entry removes))),
+          λ same.
+              let own = one_of_itself (removed_new H replica op entry removes) in
+              subst (λ x. IsInOne then replica x entry) (sym same) (one_at_last own),
         );
         two = λ peer t. two_is_none (two_from_last t);
       }

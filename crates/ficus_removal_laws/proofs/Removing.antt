@@ -1,56 +1,28 @@
 -- What an update removes.
-use Rattle.std.proofs.Common.{◌≡◌, ◌⊎◌, ℕ, ◌+◌, ◌<◌, ◌≤◌, List, [], refl, sym, ap, ◌∙◌, subst, inl, inr, arith}
+use Rattle.std.proofs.Common.{◌≡◌, ◌⊎◌, ℕ, ◌+◌, ◌<◌, ◌≤◌, List, sym, ap, ◌∙◌, subst, inl, inr, arith}
 use Rattle.std.specs.Prelude.{Contains, codes}
 use Rattle.std.proofs.lemmas.Bool.{cases_lt}
-use Rattle.ficus_ids.specs.ListLaws.{here_or_there, not_inside_none}
 use Rattle.ficus_ids.specs.declared.id.Id.{Id}
 use Rattle.ficus_ids.specs.declared.id.TheConstants.{ATTIC}
 use Rattle.ficus_model.specs.declared.event.Event.{Event}
 use Rattle.ficus_model.specs.declared.event.Event.TheVariants.{Update}
 use Rattle.ficus_model.specs.declared.event.Op.{Op}
-use Rattle.ficus_model.specs.declared.event.Op.TheVariants.{Make, Link, Remove, Move, Write, Settle, Resolve, Adopt, Discard}
 use Rattle.ficus_model.specs.Events.{IsUpdate, before}
 use Rattle.ficus_model.specs.Known.{Knows}
-use Rattle.ficus_model.specs.Live.{Entry, entry_of, entered_by, removed_by, IsRemoved, IsLive}
-use Rattle.ficus_model.specs.Lawful.{Volume, AreNames, IsAllowed, MayUpdate, IsLawful}
+use Rattle.ficus_model.specs.Live.{entry_of, entered_by, removed_by, IsRemoved}
+use Rattle.ficus_model.specs.Lawful.{Volume, MayUpdate, IsLawful}
 use Rattle.ficus_model.specs.Knowledge.{KnowsThatKnows}
 use Rattle.ficus_laws.specs.Updates.{next_number}
 use Rattle.ficus_laws.proofs.Positions.{of_at, of_before, agree_before, agree_take}
 use Rattle.ficus_laws.proofs.Updates.{id_of}
 use Rattle.ficus_laws.proofs.Knowledge.{knows_own}
 use Rattle.ficus_laws.proofs.Lawful.{lawful_before}
+use Rattle.ficus_laws.proofs.Removable.{IsRemovable, is_removable}
 use Rattle.ficus_laws.proofs.Issued.{next_not_removed}
 use Rattle.ficus_laws.proofs.Places.{within_past}
 use Rattle.ficus_laws.proofs.Shown.{entered_within}
 use Rattle.ficus_removal_laws.specs.Marks.{IsEnteredAs}
 use Rattle.ficus_removal_laws.proofs.Carrying.{knows_through, removed_from_before}
-
--- where an operation removes an entry, the entry is alive, or the operation is the Discard that enters it
-abbrev pub IsRemovable : List Event → (ℕ → Type 0) → Id → Op → Id → Type 0
-IsRemovable H U number op id =
-    ((entry : Entry) × IsLive H U entry × (entry.id ≡ id)) ⊎ ((id ≡ number) × (file : Id) × (op ≡ Discard file))
-
-named_live : {H : List Event} {U : ℕ → Type 0} {entries : List Id} {object id : Id} → AreNames H U entries object →
-    Contains entries id → (entry : Entry) × IsLive H U entry × (entry.id ≡ id)
-named_live {id = id} names inside =
-    let named = (names.all id).0 inside in
-    (named.bound.entry, named.bound.live, named.by)
-
-pub is_removable : (H : List Event) (U : ℕ → Type 0) (number id : Id) (op : Op) → IsAllowed H U op →
-    Contains (removed_by number op) id → IsRemovable H U number op id
-is_removable H U number id (Make dir name kind) allowed removes = absurd (not_inside_none id removes)
-is_removable H U number id (Link dir name target) allowed removes = absurd (not_inside_none id removes)
-is_removable H U number id (Remove entries target) allowed removes = inl (named_live allowed.names removes)
-is_removable H U number id (Move entries dir name target) allowed removes = inl (named_live allowed.names removes)
-is_removable H U number id (Write file bytes) allowed removes = absurd (not_inside_none id removes)
-is_removable H U number id (Settle file bytes) allowed removes = absurd (not_inside_none id removes)
-is_removable H U number id (Resolve file bytes) allowed removes = absurd (not_inside_none id removes)
-is_removable H U number id (Adopt file dir name) allowed removes = absurd (not_inside_none id removes)
-is_removable H U number id (Discard file) allowed removes = inr (only (here_or_there number id [] removes), file, refl)
-  where
-    only : (id ≡ number) ⊎ Contains [] id → id ≡ number
-    only (inl same) = same
-    only (inr none) = absurd (not_inside_none id none)
 
 -- In each of these an update of a lawful history removes an entry.
 module _ (volume : Volume) (H : List Event) (lawful : IsLawful volume H) {position : ℕ} {number id : Id} {op : Op}
@@ -60,7 +32,8 @@ module _ (volume : Volume) (H : List Event) (lawful : IsLawful volume H) {positi
 
   removable : IsRemovable earlier (Knows earlier number.replica) number op id
   removable =
-      let may : MayUpdate volume earlier number.replica op = lawful.each position (Update number.replica op) update.at in
+      let may : MayUpdate volume earlier number.replica op =
+      lawful.each position (Update number.replica op) update.at in
       is_removable earlier (Knows earlier number.replica) number id op may.allowed removes
 
   -- its replica knew no removal of the entry before
@@ -71,32 +44,32 @@ module _ (volume : Volume) (H : List Event) (lawful : IsLawful volume H) {positi
       is_next = ap (λ (k : ℕ). id_of number.replica k) update.counted
 
       go : IsRemovable earlier (Knows earlier number.replica) number op id → ⊥
-      go (inl (entry, live, same)) =
-          live.not_removed (subst (λ removed. IsRemoved earlier (Knows earlier number.replica) removed) (sym same) r)
-      go (inr (same, file, is)) =
+      go (inl alive) = alive.live.not_removed
+          (subst (λ removed. IsRemoved earlier (Knows earlier number.replica) removed) (sym alive.named) r)
+      go (inr discard) =
           next_not_removed volume earlier number.replica (lawful_before volume H position lawful)
-          (subst (λ removed. IsRemoved earlier (Knows earlier number.replica) removed) (same ∙ is_next) r)
+          (subst (λ removed. IsRemoved earlier (Knows earlier number.replica) removed) (discard.own ∙ is_next) r)
 
   -- whoever knows the update knows the entry
   pub removal_entered : {replica : ℕ} → Knows H replica position → IsEnteredAs H (Knows H replica) id
   removal_entered {replica} known = go removable
     where
       go : IsRemovable earlier (Knows earlier number.replica) number op id → IsEnteredAs H (Knows H replica) id
-      go (inl (entry, live, same)) = record {
-        entry = entry;
-        entered = entered_within (within_past (of_at update.at) known) live.entered;
-        named = same;
+      go (inl alive) = record {
+        entry = alive.entry;
+        entered = entered_within (within_past (of_at update.at) known) alive.live.entered;
+        named = alive.named;
       }
-      go (inr (same, file, is)) = record {
-        entry = entry_of number ATTIC (codes "discarded") file;
+      go (inr discard) = record {
+        entry = entry_of number ATTIC (codes "discarded") discard.file;
         entered = record {
           position = position;
           op = op;
           known = known;
           update = update;
-          enters = ap (entered_by number) is;
+          enters = ap (entered_by number) discard.is;
         };
-        named = sym same;
+        named = sym discard.own;
       }
 
   -- whoever knows that its replica knows a removal of the entry knows this one: the replica removes it once

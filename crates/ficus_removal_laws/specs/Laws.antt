@@ -5,10 +5,11 @@ use Rattle.ficus_ids.specs.declared.id.Id.{Id}
 use Rattle.ficus_model.specs.declared.event.Event.{Event}
 use Rattle.ficus_model.specs.declared.event.Event.TheVariants.{Update, Accept, Collect}
 use Rattle.ficus_model.specs.declared.event.Op.{Op}
+use Rattle.ficus_model.specs.declared.event.Op.TheVariants.{Remove, Move, Discard}
 use Rattle.ficus_model.specs.Events.{IsOf, IsUpdate, through, actor}
 use Rattle.ficus_model.specs.Known.{Knows}
 use Rattle.ficus_model.specs.Lawful.{Volume, MayCome, IsLawful}
-use Rattle.ficus_model.specs.Live.{Entry, removed_by, IsRemoved, IsLive}
+use Rattle.ficus_model.specs.Live.{Entry, entry_of, removed_by, IsRemoved, IsLive}
 use Rattle.ficus_model.specs.Held.{IsDropped}
 use Rattle.ficus_model.specs.Knowledge.{IsHeard, IsInOne, IsInTwo, KnowsThatKnows, KnowsThatAllKnow}
 use Rattle.ficus_laws.specs.Updates.{next_number}
@@ -57,6 +58,26 @@ abbrev pub RemovalsAreKnown : Type 0
 RemovalsAreKnown = (volume : Volume) (H : List Event) (replica position : ℕ) (number entry : Id) (op : Op) →
     IsLawful volume H → IsUpdate H position number op → Contains (removed_by number op) entry →
     IsInOne H replica number.replica entry → Knows H replica position
+
+-- after a Remove is alive for its replica what was, but for the entries that it names
+abbrev pub RemoveTakes : Type 0
+RemoveTakes = (H : List Event) (replica : ℕ) (entries : List Id) (target : Id) (entry : Entry) →
+    let K = H ++ Update replica (Remove entries target) ∷ [] in
+    IsLive K (Knows K replica) entry ↔ (IsLive H (Knows H replica) entry × (Contains entries entry.id → ⊥))
+
+-- after a Move too, and the entry that it enters is alive
+abbrev pub MoveTakes : Type 0
+MoveTakes = (volume : Volume) (H : List Event) (replica : ℕ) (entries : List Id) (dir : Id) (name : List ℕ)
+    (target : Id) (entry : Entry) → let K = H ++ Update replica (Move entries dir name target) ∷ [] in
+    IsLawful volume K → IsLive K (Knows K replica) entry ↔
+    ((IsLive H (Knows H replica) entry × (Contains entries entry.id → ⊥)) ⊎
+    (entry ≡ entry_of (next_number replica H) dir name target))
+
+-- a Discard leaves what is alive: it removes the entry that it enters
+abbrev pub DiscardTakes : Type 0
+DiscardTakes = (H : List Event) (replica : ℕ) (file : Id) (entry : Entry) →
+    let K = H ++ Update replica (Discard file) ∷ [] in
+    IsLive K (Knows K replica) entry ↔ IsLive H (Knows H replica) entry
 
 -- an event of another replica leaves all marks, and so does an own one that takes nothing and doesn't remove the entry
 abbrev pub KeepsMarks : Type 0

@@ -1,3 +1,6 @@
+ghost use Rattle.ficus_model.specs.Lawful.{IsLawful};
+ghost use Rattle.ficus_model.specs.Held.{IsDropped};
+ghost use Rattle.ficus_removal_laws.specs.Example.{drop_volume, drop_entry, drop_history};
 ghost use Rattle.ficus_removal_laws.specs.Laws.{CollectDrops, DroppedIsInTwo, DroppedIsInOne, DroppedIsRemoved, LiveIsNotDropped, UnmarkedIsNotDropped, AbsentWasDropped, DroppedIsServed, AbsentIsFull, DroppedThereFills};
 
 /// A Collect drops exactly the entries for which the second set of its replica is full, and no other event
@@ -30,4 +33,10 @@ pub fn absent_entries_are_explained()
     ensures served { DroppedIsServed }
     ensures there { AbsentIsFull }
     ensures fills { DroppedThereFills }
+{}
+
+/// There are lawful histories in which an entry is dropped.
+pub fn entries_are_dropped()
+    ensures lawful { IsLawful drop_volume drop_history }
+    ensures dropped { IsDropped 2 drop_history 1 drop_entry }
 {}

@@ -11,9 +11,11 @@ mod marks;
 
 pub use dropped::{
     absent_entries_are_explained, collect_drops_exactly, dropped_is_known_to_all,
-    live_is_never_dropped,
+    entries_are_dropped, live_is_never_dropped,
 };
 pub use heard::{
     knowledge_has_two_readings, knowledge_is_decided, last_is_heard, own_marks_follow,
 };
-pub use marks::{accept_joins_marks, marks_stay, removal_begins, removals_are_told};
+pub use marks::{
+    accept_joins_marks, marks_stay, removal_begins, removals_are_told, removals_take_effect,
+};

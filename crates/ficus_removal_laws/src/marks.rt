@@ -1,4 +1,12 @@
-ghost use Rattle.ficus_removal_laws.specs.Laws.{KeepsMarks, RemovalBegins, RemovedIsEntered, RemovalsAreKnown, AcceptJoinsEntered, AcceptJoinsRemoved, AcceptHearsLater, AcceptJoinsOne, AcceptJoinsTwo};
+ghost use Rattle.ficus_removal_laws.specs.Laws.{RemoveTakes, MoveTakes, DiscardTakes, KeepsMarks, RemovalBegins, RemovedIsEntered, RemovalsAreKnown, AcceptJoinsEntered, AcceptJoinsRemoved, AcceptHearsLater, AcceptJoinsOne, AcceptJoinsTwo};
+
+/// What is alive for a replica after a removal of its own: after a Remove what was alive but for the entries
+/// that it names, after a Move also the entry that it enters, and after a Discard what was alive.
+pub fn removals_take_effect()
+    ensures remove { RemoveTakes }
+    ensures moved { MoveTakes }
+    ensures discard { DiscardTakes }
+{}
 
 /// An event of another replica leaves all marks of an entry as they are, and so does an event of the replica's
 /// own that takes nothing and doesn't remove the entry.

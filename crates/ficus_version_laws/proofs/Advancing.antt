@@ -47,7 +47,7 @@ module _ (H : List Event) (event : Event) (replica : ℕ) {file : Id}
 
 -- In these a replica has done one more operation.
 module _ (H : List Event) (replica : ℕ) (op : Op) where
-  abbrev after : List Event
+  abbrev pub after : List Event
   after = H ++ Update replica op ∷ []
 
   pub own_end : IsOf after (length H) replica

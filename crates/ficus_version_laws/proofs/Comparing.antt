@@ -89,6 +89,21 @@ pub count_from_seen : {H : List Event} {file : Id} {position other : ℕ} {vecto
 count_from_seen v w t u s replica = counts_at_most (vector_counts v t replica) (vector_counts w u replica)
     (λ counted l p. seen_version_later s p)
 
+-- so this one count tells whether the other is this version or has it in its past
+pub own_count_past : {H : List Event} {file : Id} {position other replica : ℕ} {vector again : ℕ → ℕ} →
+    IsVersion H file position → IsVersion H file other → IsOf H position replica →
+    IsVectorOf H file position vector → IsVectorOf H file other again →
+    vector replica ≤ again replica → (position ≡ other) ⊎ HasInPast H other position
+own_count_past v w o t u l = update_seen w.update.at (seen_from_count v w t u o l)
+
+pub past_own_count : {H : List Event} {file : Id} {position other replica : ℕ} {vector again : ℕ → ℕ} →
+    IsVersion H file position → IsVersion H file other →
+    IsVectorOf H file position vector → IsVectorOf H file other again →
+    (position ≡ other) ⊎ HasInPast H other position → vector replica ≤ again replica
+past_own_count {H} {position = position} {replica = replica} v w t u (inl e) =
+    count_from_seen v w t u (subst (λ at. HasSeen H at position) e (Itself (writer v))) replica
+past_own_count {replica = replica} v w t u (inr p) = count_from_seen v w t u (past_seen p) replica
+
 module _ (volume : Volume) (H : List Event) (lawful : IsLawful volume H) (file : Id) where
   pub seen_at_most : {position other : ℕ} {vector again : ℕ → ℕ} → IsVersion H file position → IsVersion H file other →
       IsVectorOf H file position vector → IsVectorOf H file other again →

@@ -1,20 +1,20 @@
 -- Covers tell which versions lie in the past of a Remove or a Discard.
-use Rattle.std.proofs.Common.{◌≡◌, ◌≢◌, ◌⊎◌, inl, inr, ℕ, suc, ◌+◌, ◌≤◌, List, [], ◌∷◌, ◌++◌, length, length-take, Some, arith, ap, ◌∙◌, subst}
+use Rattle.std.proofs.Common.{◌≡◌, ◌≢◌, ◌⊎◌, inl, inr, ℕ, suc, ◌≤◌, List, [], ◌∷◌, ◌++◌, length, Some, arith, ap, ◌∙◌, subst}
 use Rattle.std.proofs.lemmas.List.{length_push}
 use Rattle.ficus_ids.specs.declared.id.Id.{Id}
 use Rattle.ficus_model.specs.declared.event.Event.{Event}
-use Rattle.ficus_model.specs.declared.event.Event.TheVariants.{Update, Accept}
+use Rattle.ficus_model.specs.declared.event.Event.TheVariants.{Update}
 use Rattle.ficus_model.specs.declared.event.Op.{Op}
 use Rattle.ficus_model.specs.declared.event.Op.TheVariants.{Make, Link, Remove, Move, Write, Settle, Resolve, Adopt, Discard}
 use Rattle.ficus_model.specs.View.{HasUnseen}
-use Rattle.ficus_model.specs.Events.{IsOf, IsUpdate, through}
+use Rattle.ficus_model.specs.Events.{IsOf, IsUpdate}
 use Rattle.ficus_model.specs.Known.{HasSeen, Knows, HasInPast}
 use Rattle.ficus_model.specs.Lawful.{Volume, IsLawful}
 use Rattle.ficus_model.specs.Versions.{version_of, covered_by, IsVersion, IsCovering}
 use Rattle.ficus_model.specs.Vectors.{Counts, IsVectorOf, IsCovered, IsCoverOf}
 use Rattle.ficus_model.specs.Vectors.Counts.{OneMore, AsMany}
 use Rattle.ficus_laws.specs.Updates.{Joined, next_number}
-use Rattle.ficus_laws.proofs.Positions.{AgreeBelow, agree_back, agree_more, agree_before, agree_of, of_within, of_more, of_less}
+use Rattle.ficus_laws.proofs.Positions.{AgreeBelow, agree_back, agree_more, agree_of, of_more, of_less}
 use Rattle.ficus_laws.proofs.Updates.{update_cases, update_end}
 use Rattle.ficus_laws.proofs.Knowledge.{knows_within, knows_more, knows_own}
 use Rattle.ficus_version_laws.specs.Compared.{IsAtMost, join}
@@ -25,7 +25,6 @@ use Rattle.ficus_laws.proofs.Past.{agree_past, agree_version, agree_covering, pa
 use Rattle.ficus_version_laws.proofs.Past.{version_within, covering_within, seen_own, past_sees}
 use Rattle.ficus_version_laws.proofs.Comparing.{IsVersionBy, version_seen, seen_first_part, writer, writer_member, vector_counts}
 use Rattle.ficus_laws.proofs.Views.{KnownBelow}
-use Rattle.ficus_version_laws.proofs.Taking.{knows_before, taken_known, known_taken}
 use Rattle.ficus_version_laws.proofs.Listing.{IsKnownVersion, knows_closed, known_first_part, known_counts}
 use Rattle.ficus_version_laws.proofs.Advancing.{own_end, past_of_end, known_after, version_after}
 
@@ -166,35 +165,6 @@ module _ (H : List Event) (event : Event) (replica : ℕ) {file : Id}
       earlier by = counts_same (above by)
           (λ number l p. agree_covered (agree_back (agree_more H (event ∷ []))) (λ position k. knows_within k) p)
           (λ number l p. agree_covered (agree_more H (event ∷ [])) (λ position k. knows_within k) p)
-
--- after an Accept the two covers are joined
-pub cover_accept : {H : List Event} {replica served server : ℕ} {file : Id} {cover other : ℕ → ℕ} →
-    IsOf H served server →
-    IsCoverOf H (Knows H replica) file cover → IsCoverOf (through served H) (Knows (through served H) server) file other →
-    IsCoverOf (H ++ Accept replica served ∷ []) (Knows (H ++ Accept replica served ∷ []) replica) file (join cover other)
-cover_accept {H} {replica} {served} {server} {file} {cover} {other} by_server a b =
-    cover_same there back (agree_cover longer (agree_more H (Accept replica served ∷ [])) below (cover_joined a his))
-  where
-    his : IsCoverOf H (Knows (through served H) server) file other
-    his = agree_cover
-        (let l = length-take (served + 1) H in omega arith)
-        (agree_before (served + 1) H)
-        (λ position k. knows_before H served k) b
-
-    longer : length H ≤ length (H ++ Accept replica served ∷ [])
-    longer = omega (arith, length_push H (Accept replica served))
-
-    there : CoveringsWithin (H ++ Accept replica served ∷ []) file
-        (Joined (Knows H replica) (Knows (through served H) server)) (Knows (H ++ Accept replica served ∷ []) replica)
-    there position c k = known_taken H replica served server by_server k
-
-    back : CoveringsWithin (H ++ Accept replica served ∷ []) file (Knows (H ++ Accept replica served ∷ []) replica)
-        (Joined (Knows H replica) (Knows (through served H) server))
-    back position c k = taken_known H replica served server by_server c.update k
-
-    below : KnownBelow (length H) (Joined (Knows H replica) (Knows (through served H) server))
-    below position (inl k) = knows_within k
-    below position (inr k) = let l = of_within by_server in let m = knows_before H served k in omega arith
 
 -- an operation that covers an object is no version event
 covers_no_version : (number : Id) (op : Op) (file : Id) → covered_by op ≡ Some file → version_of number op ≡ Some file →

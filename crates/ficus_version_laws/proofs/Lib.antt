@@ -6,6 +6,7 @@ pub mod Taking
 pub mod Listing
 pub mod Advancing
 pub mod Objects
+pub mod Operations
 pub mod Covering
 pub mod Making
 pub mod Pigeonhole

@@ -1,30 +1,24 @@
 -- What a Make leaves of the versions.
-use Rattle.std.proofs.Common.{◌≡◌, ◌≢◌, ℕ, List, [], ◌∷◌, ◌++◌, length, Some, refl}
+use Rattle.std.proofs.Common.{◌≢◌, ℕ, List, [], ◌∷◌, ◌++◌, length}
 use Rattle.ficus_ids.specs.ListLaws.{not_inside_none}
 use Rattle.ficus_ids.specs.declared.id.Id.{Id}
 use Rattle.ficus_ids.specs.declared.kind.Kind.{Kind}
-use Rattle.ficus_ids.specs.declared.kind.Kind.TheVariants.{Dir, Plain, Lines, Max, Keep}
+use Rattle.ficus_ids.specs.declared.kind.Kind.TheVariants.{Dir}
 use Rattle.ficus_model.specs.declared.event.Event.{Event}
 use Rattle.ficus_model.specs.declared.event.Event.TheVariants.{Update}
 use Rattle.ficus_model.specs.declared.event.Op.TheVariants.{Make}
 use Rattle.ficus_model.specs.Known.{Knows}
 use Rattle.ficus_model.specs.Lawful.{Volume, IsLawful}
 use Rattle.ficus_model.specs.Live.{IsFile}
-use Rattle.ficus_model.specs.Versions.{made_file, IsVersion}
+use Rattle.ficus_model.specs.Versions.{IsVersion}
 use Rattle.ficus_model.specs.Vectors.{IsCoverOf}
 use Rattle.ficus_laws.specs.Updates.{next_number}
 use Rattle.ficus_version_laws.specs.Listed.{AreShown, advanced}
 use Rattle.ficus_version_laws.proofs.Counting.{counts_none}
 use Rattle.ficus_version_laws.proofs.Objects.{none_is, next_no_version, next_not_covered}
+use Rattle.ficus_version_laws.proofs.Operations.{made_file_of}
 use Rattle.ficus_version_laws.proofs.Advancing.{advanced_shown}
 use Rattle.ficus_version_laws.proofs.Covering.{coverings_back, cover_kept}
-
-made_file_of : (number : Id) (kind : Kind) → kind ≢ Dir → made_file number kind ≡ Some number
-made_file_of number Dir differs = absurd (differs refl)
-made_file_of number Plain differs = refl
-made_file_of number Lines differs = refl
-made_file_of number Max differs = refl
-made_file_of number Keep differs = refl
 
 -- the Make of a file is a version of it
 pub made_version : {H : List Event} {U : ℕ → Type 0} {file : Id} (f : IsFile H U file) →

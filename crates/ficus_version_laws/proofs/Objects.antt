@@ -22,7 +22,7 @@ use Rattle.ficus_laws.proofs.Lawful.{lawful_before}
 use Rattle.ficus_laws.proofs.Places.{within_past, some_inside, entered_target}
 
 -- a kind whose Make is a version isn't that of directories
-made_file_is : (number file : Id) (kind : Kind) → made_file number kind ≡ Some file → (number ≡ file) × (kind ≢ Dir)
+pub made_file_is : (number file : Id) (kind : Kind) → made_file number kind ≡ Some file → (number ≡ file) × (kind ≢ Dir)
 made_file_is number file Dir e = cc
 made_file_is number file Plain e = (same_Some number file e, λ d. cc)
 made_file_is number file Lines e = (same_Some number file e, λ d. cc)

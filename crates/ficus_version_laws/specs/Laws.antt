@@ -1,23 +1,24 @@
 -- The laws, as the law functions state them.
-use Rattle.std.specs.Prelude.{◌≡◌, ◌≢◌, ◌↔◌, ◌⊎◌, ℕ, ◌<◌, List, [], ◌∷◌, ◌++◌, length, Some, ◌≤◌, Contains, AllPairs}
+use Rattle.std.specs.Prelude.{◌≡◌, ◌≢◌, ◌↔◌, ◌⊎◌, ℕ, ◌<◌, List, [], ◌∷◌, ◌++◌, length, ◌≤◌, Contains, AllPairs}
 use Rattle.ficus_ids.specs.declared.id.Id.{Id}
 use Rattle.ficus_ids.specs.declared.kind.Kind.{Kind}
 use Rattle.ficus_ids.specs.declared.kind.Kind.TheVariants.{Dir}
 use Rattle.ficus_model.specs.declared.event.Event.{Event}
 use Rattle.ficus_model.specs.declared.event.Event.TheVariants.{Update, Accept}
 use Rattle.ficus_model.specs.declared.event.Op.{Op}
-use Rattle.ficus_model.specs.declared.event.Op.TheVariants.{Make, Move}
+use Rattle.ficus_model.specs.declared.event.Op.TheVariants.{Make}
 use Rattle.ficus_model.specs.Live.{IsFile, HasName}
 use Rattle.ficus_model.specs.Events.{IsOf, through, actor}
-use Rattle.ficus_model.specs.Known.{Knows}
+use Rattle.ficus_model.specs.Known.{Knows, HasInPast}
 use Rattle.ficus_model.specs.Lawful.{Volume, IsLawful}
-use Rattle.ficus_model.specs.Versions.{version_of, bytes_of, covered_by, IsVersion, IsShown, IsInConflict}
+use Rattle.ficus_model.specs.Versions.{IsVersion, IsCovering, IsShown, IsInConflict}
 use Rattle.ficus_model.specs.Vectors.{IsVectorOf, IsCoverOf}
 use Rattle.ficus_model.specs.View.{IsOrphan, HasUnseen}
 use Rattle.ficus_laws.specs.Views.{ShowSameView}
 use Rattle.ficus_laws.specs.Updates.{next_number, IsQuiet}
 use Rattle.ficus_version_laws.specs.Compared.{IsAtMost, CompareAsPasts, join}
 use Rattle.ficus_version_laws.specs.Listed.{Item, AreShown, IsLatestOfBoth, AreMerged, join_all, advanced}
+use Rattle.ficus_version_laws.specs.Operations.{Writes, GivesUp}
 use Rattle.ficus_version_laws.specs.Covers.{HasCover, ShowsUncovered, HasBeyond, HasTwoTexts}
 use Rattle.ficus_version_laws.specs.Views.{IsSameFile}
 
@@ -27,6 +28,13 @@ VectorsTellPasts = (volume : Volume) (H : List Event) (file : Id) (position othe
     IsLawful volume H → IsVersion H file position → IsVersion H file other →
     IsVectorOf H file position vector → IsVectorOf H file other again →
     CompareAsPasts volume.members H position other vector again
+
+-- the count of a version's own replica alone tells whether another version is it or has it in its past
+abbrev pub OwnCountTellsPast : Type 0
+OwnCountTellsPast = (H : List Event) (file : Id) (position other replica : ℕ) (vector again : ℕ → ℕ) →
+    IsVersion H file position → IsVersion H file other → IsOf H position replica →
+    IsVectorOf H file position vector → IsVectorOf H file other again →
+    (vector replica ≤ again replica) ↔ ((position ≡ other) ⊎ HasInPast H other position)
 
 -- a version has one vector
 abbrev pub OneVector : Type 0
@@ -69,31 +77,49 @@ AcceptMergesVersions = (volume : Volume) (H : List Event) (replica served server
     let K = H ++ Accept replica served ∷ [] in
     AreShown K (Knows K replica) file merged
 
--- after a version event of a file its replica is shown that version and no other
+-- where the replica knew each version of a file that the server knew, its list stays
+abbrev pub AcceptKeepsList : Type 0
+AcceptKeepsList = (H : List Event) (replica served server : ℕ) (file : Id) (versions : List Item) →
+    IsOf H served server →
+    ((position : ℕ) → IsVersion H file position → Knows (through served H) server position → Knows H replica position) →
+    AreShown H (Knows H replica) file versions →
+    let K = H ++ Accept replica served ∷ [] in
+    AreShown K (Knows K replica) file versions
+
+-- where the server knew each version that the replica knew, the server's list is taken
+abbrev pub AcceptTakesList : Type 0
+AcceptTakesList = (H : List Event) (replica served server : ℕ) (file : Id) (others : List Item) →
+    IsOf H served server →
+    ((position : ℕ) → IsVersion H file position → Knows H replica position → Knows (through served H) server position) →
+    AreShown (through served H) (Knows (through served H) server) file others →
+    let K = H ++ Accept replica served ∷ [] in
+    AreShown K (Knows K replica) file others
+
+-- after an update that gives a file a version its replica is shown that version and no other
 abbrev pub VersionReplacesAll : Type 0
-VersionReplacesAll = (H : List Event) (replica : ℕ) (op : Op) (file : Id) (position : ℕ) →
-    version_of (next_number replica H) op ≡ Some file →
+VersionReplacesAll = (H : List Event) (replica : ℕ) (op : Op) (file : Id) (bytes : List ℕ) (position : ℕ) →
+    Writes (next_number replica H) op file bytes →
     let K = H ++ Update replica op ∷ [] in
     IsShown K (Knows K replica) file position ↔ (position ≡ length H)
 
 -- whose vector is the join of those shown before, with one more for the replica
 abbrev pub VersionAdvances : Type 0
-VersionAdvances = (H : List Event) (replica : ℕ) (op : Op) (file : Id) (versions : List Item) →
-    version_of (next_number replica H) op ≡ Some file → AreShown H (Knows H replica) file versions →
+VersionAdvances = (H : List Event) (replica : ℕ) (op : Op) (file : Id) (bytes : List ℕ) (versions : List Item) →
+    Writes (next_number replica H) op file bytes → AreShown H (Knows H replica) file versions →
     let K = H ++ Update replica op ∷ [] in
-    AreShown K (Knows K replica) file (advanced replica (bytes_of op) versions)
+    AreShown K (Knows K replica) file (advanced replica bytes versions)
 
--- after a version event of a file it isn't in conflict
+-- then the file isn't in conflict
 abbrev pub VersionEndsConflict : Type 0
-VersionEndsConflict = (H : List Event) (replica : ℕ) (op : Op) (file : Id) →
-    version_of (next_number replica H) op ≡ Some file →
+VersionEndsConflict = (H : List Event) (replica : ℕ) (op : Op) (file : Id) (bytes : List ℕ) →
+    Writes (next_number replica H) op file bytes →
     let K = H ++ Update replica op ∷ [] in
     IsInConflict K (Knows K replica) file → ⊥
 
--- any other operation leaves the versions of the file
+-- any other update leaves the versions of the file
 abbrev pub OthersKeepVersions : Type 0
 OthersKeepVersions = (H : List Event) (replica : ℕ) (op : Op) (file : Id) (versions : List Item) →
-    version_of (next_number replica H) op ≢ Some file →
+    ((bytes : List ℕ) → Writes (next_number replica H) op file bytes → ⊥) →
     let K = H ++ Update replica op ∷ [] in
     AreShown H (Knows H replica) file versions ↔ AreShown K (Knows K replica) file versions
 
@@ -152,30 +178,43 @@ AcceptJoinsCovers = (H : List Event) (replica served server : ℕ) (file : Id) (
     let K = H ++ Accept replica served ∷ [] in
     IsCoverOf K (Knows K replica) file (join cover other)
 
+-- where the replica knew each Remove and Discard of a file that the server knew, its cover stays
+abbrev pub AcceptKeepsCover : Type 0
+AcceptKeepsCover = (H : List Event) (replica served server : ℕ) (file : Id) (cover : ℕ → ℕ) →
+    IsOf H served server →
+    ((position : ℕ) → IsCovering H file position →
+    Knows (through served H) server position → Knows H replica position) →
+    IsCoverOf H (Knows H replica) file cover →
+    let K = H ++ Accept replica served ∷ [] in
+    IsCoverOf K (Knows K replica) file cover
+
+-- where the server knew each Remove and Discard that the replica knew, the server's cover is taken
+abbrev pub AcceptTakesCover : Type 0
+AcceptTakesCover = (H : List Event) (replica served server : ℕ) (file : Id) (other : ℕ → ℕ) →
+    IsOf H served server →
+    ((position : ℕ) → IsCovering H file position →
+    Knows H replica position → Knows (through served H) server position) →
+    IsCoverOf (through served H) (Knows (through served H) server) file other →
+    let K = H ++ Accept replica served ∷ [] in
+    IsCoverOf K (Knows K replica) file other
+
 -- after a Remove or a Discard of a file the cover is joined with the vectors of the shown versions
 abbrev pub RemovalCoversShown : Type 0
 RemovalCoversShown = (H : List Event) (replica : ℕ) (op : Op) (file : Id) (versions : List Item) (cover : ℕ → ℕ) →
-    covered_by op ≡ Some file → AreShown H (Knows H replica) file versions → IsCoverOf H (Knows H replica) file cover →
+    GivesUp op file → AreShown H (Knows H replica) file versions → IsCoverOf H (Knows H replica) file cover →
     let K = H ++ Update replica op ∷ [] in
     IsCoverOf K (Knows K replica) file (join cover (join_all versions))
 
--- after a Remove or a Discard of a file none of its known versions is uncovered
+-- then none of its known versions is uncovered
 abbrev pub RemovalCoversAll : Type 0
-RemovalCoversAll = (H : List Event) (replica : ℕ) (op : Op) (file : Id) → covered_by op ≡ Some file →
+RemovalCoversAll = (H : List Event) (replica : ℕ) (op : Op) (file : Id) → GivesUp op file →
     let K = H ++ Update replica op ∷ [] in
     HasUnseen K (Knows K replica) file → ⊥
 
--- any other operation leaves the cover of the file
+-- any other update leaves the cover of the file
 abbrev pub OthersKeepCover : Type 0
-OthersKeepCover = (H : List Event) (replica : ℕ) (op : Op) (file : Id) (cover : ℕ → ℕ) → covered_by op ≢ Some file →
+OthersKeepCover = (H : List Event) (replica : ℕ) (op : Op) (file : Id) (cover : ℕ → ℕ) → (GivesUp op file → ⊥) →
     let K = H ++ Update replica op ∷ [] in
-    IsCoverOf H (Knows H replica) file cover ↔ IsCoverOf K (Knows K replica) file cover
-
--- so a Move leaves every cover
-abbrev pub MoveKeepsCover : Type 0
-MoveKeepsCover = (H : List Event) (replica : ℕ) (entries : List Id) (dir : Id) (name : List ℕ) (target file : Id)
-    (cover : ℕ → ℕ) →
-    let K = H ++ Update replica (Move entries dir name target) ∷ [] in
     IsCoverOf H (Knows H replica) file cover ↔ IsCoverOf K (Knows K replica) file cover
 
 -- a file is in conflict exactly where two versions of its list differ in bytes

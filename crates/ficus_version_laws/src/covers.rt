@@ -1,4 +1,4 @@
-ghost use Rattle.ficus_version_laws.specs.Laws.{CoversTellPasts, OneCover, AcceptJoinsCovers, RemovalCoversShown, RemovalCoversAll, OthersKeepCover, MoveKeepsCover};
+ghost use Rattle.ficus_version_laws.specs.Laws.{CoversTellPasts, OneCover, RemovalCoversShown, RemovalCoversAll, OthersKeepCover};
 
 /// A version lies below the cover of its file exactly where a known Remove or Discard of the file had heard of
 /// it. It doesn't matter whether the version itself is known. A file has one cover.
@@ -7,12 +7,9 @@ pub fn covers_tell_pasts()
     ensures one { OneCover }
 {}
 
-/// After an Accept the covers of both sides are joined. A Remove and a Discard cover what is known of the file.
-/// Any other operation, a Move too, covers nothing.
-pub fn covers_follow_events()
-    ensures accepted { AcceptJoinsCovers }
+/// A Remove and a Discard cover what is known of the file. Any other operation, a Move too, covers nothing.
+pub fn covers_follow_updates()
     ensures removed { RemovalCoversShown }
     ensures all { RemovalCoversAll }
     ensures kept { OthersKeepCover }
-    ensures moved { MoveKeepsCover }
 {}

@@ -1,10 +1,12 @@
-ghost use Rattle.ficus_version_laws.specs.Laws.{VectorsTellPasts, OneVector, VectorsStay};
+ghost use Rattle.ficus_version_laws.specs.Laws.{VectorsTellPasts, OwnCountTellsPast, OneVector, VectorsStay};
 
 /// Of two versions of a file in a lawful history the vectors are equal exactly where the versions are one event,
 /// the first is under the second exactly where it lies in its past, and they are apart exactly where neither
-/// had heard of the other.
+/// had heard of the other. One count alone, that of the first version's own replica, tells whether the second
+/// has the first in its past.
 pub fn vectors_tell_pasts()
-    ensures { VectorsTellPasts }
+    ensures all { VectorsTellPasts }
+    ensures own { OwnCountTellsPast }
 {}
 
 /// A version has one vector, which doesn't change when the history grows.

@@ -1,16 +1,9 @@
-ghost use Rattle.ficus_version_laws.specs.Laws.{OneShownOfEach, FewVersionsShown, AcceptShowsLatest, AcceptMergesVersions, VersionReplacesAll, VersionAdvances, VersionEndsConflict, OthersKeepVersions, VersionsAreOfFiles, MakeShowsFirst, MakeCoversNothing, ListsExist, CoversExist, FilesShowVersions};
+ghost use Rattle.ficus_version_laws.specs.Laws.{OneShownOfEach, FewVersionsShown, VersionReplacesAll, VersionAdvances, VersionEndsConflict, OthersKeepVersions, VersionsAreOfFiles, MakeShowsFirst, MakeCoversNothing, ListsExist, CoversExist, FilesShowVersions};
 
 /// Of each replica at most one version of a file is shown, so at most as many as there are members.
 pub fn one_version_of_each()
     ensures one { OneShownOfEach }
     ensures few { FewVersionsShown }
-{}
-
-/// After an Accept its replica is shown the latest of the versions that it and the server were shown. Their
-/// list follows from the two lists by the vectors.
-pub fn accept_joins_versions()
-    ensures shown { AcceptShowsLatest }
-    ensures merged { AcceptMergesVersions }
 {}
 
 /// After a version event of a file its replica is shown this one version, over all that it knew. Any other

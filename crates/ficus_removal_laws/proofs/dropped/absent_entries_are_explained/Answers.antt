@@ -16,7 +16,9 @@ returns-clause-served c = λ volume H replica served server entry answer d.
 pub returns-clause-there : goal.returns-clause-there
 returns-clause-there c = λ volume H replica served server entry answer absent. (
   λ d peer m. one_at_last (server_dropped_one volume H replica served server entry answer d m),
-  λ full. server_absent_dropped volume H replica served server entry answer absent (one_from_last (full server (server_member volume H replica served server entry answer))),
+  λ full.
+      let heard = one_from_last (full server (server_member volume H replica served server entry answer)) in
+      server_absent_dropped volume H replica served server entry answer absent heard,
 )
 
 pub returns-clause-fills : goal.returns-clause-fills

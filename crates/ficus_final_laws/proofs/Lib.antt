@@ -1,0 +1,4 @@
+pub mod Using
+pub mod Before
+pub mod Dropped
+pub mod Finishing
