@@ -1,3 +1,6 @@
 pub mod Standing
 pub mod Stepping
 pub mod Keeping
+pub mod Done
+pub mod Leaving
+pub mod Growing

@@ -109,7 +109,7 @@ same_from_updates event same marks undropped = record {
   dropped = (dropped_more (event ∷ []), undropped);
 }
 
-idle_quiet : (event : Event) → IsIdle event → IsQuiet event
+pub idle_quiet : (event : Event) → IsIdle event → IsQuiet event
 idle_quiet (Ask by to) idle = tt
 idle_quiet (Serve by ask) idle = tt
 idle_quiet (Restart by) idle = tt

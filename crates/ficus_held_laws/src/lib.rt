@@ -5,8 +5,12 @@
 #![tactic(auto)]
 
 mod entries;
+mod objects;
 
 pub use entries::{
     accept_merges_entries, collect_drops_full_entries, held_entries_stand, others_keep_entries,
     update_steps_entries,
+};
+pub use objects::{
+    collect_leaves_objects, kept_objects_stand, others_keep_objects, update_steps_objects,
 };
