@@ -43,7 +43,7 @@ done_before {members} H replica op {object} {position} d = go (done_cases (Updat
     go (inr (end, is)) = let clash : Update replica op ≡ Collect replica = is in cc
 
 -- what is kept under one identifier and kind is kept under equal ones
-renamed : {members : ℕ} {H : List Event} {replica : ℕ} {object : Id} {kind : Kind} (next : KeptObject) → next.id ≡ object →
+pub renamed : {members : ℕ} {H : List Event} {replica : ℕ} {object : Id} {kind : Kind} (next : KeptObject) → next.id ≡ object →
     next.kind ≡ kind → IsHeldObject members H replica object kind → AreShown H (Knows H replica) object next.versions →
     IsCoverOf H (Knows H replica) object next.cover → IsKeptObject members H replica next
 renamed {members} {H} {replica} {object} {kind} next id same held versions cover = record {

@@ -17,6 +17,7 @@ use Rattle.ficus_model.specs.Known.{Knows}
 use Rattle.ficus_model.specs.Lawful.{Volume}
 use Rattle.ficus_model.specs.Live.{Entry, IsEntered, IsRemoved}
 use Rattle.ficus_model.specs.Held.{IsDropped, IsHeldEntry}
+use Rattle.ficus_laws.specs.Updates.{UpdatesWithin}
 use Rattle.ficus_laws.proofs.OneMore.{same_quiet, same_accept, same_seen, within_more}
 use Rattle.ficus_laws.proofs.Shown.{entered_within, within_chain, within_joined_right}
 use Rattle.ficus_removal_laws.specs.Laws.{IsAnswer}
@@ -96,6 +97,13 @@ kept_listed {members} {H} {replica} {entries} {entry} kept k = go (held_or_not (
         (record { entry = place_of entry; entered = k.held.entered; named = refl })))
     go (Some other, (inside, named)) = subst (Contains entries) (kept_once (kept.each other inside) k named) inside
 
+-- the updates that a server knew when it served are known once they are taken
+pub taken_within : (H : List Event) (replica served server : ℕ) → IsOf H served server →
+    UpdatesWithin (through served H) (Knows (through served H) server)
+    (H ++ Accept replica served ∷ []) (Knows (H ++ Accept replica served ∷ []) replica)
+taken_within H replica served server by_server = within_chain (same_seen H served server by_server).back
+    (within_chain within_joined_right (same_accept H replica served).there)
+
 -- An answer is taken by replicas with these lists.
 module _ (volume : Volume) (H : List Event) (replica served server : ℕ) (mine theirs after : List Kept)
     (answer : IsAnswer volume H replica served server) (here : AreKeptEntries volume.members H replica mine)
@@ -121,8 +129,7 @@ module _ (volume : Volume) (H : List Event) (replica served server : ℕ) (mine 
 
   entered_at_server : {entry : Kept} → IsKeptEntry volume.members (through served H) server entry →
       IsEntered accepted (Knows accepted replica) (place_of entry)
-  entered_at_server k = entered_within (within_chain (same_seen H served server answer.by).back
-      (within_chain within_joined_right (same_accept H replica served).there)) k.held.entered
+  entered_at_server k = entered_within (taken_within H replica served server answer.by) k.held.entered
 
   merged_entered : (at_r at_peer : Option Kept) (entry : Kept) → HoldsUnder mine entry.id at_r →
       HoldsUnder theirs entry.id at_peer → KeepsPlace at_r at_peer (Some entry) →

@@ -4,3 +4,4 @@ pub mod Keeping
 pub mod Done
 pub mod Leaving
 pub mod Growing
+pub mod Merging

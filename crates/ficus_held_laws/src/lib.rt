@@ -12,5 +12,6 @@ pub use entries::{
     update_steps_entries,
 };
 pub use objects::{
-    collect_leaves_objects, kept_objects_stand, others_keep_objects, update_steps_objects,
+    accept_merges_objects, collect_leaves_objects, kept_objects_stand, others_keep_objects,
+    update_steps_objects,
 };

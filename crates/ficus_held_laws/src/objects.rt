@@ -1,4 +1,4 @@
-ghost use Rattle.ficus_held_laws.specs.ObjectLaws.{KeptIsNotDone, OthersKeepObjects, UpdateStepsObjects, CollectLeavesObjects};
+ghost use Rattle.ficus_held_laws.specs.ObjectLaws.{KeptIsNotDone, OthersKeepObjects, UpdateStepsObjects, CollectLeavesObjects, AcceptMergesObjects};
 
 /// No object is kept that is done.
 pub fn kept_objects_stand()
@@ -22,4 +22,11 @@ pub fn update_steps_objects()
 /// keeps leads or in which one lies, and the orphans.
 pub fn collect_leaves_objects()
     ensures { CollectLeavesObjects }
+{}
+
+/// Where an answer is taken, its replica keeps all objects that it kept. Of one that both kept the versions are the
+/// latest of both and the covers are joined. One that the server alone kept is taken exactly where an entry that the
+/// replica then keeps leads to it or lies in it.
+pub fn accept_merges_objects()
+    ensures { AcceptMergesObjects }
 {}
