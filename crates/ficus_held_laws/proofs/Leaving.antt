@@ -21,15 +21,15 @@ use Rattle.ficus_model.specs.View.{IsOrphan}
 use Rattle.ficus_laws.specs.Updates.{IsQuiet}
 use Rattle.ficus_laws.proofs.Deciding.{Decided}
 use Rattle.ficus_laws.proofs.Positions.{agree_more, at_end, through_is}
-use Rattle.ficus_laws.proofs.Knowledge.{knows_within}
-use Rattle.ficus_laws.proofs.Issued.{entered_once}
+use Rattle.ficus_laws.proofs.Knowledge.{knows_none, knows_within}
+use Rattle.ficus_laws.proofs.Issued.{entered_once, made_once}
 use Rattle.ficus_laws.proofs.Shown.{entered_within, made_within}
 use Rattle.ficus_laws.proofs.Views.{KnowsSame, same_turned, same_updates, agree_known, kept_known, orphan_within}
 use Rattle.ficus_version_laws.specs.Listed.{Item, AreShown}
 use Rattle.ficus_version_laws.proofs.Advancing.{are_shown_kept}
 use Rattle.ficus_version_laws.proofs.Covering.{cover_kept}
 use Rattle.ficus_held_laws.specs.Entries.{AreKeptEntries, IsIdle, place_of}
-use Rattle.ficus_held_laws.specs.Objects.{KeptObject, IsKeptObject, HasObject, IsGivenUp, AreKeptObjects, IsTouched, AreOrphans, AreLeft}
+use Rattle.ficus_held_laws.specs.Objects.{KeptObject, IsKeptObject, HasObject, HasKind, IsGivenUp, AreKeptObjects, IsTouched, AreOrphans, AreLeft}
 use Rattle.ficus_held_laws.proofs.Done.{done_more, done_cases}
 use Rattle.ficus_held_laws.proofs.Standing.{idle_quiet, others_collect_not}
 
@@ -44,6 +44,26 @@ object_or_not objects id = go (held_or_not (λ object. object.id) objects id)
 pub given_up_more : {members : ℕ} {H : List Event} {replica : ℕ} {object : Id} (T : List Event) →
     IsGivenUp members H replica object → IsGivenUp members (H ++ T) replica object
 given_up_more T g = record { position = g.position; done = done_more T g.done }
+
+pub no_objects : (members replica : ℕ) → AreKeptObjects members [] replica []
+no_objects members replica = record {
+  each = λ object inside. absurd (not_inside_none object inside);
+  absent = λ id kind m none. absurd (knows_none m.known);
+}
+
+-- a held object is listed
+pub held_listed : {members : ℕ} {H : List Event} {replica : ℕ} {objects : List KeptObject} {id : Id} {kind : Kind} →
+    AreKeptObjects members H replica objects → IsHeldObject members H replica id kind → HasKind objects id kind
+held_listed {members} {H} {replica} {objects} {id} {kind} kept h = go (object_or_not objects id)
+  where
+    go : Decided (HasObject objects id) → HasKind objects id kind
+    go (inl has) = record {
+      has = has;
+      of = made_once
+          (subst (λ k. IsMade H (Knows H replica) k has.object.kind) has.named (kept.each has.object has.inside).held.made)
+          h.made;
+    }
+    go (inr none) = let g = kept.absent id kind h.made none in absurd (h.held g.position g.done)
 
 -- In each of these an event of another replica has come, or one that is no update and takes nothing.
 module _ (H : List Event) (event : Event) (replica : ℕ) (kept : (actor event ≢ replica) ⊎ IsQuiet event) where

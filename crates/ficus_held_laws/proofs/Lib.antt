@@ -5,3 +5,4 @@ pub mod Done
 pub mod Leaving
 pub mod Growing
 pub mod Merging
+pub mod Listing

@@ -173,7 +173,7 @@ one_state members H replica id (Dead one two) (Dead first second) a b = ap₂ De
     (same_marks two second (λ peer. same_test (has two peer) (has second peer)
         (λ inside. (b.second peer).1 ((a.second peer).0 inside)) (λ inside. (a.second peer).1 ((b.second peer).0 inside))))
 
-abbrev kept_of : Entry → State → Kept
+abbrev pub kept_of : Entry → State → Kept
 kept_of place state = record { id = place.id; dir = place.dir; name = place.name; target = place.target; state = state }
 
 -- entries with one place and one state are one

@@ -119,7 +119,7 @@ module _ (volume : Volume) (H : List Event) (replica : ℕ) (op : Op)
       go (inl was) = next_not_removed volume H replica was_lawful (subst (IsRemoved H (Knows H replica)) next was)
       go (inr inside) = beside inside
 
-  fresh_kept : {entry : Kept} → IsNewEntry H replica op entry → (Contains removes entry.id → ⊥) →
+  fresh_kept : {entry : Kept} → IsNewEntry (next_number replica H) op entry → (Contains removes entry.id → ⊥) →
       IsKeptEntry volume.members after replica entry
   fresh_kept {entry} new beside =
       let entered = entered_new H replica op (place_of entry) new.enters in
@@ -211,7 +211,7 @@ module _ (volume : Volume) (H : List Event) (replica : ℕ) (op : Op)
           where
             alive : IsEnteredBefore (place_of entry) ⊎ (entered_by (next_number replica H) op ≡ Some (place_of entry)) →
                 IsKeptEntry volume.members H replica (record entry { state = Live }) ⊎
-                IsNewEntry H replica op (record entry { state = Live })
+                IsNewEntry (next_number replica H) op (record entry { state = Live })
             alive (inl was) = inl (was_alive inside was refl)
             alive (inr new) = inr (record { enters = new; alive = refl })
         go (inr beside) (inl was) = record {
@@ -226,11 +226,11 @@ module _ (volume : Volume) (H : List Event) (replica : ℕ) (op : Op)
         }
 
     -- and what was kept or is new is kept then
-    pub stepped_kept : {entry next : Kept} → IsKeptEntry volume.members H replica entry ⊎ IsNewEntry H replica op entry →
+    pub stepped_kept : {entry next : Kept} → IsKeptEntry volume.members H replica entry ⊎ IsNewEntry (next_number replica H) op entry →
         IsSteppedTo replica removes entry next → IsKeptEntry volume.members after replica next
     stepped_kept {entry} {next} from stepped = go (inside_decided removes entry.id) from
       where
-        entered : IsKeptEntry volume.members H replica entry ⊎ IsNewEntry H replica op entry →
+        entered : IsKeptEntry volume.members H replica entry ⊎ IsNewEntry (next_number replica H) op entry →
             IsEntered after (Knows after replica) (place_of entry)
         entered (inl was) = still_entered (inl was.held.entered)
         entered (inr new) = still_entered (inr new.enters)
@@ -241,7 +241,7 @@ module _ (volume : Volume) (H : List Event) (replica : ℕ) (op : Op)
         same : (Contains removes entry.id → ⊥) → entry ≡ next
         same beside = same_kept (sym stepped.same) (sym (stepped.left beside))
 
-        go : Decided (Contains removes entry.id) → IsKeptEntry volume.members H replica entry ⊎ IsNewEntry H replica op entry →
+        go : Decided (Contains removes entry.id) → IsKeptEntry volume.members H replica entry ⊎ IsNewEntry (next_number replica H) op entry →
             IsKeptEntry volume.members after replica next
         go (inl inside) found = removed_kept
             (subst (Contains removes) (sym same_id) inside)

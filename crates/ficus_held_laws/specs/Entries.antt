@@ -52,16 +52,39 @@ pub record IsSteppedTo (replica : ℕ) (removes : List Id) (entry after : Kept) 
   pub removed : Contains removes entry.id → IsJustRemoved replica after.state
   pub left : (Contains removes entry.id → ⊥) → after.state ≡ entry.state
 
--- the next update of the replica enters the entry, alive
-pub record IsNewEntry (H : List Event) (replica : ℕ) (op : Op) (entry : Kept) : Type 0 where
-  pub enters : entered_by (next_number replica H) op ≡ Some (place_of entry)
+-- the update with this number enters the entry, alive
+pub record IsNewEntry (number : Id) (op : Op) (entry : Kept) : Type 0 where
+  pub enters : entered_by number op ≡ Some (place_of entry)
   pub alive : entry.state ≡ Live
 
 -- an entry that was kept or is new, and what the next update of the replica makes of it
 pub record IsFromUpdate (members : ℕ) (H : List Event) (replica : ℕ) (op : Op) (after : Kept) : Type 0 where
   pub entry : Kept
-  pub from : IsKeptEntry members H replica entry ⊎ IsNewEntry H replica op entry
+  pub from : IsKeptEntry members H replica entry ⊎ IsNewEntry (next_number replica H) op entry
   pub stepped : IsSteppedTo replica (removed_by (next_number replica H) op) entry after
+
+-- an entry of the list or a new one, as the update of the replica with this number leaves it
+pub record IsFromEntry (replica : ℕ) (number : Id) (op : Op) (entries : List Kept) (after : Kept) : Type 0 where
+  pub entry : Kept
+  pub from : Contains entries entry ⊎ IsNewEntry number op entry
+  pub stepped : IsSteppedTo replica (removed_by number op) entry after
+
+-- the list has the entry, as the update leaves it
+pub record HasSteppedEntry (replica : ℕ) (number : Id) (op : Op) (entry : Kept) (after : List Kept) : Type 0 where
+  pub next : Kept
+  pub inside : Contains after next
+  pub stepped : IsSteppedTo replica (removed_by number op) entry next
+
+-- the new list is what the update of the replica with this number makes of the old
+pub record AreEntriesStepped (replica : ℕ) (number : Id) (op : Op) (entries after : List Kept) : Type 0 where
+  pub from : (entry : Kept) → Contains after entry → IsFromEntry replica number op entries entry
+  pub all : (entry : Kept) → Contains entries entry ⊎ IsNewEntry number op entry →
+      HasSteppedEntry replica number op entry after
+
+-- of the entries are left those of which not everybody is known to know that all know
+abbrev pub AreUndropped : ℕ → List Kept → List Kept → Type 0
+AreUndropped members entries after = (entry : Kept) → Contains after entry ↔
+    (Contains entries entry × (IsFullyKnown members entry.state → ⊥))
 
 -- the event is no update, takes nothing and collects nothing
 abbrev pub IsIdle : Event → Type 0

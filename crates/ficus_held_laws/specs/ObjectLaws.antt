@@ -2,22 +2,32 @@
 use Rattle.std.specs.Prelude.{◌≡◌, ◌≢◌, ◌⊎◌, ◌↔◌, ℕ, List, [], ◌∷◌, ◌++◌}
 use Rattle.ficus_ids.specs.Members.{IsMember}
 use Rattle.ficus_ids.specs.declared.id.Id.{Id}
+use Rattle.ficus_ids.specs.declared.kind.Kind.{Kind}
 use Rattle.ficus_entry.specs.declared.entry.Entry.{Entry as Kept}
 use Rattle.ficus_model.specs.declared.event.Event.{Event}
 use Rattle.ficus_model.specs.declared.event.Event.TheVariants.{Update, Accept, Collect}
 use Rattle.ficus_model.specs.declared.event.Op.{Op}
 use Rattle.ficus_model.specs.Events.{actor, through}
-use Rattle.ficus_model.specs.Held.{IsDone}
+use Rattle.ficus_model.specs.Held.{IsDone, IsHeldObject}
 use Rattle.ficus_model.specs.Lawful.{Volume, IsLawful}
 use Rattle.ficus_laws.specs.Updates.{next_number}
 use Rattle.ficus_removal_laws.specs.Laws.{IsAnswer}
 use Rattle.ficus_held_laws.specs.Entries.{AreKeptEntries, IsIdle}
-use Rattle.ficus_held_laws.specs.Objects.{KeptObject, IsKeptObject, AreKeptObjects, AreObjectsStepped, AreOrphans, AreLeft, AreObjectsMerged}
+use Rattle.ficus_held_laws.specs.Objects.{KeptObject, HasKind, IsKeptObject, AreKeptObjects, AreObjectsStepped, AreOrphans, AreLeft, AreObjectsMerged}
 
 -- what is kept isn't done
 abbrev pub KeptIsNotDone : Type 0
 KeptIsNotDone = (members : ℕ) (H : List Event) (replica : ℕ) (object : KeptObject) (position : ℕ) →
     IsKeptObject members H replica object → IsDone members H replica object.id position → ⊥
+
+-- at the start no replica keeps an object
+abbrev pub NoObjectsAtStart : Type 0
+NoObjectsAtStart = (members replica : ℕ) → AreKeptObjects members [] replica []
+
+-- each object that a replica holds is in a list of those that it keeps, with its kind
+abbrev pub HeldObjectsAreListed : Type 0
+HeldObjectsAreListed = (members : ℕ) (H : List Event) (replica : ℕ) (objects : List KeptObject) (id : Id) (kind : Kind) →
+    AreKeptObjects members H replica objects → IsHeldObject members H replica id kind → HasKind objects id kind
 
 -- an event of another replica, and an idle one, leaves the objects that a replica keeps
 abbrev pub OthersKeepObjects : Type 0

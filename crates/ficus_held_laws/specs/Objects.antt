@@ -36,6 +36,11 @@ pub record HasObject (objects : List KeptObject) (id : Id) : Type 0 where
   pub inside : Contains objects object
   pub named : object.id ≡ id
 
+-- and it has this kind
+pub record HasKind (objects : List KeptObject) (id : Id) (kind : Kind) : Type 0 where
+  pub has : HasObject objects id
+  pub of : has.object.kind ≡ kind
+
 -- the replica has the object done
 pub record IsGivenUp (members : ℕ) (H : List Event) (replica : ℕ) (object : Id) : Type 0 where
   pub position : ℕ

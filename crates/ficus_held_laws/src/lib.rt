@@ -8,7 +8,7 @@ mod entries;
 mod objects;
 
 pub use entries::{
-    accept_merges_entries, collect_drops_full_entries, held_entries_stand, others_keep_entries,
+    accept_merges_entries, collect_drops_full_entries, kept_entries_stand, others_keep_entries,
     update_steps_entries,
 };
 pub use objects::{

@@ -1,8 +1,11 @@
-ghost use Rattle.ficus_held_laws.specs.ObjectLaws.{KeptIsNotDone, OthersKeepObjects, UpdateStepsObjects, CollectLeavesObjects, AcceptMergesObjects};
+ghost use Rattle.ficus_held_laws.specs.ObjectLaws.{KeptIsNotDone, HeldObjectsAreListed, NoObjectsAtStart, OthersKeepObjects, UpdateStepsObjects, CollectLeavesObjects, AcceptMergesObjects};
 
-/// No object is kept that is done.
+/// No object is kept that is done. A list of the objects that a replica keeps has each that it holds, with its
+/// kind; at the start it is empty.
 pub fn kept_objects_stand()
-    ensures { KeptIsNotDone }
+    ensures undone { KeptIsNotDone }
+    ensures listed { HeldObjectsAreListed }
+    ensures start { NoObjectsAtStart }
 {}
 
 /// After an event of another replica, and after one that is no update, takes nothing and doesn't collect, a
