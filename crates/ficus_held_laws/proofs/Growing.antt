@@ -93,36 +93,36 @@ module _ (H : List Event) (replica : ℕ) (op : Op) where
 
 -- an object just made is kept
 module _ (volume : Volume) (H : List Event) (replica : ℕ) (lawful : IsLawful volume H) (dir : Id) (name : List ℕ)
-    where
-  abbrev made : Kind → List Event
-  made kind = H ++ Update replica (Make dir name kind) ∷ []
+  where
+    abbrev made : Kind → List Event
+    made kind = H ++ Update replica (Make dir name kind) ∷ []
 
-  made_held : (kind : Kind) → IsHeldObject volume.members (made kind) replica (next_number replica H) kind
-  made_held kind = record {
-    made = make_made_new H replica dir name kind;
-    held = λ position d.
-        let i = made_issued (done_before H replica (Make dir name kind) d).made in
-        omega (arith, i.at_most);
-  }
+    made_held : (kind : Kind) → IsHeldObject volume.members (made kind) replica (next_number replica H) kind
+    made_held kind = record {
+      made = make_made_new H replica dir name kind;
+      held = λ position d.
+          let i = made_issued (done_before H replica (Make dir name kind) d).made in
+          omega (arith, i.at_most);
+    }
 
-  made_shown : (kind : Kind) →
-      AreShown (made kind) (Knows (made kind) replica) (next_number replica H) (first_versions replica kind)
-  made_shown Dir = (are_shown_kept H (Update replica (Make dir name Dir)) replica
-      (other_back H replica (Make dir name Dir) (none_is (next_number replica H)))).0
-      (none_shown volume H replica lawful)
-  made_shown Plain = make_shown volume H replica lawful dir name Plain (λ is. cc)
-  made_shown Lines = make_shown volume H replica lawful dir name Lines (λ is. cc)
-  made_shown Max = make_shown volume H replica lawful dir name Max (λ is. cc)
-  made_shown Keep = make_shown volume H replica lawful dir name Keep (λ is. cc)
+    made_shown : (kind : Kind) →
+        AreShown (made kind) (Knows (made kind) replica) (next_number replica H) (first_versions replica kind)
+    made_shown Dir = (are_shown_kept H (Update replica (Make dir name Dir)) replica
+        (other_back H replica (Make dir name Dir) (none_is (next_number replica H)))).0
+        (none_shown volume H replica lawful)
+    made_shown Plain = make_shown volume H replica lawful dir name Plain (λ is. cc)
+    made_shown Lines = make_shown volume H replica lawful dir name Lines (λ is. cc)
+    made_shown Max = make_shown volume H replica lawful dir name Max (λ is. cc)
+    made_shown Keep = make_shown volume H replica lawful dir name Keep (λ is. cc)
 
-  made_kept : (object : KeptObject) → object.id ≡ next_number replica H →
-      object.versions ≡ first_versions replica object.kind → object.cover ≡ (λ by. 0) →
-      IsKeptObject volume.members (made object.kind) replica object
-  made_kept object id versions cover = renamed object id refl (made_held object.kind)
-      (subst (AreShown (made object.kind) (Knows (made object.kind) replica) (next_number replica H)) (sym versions)
-          (made_shown object.kind))
-      (subst (IsCoverOf (made object.kind) (Knows (made object.kind) replica) (next_number replica H)) (sym cover)
-          (make_covered volume H replica lawful dir name object.kind))
+    made_kept : (object : KeptObject) → object.id ≡ next_number replica H →
+        object.versions ≡ first_versions replica object.kind → object.cover ≡ (λ by. 0) →
+        IsKeptObject volume.members (made object.kind) replica object
+    made_kept object id versions cover = renamed object id refl (made_held object.kind)
+        (subst (AreShown (made object.kind) (Knows (made object.kind) replica) (next_number replica H)) (sym versions)
+        (made_shown object.kind))
+        (subst (IsCoverOf (made object.kind) (Knows (made object.kind) replica) (next_number replica H)) (sym cover)
+        (make_covered volume H replica lawful dir name object.kind))
 
 pub objects_stepped : (volume : Volume) (H : List Event) (replica : ℕ) (op : Op) (objects next : List KeptObject) →
     IsLawful volume H → AreKeptObjects volume.members H replica objects →

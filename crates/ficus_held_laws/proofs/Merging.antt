@@ -264,8 +264,14 @@ module _ (volume : Volume) (H : List Event) (replica served server : ℕ) (entri
           (HasObject mine id → ⊥) → Decided (Knows H replica his.position) →
           IsGivenUp volume.members accepted replica id
       of_server his listed no_own (inl known) = known_here
-          (record { position = his.position; dir = his.dir; name = his.name; known = known; update =
-              agree_update (agree_before (served + 1) H) (at_from_before (served + 1) his.update.at).0 his.update })
+          (record {
+            position = his.position;
+            dir = his.dir;
+            name = his.name;
+            known = known;
+            update =
+                agree_update (agree_before (served + 1) H) (at_from_before (served + 1) his.update.at).0 his.update;
+          })
           no_own
       of_server his listed no_own (inr news) = absurd (his_listed listed no_own (news_touched his news))
 

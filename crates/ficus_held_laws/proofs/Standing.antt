@@ -169,9 +169,9 @@ one_state members H replica id Live (Dead one two) a b = absurd (a.not_removed b
 one_state members H replica id (Dead one two) Live a b = absurd (b.not_removed a.removed)
 one_state members H replica id (Dead one two) (Dead first second) a b = ap₂ Dead
     (same_marks one first (λ peer. same_test (has one peer) (has first peer)
-        (λ inside. (b.first peer).1 ((a.first peer).0 inside)) (λ inside. (a.first peer).1 ((b.first peer).0 inside))))
+    (λ inside. (b.first peer).1 ((a.first peer).0 inside)) (λ inside. (a.first peer).1 ((b.first peer).0 inside))))
     (same_marks two second (λ peer. same_test (has two peer) (has second peer)
-        (λ inside. (b.second peer).1 ((a.second peer).0 inside)) (λ inside. (a.second peer).1 ((b.second peer).0 inside))))
+    (λ inside. (b.second peer).1 ((a.second peer).0 inside)) (λ inside. (a.second peer).1 ((b.second peer).0 inside))))
 
 abbrev pub kept_of : Entry → State → Kept
 kept_of place state = record { id = place.id; dir = place.dir; name = place.name; target = place.target; state = state }
@@ -186,4 +186,4 @@ pub kept_once : {members : ℕ} {H : List Event} {replica : ℕ} {entry other : 
 kept_once {members} {H} {replica} {entry} {other} k l same = same_kept
     (entered_once k.held.entered l.held.entered same)
     (one_state members H replica entry.id entry.state other.state k.state
-        (subst (λ id. StandsAs members H replica id (Some other.state)) (sym same) l.state))
+    (subst (λ id. StandsAs members H replica id (Some other.state)) (sym same) l.state))
