@@ -15,11 +15,11 @@ use Rattle.ficus_model.specs.Held.{Touches, IsDone}
 use Rattle.ficus_model.specs.Final.{IsFinal}
 use Rattle.ficus_laws.proofs.Positions.{agree_back, agree_before, of_at, of_before}
 use Rattle.ficus_laws.proofs.Updates.{agree_update, update_once}
-use Rattle.ficus_laws.proofs.Knowledge.{knows_own, knows_later}
+use Rattle.ficus_laws.proofs.Knowledge.{knows_own}
 use Rattle.ficus_laws.proofs.Past.{agree_version}
 use Rattle.ficus_laws.proofs.Lawful.{lawful_before, lawful_member}
 use Rattle.ficus_laws.proofs.Issued.{issuer_member}
-use Rattle.ficus_laws.proofs.Shown.{within_known, removed_within, live_same}
+use Rattle.ficus_laws.proofs.Shown.{removed_within, live_same}
 use Rattle.ficus_laws.proofs.Views.{same_updates, file_within, uncovered_within}
 use Rattle.ficus_laws.proofs.Deciding.{Decided, knows_decided}
 use Rattle.ficus_version_laws.proofs.Objects.{version_file}

@@ -1,4 +1,9 @@
 pub mod Using
+pub mod Unbinding
 pub mod Before
 pub mod Dropped
 pub mod Finishing
+pub mod Collecting
+pub mod FileDone
+pub mod ConflictUpdates
+pub mod Conflict

@@ -5,7 +5,9 @@
 #![tactic(auto)]
 
 mod done;
+mod examples;
 mod uses;
 
-pub use done::{done_is_known_to_all, finality};
-pub use uses::users_see_life;
+pub use done::{collect_gives_up_exactly, done_is_known_to_all, finality};
+pub use examples::{files_are_done, files_are_orphans};
+pub use uses::{orphans_are_in_reach, removed_names_are_gone, users_see_life};

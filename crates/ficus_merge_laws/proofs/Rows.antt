@@ -71,19 +71,19 @@ module _ (volume : Volume) (H : List Event) (replica served server : ℕ) (id : 
       go (inl was) = held was
       go (inr (is, full)) = let clash : Accept replica served ≡ Collect replica = is in cc
 
-  -- what isn't held here and is removed here was dropped here, so the server knew the removal and marked it
+  -- what the replica doesn't hold and knows to be removed it has dropped
   absent_removed : IsAbsent volume.members H replica id → IsRemoved H (Knows H replica) id →
       IsDropped volume.members H replica id
   absent_removed absent r = absent (removed_entered volume H answer.lawful r)
 
-  -- what wasn't held there and was removed there was dropped there
+  -- and so the server
   absent_there : IsAbsent volume.members there server id → IsRemoved there (Knows there server) id →
       IsDropped volume.members there server id
   absent_there absent r =
       let lawful = answers.lawful_there volume H replica served server id answer in
       absent (removed_entered volume there lawful r)
 
-  -- who drops it there, every member knows of every member
+  -- where the server had dropped it, the replica knew of each member that it knows
   dropped_there_one : IsDropped volume.members there server id → (member : ℕ) → IsMember volume.members member →
       KnowsThatKnows H replica member id
   dropped_there_one d member m = answers.server_dropped_one volume H replica served server id answer d m

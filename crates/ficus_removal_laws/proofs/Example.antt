@@ -63,10 +63,10 @@ with_file = Update 1 made ∷ []
 without : List Event
 without = with_file ++ Update 1 removal ∷ []
 
-first : IsMember 2 1
+pub first : IsMember 2 1
 first = record { at_least = omega arith; at_most = omega arith }
 
-second : IsMember 2 2
+pub second : IsMember 2 2
 second = record { at_least = omega arith; at_most = omega arith }
 
 one_or_two : (member : ℕ) → IsMember 2 member → (member ≡ 1) ⊎ (member ≡ 2)
@@ -76,10 +76,10 @@ one_or_two member m = go (cases_eq member 1)
     go (inl one) = inl one
     go (inr other) = inr (omega (arith, other, m.at_least, m.at_most))
 
-root_directory : {H : List Event} {U : ℕ → Type 0} → IsReachedDirectory H U ROOT
+pub root_directory : {H : List Event} {U : ℕ → Type 0} → IsReachedDirectory H U ROOT
 root_directory = record { directory = inl refl; reached = Base (inl refl) }
 
-place : HasPlace [] (Knows [] 1) ROOT (codes "a")
+pub place : HasPlace [] (Knows [] 1) ROOT (codes "a")
 place = record { parent = root_directory; free = λ t. absurd (omega (arith, update_within t.1.live.entered.update)) }
 
 file_lawful : IsLawful drop_volume with_file

@@ -34,6 +34,7 @@ abbrev pub OneIsKnowledge : Type 0
 OneIsKnowledge = (H : List Event) (replica peer : ℕ) (entry : Id) →
     IsInOne H replica peer entry ↔ KnowsThatKnows H replica peer entry
 
+-- and of the knowledge that all know
 abbrev pub TwoIsKnowledge : Type 0
 TwoIsKnowledge = (members : ℕ) (H : List Event) (replica peer : ℕ) (entry : Id) →
     IsInTwo members H replica peer entry ↔ KnowsThatAllKnow members H replica peer entry
@@ -59,13 +60,13 @@ RemovalsAreKnown = (volume : Volume) (H : List Event) (replica position : ℕ) (
     IsLawful volume H → IsUpdate H position number op → Contains (removed_by number op) entry →
     IsInOne H replica number.replica entry → Knows H replica position
 
--- after a Remove is alive for its replica what was, but for the entries that it names
+-- after a Remove its replica has alive what it had, but for the entries that the Remove names
 abbrev pub RemoveTakes : Type 0
 RemoveTakes = (H : List Event) (replica : ℕ) (entries : List Id) (target : Id) (entry : Entry) →
     let K = H ++ Update replica (Remove entries target) ∷ [] in
     IsLive K (Knows K replica) entry ↔ (IsLive H (Knows H replica) entry × (Contains entries entry.id → ⊥))
 
--- after a Move too, and the entry that it enters is alive
+-- after a Move too, and the entry that the Move enters
 abbrev pub MoveTakes : Type 0
 MoveTakes = (volume : Volume) (H : List Event) (replica : ℕ) (entries : List Id) (dir : Id) (name : List ℕ)
     (target : Id) (entry : Entry) → let K = H ++ Update replica (Move entries dir name target) ∷ [] in
@@ -73,7 +74,7 @@ MoveTakes = (volume : Volume) (H : List Event) (replica : ℕ) (entries : List I
     ((IsLive H (Knows H replica) entry × (Contains entries entry.id → ⊥)) ⊎
     (entry ≡ entry_of (next_number replica H) dir name target))
 
--- a Discard leaves what is alive: it removes the entry that it enters
+-- after a Discard what it had: the entry that a Discard enters is removed at once
 abbrev pub DiscardTakes : Type 0
 DiscardTakes = (H : List Event) (replica : ℕ) (file : Id) (entry : Entry) →
     let K = H ++ Update replica (Discard file) ∷ [] in
@@ -91,7 +92,7 @@ RemovalBegins = (volume : Volume) (H : List Event) (replica : ℕ) (op : Op) (en
     IsLawful volume (H ++ Update replica op ∷ []) → Contains (removed_by (next_number replica H) op) entry →
     IsBegun volume.members (H ++ Update replica op ∷ []) replica entry
 
--- after an Accept an entry is known, and removed, where it was so for the replica or for the server when it served
+-- after an Accept its replica knows an entry exactly where it did or the server did when it served
 abbrev pub AcceptJoinsEntered : Type 0
 AcceptJoinsEntered = (H : List Event) (replica served server : ℕ) (entry : Id) → IsOf H served server →
     let K = H ++ Accept replica served ∷ [] in
@@ -99,6 +100,7 @@ AcceptJoinsEntered = (H : List Event) (replica served server : ℕ) (entry : Id)
     IsEnteredAs K (Knows K replica) entry ↔
     (IsEnteredAs H (Knows H replica) entry ⊎ IsEnteredAs T (Knows T server) entry)
 
+-- and so with removals
 abbrev pub AcceptJoinsRemoved : Type 0
 AcceptJoinsRemoved = (H : List Event) (replica served server : ℕ) (entry : Id) → IsOf H served server →
     let K = H ++ Accept replica served ∷ [] in
@@ -111,13 +113,14 @@ AcceptHearsLater = (H : List Event) (replica served server peer position : ℕ) 
     let K = H ++ Accept replica served ∷ [] in
     IsHeard K replica peer position ↔ IsLaterHeard H replica (through served H) server peer position
 
--- so another replica is in its sets exactly where it was in those of one of both
+-- so another replica is in its first set exactly where it was in that of one of both
 abbrev pub AcceptJoinsOne : Type 0
 AcceptJoinsOne = (H : List Event) (replica served server peer : ℕ) (entry : Id) → IsOf H served server →
     peer ≢ replica →
     let K = H ++ Accept replica served ∷ [] in
     IsInOne K replica peer entry ↔ (IsInOne H replica peer entry ⊎ IsInOne (through served H) server peer entry)
 
+-- and so with the second sets
 abbrev pub AcceptJoinsTwo : Type 0
 AcceptJoinsTwo = (members : ℕ) (H : List Event) (replica served server peer : ℕ) (entry : Id) → IsOf H served server →
     peer ≢ replica →
@@ -157,7 +160,7 @@ UnmarkedIsNotDropped = (members : ℕ) (H : List Event) (replica member peer : �
     IsMember members member → IsMember members peer → (IsInOne H member peer entry → ⊥) →
     IsDropped members H replica entry → ⊥
 
--- an answer that may be taken, what served it, and the members of both
+-- after a lawful history the replica may take what this server served at this position
 pub record IsAnswer (volume : Volume) (H : List Event) (replica served server : ℕ) : Type 0 where
   pub lawful : IsLawful volume H
   pub may : MayCome volume H (Accept replica served)

@@ -24,10 +24,10 @@ pub fn live_is_never_dropped()
     ensures unmarked { UnmarkedIsNotDropped }
 {}
 
-/// What it means that one of both doesn't hold an entry when an answer is taken. The replica has dropped an
-/// entry exactly where it stands in the first set that is served, and then the server knew a removal. The
-/// server had dropped an entry exactly where the replica's first set is full, and then its second set is full
-/// once the answer is taken.
+/// What it means that one of both doesn't hold an entry when an answer is taken. What the replica doesn't hold,
+/// it has dropped exactly where it stands in the first set that the server then had; and what it has dropped,
+/// the server knew to be removed. What the server didn't hold, it had dropped exactly where the replica's
+/// first set is full; and what it had dropped has a full second set at the replica once the answer is taken.
 pub fn absent_entries_are_explained()
     ensures here { AbsentWasDropped }
     ensures served { DroppedIsServed }

@@ -1,7 +1,7 @@
 ghost use Rattle.ficus_removal_laws.specs.Laws.{RemoveTakes, MoveTakes, DiscardTakes, KeepsMarks, RemovalBegins, RemovedIsEntered, RemovalsAreKnown, AcceptJoinsEntered, AcceptJoinsRemoved, AcceptHearsLater, AcceptJoinsOne, AcceptJoinsTwo};
 
-/// What is alive for a replica after a removal of its own: after a Remove what was alive but for the entries
-/// that it names, after a Move also the entry that it enters, and after a Discard what was alive.
+/// What is alive for a replica after a removal of its own: after a Remove what was, but for the entries that
+/// it names; after a Move the same and the entry that it enters; after a Discard what was.
 pub fn removals_take_effect()
     ensures remove { RemoveTakes }
     ensures moved { MoveTakes }

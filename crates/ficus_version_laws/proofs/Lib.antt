@@ -13,3 +13,4 @@ pub mod Pigeonhole
 pub mod Few
 pub mod Orphaned
 pub mod Existing
+pub mod Fitting

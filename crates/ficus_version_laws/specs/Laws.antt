@@ -8,7 +8,7 @@ use Rattle.ficus_model.specs.declared.event.Event.TheVariants.{Update, Accept}
 use Rattle.ficus_model.specs.declared.event.Op.{Op}
 use Rattle.ficus_model.specs.declared.event.Op.TheVariants.{Make}
 use Rattle.ficus_model.specs.Live.{IsFile, HasName}
-use Rattle.ficus_model.specs.Events.{IsOf, through, actor}
+use Rattle.ficus_model.specs.Events.{IsOf, through, actor, count_of}
 use Rattle.ficus_model.specs.Known.{Knows, HasInPast}
 use Rattle.ficus_model.specs.Lawful.{Volume, IsLawful}
 use Rattle.ficus_model.specs.Versions.{IsVersion, IsCovering, IsShown, IsInConflict}
@@ -41,6 +41,11 @@ abbrev pub OneVector : Type 0
 OneVector = (H : List Event) (file : Id) (position : ℕ) (vector again : ℕ → ℕ) →
     IsVectorOf H file position vector → IsVectorOf H file position again →
     (replica : ℕ) → vector replica ≡ again replica
+
+-- a vector counts no more than the updates of each replica
+abbrev pub VectorsFit : Type 0
+VectorsFit = (H : List Event) (file : Id) (position : ℕ) (vector : ℕ → ℕ) → IsVectorOf H file position vector →
+    (replica : ℕ) → vector replica ≤ count_of replica H
 
 -- a version's vector is the same in every longer history
 abbrev pub VectorsStay : Type 0
@@ -168,6 +173,11 @@ abbrev pub OneCover : Type 0
 OneCover = (H : List Event) (reader : ℕ) (file : Id) (cover again : ℕ → ℕ) →
     IsCoverOf H (Knows H reader) file cover → IsCoverOf H (Knows H reader) file again →
     (replica : ℕ) → cover replica ≡ again replica
+
+-- a cover counts no more than the updates of each replica
+abbrev pub CoversFit : Type 0
+CoversFit = (H : List Event) (reader : ℕ) (file : Id) (cover : ℕ → ℕ) → IsCoverOf H (Knows H reader) file cover →
+    (replica : ℕ) → cover replica ≤ count_of replica H
 
 -- after an Accept the cover is the join of the two
 abbrev pub AcceptJoinsCovers : Type 0
