@@ -38,7 +38,8 @@ module _ {n : ℕ} {H K : List Event} {position : ℕ} (same : AgreeBelow n H K)
         (subst (λ L. IsOrphan K (Knows L replica) object) (sym before_is) o));
   }
     where
-      entered : {entry : Entry} → IsEntered K (Knows (before position K) replica) entry → IsEntered H (Knows (before position H) replica) entry
+      entered : {entry : Entry} → IsEntered K (Knows (before position K) replica) entry →
+          IsEntered H (Knows (before position H) replica) entry
       entered {entry} e = entered_within (same_updates (known_same replica)).back
           (subst (λ L. IsEntered K (Knows L replica) entry) (sym before_is) e)
 
@@ -60,3 +61,14 @@ done_cases {members} {H} {replica} {object} {position} event d = go (at_cases ev
         IsDone members H replica object position ⊎ ((position ≡ length H) × (event ≡ Collect replica))
     go (inl was) = inl (done_at (agree_back (agree_more H (event ∷ []))) (at_within was) d)
     go (inr (end, is)) = inr (end, sym is)
+
+-- so where the event is no Collect of the replica, nothing more is done
+pub done_was : {members : ℕ} {H : List Event} {replica : ℕ} {object : Id} {position : ℕ} (event : Event) →
+    event ≢ Collect replica → IsDone members (H ++ event ∷ []) replica object position →
+    IsDone members H replica object position
+done_was {members} {H} {replica} {object} {position} event other d = go (done_cases event d)
+  where
+    go : IsDone members H replica object position ⊎ ((position ≡ length H) × (event ≡ Collect replica)) →
+        IsDone members H replica object position
+    go (inl was) = was
+    go (inr (end, is)) = absurd (other is)

@@ -29,22 +29,12 @@ use Rattle.ficus_version_laws.proofs.Making.{none_shown, make_shown, make_covere
 use Rattle.ficus_version_laws.proofs.Objects.{none_is}
 use Rattle.ficus_version_laws.proofs.Operations.{writes_version, version_writes, gives_up_covers, covers_gives_up}
 use Rattle.ficus_held_laws.specs.Objects.{KeptObject, IsKeptObject, HasObject, IsGivenUp, AreKeptObjects, IsObjectStepped, IsObjectMade, IsFromObject, HasStepped, AreObjectsStepped, first_versions}
-use Rattle.ficus_held_laws.proofs.Done.{done_more, done_cases}
+use Rattle.ficus_held_laws.proofs.Done.{done_was}
 use Rattle.ficus_held_laws.proofs.Leaving.{object_or_not, given_up_more}
 
--- an update makes nothing done
-done_before : {members : ℕ} (H : List Event) (replica : ℕ) (op : Op) {object : Id} {position : ℕ} →
-    IsDone members (H ++ Update replica op ∷ []) replica object position → IsDone members H replica object position
-done_before {members} H replica op {object} {position} d = go (done_cases (Update replica op) d)
-  where
-    go : IsDone members H replica object position ⊎ ((position ≡ length H) × (Update replica op ≡ Collect replica)) →
-        IsDone members H replica object position
-    go (inl was) = was
-    go (inr (end, is)) = let clash : Update replica op ≡ Collect replica = is in cc
-
 -- what is kept under one identifier and kind is kept under equal ones
-pub renamed : {members : ℕ} {H : List Event} {replica : ℕ} {object : Id} {kind : Kind} (next : KeptObject) → next.id ≡ object →
-    next.kind ≡ kind → IsHeldObject members H replica object kind → AreShown H (Knows H replica) object next.versions →
+pub renamed : {members : ℕ} {H : List Event} {replica : ℕ} {object : Id} {kind : Kind} (next : KeptObject) →
+    next.id ≡ object → next.kind ≡ kind → IsHeldObject members H replica object kind → AreShown H (Knows H replica) object next.versions →
     IsCoverOf H (Knows H replica) object next.cover → IsKeptObject members H replica next
 renamed {members} {H} {replica} {object} {kind} next id same held versions cover = record {
   held = subst (λ k. IsHeldObject members H replica k next.kind) (sym id)
@@ -66,7 +56,7 @@ module _ (H : List Event) (replica : ℕ) (op : Op) where
     still_held : IsHeldObject members after replica object.id object.kind
     still_held = record {
       made = made_within (within_more H (Update replica op ∷ []) replica) k.held.made;
-      held = λ position d. k.held.held position (done_before H replica op d);
+      held = λ position d. k.held.held position (done_was (Update replica op) (λ is. cc) d);
     }
 
     next_versions : Decided (version_of number op ≡ Some object.id) →
@@ -101,7 +91,7 @@ module _ (volume : Volume) (H : List Event) (replica : ℕ) (lawful : IsLawful v
     made_held kind = record {
       made = make_made_new H replica dir name kind;
       held = λ position d.
-          let i = made_issued (done_before H replica (Make dir name kind) d).made in
+          let i = made_issued (done_was (Update replica (Make dir name kind)) (λ is. cc) d).made in
           omega (arith, i.at_most);
     }
 

@@ -30,14 +30,15 @@ use Rattle.ficus_version_laws.proofs.Advancing.{are_shown_kept}
 use Rattle.ficus_version_laws.proofs.Covering.{cover_kept}
 use Rattle.ficus_held_laws.specs.Entries.{AreKeptEntries, IsIdle, place_of}
 use Rattle.ficus_held_laws.specs.Objects.{KeptObject, IsKeptObject, HasObject, HasKind, IsGivenUp, AreKeptObjects, IsTouched, AreOrphans, AreLeft}
-use Rattle.ficus_held_laws.proofs.Done.{done_more, done_cases}
+use Rattle.ficus_held_laws.proofs.Done.{done_more, done_cases, done_was}
 use Rattle.ficus_held_laws.proofs.Standing.{idle_quiet, others_collect_not}
 
 -- a list has an object with the identifier, or it doesn't
 pub object_or_not : (objects : List KeptObject) (id : Id) → Decided (HasObject objects id)
 object_or_not objects id = go (held_or_not (λ object. object.id) objects id)
   where
-    go : (found : Option KeptObject) × HoldsUnderBy (λ object. object.id) objects id found → Decided (HasObject objects id)
+    go : (found : Option KeptObject) × HoldsUnderBy (λ object. object.id) objects id found →
+        Decided (HasObject objects id)
     go (Some object, (inside, named)) = inl (record { object = object; inside = inside; named = named })
     go (None, none) = inr (λ has. none (record { item = has.object; inside = has.inside; has_id = has.named }))
 
@@ -94,16 +95,8 @@ quiet event (inl differs) = inl differs
 quiet event (inr idle) = inr (idle_quiet event idle)
 
 -- an event of another replica, and an idle one, leaves the objects
-module _ {members : ℕ} (H : List Event) (event : Event) (replica : ℕ) (other : (actor event ≢ replica) ⊎ IsIdle event) where
-  done_was : {object : Id} {position : ℕ} → IsDone members (H ++ event ∷ []) replica object position →
-      IsDone members H replica object position
-  done_was {object} {position} d = go (done_cases event d)
-    where
-      go : IsDone members H replica object position ⊎ ((position ≡ length H) × (event ≡ Collect replica)) →
-          IsDone members H replica object position
-      go (inl was) = was
-      go (inr (end, is)) = absurd (others_collect_not other is)
-
+module _ {members : ℕ} (H : List Event) (event : Event) (replica : ℕ)
+    (other : (actor event ≢ replica) ⊎ IsIdle event) where
   pub objects_kept : {objects : List KeptObject} → AreKeptObjects members H replica objects →
       AreKeptObjects members (H ++ event ∷ []) replica objects
   objects_kept a = record {
@@ -112,7 +105,7 @@ module _ {members : ℕ} (H : List Event) (event : Event) (replica : ℕ) (other
         record {
           held = record {
             made = made_kept H event replica (quiet event other) k.held.made;
-            held = λ position d. k.held.held position (done_was d);
+            held = λ position d. k.held.held position (done_was event (others_collect_not other) d);
           };
           versions = versions_kept H event replica (quiet event other) k.versions;
           cover = covers_kept H event replica (quiet event other) k.cover;
@@ -210,7 +203,10 @@ module _ {members : ℕ} (H : List Event) (replica : ℕ) (entries : List Kept) 
 
   left_kept : (object : KeptObject) → Contains left object → IsKeptObject members collected replica object
   left_kept object inside = record {
-    held = record { made = made_kept H (Collect replica) replica is_quiet k.held.made; held = λ position d. held d (done_cases (Collect replica) d) };
+    held = record {
+      made = made_kept H (Collect replica) replica is_quiet k.held.made;
+      held = λ position d. held d (done_cases (Collect replica) d);
+    };
     versions = versions_kept H (Collect replica) replica is_quiet k.versions;
     cover = covers_kept H (Collect replica) replica is_quiet k.cover;
   }

@@ -56,7 +56,8 @@ fully_decided members (Dead one two) = go (full_or_one_missing two members)
     go (inl full) = inl full
     go (inr (member, m, missing)) = inr (λ full. let inside : has two member ≡ true = full member m in cc)
 
-pub list_collected : {members : ℕ} {H : List Event} {replica : ℕ} {entries left : List Kept} → IsMember members replica →
+pub list_collected : {members : ℕ} {H : List Event} {replica : ℕ} {entries left : List Kept} →
+    IsMember members replica →
     AreKeptEntries members H replica entries → AreUndropped members entries left →
     AreKeptEntries members (H ++ Collect replica ∷ []) replica left
 list_collected {members} {H} {replica} {entries} {left} m kept are_left = record { each = each; absent = absent }
@@ -89,7 +90,8 @@ list_collected {members} {H} {replica} {entries} {left} m kept are_left = record
         go (Some entry, (inside, named)) = of_kept entry inside named (fully_decided members entry.state)
 
 pub list_stepped : (volume : Volume) (H : List Event) (replica : ℕ) (op : Op) {entries next : List Kept} →
-    2 ≤ volume.members → IsLawful volume (H ++ Update replica op ∷ []) → AreKeptEntries volume.members H replica entries →
+    2 ≤ volume.members → IsLawful volume (H ++ Update replica op ∷ []) →
+    AreKeptEntries volume.members H replica entries →
     AreEntriesStepped replica (next_number replica H) op entries next →
     AreKeptEntries volume.members (H ++ Update replica op ∷ []) replica next
 list_stepped volume H replica op {entries} {next} several lawful kept steps = record { each = each; absent = absent }

@@ -31,17 +31,18 @@ use Rattle.ficus_version_laws.specs.Listed.{AreShown}
 use Rattle.ficus_version_laws.proofs.Objects.{version_file, covering_object}
 use Rattle.ficus_version_laws.proofs.Taking.{knows_before, accept_merges, accept_own, accept_brought, cover_accept, cover_own, cover_brought}
 use Rattle.ficus_removal_laws.specs.Laws.{IsAnswer}
-use Rattle.ficus_removal_laws.specs.Marks.{IsEnteredAs, IsTwoFull}
+use Rattle.ficus_removal_laws.specs.Marks.{IsEnteredAs}
 use Rattle.ficus_removal_laws.proofs.Answering as answers
-use Rattle.ficus_removal_laws.proofs.Dropping.{dropped_cases, dropped_from_before, dropped_removed}
+use Rattle.ficus_removal_laws.proofs.Dropping.{dropped_from_before, dropped_removed}
 use Rattle.ficus_removal_laws.proofs.Removing.{removed_entered}
 use Rattle.ficus_final_laws.specs.Laws.{KnowsAllOf}
 use Rattle.ficus_final_laws.proofs.Finishing.{use_known, knows_all_of}
 use Rattle.ficus_held_laws.specs.Entries.{AreKeptEntries, place_of}
 use Rattle.ficus_held_laws.specs.Objects.{KeptObject, IsKeptObject, HasObject, IsGivenUp, AreKeptObjects, IsTouched, IsObjectMerged, IsOfBoth, IsOnlyOf, IsTaken, AreObjectsMerged}
-use Rattle.ficus_held_laws.proofs.Done.{done_more, done_from_before, done_cases}
+use Rattle.ficus_held_laws.proofs.Done.{done_more, done_from_before, done_was}
 use Rattle.ficus_held_laws.proofs.Growing.{renamed}
 use Rattle.ficus_held_laws.proofs.Keeping.{taken_within}
+use Rattle.ficus_held_laws.proofs.Standing.{undropped}
 use Rattle.ficus_held_laws.proofs.Leaving.{object_or_not, given_up_more}
 
 module _ (volume : Volume) (H : List Event) (replica served server : ℕ) (entries : List Kept)
@@ -65,23 +66,10 @@ module _ (volume : Volume) (H : List Event) (replica served server : ℕ) (entri
   lawful_there : IsLawful volume at_server
   lawful_there = answers.lawful_there volume H replica served server ROOT answer
 
-  -- an Accept makes nothing done and drops nothing
+  -- an Accept makes nothing done
   done_before : {object : Id} {position : ℕ} → IsDone volume.members accepted replica object position →
       IsDone volume.members H replica object position
-  done_before {object} {position} d = go (done_cases (Accept replica served) d)
-    where
-      go : IsDone volume.members H replica object position ⊎ ((position ≡ length H) × (Accept replica served ≡ Collect replica)) →
-          IsDone volume.members H replica object position
-      go (inl was) = was
-      go (inr (end, is)) = let clash : Accept replica served ≡ Collect replica = is in cc
-
-  dropped_before : {entry : Id} → IsDropped volume.members accepted replica entry → IsDropped volume.members H replica entry
-  dropped_before {entry} d = go (dropped_cases (Accept replica served) d)
-    where
-      go : IsDropped volume.members H replica entry ⊎ ((Accept replica served ≡ Collect replica) × IsTwoFull volume.members H replica entry) →
-          IsDropped volume.members H replica entry
-      go (inl was) = was
-      go (inr (is, full)) = let clash : Accept replica served ≡ Collect replica = is in cc
+  done_before d = done_was (Accept replica served) (λ is. cc) d
 
   own_held : {object : Id} {kind : Kind} → IsHeldObject volume.members H replica object kind →
       IsHeldObject volume.members accepted replica object kind
@@ -213,7 +201,7 @@ module _ (volume : Volume) (H : List Event) (replica served server : ℕ) (entri
 
     not_dropped : IsDropped volume.members accepted replica object → ⊥
     not_dropped d =
-        not_entered_here (removed_entered volume H answer.lawful (dropped_removed (dropped_before d) is_member))
+        not_entered_here (removed_entered volume H answer.lawful (dropped_removed (undropped (Accept replica served) (λ is. cc) d) is_member))
 
     news_touched : IsTouched entries object
     news_touched = go (held_or_not (λ (item : Kept). item.id) entries object)

@@ -41,10 +41,21 @@ inside_decided (first ∷ ids) id = go (same_id_or_not first id) (inside_decided
     go (inr differs) (inl later) = inl (there first id ids later)
     go (inr differs) (inr none) = inr (λ inside. beside differs none (here_or_there first id ids inside))
 
+-- an event that is no Collect of the replica drops nothing there
+pub undropped : {members : ℕ} {H : List Event} {replica : ℕ} {id : Id} (event : Event) → event ≢ Collect replica →
+    IsDropped members (H ++ event ∷ []) replica id → IsDropped members H replica id
+undropped {members} {H} {replica} {id} event other d = go (dropped_cases event d)
+  where
+    go : IsDropped members H replica id ⊎ ((event ≡ Collect replica) × IsTwoFull members H replica id) →
+        IsDropped members H replica id
+    go (inl was) = was
+    go (inr (is, full)) = absurd (other is)
+
 -- after both histories the same is known of the entry with this identifier
 pub record SameEntry (members : ℕ) (H K : List Event) (replica : ℕ) (id : Id) : Type 0 where
   pub marks : SameMarks members H K replica id
-  pub entered : (entry : Entry) → entry.id ≡ id → IsEntered H (Knows H replica) entry ↔ IsEntered K (Knows K replica) entry
+  pub entered : (entry : Entry) → entry.id ≡ id →
+      IsEntered H (Knows H replica) entry ↔ IsEntered K (Knows K replica) entry
   pub removed : IsRemoved H (Knows H replica) id ↔ IsRemoved K (Knows K replica) id
   pub dropped : IsDropped members H replica id ↔ IsDropped members K replica id
 
@@ -132,7 +143,7 @@ others_same_updates H event replica (inr idle) = same_quiet H event replica (idl
 
 -- such an event is no Collect of the replica
 pub others_collect_not : {event : Event} {replica : ℕ} → (actor event ≢ replica) ⊎ IsIdle event →
-    event ≡ Collect replica → ⊥
+    event ≢ Collect replica
 others_collect_not (inl other) is = other (ap actor is)
 others_collect_not (inr idle) is = subst IsIdle is idle
 
@@ -147,12 +158,10 @@ pub others_same_entry : (members : ℕ) (H : List Event) (event : Event) (replic
     IsMember members replica → (actor event ≢ replica) ⊎ IsIdle event →
     SameEntry members H (H ++ event ∷ []) replica id
 others_same_entry members H event replica id m other =
-    same_from_updates event (others_same_updates H event replica other) (others_marks members H event replica id m other)
-    (λ d. go (dropped_cases event d))
-  where
-    go : IsDropped members H replica id ⊎ ((event ≡ Collect replica) × IsTwoFull members H replica id) → IsDropped members H replica id
-    go (inl was) = was
-    go (inr (is, full)) = absurd (others_collect_not other is)
+    same_from_updates event
+    (others_same_updates H event replica other)
+    (others_marks members H event replica id m other)
+    (undropped event (others_collect_not other))
 
 -- tests that agree are equal
 same_test : (a b : Bool) → (IsTrue a → IsTrue b) → (IsTrue b → IsTrue a) → a ≡ b

@@ -23,13 +23,13 @@ use Rattle.ficus_laws.proofs.OneMore.{within_more}
 use Rattle.ficus_laws.proofs.Positions.{of_end}
 use Rattle.ficus_laws.proofs.Shown.{entered_within, removed_within}
 use Rattle.ficus_laws.proofs.Updates.{update_end}
-use Rattle.ficus_removal_laws.specs.Marks.{IsEnteredAs, IsAbsent, IsBegun, IsTwoFull}
-use Rattle.ficus_removal_laws.proofs.Dropping.{dropped_more, dropped_cases, dropped_removed}
+use Rattle.ficus_removal_laws.specs.Marks.{IsEnteredAs, IsAbsent, IsBegun}
+use Rattle.ficus_removal_laws.proofs.Dropping.{dropped_more, dropped_removed}
 use Rattle.ficus_removal_laws.proofs.Marking.{marks_kept, removal_begins}
 use Rattle.ficus_removal_laws.proofs.Removing.{removal_first}
 use Rattle.ficus_merge_laws.specs.States.{StandsAs}
 use Rattle.ficus_held_laws.specs.Entries.{IsKeptEntry, IsJustRemoved, IsSteppedTo, IsNewEntry, IsFromUpdate, place_of}
-use Rattle.ficus_held_laws.proofs.Standing.{inside_decided, SameEntry, same_entry_back, stands_same, kept_same, same_kept}
+use Rattle.ficus_held_laws.proofs.Standing.{inside_decided, undropped, SameEntry, same_entry_back, stands_same, kept_same, same_kept}
 
 -- In each of these a replica has done one more operation.
 module _ (volume : Volume) (H : List Event) (replica : ℕ) (op : Op)
@@ -51,15 +51,6 @@ module _ (volume : Volume) (H : List Event) (replica : ℕ) (op : Op)
   not_removed_before {id} inside r =
       removal_first volume after lawful (update_end H replica op) inside
       (subst (λ L. IsRemoved L (Knows L replica) id) (sym (take_at H (Update replica op ∷ []) (length H) refl)) r)
-
-  -- an update drops nothing
-  undropped : {id : Id} → IsDropped volume.members after replica id → IsDropped volume.members H replica id
-  undropped {id} d = go (dropped_cases (Update replica op) d)
-    where
-      go : IsDropped volume.members H replica id ⊎ ((Update replica op ≡ Collect replica) × IsTwoFull volume.members H replica id) →
-          IsDropped volume.members H replica id
-      go (inl was) = was
-      go (inr (is, full)) = let clash : Update replica op ≡ Collect replica = is in cc
 
   abbrev IsEnteredBefore : Entry → Type 0
   IsEnteredBefore entry = IsEntered H (Knows H replica) entry
@@ -86,7 +77,7 @@ module _ (volume : Volume) (H : List Event) (replica : ℕ) (op : Op)
       removed_within (within_more H (Update replica op ∷ []) replica),
       λ r. removed (removed_after H replica op r),
     );
-    dropped = (dropped_more (Update replica op ∷ []), undropped);
+    dropped = (dropped_more (Update replica op ∷ []), undropped (Update replica op) (λ is. cc));
   }
     where
       entered : (entry : Entry) → entry.id ≡ id →
@@ -226,7 +217,8 @@ module _ (volume : Volume) (H : List Event) (replica : ℕ) (op : Op)
         }
 
     -- and what was kept or is new is kept then
-    pub stepped_kept : {entry next : Kept} → IsKeptEntry volume.members H replica entry ⊎ IsNewEntry (next_number replica H) op entry →
+    pub stepped_kept : {entry next : Kept} →
+        IsKeptEntry volume.members H replica entry ⊎ IsNewEntry (next_number replica H) op entry →
         IsSteppedTo replica removes entry next → IsKeptEntry volume.members after replica next
     stepped_kept {entry} {next} from stepped = go (inside_decided removes entry.id) from
       where
@@ -241,7 +233,8 @@ module _ (volume : Volume) (H : List Event) (replica : ℕ) (op : Op)
         same : (Contains removes entry.id → ⊥) → entry ≡ next
         same beside = same_kept (sym stepped.same) (sym (stepped.left beside))
 
-        go : Decided (Contains removes entry.id) → IsKeptEntry volume.members H replica entry ⊎ IsNewEntry (next_number replica H) op entry →
+        go : Decided (Contains removes entry.id) →
+            IsKeptEntry volume.members H replica entry ⊎ IsNewEntry (next_number replica H) op entry →
             IsKeptEntry volume.members after replica next
         go (inl inside) found = removed_kept
             (subst (Contains removes) (sym same_id) inside)

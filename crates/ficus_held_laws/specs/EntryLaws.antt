@@ -64,13 +64,15 @@ ListsAreWhole = (members : ℕ) (H : List Event) (replica : ℕ) (entries : List
 -- so an update makes of the list what it makes of its entries, with the one that it enters
 abbrev pub UpdateStepsList : Type 0
 UpdateStepsList = (volume : Volume) (H : List Event) (replica : ℕ) (op : Op) (entries after : List Kept) →
-    2 ≤ volume.members → IsLawful volume (H ++ Update replica op ∷ []) → AreKeptEntries volume.members H replica entries →
+    2 ≤ volume.members → IsLawful volume (H ++ Update replica op ∷ []) →
+    AreKeptEntries volume.members H replica entries →
     AreEntriesStepped replica (next_number replica H) op entries after →
     AreKeptEntries volume.members (H ++ Update replica op ∷ []) replica after
 
 -- a Collect leaves of the list what isn't known fully
 abbrev pub CollectLeavesList : Type 0
-CollectLeavesList = (members : ℕ) (H : List Event) (replica : ℕ) (entries after : List Kept) → IsMember members replica →
+CollectLeavesList = (members : ℕ) (H : List Event) (replica : ℕ) (entries after : List Kept) →
+    IsMember members replica →
     AreKeptEntries members H replica entries → AreUndropped members entries after →
     AreKeptEntries members (H ++ Collect replica ∷ []) replica after
 

@@ -26,7 +26,8 @@ NoObjectsAtStart = (members replica : ℕ) → AreKeptObjects members [] replica
 
 -- each object that a replica holds is in a list of those that it keeps, with its kind
 abbrev pub HeldObjectsAreListed : Type 0
-HeldObjectsAreListed = (members : ℕ) (H : List Event) (replica : ℕ) (objects : List KeptObject) (id : Id) (kind : Kind) →
+HeldObjectsAreListed = (members : ℕ) (H : List Event) (replica : ℕ) (objects : List KeptObject) (id : Id)
+    (kind : Kind) →
     AreKeptObjects members H replica objects → IsHeldObject members H replica id kind → HasKind objects id kind
 
 -- an event of another replica, and an idle one, leaves the objects that a replica keeps
@@ -35,7 +36,7 @@ OthersKeepObjects = (members : ℕ) (H : List Event) (event : Event) (replica : 
     (actor event ≢ replica) ⊎ IsIdle event →
     AreKeptObjects members H replica objects → AreKeptObjects members (H ++ event ∷ []) replica objects
 
--- after an update its replica keeps the objects that it kept and the one that the update makes, as the update leaves them
+-- after an update its replica keeps what it kept and the object that the update makes, as the update leaves them
 abbrev pub UpdateStepsObjects : Type 0
 UpdateStepsObjects = (volume : Volume) (H : List Event) (replica : ℕ) (op : Op) (objects after : List KeptObject) →
     IsLawful volume H → AreKeptObjects volume.members H replica objects →

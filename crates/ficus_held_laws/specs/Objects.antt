@@ -81,13 +81,15 @@ pub record IsObjectMade (replica : ℕ) (number : Id) (op : Op) (object : KeptOb
   pub cover : object.cover ≡ (λ by. 0)
 
 -- an object of the list, as the update leaves it
-pub record IsFromObject (replica : ℕ) (number : Id) (op : Op) (objects : List KeptObject) (after : KeptObject) : Type 0 where
+pub record IsFromObject (replica : ℕ) (number : Id) (op : Op) (objects : List KeptObject)
+    (after : KeptObject) : Type 0 where
   pub object : KeptObject
   pub inside : Contains objects object
   pub stepped : IsObjectStepped replica number op object after
 
 -- the list has the object, as the update leaves it
-pub record HasStepped (replica : ℕ) (number : Id) (op : Op) (object : KeptObject) (after : List KeptObject) : Type 0 where
+pub record HasStepped (replica : ℕ) (number : Id) (op : Op) (object : KeptObject)
+    (after : List KeptObject) : Type 0 where
   pub next : KeptObject
   pub inside : Contains after next
   pub stepped : IsObjectStepped replica number op object next
