@@ -1,17 +1,16 @@
 -- What an update makes of the objects that its replica keeps.
-use Rattle.std.proofs.Common.{◌≡◌, ◌≢◌, ◌⊎◌, ℕ, List, [], ◌∷◌, ◌++◌, length, Some, refl, sym, ap, ◌∙◌, subst, inl, inr, arith}
-use Rattle.std.specs.Prelude.{Contains}
+use Rattle.std.proofs.Common.{◌≡◌, ◌⊎◌, ℕ, List, [], ◌∷◌, ◌++◌, Some, refl, sym, ◌∙◌, subst, inl, inr, arith}
 use Rattle.ficus_ids.specs.declared.id.Id.{Id}
 use Rattle.ficus_ids.specs.declared.kind.Kind.{Kind}
 use Rattle.ficus_ids.specs.declared.kind.Kind.TheVariants.{Dir, Plain, Lines, Max, Keep}
 use Rattle.ficus_model.specs.declared.event.Event.{Event}
-use Rattle.ficus_model.specs.declared.event.Event.TheVariants.{Update, Collect}
+use Rattle.ficus_model.specs.declared.event.Event.TheVariants.{Update}
 use Rattle.ficus_model.specs.declared.event.Op.{Op}
 use Rattle.ficus_model.specs.declared.event.Op.TheVariants.{Make}
 use Rattle.ficus_model.specs.Known.{Knows}
 use Rattle.ficus_model.specs.Lawful.{Volume, IsLawful}
 use Rattle.ficus_model.specs.Live.{IsMade}
-use Rattle.ficus_model.specs.Held.{IsDone, IsHeldObject}
+use Rattle.ficus_model.specs.Held.{IsHeldObject}
 use Rattle.ficus_model.specs.Vectors.{IsCoverOf}
 use Rattle.ficus_model.specs.Versions.{version_of, covered_by, bytes_of}
 use Rattle.ficus_laws.specs.Updates.{next_number}
@@ -20,17 +19,16 @@ use Rattle.ficus_laws.proofs.Deciding.{Decided}
 use Rattle.ficus_laws.proofs.Issued.{made_issued}
 use Rattle.ficus_laws.proofs.OneMore.{within_more}
 use Rattle.ficus_laws.proofs.Shown.{made_within}
-use Rattle.ficus_version_laws.specs.Compared.{join}
-use Rattle.ficus_version_laws.specs.Listed.{Item, AreShown, join_all, advanced}
+use Rattle.ficus_version_laws.specs.Listed.{AreShown}
 use Rattle.ficus_version_laws.proofs.Advancing.{are_shown_kept, other_back, advanced_shown}
 use Rattle.ficus_version_laws.proofs.Covering.{cover_covered, coverings_back, cover_kept}
 use Rattle.ficus_version_laws.proofs.Existing.{some_decided}
 use Rattle.ficus_version_laws.proofs.Making.{none_shown, make_shown, make_covered}
 use Rattle.ficus_version_laws.proofs.Objects.{none_is}
 use Rattle.ficus_version_laws.proofs.Operations.{writes_version, version_writes, gives_up_covers, covers_gives_up}
-use Rattle.ficus_held_laws.specs.Objects.{KeptObject, IsKeptObject, HasObject, IsGivenUp, AreKeptObjects, IsObjectStepped, IsObjectMade, IsFromObject, HasStepped, AreObjectsStepped, first_versions}
-use Rattle.ficus_held_laws.proofs.Done.{done_was}
-use Rattle.ficus_held_laws.proofs.Leaving.{object_or_not, given_up_more}
+use Rattle.ficus_held_laws.specs.Objects.{KeptObject, IsKeptObject, HasObject, HasDone, AreKeptObjects, IsObjectStepped, IsObjectMade, IsFromObject, AreObjectsStepped, first_versions}
+use Rattle.ficus_held_laws.proofs.Done.{done_was, done_stays}
+use Rattle.ficus_held_laws.proofs.Leaving.{object_or_not}
 
 -- what is kept under one identifier and kind is kept under equal ones
 pub renamed : {members : ℕ} {H : List Event} {replica : ℕ} {object : Id} {kind : Kind} (next : KeptObject) →
@@ -131,7 +129,7 @@ objects_stepped volume H replica op objects next lawful here steps =
 
     absent : (id : Id) (kind : Kind) →
         IsMade (H ++ Update replica op ∷ []) (Knows (H ++ Update replica op ∷ []) replica) id kind →
-        (HasObject next id → ⊥) → IsGivenUp volume.members (H ++ Update replica op ∷ []) replica id
+        (HasObject next id → ⊥) → HasDone volume.members (H ++ Update replica op ∷ []) replica id
     absent id kind m none = go (object_or_not objects id) (made_after H replica op m)
       where
         still_listed : HasObject objects id → ⊥
@@ -141,8 +139,8 @@ objects_stepped volume H replica op objects next lawful here steps =
 
         go : Decided (HasObject objects id) → IsMade H (Knows H replica) id kind ⊎
             ((id ≡ next_number replica H) × (dir : Id) × (name : List ℕ) × (op ≡ Make dir name kind)) →
-            IsGivenUp volume.members (H ++ Update replica op ∷ []) replica id
+            HasDone volume.members (H ++ Update replica op ∷ []) replica id
         go (inl has) found = absurd (still_listed has)
-        go (inr none_before) (inl was) = given_up_more (Update replica op ∷ []) (here.absent id kind was none_before)
+        go (inr none_before) (inl was) = done_stays (Update replica op) (here.absent id kind was none_before)
         go (inr none_before) (inr (is_next, dir, name, makes)) =
             absurd (none (subst (HasObject next) (sym is_next) (steps.made dir name kind makes)))

@@ -1,10 +1,10 @@
 -- What a Collect and an Accept make of the entries that a replica keeps.
-use Rattle.std.proofs.Common.{◌≡◌, ◌↔◌, ◌⊎◌, ℕ, List, [], ◌∷◌, ◌++◌, Some, None, Option, refl, sym, ap, ◌∙◌, subst, inl, inr}
+use Rattle.std.proofs.Common.{◌≡◌, ◌↔◌, ◌⊎◌, ℕ, List, [], ◌∷◌, ◌++◌, Some, None, Option, refl, sym, ap, subst, inl, inr}
 use Rattle.std.specs.Prelude.{Contains}
 use Rattle.ficus_ids.specs.Members.{IsMember}
 use Rattle.ficus_ids.specs.RisingLaws.{held_or_not}
 use Rattle.ficus_ids.specs.declared.id.Id.{Id}
-use Rattle.ficus_entry.specs.Entry.{Holds, HoldsUnder}
+use Rattle.ficus_entry.specs.Entry.{HoldsUnder}
 use Rattle.ficus_entry.specs.declared.entry.Entry.{Entry as Kept}
 use Rattle.ficus_entry.specs.declared.entry.State.{State}
 use Rattle.ficus_entry.specs.declared.entry.State.TheVariants.{Live, Dead}
@@ -15,13 +15,13 @@ use Rattle.ficus_model.specs.declared.event.Event.TheVariants.{Accept, Collect}
 use Rattle.ficus_model.specs.Events.{IsOf, through}
 use Rattle.ficus_model.specs.Known.{Knows}
 use Rattle.ficus_model.specs.Lawful.{Volume}
-use Rattle.ficus_model.specs.Live.{Entry, IsEntered, IsRemoved}
-use Rattle.ficus_model.specs.Held.{IsDropped, IsHeldEntry}
+use Rattle.ficus_model.specs.Live.{IsEntered}
+use Rattle.ficus_model.specs.Held.{IsDropped}
 use Rattle.ficus_laws.specs.Updates.{UpdatesWithin}
 use Rattle.ficus_laws.proofs.OneMore.{same_quiet, same_accept, same_seen, within_more}
 use Rattle.ficus_laws.proofs.Shown.{entered_within, within_chain, within_joined_right}
 use Rattle.ficus_removal_laws.specs.Laws.{IsAnswer}
-use Rattle.ficus_removal_laws.specs.Marks.{IsAbsent, IsTwoFull}
+use Rattle.ficus_removal_laws.specs.Marks.{IsTwoFull}
 use Rattle.ficus_removal_laws.proofs.Carrying.{one_removed, all_one}
 use Rattle.ficus_removal_laws.proofs.Hearing.{two_from_last}
 use Rattle.ficus_removal_laws.proofs.Dropping.{dropped_cases, dropped_now, dropped_removed}

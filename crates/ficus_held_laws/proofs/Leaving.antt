@@ -1,7 +1,6 @@
 -- What an event that brings no update, and one that collects, make of the objects that a replica keeps.
-use Rattle.std.proofs.Common.{◌≡◌, ◌≢◌, ◌↔◌, ◌⊎◌, ℕ, ◌+◌, ◌<◌, List, [], ◌∷◌, ◌++◌, length, Option, Some, None, refl, sym, ap, ◌∙◌, subst, inl, inr, arith}
+use Rattle.std.proofs.Common.{◌≡◌, ◌≢◌, ◌⊎◌, ℕ, List, [], ◌∷◌, ◌++◌, length, Option, Some, None, refl, sym, subst, inl, inr}
 use Rattle.std.specs.Prelude.{Contains}
-use Rattle.std.proofs.lemmas.List.{take_at}
 use Rattle.ficus_ids.specs.IdLaws.{same_id_or_not}
 use Rattle.ficus_ids.specs.ListLaws.{here, there, here_or_there, not_inside_none}
 use Rattle.ficus_ids.specs.Rising.{HoldsUnderBy}
@@ -12,25 +11,27 @@ use Rattle.ficus_entry.specs.Entry.{HoldsUnder}
 use Rattle.ficus_entry.specs.declared.entry.Entry.{Entry as Kept}
 use Rattle.ficus_model.specs.declared.event.Event.{Event}
 use Rattle.ficus_model.specs.declared.event.Event.TheVariants.{Collect}
-use Rattle.ficus_model.specs.Events.{IsAt, actor, before, through}
+use Rattle.ficus_model.specs.Events.{actor}
 use Rattle.ficus_model.specs.Known.{Knows}
 use Rattle.ficus_model.specs.Live.{Entry, IsEntered, IsMade}
 use Rattle.ficus_model.specs.Held.{IsDropped, Touches, IsDone, IsHeldObject}
 use Rattle.ficus_model.specs.Vectors.{IsCoverOf}
-use Rattle.ficus_model.specs.View.{IsOrphan}
 use Rattle.ficus_laws.specs.Updates.{IsQuiet}
 use Rattle.ficus_laws.proofs.Deciding.{Decided}
-use Rattle.ficus_laws.proofs.Positions.{agree_more, at_end, through_is}
-use Rattle.ficus_laws.proofs.Knowledge.{knows_none, knows_within}
+use Rattle.ficus_laws.proofs.Knowledge.{knows_none}
 use Rattle.ficus_laws.proofs.Issued.{entered_once, made_once}
 use Rattle.ficus_laws.proofs.Shown.{entered_within, made_within}
-use Rattle.ficus_laws.proofs.Views.{KnowsSame, same_turned, same_updates, agree_known, kept_known, orphan_within}
+use Rattle.ficus_laws.proofs.Views.{KnowsSame, same_turned, same_updates, kept_known}
 use Rattle.ficus_version_laws.specs.Listed.{Item, AreShown}
 use Rattle.ficus_version_laws.proofs.Advancing.{are_shown_kept}
 use Rattle.ficus_version_laws.proofs.Covering.{cover_kept}
-use Rattle.ficus_held_laws.specs.Entries.{AreKeptEntries, IsIdle, place_of}
-use Rattle.ficus_held_laws.specs.Objects.{KeptObject, IsKeptObject, HasObject, HasKind, IsGivenUp, AreKeptObjects, IsTouched, AreOrphans, AreLeft}
-use Rattle.ficus_held_laws.proofs.Done.{done_more, done_cases, done_was}
+use Rattle.ficus_held_laws.specs.Entries.{IsKeptEntry, AreKeptEntries, IsIdle, place_of}
+use Rattle.ficus_held_laws.specs.Objects.{KeptObject, IsKeptObject, HasObject, HasKind, HasDone, AreKeptObjects, IsTouched, AreOrphans, AreLeft}
+use Rattle.ficus_removal_laws.specs.Marks.{IsTwoFull}
+use Rattle.ficus_removal_laws.proofs.Dropping.{dropped_more, dropped_cases, dropped_now}
+use Rattle.ficus_final_laws.specs.Laws.{IsGivenUp}
+use Rattle.ficus_final_laws.proofs.Collecting.{done_cases, done_now}
+use Rattle.ficus_held_laws.proofs.Done.{done_was, done_stays}
 use Rattle.ficus_held_laws.proofs.Standing.{idle_quiet, others_collect_not}
 
 -- a list has an object with the identifier, or it doesn't
@@ -41,10 +42,6 @@ object_or_not objects id = go (held_or_not (λ object. object.id) objects id)
         Decided (HasObject objects id)
     go (Some object, (inside, named)) = inl (record { object = object; inside = inside; named = named })
     go (None, none) = inr (λ has. none (record { item = has.object; inside = has.inside; has_id = has.named }))
-
-pub given_up_more : {members : ℕ} {H : List Event} {replica : ℕ} {object : Id} (T : List Event) →
-    IsGivenUp members H replica object → IsGivenUp members (H ++ T) replica object
-given_up_more T g = record { position = g.position; done = done_more T g.done }
 
 pub no_objects : (members replica : ℕ) → AreKeptObjects members [] replica []
 no_objects members replica = record {
@@ -110,7 +107,7 @@ module _ {members : ℕ} (H : List Event) (event : Event) (replica : ℕ)
           versions = versions_kept H event replica (quiet event other) k.versions;
           cover = covers_kept H event replica (quiet event other) k.cover;
         };
-    absent = λ id kind m none. given_up_more (event ∷ [])
+    absent = λ id kind m none. done_stays event
         (a.absent id kind (made_was H event replica (quiet event other) m) none);
   }
 
@@ -158,54 +155,28 @@ module _ {members : ℕ} (H : List Event) (replica : ℕ) (entries : List Kept) 
   abbrev is_quiet : (actor (Collect replica) ≢ replica) ⊎ IsQuiet (Collect replica)
   is_quiet = inr tt
 
-  before_end : before (length H) collected ≡ H
-  before_end = take_at H (Collect replica ∷ []) (length H) refl
+  same_known : KnowsSame H (Knows H replica) collected (Knows collected replica)
+  same_known = known_kept H (Collect replica) replica is_quiet
 
-  through_end : through (length H) collected ≡ collected
-  through_end = through_is (at_end H (Collect replica)) ∙ ap (λ L. L ++ Collect replica ∷ []) before_end
+  -- what is left isn't given up by this Collect
+  not_given_up : {object : Id} → IsTouched entries object ⊎ Contains orphans object →
+      IsGivenUp members H replica object → ⊥
+  not_given_up (inl touched) g =
+      go (g.dropped (place_of touched.entry) (entered_within (same_updates same_known).back k.held.entered) touched.touches)
+    where
+      k : IsKeptEntry members collected replica touched.entry
+      k = kept_entries.each touched.entry touched.inside
 
-  -- what was known before says the same of all events
-  known_before_end : KnowsSame H (Knows H replica) collected (Knows H replica)
-  known_before_end = agree_known (agree_more H (Collect replica ∷ [])) (λ position k. knows_within k)
-
-  entered_before_end : {entry : Entry} → IsEntered collected (Knows collected replica) entry →
-      IsEntered collected (Knows (before (length H) collected) replica) entry
-  entered_before_end {entry} e =
-      let was = entered_within (same_updates (known_kept H (Collect replica) replica is_quiet)).back e in
-      subst (λ L. IsEntered collected (Knows L replica) entry) (sym before_end)
-      (entered_within (same_updates known_before_end).there was)
-
-  entered_then : {entry : Entry} → IsEntered collected (Knows (before (length H) collected) replica) entry →
-      IsEntered collected (Knows collected replica) entry
-  entered_then {entry} e =
-      let was = subst (λ L. IsEntered collected (Knows L replica) entry) before_end e in
-      entered_within (same_updates (known_kept H (Collect replica) replica is_quiet)).there
-      (entered_within (same_updates known_before_end).back was)
-
-  orphan_before_end : {object : Id} → IsOrphan H (Knows H replica) object →
-      IsOrphan collected (Knows (before (length H) collected) replica) object
-  orphan_before_end {object} o =
-      subst (λ L. IsOrphan collected (Knows L replica) object) (sym before_end) (orphan_within known_before_end o)
-
-  orphan_then : {object : Id} → IsOrphan collected (Knows (before (length H) collected) replica) object →
-      IsOrphan H (Knows H replica) object
-  orphan_then {object} o = orphan_within (same_turned known_before_end)
-      (subst (λ L. IsOrphan collected (Knows L replica) object) before_end o)
-
-  -- what is left isn't done by this Collect
-  not_done : {object : Id} → IsTouched entries object ⊎ Contains orphans object →
-      IsDone members collected replica object (length H) → ⊥
-  not_done (inl touched) d =
-      let k = kept_entries.each touched.entry touched.inside in
-      k.held.held (subst (λ L. IsDropped members L replica touched.entry.id) through_end
-      (d.dropped (place_of touched.entry) (entered_before_end k.held.entered) touched.touches))
-  not_done {object} (inr orphan) d = d.no_orphan (orphan_before_end ((are_orphans object).0 orphan))
+      go : IsDropped members H replica touched.entry.id ⊎ IsTwoFull members H replica touched.entry.id → ⊥
+      go (inl was) = k.held.held (dropped_more (Collect replica ∷ []) was)
+      go (inr full) = k.held.held (dropped_now (Collect replica) refl full)
+  not_given_up {object} (inr orphan) g = g.no_orphan ((are_orphans object).0 orphan)
 
   left_kept : (object : KeptObject) → Contains left object → IsKeptObject members collected replica object
   left_kept object inside = record {
     held = record {
       made = made_kept H (Collect replica) replica is_quiet k.held.made;
-      held = λ position d. held d (done_cases (Collect replica) d);
+      held = λ position d. held (done_cases members H replica object.id (Collect replica) d);
     };
     versions = versions_kept H (Collect replica) replica is_quiet k.versions;
     cover = covers_kept H (Collect replica) replica is_quiet k.cover;
@@ -217,10 +188,10 @@ module _ {members : ℕ} (H : List Event) (replica : ℕ) (entries : List Kept) 
       k : IsKeptObject members H replica object
       k = here.each object why.0
 
-      held : {position : ℕ} → IsDone members collected replica object.id position →
-          IsDone members H replica object.id position ⊎ ((position ≡ length H) × (Collect replica ≡ Collect replica)) → ⊥
-      held d (inl was) = k.held.held _ was
-      held d (inr (end, is)) = not_done why.1 (subst (IsDone members collected replica object.id) end d)
+      held : {position : ℕ} → IsDone members H replica object.id position ⊎
+          ((position ≡ length H) × (Collect replica ≡ Collect replica) × IsGivenUp members H replica object.id) → ⊥
+      held {position} (inl was) = k.held.held position was
+      held (inr (end, is, g)) = not_given_up why.1 g
 
   -- a known entry that touches an object which no entry of the list touches is dropped
   entry_dropped : {object : Id} → (IsTouched entries object → ⊥) → (entry : Entry) →
@@ -238,22 +209,26 @@ module _ {members : ℕ} (H : List Event) (replica : ℕ) (entries : List Kept) 
       }))
 
   left_absent : (id : Id) (kind : Kind) → IsMade collected (Knows collected replica) id kind → (HasObject left id → ⊥) →
-      IsGivenUp members collected replica id
+      HasDone members collected replica id
   left_absent id kind m none = go (object_or_not objects id)
     where
       was_made : IsMade H (Knows H replica) id kind
       was_made = made_was H (Collect replica) replica is_quiet m
 
-      done : (IsTouched entries id → ⊥) → (Contains orphans id → ⊥) → IsDone members collected replica id (length H)
-      done untouched no_orphan = record {
-        collect = at_end H (Collect replica);
+      given_up : (IsTouched entries id → ⊥) → (Contains orphans id → ⊥) → IsGivenUp members H replica id
+      given_up untouched no_orphan = record {
         kind = kind;
-        made = subst (λ L. IsMade collected (Knows L replica) id kind) (sym before_end)
-            (made_within (same_updates known_before_end).there was_made);
-        dropped = λ entry e touches. subst (λ L. IsDropped members L replica entry.id) (sym through_end)
-            (entry_dropped untouched entry (entered_then e) touches);
-        no_orphan = λ o. no_orphan ((are_orphans id).1 (orphan_then o));
+        made = was_made;
+        dropped = λ entry e touches. dropped (dropped_cases (Collect replica)
+            (entry_dropped untouched entry (entered_within (same_updates same_known).there e) touches));
+        no_orphan = λ o. no_orphan ((are_orphans id).1 o);
       }
+        where
+          dropped : {entry : Id} → IsDropped members H replica entry ⊎
+              ((Collect replica ≡ Collect replica) × IsTwoFull members H replica entry) →
+              IsDropped members H replica entry ⊎ IsTwoFull members H replica entry
+          dropped (inl was) = inl was
+          dropped (inr (is, full)) = inr full
 
       unlisted : (object : KeptObject) → Contains objects object → object.id ≡ id →
           IsTouched entries id ⊎ Contains orphans id → ⊥
@@ -264,13 +239,13 @@ module _ {members : ℕ} (H : List Event) (replica : ℕ) (entries : List Kept) 
         named = named;
       })
 
-      go : Decided (HasObject objects id) → IsGivenUp members collected replica id
-      go (inr none_before) = given_up_more (Collect replica ∷ []) (here.absent id kind was_made none_before)
+      go : Decided (HasObject objects id) → HasDone members collected replica id
+      go (inr none_before) = done_stays (Collect replica) (here.absent id kind was_made none_before)
       go (inl has) = record {
         position = length H;
-        done = done
+        done = done_now members H replica id (Collect replica) refl (given_up
             (λ touched. unlisted has.object has.inside has.named (inl touched))
-            (λ orphan. unlisted has.object has.inside has.named (inr orphan));
+            (λ orphan. unlisted has.object has.inside has.named (inr orphan)));
       }
 
   pub objects_left : AreKeptObjects members collected replica left

@@ -1,5 +1,5 @@
 -- What each event makes of a list of the entries that a replica keeps.
-use Rattle.std.proofs.Common.{◌≡◌, ◌≢◌, ◌⊎◌, ℕ, ◌≤◌, Bool, true, false, List, [], ◌∷◌, ◌++◌, Option, Some, None, refl, sym, ap, ◌∙◌, subst, inl, inr}
+use Rattle.std.proofs.Common.{◌≡◌, ◌≢◌, ◌⊎◌, ℕ, ◌≤◌, true, false, List, [], ◌∷◌, ◌++◌, Option, Some, None, refl, ap, subst, inl, inr}
 use Rattle.std.specs.Prelude.{Contains}
 use Rattle.ficus_ids.specs.ListLaws.{not_inside_none}
 use Rattle.ficus_ids.specs.Marks.{has, IsFull}
@@ -27,7 +27,7 @@ use Rattle.ficus_laws.proofs.OneMore.{same_quiet}
 use Rattle.ficus_laws.proofs.Shown.{entered_within}
 use Rattle.ficus_removal_laws.specs.Marks.{IsEnteredAs, IsAbsent}
 use Rattle.ficus_removal_laws.proofs.Dropping.{dropped_more, dropped_now}
-use Rattle.ficus_held_laws.specs.Entries.{IsKeptEntry, AreKeptEntries, IsFullyKnown, IsIdle, IsNewEntry, HasSteppedEntry, AreEntriesStepped, AreUndropped, place_of}
+use Rattle.ficus_held_laws.specs.Entries.{IsKeptEntry, AreKeptEntries, IsFullyKnown, IsIdle, IsNewEntry, HasSteppedEntry, AreEntriesStepped, AreUndropped}
 use Rattle.ficus_held_laws.proofs.Standing.{stands_same, kept_same, kept_of, others_same_entry}
 use Rattle.ficus_held_laws.proofs.Stepping.{stepped_kept}
 use Rattle.ficus_held_laws.proofs.Keeping.{kept_collected, full_from_state}

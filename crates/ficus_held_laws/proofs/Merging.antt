@@ -1,6 +1,5 @@
 -- What an Accept makes of the objects that its replica keeps.
-use Rattle.std.proofs.Common.{◌≡◌, ◌≢◌, ◌⊎◌, ℕ, ◌+◌, ◌<◌, List, [], ◌∷◌, ◌++◌, length, Option, Some, None, refl, sym, ap, ◌∙◌, subst, inl, inr}
-use Rattle.std.specs.Prelude.{Contains}
+use Rattle.std.proofs.Common.{◌⊎◌, ℕ, ◌+◌, List, [], ◌∷◌, ◌++◌, Option, Some, None, refl, sym, ap, ◌∙◌, subst, inl, inr}
 use Rattle.ficus_ids.specs.Members.{IsMember}
 use Rattle.ficus_ids.specs.RisingLaws.{held_or_not}
 use Rattle.ficus_ids.specs.declared.id.Id.{Id}
@@ -9,13 +8,13 @@ use Rattle.ficus_ids.specs.declared.kind.Kind.{Kind}
 use Rattle.ficus_entry.specs.Entry.{HoldsUnder}
 use Rattle.ficus_entry.specs.declared.entry.Entry.{Entry as Kept}
 use Rattle.ficus_model.specs.declared.event.Event.{Event}
-use Rattle.ficus_model.specs.declared.event.Event.TheVariants.{Accept, Collect}
+use Rattle.ficus_model.specs.declared.event.Event.TheVariants.{Accept}
 use Rattle.ficus_model.specs.declared.event.Op.TheVariants.{Make}
-use Rattle.ficus_model.specs.Events.{IsUpdate, before, through}
+use Rattle.ficus_model.specs.Events.{IsUpdate, through}
 use Rattle.ficus_model.specs.Known.{Knows}
 use Rattle.ficus_model.specs.Lawful.{Volume, IsLawful}
-use Rattle.ficus_model.specs.Live.{Entry, entry_of, IsEntered, IsRemoved, IsMade}
-use Rattle.ficus_model.specs.Held.{IsDropped, Touches, IsDone, IsHeldObject}
+use Rattle.ficus_model.specs.Live.{Entry, entry_of, IsEntered, IsMade}
+use Rattle.ficus_model.specs.Held.{IsDropped, IsDone, IsHeldObject}
 use Rattle.ficus_model.specs.Versions.{IsVersion, IsCovering}
 use Rattle.ficus_model.specs.Vectors.{IsCoverOf}
 use Rattle.ficus_laws.proofs.Accept.{accept_made, made_accept}
@@ -26,7 +25,7 @@ use Rattle.ficus_laws.proofs.Lawful.{lawful_more}
 use Rattle.ficus_laws.proofs.Past.{agree_version, agree_covering}
 use Rattle.ficus_laws.proofs.Positions.{agree_back, agree_before, at_from_before}
 use Rattle.ficus_laws.proofs.Shown.{entered_within}
-use Rattle.ficus_laws.proofs.Updates.{agree_update, update_more, update_once}
+use Rattle.ficus_laws.proofs.Updates.{agree_update, update_once}
 use Rattle.ficus_version_laws.specs.Listed.{AreShown}
 use Rattle.ficus_version_laws.proofs.Objects.{version_file, covering_object}
 use Rattle.ficus_version_laws.proofs.Taking.{knows_before, accept_merges, accept_own, accept_brought, cover_accept, cover_own, cover_brought}
@@ -38,12 +37,12 @@ use Rattle.ficus_removal_laws.proofs.Removing.{removed_entered}
 use Rattle.ficus_final_laws.specs.Laws.{KnowsAllOf}
 use Rattle.ficus_final_laws.proofs.Finishing.{use_known, knows_all_of}
 use Rattle.ficus_held_laws.specs.Entries.{AreKeptEntries, place_of}
-use Rattle.ficus_held_laws.specs.Objects.{KeptObject, IsKeptObject, HasObject, IsGivenUp, AreKeptObjects, IsTouched, IsObjectMerged, IsOfBoth, IsOnlyOf, IsTaken, AreObjectsMerged}
-use Rattle.ficus_held_laws.proofs.Done.{done_more, done_from_before, done_was}
+use Rattle.ficus_held_laws.specs.Objects.{KeptObject, IsKeptObject, HasObject, HasDone, AreKeptObjects, IsTouched, IsOfBoth, IsOnlyOf, IsTaken, AreObjectsMerged}
+use Rattle.ficus_held_laws.proofs.Done.{done_from_before, done_was, done_stays}
 use Rattle.ficus_held_laws.proofs.Growing.{renamed}
 use Rattle.ficus_held_laws.proofs.Keeping.{taken_within}
 use Rattle.ficus_held_laws.proofs.Standing.{undropped}
-use Rattle.ficus_held_laws.proofs.Leaving.{object_or_not, given_up_more}
+use Rattle.ficus_held_laws.proofs.Leaving.{object_or_not}
 
 module _ (volume : Volume) (H : List Event) (replica served server : ℕ) (entries : List Kept)
     (mine theirs next : List KeptObject) (answer : IsAnswer volume H replica served server)
@@ -156,7 +155,7 @@ module _ (volume : Volume) (H : List Event) (replica served server : ℕ) (entri
       IsMade H (Knows H replica) object kind → ⊥
   unknown {object} {kind} none touched m =
       let g = here.absent object kind m none in
-      touched_not_done touched (done_more (Accept replica served ∷ []) g.done)
+      touched_not_done touched (done_stays (Accept replica served) g).done
 
   taken_kept : {object : KeptObject} → IsTaken mine theirs entries object →
       IsKeptObject volume.members accepted replica object
@@ -220,7 +219,7 @@ module _ (volume : Volume) (H : List Event) (replica served server : ℕ) (entri
         }
 
   absent : (id : Id) (kind : Kind) → IsMade accepted (Knows accepted replica) id kind → (HasObject next id → ⊥) →
-      IsGivenUp volume.members accepted replica id
+      HasDone volume.members accepted replica id
   absent id kind m none = go (object_or_not mine id) (object_or_not theirs id) (accept_made H replica served server answer.by m)
     where
       own_listed : HasObject mine id → Decided (HasObject theirs id) → ⊥
@@ -245,12 +244,12 @@ module _ (volume : Volume) (H : List Event) (replica served server : ℕ) (entri
       })
 
       known_here : {any : Kind} → IsMade H (Knows H replica) id any → (HasObject mine id → ⊥) →
-          IsGivenUp volume.members accepted replica id
-      known_here {any} was no_own = given_up_more (Accept replica served ∷ []) (here.absent id any was no_own)
+          HasDone volume.members accepted replica id
+      known_here {any} was no_own = done_stays (Accept replica served) (here.absent id any was no_own)
 
       of_server : (his : IsMade at_server (Knows at_server server) id kind) → HasObject theirs id →
           (HasObject mine id → ⊥) → Decided (Knows H replica his.position) →
-          IsGivenUp volume.members accepted replica id
+          HasDone volume.members accepted replica id
       of_server his listed no_own (inl known) = known_here
           (record {
             position = his.position;
@@ -265,7 +264,7 @@ module _ (volume : Volume) (H : List Event) (replica served server : ℕ) (entri
 
       go : Decided (HasObject mine id) → Decided (HasObject theirs id) →
           IsMade H (Knows H replica) id kind ⊎ IsMade at_server (Knows at_server server) id kind →
-          IsGivenUp volume.members accepted replica id
+          HasDone volume.members accepted replica id
       go (inl own) his found = absurd (own_listed own his)
       go (inr no_own) his (inl was) = known_here was no_own
       go (inr no_own) (inl listed) (inr m) = of_server m listed no_own (knows_decided H replica m.position)

@@ -1,5 +1,5 @@
 -- When an entry stands at a replica after one history as after another.
-use Rattle.std.proofs.Common.{◌≡◌, ◌≢◌, ◌↔◌, ◌⊎◌, ℕ, Bool, true, false, List, [], ◌∷◌, ◌++◌, Some, None, Option, refl, sym, ap, ap₂, ◌∙◌, subst, inl, inr, arith}
+use Rattle.std.proofs.Common.{◌≡◌, ◌≢◌, ◌↔◌, ◌⊎◌, ℕ, Bool, true, false, List, [], ◌∷◌, ◌++◌, Some, None, Option, refl, sym, ap, ap₂, subst, inl, inr}
 use Rattle.std.specs.Prelude.{IsTrue, Contains}
 use Rattle.ficus_ids.specs.IdLaws.{same_id_or_not}
 use Rattle.ficus_ids.specs.ListLaws.{here, there, here_or_there, not_inside_none}
@@ -15,7 +15,7 @@ use Rattle.ficus_model.specs.declared.event.Event.TheVariants.{Update, Ask, Serv
 use Rattle.ficus_model.specs.Events.{actor}
 use Rattle.ficus_model.specs.Known.{Knows}
 use Rattle.ficus_model.specs.Live.{Entry, IsEntered, IsRemoved}
-use Rattle.ficus_model.specs.Held.{IsDropped, IsHeldEntry}
+use Rattle.ficus_model.specs.Held.{IsDropped}
 use Rattle.ficus_laws.specs.Updates.{SameUpdates, IsQuiet}
 use Rattle.ficus_laws.proofs.Deciding.{Decided}
 use Rattle.ficus_laws.proofs.Issued.{entered_once}

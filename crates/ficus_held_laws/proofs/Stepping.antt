@@ -1,5 +1,5 @@
 -- What an update makes of the entries that its replica keeps.
-use Rattle.std.proofs.Common.{◌≡◌, ◌↔◌, ◌⊎◌, ℕ, ◌≤◌, List, [], ◌∷◌, ◌++◌, length, Some, None, Option, refl, sym, ap, ◌∙◌, subst, inl, inr, arith}
+use Rattle.std.proofs.Common.{◌≡◌, ◌↔◌, ◌⊎◌, ℕ, ◌≤◌, List, [], ◌∷◌, ◌++◌, length, Some, refl, sym, ap, ◌∙◌, subst, inl, inr, arith}
 use Rattle.std.specs.Prelude.{Contains}
 use Rattle.std.proofs.lemmas.List.{take_at}
 use Rattle.ficus_ids.specs.Members.{IsMember}
@@ -8,7 +8,7 @@ use Rattle.ficus_entry.specs.declared.entry.Entry.{Entry as Kept}
 use Rattle.ficus_entry.specs.declared.entry.State.{State}
 use Rattle.ficus_entry.specs.declared.entry.State.TheVariants.{Live, Dead}
 use Rattle.ficus_model.specs.declared.event.Event.{Event}
-use Rattle.ficus_model.specs.declared.event.Event.TheVariants.{Update, Collect}
+use Rattle.ficus_model.specs.declared.event.Event.TheVariants.{Update}
 use Rattle.ficus_model.specs.declared.event.Op.{Op}
 use Rattle.ficus_model.specs.Known.{Knows}
 use Rattle.ficus_model.specs.Lawful.{Volume, IsLawful}
@@ -23,13 +23,14 @@ use Rattle.ficus_laws.proofs.OneMore.{within_more}
 use Rattle.ficus_laws.proofs.Positions.{of_end}
 use Rattle.ficus_laws.proofs.Shown.{entered_within, removed_within}
 use Rattle.ficus_laws.proofs.Updates.{update_end}
-use Rattle.ficus_removal_laws.specs.Marks.{IsEnteredAs, IsAbsent, IsBegun}
+use Rattle.ficus_removal_laws.specs.Marks.{IsBegun}
 use Rattle.ficus_removal_laws.proofs.Dropping.{dropped_more, dropped_removed}
 use Rattle.ficus_removal_laws.proofs.Marking.{marks_kept, removal_begins}
 use Rattle.ficus_removal_laws.proofs.Removing.{removal_first}
 use Rattle.ficus_merge_laws.specs.States.{StandsAs}
+use Rattle.ficus_merge_laws.proofs.Following.{entered_stands, killed_stands}
 use Rattle.ficus_held_laws.specs.Entries.{IsKeptEntry, IsJustRemoved, IsSteppedTo, IsNewEntry, IsFromUpdate, place_of}
-use Rattle.ficus_held_laws.proofs.Standing.{inside_decided, undropped, SameEntry, same_entry_back, stands_same, kept_same, same_kept}
+use Rattle.ficus_held_laws.proofs.Standing.{inside_decided, undropped, SameEntry, same_entry_back, kept_same, same_kept}
 
 -- In each of these a replica has done one more operation.
 module _ (volume : Volume) (H : List Event) (replica : ℕ) (op : Op)
@@ -118,7 +119,9 @@ module _ (volume : Volume) (H : List Event) (replica : ℕ) (op : Op)
       record {
         held = record { entered = entered; held = λ d. living (dropped_removed d is_member) };
         state = subst (λ state. StandsAs volume.members after replica entry.id (Some state)) (sym new.alive)
-            (record { entered = record { entry = place_of entry; entered = entered; named = refl }; not_removed = living });
+            (entered_stands volume H replica op entry.id was_lawful
+            (record { entry = place_of entry; enters = new.enters; named = refl })
+            beside);
       }
 
   fresh_alive : {id : Id} {entry : Entry} → entered_by (next_number replica H) op ≡ Some entry → entry.id ≡ id →
@@ -146,29 +149,20 @@ module _ (volume : Volume) (H : List Event) (replica : ℕ) (op : Op)
         StandsAs volume.members after replica id (Some state) → IsJustRemoved replica state
     just_removed {id} inside Live alive = alive.not_removed (removed_new H replica op id inside)
     just_removed inside (Dead one two) marked =
-        let b = begun inside in (
-          λ peer. (
-            λ marks. (b.one peer).0 ((marked.first peer).0 marks),
-            λ same. (marked.first peer).1 ((b.one peer).1 same),
-          ),
-          λ peer marks. b.two peer ((marked.second peer).0 marks),
-        )
-
-    removed_stands : {id : Id} → Contains removes id → IsEnteredAs after (Knows after replica) id → (state : State) →
-        IsJustRemoved replica state → StandsAs volume.members after replica id (Some state)
-    removed_stands inside entered Live just = absurd just
-    removed_stands {id} inside entered (Dead one two) just =
         let b = begun inside in
         record {
-          entered = entered;
-          removed = removed_new H replica op id inside;
-          held = λ d. b.held.held (subst (IsDropped volume.members after replica) (sym b.named) d);
           first = λ peer. (
-            λ marks. (b.one peer).1 ((just.0 peer).0 marks),
-            λ o. (just.0 peer).1 ((b.one peer).0 o),
+            λ marks. (b.one peer).0 ((marked.first peer).0 marks),
+            λ same. (marked.first peer).1 ((b.one peer).1 same),
           );
-          second = λ peer. (λ marks. absurd (just.1 peer marks), λ t. absurd (b.two peer t));
+          second = λ peer marks. b.two peer ((marked.second peer).0 marks);
         }
+
+    removed_stands : {id : Id} → Contains removes id → (state : State) → IsJustRemoved replica state →
+        StandsAs volume.members after replica id (Some state)
+    removed_stands inside Live just = absurd just
+    removed_stands {id} inside (Dead one two) just =
+        killed_stands volume H replica op id one two several lawful inside just
 
     removed_kept : {entry : Kept} → Contains removes entry.id → IsEntered after (Knows after replica) (place_of entry) →
         IsJustRemoved replica entry.state → IsKeptEntry volume.members after replica entry
@@ -179,7 +173,7 @@ module _ (volume : Volume) (H : List Event) (replica : ℕ) (op : Op)
             entered = entered;
             held = λ d. b.held.held (subst (IsDropped volume.members after replica) (sym b.named) d);
           };
-          state = removed_stands inside (record { entry = place_of entry; entered = entered; named = refl }) entry.state just;
+          state = removed_stands inside entry.state just;
         }
 
     -- what is kept then was kept, or it is new

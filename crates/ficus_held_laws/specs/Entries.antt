@@ -1,6 +1,6 @@
 -- The entries that a replica keeps, each in its state, and what each event makes of them.
-use Rattle.std.specs.Prelude.{◌≡◌, ◌⊎◌, ◌↔◌, ℕ, List, Some, Contains, IsTrue}
-use Rattle.ficus_ids.specs.Marks.{has, IsFull}
+use Rattle.std.specs.Prelude.{◌≡◌, ◌⊎◌, ◌↔◌, ℕ, List, Some, Contains}
+use Rattle.ficus_ids.specs.Marks.{IsFull}
 use Rattle.ficus_ids.specs.declared.id.Id.{Id}
 use Rattle.ficus_entry.specs.Entry.{Holds}
 use Rattle.ficus_entry.specs.declared.entry.Entry.{Entry as Kept}
@@ -13,7 +13,7 @@ use Rattle.ficus_model.specs.Held.{IsHeldEntry}
 use Rattle.ficus_model.specs.Live.{Entry, entry_of, entered_by, removed_by}
 use Rattle.ficus_laws.specs.Updates.{next_number}
 use Rattle.ficus_removal_laws.specs.Marks.{IsAbsent}
-use Rattle.ficus_merge_laws.specs.States.{StandsAs}
+use Rattle.ficus_merge_laws.specs.States.{StandsAs, IsKilled}
 
 -- the entry, without its state
 abbrev pub place_of : Kept → Entry
@@ -29,17 +29,10 @@ pub record AreKeptEntries (members : ℕ) (H : List Event) (replica : ℕ) (entr
   pub each : (entry : Kept) → Contains entries entry → IsKeptEntry members H replica entry
   pub absent : (id : Id) → (Holds entries id → ⊥) → IsAbsent members H replica id
 
--- the marks are those of this replica alone, and those of nobody
-abbrev pub IsAlone : ℕ → ℕ → Type 0
-IsAlone replica marks = (peer : ℕ) → IsTrue (has marks peer) ↔ (peer ≡ replica)
-
-abbrev pub IsNobody : ℕ → Type 0
-IsNobody marks = (peer : ℕ) → IsTrue (has marks peer) → ⊥
-
 -- removed just now by this replica, of which nobody else is known to know
 abbrev pub IsJustRemoved : ℕ → State → Type 0
 IsJustRemoved replica Live = ⊥
-IsJustRemoved replica (Dead one two) = IsAlone replica one × IsNobody two
+IsJustRemoved replica (Dead one two) = IsKilled replica one two
 
 -- removed, and the second set of marks has every member
 abbrev pub IsFullyKnown : ℕ → State → Type 0

@@ -1,9 +1,7 @@
 -- The laws of the entries that a replica keeps, as the law functions state them.
 use Rattle.std.specs.Prelude.{◌≡◌, ◌≢◌, ◌⊎◌, ◌↔◌, ℕ, ◌≤◌, List, [], ◌∷◌, ◌++◌, Contains}
 use Rattle.ficus_ids.specs.Members.{IsMember}
-use Rattle.ficus_ids.specs.declared.id.Id.{Id}
 use Rattle.ficus_entry.specs.declared.entry.Entry.{Entry as Kept}
-use Rattle.ficus_entry.specs.declared.entry.State.{State}
 use Rattle.ficus_recon_dir.specs.Merge.{MergesEntries}
 use Rattle.ficus_model.specs.declared.event.Event.{Event}
 use Rattle.ficus_model.specs.declared.event.Event.TheVariants.{Update, Accept, Collect}

@@ -1,6 +1,5 @@
 -- The laws of the objects that a replica keeps, as the law functions state them.
-use Rattle.std.specs.Prelude.{◌≡◌, ◌≢◌, ◌⊎◌, ◌↔◌, ℕ, List, [], ◌∷◌, ◌++◌}
-use Rattle.ficus_ids.specs.Members.{IsMember}
+use Rattle.std.specs.Prelude.{◌≢◌, ◌⊎◌, ℕ, List, [], ◌∷◌, ◌++◌}
 use Rattle.ficus_ids.specs.declared.id.Id.{Id}
 use Rattle.ficus_ids.specs.declared.kind.Kind.{Kind}
 use Rattle.ficus_entry.specs.declared.entry.Entry.{Entry as Kept}

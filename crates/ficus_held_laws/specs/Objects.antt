@@ -42,7 +42,7 @@ pub record HasKind (objects : List KeptObject) (id : Id) (kind : Kind) : Type 0 
   pub of : has.object.kind ≡ kind
 
 -- the replica has the object done
-pub record IsGivenUp (members : ℕ) (H : List Event) (replica : ℕ) (object : Id) : Type 0 where
+pub record HasDone (members : ℕ) (H : List Event) (replica : ℕ) (object : Id) : Type 0 where
   pub position : ℕ
   pub done : IsDone members H replica object position
 
@@ -50,7 +50,7 @@ pub record IsGivenUp (members : ℕ) (H : List Event) (replica : ℕ) (object : 
 pub record AreKeptObjects (members : ℕ) (H : List Event) (replica : ℕ) (objects : List KeptObject) : Type 0 where
   pub each : (object : KeptObject) → Contains objects object → IsKeptObject members H replica object
   pub absent : (id : Id) (kind : Kind) → IsMade H (Knows H replica) id kind → (HasObject objects id → ⊥) →
-      IsGivenUp members H replica id
+      HasDone members H replica id
 
 -- What the update of the replica with this number makes of an object that was kept: one version in place of all
 -- where it writes the file, the versions covered where it gives the object up, and the rest as before.
