@@ -32,7 +32,8 @@ use Rattle.ficus_held_laws.proofs.Leaving.{object_or_not}
 
 -- what is kept under one identifier and kind is kept under equal ones
 pub renamed : {members : ℕ} {H : List Event} {replica : ℕ} {object : Id} {kind : Kind} (next : KeptObject) →
-    next.id ≡ object → next.kind ≡ kind → IsHeldObject members H replica object kind → AreShown H (Knows H replica) object next.versions →
+    next.id ≡ object → next.kind ≡ kind → IsHeldObject members H replica object kind →
+    AreShown H (Knows H replica) object next.versions →
     IsCoverOf H (Knows H replica) object next.cover → IsKeptObject members H replica next
 renamed {members} {H} {replica} {object} {kind} next id same held versions cover = record {
   held = subst (λ k. IsHeldObject members H replica k next.kind) (sym id)

@@ -85,7 +85,8 @@ list_collected {members} {H} {replica} {entries} {left} m kept are_left = record
         of_kept entry inside named (inr not_full) =
             absurd (none (record { item = entry; inside = (are_left entry).1 (inside, not_full); has_id = named }))
 
-        go : (found : Option Kept) × HoldsUnder entries id found → IsDropped members (H ++ Collect replica ∷ []) replica id
+        go : (found : Option Kept) × HoldsUnder entries id found →
+            IsDropped members (H ++ Collect replica ∷ []) replica id
         go (None, nothing) = dropped_more (Collect replica ∷ []) (kept.absent id nothing entered)
         go (Some entry, (inside, named)) = of_kept entry inside named (fully_decided members entry.state)
 

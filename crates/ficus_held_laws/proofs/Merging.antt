@@ -41,7 +41,7 @@ use Rattle.ficus_held_laws.specs.Objects.{KeptObject, IsKeptObject, HasObject, H
 use Rattle.ficus_held_laws.proofs.Done.{done_from_before, done_was, done_stays}
 use Rattle.ficus_held_laws.proofs.Growing.{renamed}
 use Rattle.ficus_held_laws.proofs.Keeping.{taken_within}
-use Rattle.ficus_held_laws.proofs.Standing.{undropped}
+use Rattle.ficus_merge_laws.proofs.Following.{undropped}
 use Rattle.ficus_held_laws.proofs.Leaving.{object_or_not}
 
 module _ (volume : Volume) (H : List Event) (replica served server : ℕ) (entries : List Kept)
@@ -271,7 +271,15 @@ module _ (volume : Volume) (H : List Event) (replica served server : ℕ) (entri
       go (inr no_own) (inr no_his) (inr m) =
           let all = knew_all m no_his in
           let was = all.1.made.1 in
-          known_here (record { position = was.position; dir = was.dir; name = was.name; known = knows_later all.0 was.known; update = was.update }) no_own
+          known_here
+          (record {
+            position = was.position;
+            dir = was.dir;
+            name = was.name;
+            known = knows_later all.0 was.known;
+            update = was.update;
+          })
+          no_own
 
   pub objects_merged : AreKeptObjects volume.members accepted replica next
   objects_merged = record { each = λ object inside. each object (merges.from object inside); absent = absent }

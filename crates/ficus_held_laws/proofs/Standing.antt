@@ -21,10 +21,11 @@ use Rattle.ficus_laws.proofs.Deciding.{Decided}
 use Rattle.ficus_laws.proofs.Issued.{entered_once}
 use Rattle.ficus_laws.proofs.OneMore.{same_of_other, same_quiet}
 use Rattle.ficus_laws.proofs.Shown.{entered_within, removed_within}
-use Rattle.ficus_removal_laws.specs.Marks.{IsEnteredAs, IsTwoFull, LeavesEntry, SameMarks}
-use Rattle.ficus_removal_laws.proofs.Dropping.{dropped_more, dropped_cases}
+use Rattle.ficus_removal_laws.specs.Marks.{IsEnteredAs, LeavesEntry, SameMarks}
+use Rattle.ficus_removal_laws.proofs.Dropping.{dropped_more}
 use Rattle.ficus_removal_laws.proofs.Marking.{marks_kept}
 use Rattle.ficus_merge_laws.specs.States.{StandsAs}
+use Rattle.ficus_merge_laws.proofs.Following.{undropped}
 use Rattle.ficus_held_laws.specs.Entries.{IsKeptEntry, IsIdle, place_of}
 
 -- an identifier is in a list, or it isn't
@@ -40,16 +41,6 @@ inside_decided (first ∷ ids) id = go (same_id_or_not first id) (inside_decided
     go (inl same) later = inl (subst (Contains (first ∷ ids)) same (here first ids))
     go (inr differs) (inl later) = inl (there first id ids later)
     go (inr differs) (inr none) = inr (λ inside. beside differs none (here_or_there first id ids inside))
-
--- an event that is no Collect of the replica drops nothing there
-pub undropped : {members : ℕ} {H : List Event} {replica : ℕ} {id : Id} (event : Event) → event ≢ Collect replica →
-    IsDropped members (H ++ event ∷ []) replica id → IsDropped members H replica id
-undropped {members} {H} {replica} {id} event other d = go (dropped_cases event d)
-  where
-    go : IsDropped members H replica id ⊎ ((event ≡ Collect replica) × IsTwoFull members H replica id) →
-        IsDropped members H replica id
-    go (inl was) = was
-    go (inr (is, full)) = absurd (other is)
 
 -- after both histories the same is known of the entry with this identifier
 pub record SameEntry (members : ℕ) (H K : List Event) (replica : ℕ) (id : Id) : Type 0 where

@@ -28,9 +28,9 @@ use Rattle.ficus_removal_laws.proofs.Dropping.{dropped_more, dropped_removed}
 use Rattle.ficus_removal_laws.proofs.Marking.{marks_kept, removal_begins}
 use Rattle.ficus_removal_laws.proofs.Removing.{removal_first}
 use Rattle.ficus_merge_laws.specs.States.{StandsAs}
-use Rattle.ficus_merge_laws.proofs.Following.{entered_stands, killed_stands}
+use Rattle.ficus_merge_laws.proofs.Following.{undropped, entered_stands, killed_stands}
 use Rattle.ficus_held_laws.specs.Entries.{IsKeptEntry, IsJustRemoved, IsSteppedTo, IsNewEntry, IsFromUpdate, place_of}
-use Rattle.ficus_held_laws.proofs.Standing.{inside_decided, undropped, SameEntry, same_entry_back, kept_same, same_kept}
+use Rattle.ficus_held_laws.proofs.Standing.{inside_decided, SameEntry, same_entry_back, kept_same, same_kept}
 
 -- In each of these a replica has done one more operation.
 module _ (volume : Volume) (H : List Event) (replica : ℕ) (op : Op)
