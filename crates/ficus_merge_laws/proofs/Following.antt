@@ -91,7 +91,7 @@ leaves_unentered H (Collect by) id leaves e = absurd leaves
 leaves_unentered H (Restart by) id leaves e = entered_where (same_quiet H (Restart by) by tt) e
 
 -- what is no Collect of the replica drops nothing there
-undropped : {members : ℕ} {H : List Event} {replica : ℕ} {id : Id} (event : Event) → event ≢ Collect replica →
+pub undropped : {members : ℕ} {H : List Event} {replica : ℕ} {id : Id} (event : Event) → event ≢ Collect replica →
     IsDropped members (H ++ event ∷ []) replica id → IsDropped members H replica id
 undropped {members} {H} {replica} {id} event other d = go (dropped_cases event d)
   where

@@ -26,7 +26,7 @@ use Rattle.ficus_version_laws.proofs.Past.{version_within, covering_within, past
 use Rattle.ficus_version_laws.proofs.Comparing.{writer}
 use Rattle.ficus_version_laws.proofs.Covering.{has_cover, is_covered}
 
-some_decided : (found : Option Id) (id : Id) → Decided (found ≡ Some id)
+pub some_decided : (found : Option Id) (id : Id) → Decided (found ≡ Some id)
 some_decided None id = inr (λ e. cc)
 some_decided (Some other) id = go (same_id_or_not other id)
   where
