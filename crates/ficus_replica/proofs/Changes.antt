@@ -22,7 +22,7 @@ use Rattle.ficus_rules.proofs.Rules.{memory_along}
 pub use Rattle.ficus_rules.proofs.Changes.{change_once, change_along}
 use Rattle.ficus_replica.proofs.Views.{stands_same}
 
-change_directory : (view : View) (change : Change) (op : Op) → IsOfDirectory change → ChangeRule view change (Ok op) →
+pub change_directory : (view : View) (change : Change) (op : Op) → IsOfDirectory change → ChangeRule view change (Ok op) →
     MakesDirectory op
 change_directory view (Make path kind) op dir rule = make_directory view path kind op dir rule
 

@@ -25,8 +25,7 @@ impl Replica {
         ensures fits { IfOk result (λ next. FitsImage next.replica.saved) }
     {
         let op = self.make_op(path, kind)?;
-        let next = self.applied(op)?;
-        Ok(next)
+        self.changed(op)
     }
 
     // What a `make` does.
