@@ -1,7 +1,6 @@
 -- What a change gives over the tables it gives over the history.
 use Rattle.std.proofs.Common.{◌≡◌, ℕ, ◌+◌, ◌-◌, ◌^◌, ◌<◌, List, Result, Ok, Err, refl, subst, arith}
 use Rattle.ficus_ids.specs.Members.{IsMember}
-use Rattle.ficus_ids.specs.declared.kind.Kind.TheVariants.{Dir}
 use Rattle.ficus_ids.specs.declared.refusal.Refusal.{Refusal}
 use Rattle.ficus_model.specs.declared.event.Event.{Event}
 use Rattle.ficus_model.specs.declared.event.Event.TheVariants.{Update}
@@ -10,7 +9,7 @@ use Rattle.ficus_model.specs.Lawful.{Volume, IsLawful}
 use Rattle.ficus_codec.specs.Saved.{FitsImage}
 use Rattle.ficus_replica.specs.declared.replica.Next.{Next}
 use Rattle.ficus_replica.specs.declared.replica.Replica.{Replica}
-use Rattle.ficus_replica.specs.Change.{Change, ChangeRule, Changed, ChangeGives, ChangedAfter, ChangeStands, Make}
+use Rattle.ficus_replica.specs.Change.{Change, ChangeRule, Changed, ChangeGives, ChangedAfter, ChangeStands, IsOfDirectory, Make}
 use Rattle.ficus_replica.specs.Effect.{Applied, EntersName}
 use Rattle.ficus_replica.specs.SavedOf.{MakesDirectory, StandsFor}
 use Rattle.ficus_rules.specs.View.{View, history_view}
@@ -23,11 +22,7 @@ use Rattle.ficus_rules.proofs.Rules.{memory_along}
 pub use Rattle.ficus_rules.proofs.Changes.{change_once, change_along}
 use Rattle.ficus_replica.proofs.Views.{stands_same}
 
--- so far each change makes a directory
-abbrev pub IsOfDirectory : Change → Type 0
-IsOfDirectory (Make path kind) = kind ≡ Dir
-
-change_directory : (view : View) (change : Change) (op : Op) → IsOfDirectory change → ChangeRule view change (Ok op) →
+pub change_directory : (view : View) (change : Change) (op : Op) → IsOfDirectory change → ChangeRule view change (Ok op) →
     MakesDirectory op
 change_directory view (Make path kind) op dir rule = make_directory view path kind op dir rule
 

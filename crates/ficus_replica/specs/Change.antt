@@ -1,8 +1,10 @@
 -- What the changes of a replica give, and what they are for the history.
 use Rattle.std.specs.Prelude.{◌≡◌, ℕ, List, ◌∷◌, [], ◌++◌, Result, Ok, Err}
+use Rattle.ficus_ids.specs.declared.kind.Kind.TheVariants.{Dir}
 use Rattle.ficus_ids.specs.declared.refusal.Refusal.{Refusal}
 use Rattle.ficus_model.specs.declared.event.Event.{Event}
 use Rattle.ficus_model.specs.declared.event.Event.TheVariants.{Update}
+use Rattle.ficus_model.specs.declared.event.Op.{Op}
 use Rattle.ficus_model.specs.Lawful.{Volume}
 use Rattle.ficus_replica.specs.declared.replica.Next.{Next}
 use Rattle.ficus_replica.specs.declared.replica.Replica.{Replica}
@@ -12,6 +14,16 @@ use Rattle.ficus_rules.specs.Rule.{UnlessMemory}
 use Rattle.ficus_replica.specs.SavedOf.{StandsAfter}
 use Rattle.ficus_rules.specs.View.{history_view}
 use Rattle.ficus_replica.specs.View.{tables_view}
+
+-- so far each change makes a directory
+abbrev pub IsOfDirectory : Change → Type 0
+IsOfDirectory (Make path kind) = kind ≡ Dir
+
+-- the operation is one to which a change comes, over what the replica holds
+pub record IsDecided (old : Replica) (op : Op) : Type 0 where
+  pub change : Change
+  pub directory : IsOfDirectory change
+  pub answer : ChangeRule (tables_view old) change (Ok op)
 
 -- the operation is the rule's, over what the replica holds; what is saved is what it makes of it, and no more
 pub record Changed (old : Replica) (change : Change) (next : Next) : Type 0 where

@@ -5,12 +5,13 @@ ghost use Rattle.ficus_replica.specs.View.{held_live};
 use crate::{Next, Replica};
 use ficus_codec::Saved;
 use ficus_entry::{Entry, State};
-use ficus_ids::{Id, Memory, Name};
+use ficus_ids::{Id, Memory, Name, Refusal};
 use ficus_model::Op;
 
 impl Replica {
-    ghost use Rattle.std.specs.Prelude.{◌↔◌, ◌+◌, ◌-◌, ◌^◌, ◌<◌, ◌≤◌, IsTrue};
+    ghost use Rattle.std.specs.Prelude.{◌↔◌, ◌+◌, ◌-◌, ◌^◌, ◌<◌, IsTrue, Ok};
     ghost use Rattle.ficus_codec.specs.Saved.{FitsImage};
+    ghost use Rattle.ficus_replica.specs.Change.{Change, ChangeGives, ChangeRule, IsDecided};
     ghost use Rattle.ficus_replica.specs.Effect.{Applied, EntersName, next_id};
     ghost use Rattle.ficus_replica.specs.SavedOf.{MakesDirectory};
     ghost use Rattle.ficus_replica.specs.View.{tables_view};
@@ -22,11 +23,22 @@ impl Replica {
         self.saved.next > self.saved.ids
     }
 
-    /// The replica once the operation is done, and the operation. So far it makes a directory.
-    pub(crate) fn applied(&self, op: Op) -> Result<Next, Memory>
+    /// What a change gives whose rule gives this operation. So far it makes a directory.
+    pub(crate) fn changed(&self, op: Op) -> Result<Next, Refusal>
+        requires decided { IsDecided self.now op }
+        requires fits { FitsImage self.now.saved }
+        requires generation { self.now.saved.generation < 2 ^ 63 - 1 }
+        ensures gives { (change : Change) → ChangeRule (tables_view self.now) change (Ok op)
+            → ChangeGives self.now change result }
+        ensures fits { IfOk result (λ next. FitsImage next.replica.saved) }
+    {
+        Ok(self.applied(op)?)
+    }
+
+    // The replica once the operation is done, and the operation. So far it makes a directory.
+    fn applied(&self, op: Op) -> Result<Next, Memory>
         requires makes { MakesDirectory op }
         requires fits { FitsImage self.now.saved }
-        requires left { self.now.saved.next ≤ self.now.saved.ids }
         requires generation { self.now.saved.generation < 2 ^ 63 - 1 }
         ensures applied { IfOk result (λ next. Applied self.now.saved op next.replica.saved) }
         ensures op { IfOk result (λ next. next.op ≡ op) }

@@ -1,11 +1,34 @@
-ghost use Rattle.std.specs.Prelude.{◌≡◌, ℕ, List};
+ghost use Rattle.std.specs.Prelude.{◌≡◌, ℕ, List, Result};
+ghost use Rattle.ficus_codec.specs.Saved.{FitsImage};
 ghost use Rattle.ficus_codec.specs.declared.saved.Saved.{Saved};
-ghost use Rattle.ficus_model.specs.Lawful.{Volume};
+ghost use Rattle.ficus_ids.specs.declared.refusal.Refusal.{Refusal};
+ghost use Rattle.ficus_model.specs.Lawful.{Volume, IsLawful};
 ghost use Rattle.ficus_model.specs.declared.event.Event.{Event};
-ghost use Rattle.ficus_replica.specs.SavedOf.{IsSavedOf};
+ghost use Rattle.ficus_replica.specs.Change.{Change, ChangeGives, ChangeStands, IsOfDirectory};
+ghost use Rattle.ficus_replica.specs.Look.{Look, LookGives, LookStands};
+ghost use Rattle.ficus_replica.specs.SavedOf.{IsSavedOf, StandsFor};
+ghost use Rattle.ficus_replica.specs.declared.replica.Next.{Next};
+ghost use Rattle.ficus_replica.specs.declared.replica.Replica.{Replica};
+ghost use Rattle.ficus_rules.specs.Told.{Told};
 
 /// A history has one saved record for a replica.
 pub fn one_saved()
     ensures { (volume : Volume) (H : List Event) (replica : ℕ) (one other : Saved)
         → IsSavedOf volume H replica one → IsSavedOf volume H replica other → one ≡ other }
+{}
+
+/// What a look gives over what the replica holds, it gives after every history for which the replica stands.
+pub fn looks_stand()
+    ensures { (replica : Replica) (look : Look) (result : Result Told Refusal) → LookGives replica look result
+        → (volume : Volume) (H : List Event) → StandsFor volume H replica.saved.me replica
+        → LookStands volume H replica.saved.me look result }
+{}
+
+/// What a change gives over what the replica holds, it gives after every lawful history for which the replica
+/// stands, and the next replica stands for the history with the update.
+pub fn changes_stand()
+    ensures { (replica : Replica) (change : Change) (result : Result Next Refusal) → IsOfDirectory change
+        → FitsImage replica.saved → ChangeGives replica change result
+        → (volume : Volume) (H : List Event) → IsLawful volume H → StandsFor volume H replica.saved.me replica
+        → ChangeStands volume H replica.saved.me change result }
 {}

@@ -12,5 +12,5 @@ mod replica;
 mod tree;
 mod walk;
 
-pub use laws::one_saved;
+pub use laws::{changes_stand, looks_stand, one_saved};
 pub use replica::{Asked, Next, Replica};

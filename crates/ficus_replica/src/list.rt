@@ -6,19 +6,13 @@ use ficus_path::Path;
 use std::alloc::Global;
 
 impl Replica {
-    ghost use Rattle.std.specs.Prelude.{◌≡◌, List};
-    ghost use Rattle.ficus_model.specs.Lawful.{Volume};
-    ghost use Rattle.ficus_model.specs.declared.event.Event.{Event};
-    ghost use Rattle.ficus_replica.specs.Look.{LookGives, LookStands, List as ListLook};
-    ghost use Rattle.ficus_replica.specs.SavedOf.{StandsFor};
+    ghost use Rattle.ficus_replica.specs.Look.{LookGives, List};
     ghost use Rattle.ficus_rules.specs.Told.{answer_told, told_names};
 
     /// The shown names of the directory at a path. Refused as the walk is, and with `NotDir` exactly where
     /// the object is a file.
     pub fn list(&self, alloc: Global, path: &Path) -> Result<Vec<Line>, Refusal>
-        ensures gives { LookGives self.now (ListLook path.now) (answer_told told_names result) }
-        ensures stands { (volume : Volume) (H : List Event) → StandsFor volume H self.now.saved.me self.now
-            → LookStands volume H self.now.saved.me (ListLook path.now) (answer_told told_names result) }
+        ensures { LookGives self.now (List path.now) (answer_told told_names result) }
     {
         let dir = self.directory(path)?;
         let names = shown(alloc, &self.saved.entries, dir)?;

@@ -5,15 +5,12 @@ use ficus_model::Op;
 use ficus_path::Path;
 
 impl Replica {
-    ghost use Rattle.std.specs.Prelude.{◌≡◌, ◌-◌, ◌^◌, ◌<◌, List, IfOk};
+    ghost use Rattle.std.specs.Prelude.{◌≡◌, ◌-◌, ◌^◌, ◌<◌, IfOk};
     ghost use Rattle.ficus_codec.specs.Saved.{FitsImage};
-    ghost use Rattle.ficus_model.specs.Lawful.{Volume, IsLawful};
-    ghost use Rattle.ficus_model.specs.declared.event.Event.{Event};
     ghost use Rattle.ficus_path.specs.Path.{IsNew};
-    ghost use Rattle.ficus_replica.specs.Change.{ChangeGives, ChangeStands, Make as MakeChange};
+    ghost use Rattle.ficus_replica.specs.Change.{ChangeGives, Make as MakeChange};
     ghost use Rattle.ficus_rules.specs.Make.{MakeRule};
     ghost use Rattle.ficus_rules.specs.Rule.{UnlessMemory};
-    ghost use Rattle.ficus_replica.specs.SavedOf.{StandsFor};
     ghost use Rattle.ficus_replica.specs.View.{tables_view};
 
     /// Makes an object at a new path and enters it there. Refused, in this order: as the walk to the parent
@@ -26,14 +23,9 @@ impl Replica {
         requires generation { self.now.saved.generation < 2 ^ 63 - 1 }
         ensures gives { ChangeGives self.now (MakeChange path.now kind) result }
         ensures fits { IfOk result (λ next. FitsImage next.replica.saved) }
-        // Where it stands for a lawful history, so does the next replica, with the update.
-        ensures stands { (volume : Volume) (H : List Event) → IsLawful volume H
-            → StandsFor volume H self.now.saved.me self.now
-            → ChangeStands volume H self.now.saved.me (MakeChange path.now kind) result }
     {
         let op = self.make_op(path, kind)?;
-        let next = self.applied(op)?;
-        Ok(next)
+        self.changed(op)
     }
 
     // What a `make` does.

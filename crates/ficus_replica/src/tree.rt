@@ -6,18 +6,13 @@ use ficus_reach::reached;
 use std::alloc::Global;
 
 impl Replica {
-    ghost use Rattle.std.specs.Prelude.{Ok, List, IfOk};
-    ghost use Rattle.ficus_model.specs.Lawful.{Volume};
-    ghost use Rattle.ficus_model.specs.declared.event.Event.{Event};
-    ghost use Rattle.ficus_replica.specs.Look.{LookGives, LookStands, Tree};
-    ghost use Rattle.ficus_replica.specs.SavedOf.{StandsFor};
+    ghost use Rattle.std.specs.Prelude.{Ok, IfOk};
+    ghost use Rattle.ficus_replica.specs.Look.{LookGives, Tree};
     ghost use Rattle.ficus_rules.specs.Told.{told_tree};
 
     /// The shown names of every directory that is reached from the root, by directory, then as in `list`.
     pub fn tree(&self, alloc: Global) -> Result<Vec<Line>, Memory>
-        ensures gives { IfOk result (λ lines. LookGives self.now Tree (Ok (told_tree lines))) }
-        ensures stands { (volume : Volume) (H : List Event) → StandsFor volume H self.now.saved.me self.now
-            → IfOk result (λ lines. LookStands volume H self.now.saved.me Tree (Ok (told_tree lines))) }
+        ensures { IfOk result (λ lines. LookGives self.now Tree (Ok (told_tree lines))) }
     {
         let entries = &self.saved.entries;
         let directories = Directories::new(alloc, entries)?;

@@ -15,7 +15,7 @@ use Rattle.ficus_replica.specs.declared.replica.Replica.{Replica}
 use Rattle.ficus_replica.specs.Accept.{AcceptGives, AcceptStands, IsServed}
 use Rattle.ficus_replica.specs.Ask.{AskGives}
 use Rattle.ficus_rules.specs.Change.{Change}
-use Rattle.ficus_replica.specs.Change.{ChangedAfter}
+use Rattle.ficus_replica.specs.Change.{ChangedAfter, IsOfDirectory}
 use Rattle.ficus_rules.specs.Look.{Look}
 use Rattle.ficus_replica.specs.SavedOf.{StandsFor, generation_of}
 use Rattle.ficus_script.specs.declared.command.Command.{Command}
@@ -40,7 +40,7 @@ use Rattle.ficus_world.specs.World.{Whole, IsNumbered, WorldStandsFor}
 use Rattle.ficus_replica.proofs.Accepts.{accept_gives_stands}
 use Rattle.ficus_replica.proofs.Asks.{asks_stands}
 use Rattle.ficus_rules.proofs.Changes.{change_along}
-use Rattle.ficus_replica.proofs.Changes.{IsOfDirectory, changed_after}
+use Rattle.ficus_replica.proofs.Changes.{changed_after}
 use Rattle.ficus_replica.proofs.OpenAsks.{through_end, through_more}
 use Rattle.ficus_replica.proofs.Pulls.{standing_serves}
 use Rattle.ficus_replica.proofs.Views.{stands_same}

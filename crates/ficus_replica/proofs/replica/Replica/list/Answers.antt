@@ -1,23 +1,13 @@
-use Rattle.std.proofs.Common.{rules, ◌≡◌, ◌++◌, map, Ok, refl, ap, ◌∙◌}
+use Rattle.std.proofs.Common.{◌≡◌, ◌++◌, map, refl, ap, ◌∙◌}
 use Rattle.ficus_names.specs.ListingLaws.{IsListing-along}
 use Rattle.ficus_rules.specs.Lines.{line_of}
-use Rattle.ficus_replica.specs.Look.{List as ListLook}
-use Rattle.ficus_rules.specs.Told.{answer_told, told_names}
 use Rattle.ficus_replica.specs.View.{tables_view}
 use Rattle.ficus_rules.proofs.Listings.{lines_of_one}
-use Rattle.ficus_replica.proofs.Looks.{look_stands}
 use Rattle.ficus_replica.proofs.Tables.{tables_bound, tables_directories}
 use Rattle.ficus_replica.proofs.replica.Replica.list.Goals as goal
 
-pub returns-in_err-dir-clause-gives : goal.returns-in_err-dir-clause-gives
-returns-in_err-dir-clause-gives c = search rules
-
-pub returns-in_err-dir-clause-stands : goal.returns-in_err-dir-clause-stands
-returns-in_err-dir-clause-stands c =
-    λ volume H stands. look_stands stands (ListLook c.args.path.now) (answer_told told_names c.from_residual.result) (returns-in_err-dir-clause-gives c)
-
-pub returns-clause-gives : goal.returns-clause-gives
-returns-clause-gives c =
+pub returns : goal.returns
+returns c =
     let lines : c.add_lines.new.lines.items ≡ map (line_of c.in_ok-dir.dir) c.in_ok-names.names.items =
     c.in_ok-add_lines.ensures ∙ ap (λ before. before ++ map (line_of c.in_ok-dir.dir) c.in_ok-names.names.items)
     c.in_ok-lines.ensures.items in
@@ -32,7 +22,3 @@ returns-clause-gives c =
         refl,
       ),
     )
-
-pub returns-clause-stands : goal.returns-clause-stands
-returns-clause-stands c =
-    λ volume H stands. look_stands stands (ListLook c.args.path.now) (Ok (told_names c.add_lines.new.lines)) (returns-clause-gives c)

@@ -1,11 +1,8 @@
-use Rattle.std.proofs.Common.{◌≤◌, List, length, Ok, refl, sym, subst}
+use Rattle.std.proofs.Common.{◌≤◌, List, length, refl, sym, subst}
 use Rattle.ficus_ids.specs.Rising.{IsRisingBy}
 use Rattle.ficus_ids.specs.declared.id.Id.{Id}
 use Rattle.ficus_names.specs.ListingLaws.{IsListing-along}
-use Rattle.ficus_replica.specs.Look.{Tree}
-use Rattle.ficus_rules.specs.Told.{told_tree}
 use Rattle.ficus_replica.specs.View.{tables_view}
-use Rattle.ficus_replica.proofs.Looks.{look_stands}
 use Rattle.ficus_replica.proofs.Tables.{tables_bound, tables_directories}
 use Rattle.ficus_replica.proofs.Trees.{AreFirst, first_none, first_more, first_all}
 use Rattle.ficus_replica.proofs.replica.Replica.tree.Goals as goal
@@ -24,8 +21,8 @@ loop-dir-preserved c =
     (IsListing-along (λ name target. c.in_ok-directories.ensures _ target name) c.in_ok-shown.ensures))
     c.loop-dir.invariant)
 
-pub returns-clause-gives : goal.returns-clause-gives
-returns-clause-gives c =
+pub returns : goal.returns
+returns c =
     let first : AreFirst (tables_view c.args.self.now) c.in_ok-reached.reached.items c.loop-dir.dir-index
     c.loop-dir.lines.items =
     subst (λ dirs. AreFirst (tables_view c.args.self.now) dirs c.loop-dir.dir-index c.loop-dir.lines.items)
@@ -38,6 +35,3 @@ returns-clause-gives c =
           c.loop-dir.lines.items c.in_ok-reached.ensures.exact past first,
       refl,
     )
-
-pub returns-clause-stands : goal.returns-clause-stands
-returns-clause-stands c = λ volume H stands. look_stands stands Tree (Ok (told_tree c.loop-dir.lines)) (returns-clause-gives c)

@@ -8,7 +8,7 @@ returns-in_ok-lines-in-Ls c = record {
   gives =
       rw c.in-Ls.is (
         told.Names c.in_ok-lines-in-Ls.lines.items,
-        c.in_ok-lines-in-Ls.ensures.gives,
+        c.in_ok-lines-in-Ls.ensures,
         ap Names c.of.ensures,
       );
 }
@@ -18,7 +18,7 @@ returns-in_ok-lines-in-Tree c = record {
   gives =
       rw c.in-Tree.is (
         told.Tree c.in_ok-lines-in-Tree.lines.items,
-        c.in_ok-lines-in-Tree.ensures.gives,
+        c.in_ok-lines-in-Tree.ensures,
         ap Tree c.of-in-Tree.ensures,
       );
 }
