@@ -54,7 +54,7 @@ impl<'a> InOrder<'a> {
 impl Entries {
     /// The entries in order.
     pub fn in_order(&self) -> Result<InOrder<'_>, Memory>
-        ensures same { IfOk result (λ entries. entries ≡ self.now) }
+        ensures { IfOk result (λ entries. entries ≡ self.now) }
     {
         let mut entries = Vec::with_capacity(self.allocator(), self.len())?;
         self.table.list.gather(&mut entries)?;
