@@ -26,7 +26,7 @@ pub(crate) struct Changed {
 #[derive(Drop)]
 pub struct Entries {
     pub(crate) table: Table,
-    changed: Vec<Changed>,
+    pub(crate) changed: Vec<Changed>,
 }
 
 impl Model for Entries {

@@ -3,6 +3,7 @@
 
 mod entries;
 mod entry;
+mod in_order;
 mod inside;
 mod laws;
 mod place;
@@ -10,5 +11,6 @@ mod table;
 
 pub use entries::Entries;
 pub use entry::{Entry, State};
+pub use in_order::InOrder;
 pub use inside::Leading;
 pub use laws::{one_entry, same_entries};

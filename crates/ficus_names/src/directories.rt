@@ -26,11 +26,12 @@ impl Directories {
         ensures { IfOk result (λ directories. (dir target : IdValue) (name : List ℕ) →
             Binds (bindings_of directories dir) name target ↔ BindsIn entries.now dir name target) }
     {
+        let in_order = entries.in_order()?;
         let mut directories = Directories {
             bindings: BTreeMap::new(alloc),
         };
-        for index in 0..entries.len() {
-            let entry = entries.at(index);
+        for index in 0..in_order.len() {
+            let entry = in_order.at(index);
             if entry.is_live() {
                 directories.add(
                     alloc,

@@ -21,9 +21,10 @@ pub fn links_of(alloc: Global, entries: &Entries) -> Result<Vec<Link>, Memory>
         Links links.items dir object ↔ LeadsIn entries.now dir object) }
     ensures sorted { IfOk result (λ links. IsSortedByDir links.items) }
 {
+    let in_order = entries.in_order()?;
     let mut links = Vec::new(alloc);
-    for index in 0..entries.len() {
-        let entry = entries.at(index);
+    for index in 0..in_order.len() {
+        let entry = in_order.at(index);
         if entry.is_live() {
             links.push(Link {
                 dir: entry.dir,

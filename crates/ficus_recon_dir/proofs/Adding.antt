@@ -3,7 +3,7 @@ use Rattle.std.proofs.Common.{◌≡◌, ◌≢◌, ◌⊎◌, ◌↔◌, ℕ, L
 use Rattle.ficus_ids.specs.declared.id.Id.{Id}
 use Rattle.ficus_ids.specs.MarksLaws.{full_or_one_missing}
 use Rattle.ficus_ids.specs.RisingLaws.{one_held}
-use Rattle.ficus_entry.specs.Entry.{IsRising, Holds, HoldsUnder, PutsEntry}
+use Rattle.ficus_entry.specs.Entry.{IsRising, HoldsUnder, PutsEntry}
 use Rattle.ficus_entry.specs.declared.entry.Entry.{Entry}
 use Rattle.ficus_entry.specs.declared.entry.State.{State}
 use Rattle.ficus_entry.specs.declared.entry.State.TheVariants.{Live, Dead}

@@ -1,5 +1,5 @@
 -- A walk along two rising lists, the lower identifier first. `i` and `j` are how far it has come.
-use Rattle.std.proofs.Common.{◌≡◌, ◌≢◌, ◌⊎◌, ℕ, ◌+◌, ◌<◌, ◌≤◌, List, [], ◌∷◌, ◌++◌, length, take, get_or, slice_get, Option, Some, None, is_some, option_copied, Bor, Ordering, Less, Equal, Greater, Contains, sym, subst, subst₂, ◌∙◌, ap, inl, inr, refl, arith, add-zero, le_of_lt, length-take, get_or-take}
+use Rattle.std.proofs.Common.{◌≡◌, ◌≢◌, ◌⊎◌, ℕ, ◌+◌, ◌<◌, ◌≤◌, List, [], ◌∷◌, ◌++◌, length, take, get_or, slice_get, Option, Some, None, is_some, option_copied, Bor, Ordering, Less, Equal, Greater, Contains, sym, subst, ◌∙◌, ap, inl, inr, refl, arith, add-zero, le_of_lt, length-take, get_or-take}
 use Rattle.std.proofs.lemmas.Bool.{cases_lt}
 use Rattle.std.proofs.lemmas.List.{take_more, take_all}
 use Rattle.std.proofs.lemmas.List.Elements.{Contains-append_left, Contains-push, Contains-push_cases}

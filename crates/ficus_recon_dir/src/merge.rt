@@ -5,15 +5,13 @@ ghost use Rattle.ficus_entry.specs.Entry.{IsRising};
 ghost use Rattle.ficus_recon_dir.specs.Merge.{MergesEntries, KeepsMine, Settles, AreLowest};
 
 use crate::table::Taker;
-use ficus_entry::{Entries, Entry, State};
+use ficus_entry::{Entries, Entry, InOrder, State};
 use ficus_ids::{Members, Memory};
-use std::alloc::Global;
 use std::cmp::Ordering;
 
 /// What replica `me` holds after it has taken a peer's entries: the merge table, entry by entry. `me` is a
 /// member.
 pub fn merge_entries(
-    _alloc: Global,
     mine: &Entries,
     theirs: &Entries,
     me: u8,
@@ -26,12 +24,14 @@ pub fn merge_entries(
     let taker = Taker::new(me, members);
     // Tells that the identifiers rise.
     let _count = mine.len();
+    let my_entries = mine.in_order()?;
+    let their_entries = theirs.in_order()?;
     let mut merged = mine.copy()?;
     let mut mine_done = 0;
     let mut theirs_done = 0;
-    while mine_done < mine.len() || theirs_done < theirs.len() {
-        let my_next = entry_at(mine, mine_done);
-        let their_next = entry_at(theirs, theirs_done);
+    while mine_done < my_entries.len() || theirs_done < their_entries.len() {
+        let my_next = entry_at(&my_entries, mine_done);
+        let their_next = entry_at(&their_entries, theirs_done);
         let next = lowest(my_next, their_next);
         settle(
             &mut merged,
@@ -67,7 +67,7 @@ fn lowest<'a>(mine: Option<&'a Entry>, theirs: Option<&'a Entry>) -> Pair<'a>
     }
 }
 
-fn entry_at(entries: &Entries, index: usize) -> Option<&Entry>
+fn entry_at<'a>(entries: &InOrder<'a>, index: usize) -> Option<&'a Entry>
     ensures value { option_copied result ≡ slice_get entries.now index }
     ensures rising { IsRising entries.now }
     ensures countable { length entries.now < 2 ^ 64 }

@@ -41,7 +41,6 @@ impl Replica {
             return Err(Refusal::BadMessage);
         }
         let merged = merge_entries(
-            alloc,
             &self.saved.entries,
             entries,
             self.saved.me,

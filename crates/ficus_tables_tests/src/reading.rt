@@ -148,7 +148,6 @@ fn entries_merge_by_the_table(rt: HostRuntime) -> Result<(), Fail> {
         (dead(both, me), None, dead(both, both)),
     ] {
         let merged = merge_entries(
-            rt.alloc(),
             &holding(rt.alloc(), b"a", mine)?,
             &holding(rt.alloc(), b"b", theirs)?,
             1,
