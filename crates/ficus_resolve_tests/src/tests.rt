@@ -1,57 +1,72 @@
 use ficus_ids::{Kind, Listed};
 use ficus_resolve::{ResolveFault, resolve};
-use std::alloc::Global;
+use std::alloc::{AllocError, Global};
 use std::test::Fail;
-
-// What the contents come to, or the fault; both as text.
-fn outcome(alloc: Global, kind: Kind, contents: &[&[u8]]) -> Result<Vec<u8>, ResolveFault> {
-    let mut listed = Vec::new(alloc);
-    for content in contents {
-        let bytes = Vec::from_slice(alloc, content).map_err(|_| ResolveFault::Memory)?;
-        listed.push(Listed::of(bytes)).map_err(|_| ResolveFault::Memory)?;
-    }
-    if kind == Kind::Dir || listed.is_empty() {
-        return Err(ResolveFault::Declined);
-    }
-    resolve(alloc, kind, &listed)
-}
 
 #[test]
 fn contents_come_to_the_result_of_their_kind_in_any_order(rt: HostRuntime) -> Result<(), Fail> {
-    for (kind, one, other, text) in [
-        (Kind::Plain, "x", "y", None),
-        (Kind::Plain, "x", "x", None),
-        (Kind::Lines, "b\na", "a\n", Some("a\nb\n")),
-        (Kind::Lines, "", "\n", Some("\n")),
-        (Kind::Lines, "", "", Some("")),
-        (Kind::Lines, "a\n\nb", "ab\na\r\n", Some("\na\na\r\nab\nb\n")),
-        (Kind::Max, "007", "12", Some("12")),
-        (Kind::Max, "", "12", None),
-        (Kind::Max, "0", "000", Some("0")),
-        (Kind::Max, "9999999999999999999", "1", Some("9999999999999999999")),
-        (Kind::Max, "00000000000000000001", "1", None),
-        (Kind::Max, "+1", "1", None),
-        (Kind::Max, "1\n", "1", None),
-        (Kind::Keep, "x", "", Some("=== version 1 of 2\n=== version 2 of 2\nx\n=== end\n")),
-        (Kind::Keep, "x\n", "x", Some("=== version 1 of 2\nx\n=== version 2 of 2\nx\n=== end\n")),
-        (Kind::Keep, "x", "x", Some("=== version 1 of 1\nx\n=== end\n")),
+    for (kind, one, other, told) in [
+        (Kind::Plain, "x", "y", "declined"),
+        (Kind::Plain, "x", "x", "declined"),
+        (Kind::Lines, "b\na", "a\n", "a\nb\n"),
+        (Kind::Lines, "", "\n", "\n"),
+        (Kind::Lines, "", "", ""),
+        (Kind::Lines, "b", "a", "a\nb\n"),
+        (Kind::Lines, "a\n\nb", "ab\na\r\n", "\na\na\r\nab\nb\n"),
+        (Kind::Max, "007", "12", "12"),
+        (Kind::Max, "", "12", "declined"),
+        (Kind::Max, "0", "000", "0"),
+        (Kind::Max, "9999999999999999999", "1", "9999999999999999999"),
+        (Kind::Max, "00000000000000000001", "1", "declined"),
+        (Kind::Max, "+1", "1", "declined"),
+        (Kind::Max, "1\n", "1", "declined"),
+        (
+            Kind::Keep,
+            "x",
+            "",
+            "=== version 1 of 2\n=== version 2 of 2\nx\n=== end\n",
+        ),
+        (
+            Kind::Keep,
+            "x\n",
+            "x",
+            "=== version 1 of 2\nx\n=== version 2 of 2\nx\n=== end\n",
+        ),
+        (Kind::Keep, "x", "x", "=== version 1 of 1\nx\n=== end\n"),
     ] {
-        for contents in [[one, other], [other, one]] {
-            let [front, back] = contents;
-            let result = outcome(rt.alloc(), kind, &[front.as_bytes(), back.as_bytes()]);
-            let wanted = text.map(str::as_bytes).ok_or(ResolveFault::Declined);
-            assert_eq!(rt; result.as_deref(), wanted.as_ref().copied(), "{one:?} {other:?}");
-        }
+        let result = outcome(rt.alloc(), kind, one.as_bytes(), other.as_bytes())?;
+        assert_eq!(rt; result.as_slice(), told.as_bytes(), "{one:?} {other:?}");
+        let turned = outcome(rt.alloc(), kind, other.as_bytes(), one.as_bytes())?;
+        assert_eq!(rt; turned.as_slice(), told.as_bytes(), "{other:?} {one:?}");
     }
     Ok(())
 }
 
 #[test]
 fn a_result_has_at_most_16384_bytes(rt: HostRuntime) -> Result<(), Fail> {
-    for (last, fault) in [(b'\n', None), (b'a', Some(ResolveFault::TooLong))] {
-        let mut content = vec![in rt.alloc(); b'a'; 16_384]?;
-        content[16_383] = last;
-        assert_eq!(rt; outcome(rt.alloc(), Kind::Lines, &[&content]).err(), fault);
-    }
+    let mut content = vec![in rt.alloc(); b'a'; 16_383]?;
+    let ended = outcome(rt.alloc(), Kind::Lines, &content, &content)?;
+    assert_eq!(rt; ended.len(), 16_384);
+    content.push(b'a')?;
+    let result = outcome(rt.alloc(), Kind::Lines, &content, &content)?;
+    assert_eq!(rt; result.as_slice(), b"too long".as_slice());
     Ok(())
+}
+
+// What the two contents come to, or the word for the fault.
+fn outcome(alloc: Global, kind: Kind, one: &[u8], other: &[u8]) -> Result<Vec<u8>, Fail> {
+    if kind == Kind::Dir {
+        return Err("a directory has no versions".into());
+    }
+    let contents = vec![in alloc; listed(alloc, one)?, listed(alloc, other)?]?;
+    match resolve(alloc, kind, &contents) {
+        Ok(text) => Ok(text),
+        Err(ResolveFault::Declined) => Ok(Vec::from_slice(alloc, b"declined")?),
+        Err(ResolveFault::TooLong) => Ok(Vec::from_slice(alloc, b"too long")?),
+        Err(ResolveFault::Memory) => Err("memory".into()),
+    }
+}
+
+fn listed(alloc: Global, bytes: &[u8]) -> Result<Listed<u8>, AllocError> {
+    Ok(Listed::of(Vec::from_slice(alloc, bytes)?))
 }
