@@ -3,7 +3,7 @@ use Rattle.std.specs.Prelude.{◌≡◌, ◌≢◌, ◌⊎◌, ℕ, ◌+◌, ◌
 use Rattle.std.specs.Result.{result_ok}
 use Rattle.std.specs.Str.{IsUtf8}
 use Rattle.std.specs.Str.Parse.{AllDigits, digits_value, ParsesUnsigned}
-use Rattle.std.proofs.Common.{arith, get_or, inl, inr, sym, ◌∙◌, ap, subst}
+use Rattle.std.proofs.Common.{arith, get_or, inl, inr, sym, ◌∙◌, ap}
 use Rattle.std.proofs.lemmas.Bool.{cases_lt}
 use Rattle.std.proofs.lemmas.List.{take_more}
 use Rattle.std.proofs.lemmas.List.Elements.{All-push, All-weaker, All-contains, Contains-get_or, Contains-push, Contains-append_left}
@@ -24,10 +24,12 @@ no_sign : (content : List ℕ) → IsNumeral content → slice_index content 0 �
 no_sign content numeral sign = absurd (omega (arith, digit_at content 0 numeral.digits (omega (arith, numeral.at_least)), sign))
 
 -- what `parse` doesn't read is no number
-pub no_numeral : {E : Type 0} (content : List ℕ) (read : Result ℕ E) → ParsesUnsigned 64 10 content read → IfNone (result_ok read) (IsNumeral content → ⊥)
+pub no_numeral : {E : Type 0} (content : List ℕ) (read : Result ℕ E) → ParsesUnsigned 64 10 content read →
+    IfNone (result_ok read) (IsNumeral content → ⊥)
 no_numeral content (Ok number) parsed = tt
 no_numeral content (Err fault) parsed = λ numeral.
-    parse_plain numerals 64 content (Err fault) parsed (no_sign content numeral) (numeral.digits, omega (arith, numeral.at_least), fits content numeral.digits numeral.at_most)
+    parse_plain numerals 64 content (Err fault) parsed (no_sign content numeral)
+    (numeral.digits, omega (arith, numeral.at_least), fits content numeral.digits numeral.at_most)
 
 -- digits are text
 pub IsUtf8-numeral : (content : List ℕ) → IsNumeral content → IsUtf8 content
@@ -40,7 +42,8 @@ pub record IsGreatestSeen (seen : List (List ℕ)) (number : ℕ) : Type 0 where
   pub reached : (number ≡ 0) ⊎ ((content : List ℕ) × Contains seen content × (digits_value 10 content ≡ number))
   pub above : All (λ content. digits_value 10 content ≤ number) seen
 
-greatest_push : (seen : List (List ℕ)) (number : ℕ) (content : List ℕ) → IsNumeral content → IsGreatestSeen seen number → IsGreatestSeen (seen ++ content ∷ []) (max (digits_value 10 content) number)
+greatest_push : (seen : List (List ℕ)) (number : ℕ) (content : List ℕ) → IsNumeral content →
+    IsGreatestSeen seen number → IsGreatestSeen (seen ++ content ∷ []) (max (digits_value 10 content) number)
 greatest_push seen number content numeral greatest =
     let most = max (digits_value 10 content) number in
     let above : All (λ other. digits_value 10 other ≤ most) seen =
@@ -57,17 +60,23 @@ greatest_push seen number content numeral greatest =
       above = All-push (λ other. digits_value 10 other ≤ most) seen content above (omega arith);
     }
 
-pub greatest_more : (contents : List (List ℕ)) (index number value next : ℕ) (content : List ℕ) → index < length contents → content ≡ get_or contents index content → value ≡ digits_value 10 content → IsNumeral content → next ≡ max value number → IsGreatestSeen (take index contents) number → IsGreatestSeen (take (index + 1) contents) next
+pub greatest_more : (contents : List (List ℕ)) (index number value next : ℕ) (content : List ℕ) →
+    index < length contents → content ≡ get_or contents index content → value ≡ digits_value 10 content →
+    IsNumeral content → next ≡ max value number → IsGreatestSeen (take index contents) number →
+    IsGreatestSeen (take (index + 1) contents) next
 greatest_more contents index number value next content within at read numeral greater greatest =
-    let seen : take (index + 1) contents ≡ take index contents ++ content ∷ [] = take_more contents index content within ∙ ap (λ c. take index contents ++ c ∷ []) (sym at) in
+    let seen : take (index + 1) contents ≡ take index contents ++ content ∷ [] =
+    take_more contents index content within ∙ ap (λ c. take index contents ++ c ∷ []) (sym at) in
     rw (seen, greater, read) (greatest_push (take index contents) number content numeral greatest)
 
-pub greatest_whole : (contents : List (List ℕ)) (number : ℕ) → 0 < length contents → IsGreatestSeen contents number → IsGreatest contents number
+pub greatest_whole : (contents : List (List ℕ)) (number : ℕ) → 0 < length contents → IsGreatestSeen contents number →
+    IsGreatest contents number
 greatest_whole contents number some greatest =
     let first = get_or contents 0 [] in
     let inside = Contains-get_or contents 0 [] some in
     let below = All-contains (λ content. digits_value 10 content ≤ number) contents first greatest.above inside in
-    let reached : (content : List ℕ) × Contains contents content × (digits_value 10 content ≡ number) = elim greatest.reached [
+    let reached : (content : List ℕ) × Contains contents content × (digits_value 10 content ≡ number) =
+    elim greatest.reached [
       | inl none ↦ (first, inside, omega (arith, none, below))
       | inr reached ↦ reached
     ] in

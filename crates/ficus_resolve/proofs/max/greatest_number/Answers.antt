@@ -1,4 +1,4 @@
-use Rattle.std.proofs.Common.{◌≡◌, ◌∙◌, take, ap, sym, arith}
+use Rattle.std.proofs.Common.{◌≡◌, ◌∙◌, take, ap, arith}
 use Rattle.std.specs.Str.Parse.{digits_value}
 use Rattle.std.proofs.lemmas.Grind.{common_steps}
 use Rattle.ficus_resolve.proofs.Numerals.{greatest_more, greatest_whole}
@@ -12,5 +12,6 @@ loop-content-preserved c =
 
 pub returns-clause-some : goal.returns-clause-some
 returns-clause-some c =
-    let whole : take c.loop-content.content-index c.args.contents.now ≡ c.args.contents.now = grind (arith, common_steps) in
-    greatest_whole c.args.contents.now c.loop-content.greatest c.requires (rw whole at c.loop-content.invariant)
+    let contents = c.args.contents.now in
+    let whole : take c.loop-content.content-index contents ≡ contents = grind (arith, common_steps) in
+    greatest_whole contents c.loop-content.greatest c.requires (rw whole at c.loop-content.invariant)
