@@ -29,6 +29,7 @@ not_covers xs ys k long others less covers =
     absurd (omega arith)
 
 pub join_from : (cs xs ys : List ℕ) → length xs ≡ 8 → length ys ≡ 8 → ((k : ℕ) → k < 8 → get_or cs k 0 ≡ max (get_or xs k 0) (get_or ys k 0)) → vector_of (count_in cs) ≡ join (vector_of (count_in xs)) (vector_of (count_in ys))
+unfolding join
 join_from cs xs ys long others greater = λ i. record {
   first = greater 0 (omega arith) i;
   second = greater 1 (omega arith) i;

@@ -42,15 +42,15 @@ vector_of count = record {
 }
 
 -- all counts are 0
-abbrev pub no_counts : Counts
+unfoldable pub no_counts : Counts
 no_counts = vector_of (λ replica. 0)
 
 -- for each replica the greater count
-abbrev pub join : Counts → Counts → Counts
+unfoldable pub join : Counts → Counts → Counts
 join vector other = vector_of (λ replica. max (count_of vector replica) (count_of other replica))
 
 -- one more for this replica
-abbrev pub bump : ℕ → Counts → Counts
+unfoldable pub bump : ℕ → Counts → Counts
 bump by vector = vector_of (λ replica. if replica == by then count_of vector replica + 1 else count_of vector replica)
 
 -- each count is at least the other's

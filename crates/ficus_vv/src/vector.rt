@@ -31,6 +31,7 @@ impl Model for Vector {
 
 impl Vector {
     /// All counts are 0.
+    #[tactic(auto, unfolding(crate::specs::Vector::no_counts))]
     pub fn zero() -> Vector
         ensures { result ≡ no_counts }
     {
@@ -54,6 +55,7 @@ impl Vector {
     }
 
     /// One more for a replica from 1 to 8, or `None` exactly where its count is the greatest.
+    #[tactic(auto, unfolding(crate::specs::Vector::bump))]
     pub fn bump(self, replica: u8) -> Option<Vector>
         requires at_least { 1 ≤ replica }
         requires at_most { replica ≤ 8 }
