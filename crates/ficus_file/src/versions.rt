@@ -1,0 +1,115 @@
+ghost use Rattle.std.specs.Prelude.{◌≡◌, [], ◌∷◌, IfOk};
+ghost use Rattle.ficus_vv.specs.Vector.{join};
+ghost use Rattle.ficus_file.specs.Version.{join_all};
+
+use crate::Version;
+use ficus_ids::Memory;
+use ficus_vv::Vector;
+use std::alloc::Global;
+use std::marker::Model;
+use std::rc::Rc;
+
+/// The versions of a file. Contracts see them as a list.
+#[derive(Drop)]
+pub struct Versions {
+    kept: Kept,
+}
+
+// A version that came without memory stands alone, until a call that takes memory makes it one that copies share.
+#[derive(Drop)]
+enum Kept {
+    Empty,
+    One(Version),
+    Shared(Rc<Vec<Version>>),
+}
+
+impl Model for Versions {
+    ghost use Rattle.std.specs.Prelude.{List};
+    ghost use Rattle.ficus_file.specs.declared.version.Version.{Version as VersionValue};
+
+    ghost Value = { List VersionValue };
+
+    ghost use Rattle.ficus_file.specs.Kept.{versions_of};
+
+    ghost view = { λ v. versions_of v.kept };
+}
+
+impl Versions {
+    /// No version. Takes no memory.
+    pub fn none() -> Versions
+        ensures { result ≡ [] }
+    {
+        Versions { kept: Kept::Empty }
+    }
+
+    /// One version. Takes no memory.
+    pub fn one(version: Version) -> Versions
+        ensures { result ≡ version ∷ [] }
+    {
+        Versions {
+            kept: Kept::One(version),
+        }
+    }
+
+    /// Versions that copies share.
+    pub fn of(alloc: Global, versions: Vec<Version>) -> Result<Versions, Memory>
+        ensures { IfOk result (λ of. of ≡ versions.items) }
+    {
+        let versions = Rc::new(alloc, versions)?;
+        Ok(Versions {
+            kept: Kept::Shared(versions),
+        })
+    }
+
+    /// The versions, in order.
+    pub fn items(&self) -> &[Version]
+        ensures { result.now ≡ self.now }
+    {
+        match &self.kept {
+            Kept::Empty => &[],
+            Kept::One(version) => std::slice::from_ref(version),
+            Kept::Shared(versions) => versions.as_ref().as_slice(),
+        }
+    }
+
+    /// The same versions once more. Only bytes that came without memory are copied.
+    pub fn copy(&self, alloc: Global) -> Result<Versions, Memory>
+        ensures { IfOk result (λ versions. versions ≡ self.now) }
+    {
+        match &self.kept {
+            Kept::Empty => Ok(Versions::none()),
+            Kept::One(version) => Ok(Versions::one(version.copy(alloc)?)),
+            Kept::Shared(versions) => {
+                let versions = versions.clone()?;
+                Ok(Versions {
+                    kept: Kept::Shared(versions),
+                })
+            }
+        }
+    }
+
+    /// The same versions, so that copies share them.
+    pub fn into_shared(self, alloc: Global) -> Result<Versions, Memory>
+        ensures { IfOk result (λ versions. versions ≡ self) }
+    {
+        match self.kept {
+            Kept::One(version) => {
+                let mut versions = Vec::with_capacity(alloc, 1)?;
+                versions.push(version)?;
+                Versions::of(alloc, versions)
+            }
+            kept => Ok(Versions { kept }),
+        }
+    }
+}
+
+/// The join of a vector and those of versions.
+pub fn joined(versions: &[Version], from: Vector) -> Vector
+    ensures { result ≡ join from (join_all versions.now) }
+{
+    let mut vector = from;
+    for version in versions {
+        vector = vector.join(version.vector);
+    }
+    vector
+}

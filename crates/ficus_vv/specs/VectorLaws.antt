@@ -1,0 +1,81 @@
+-- Laws of vectors, for the proofs of this crate and of those above it.
+use Rattle.std.specs.Prelude.{◌≡◌, ℕ, zero, suc, ◌≤◌, max, List, [], ◌∷◌, length, refl}
+use Rattle.std.specs.Cmp.{IsTotalOrder, on_total}
+use Rattle.std.specs.Cmp.Lexicographic.{nat_list_cmp_total}
+use Rattle.std.specs.declared.cmp.Ordering.TheVariants.{Equal}
+use Rattle.std.proofs.Common.{arith, ap, ◌∙◌}
+use Rattle.std.proofs.lemmas.Map.Lookups.{exact_bytes}
+use Rattle.ficus_vv.specs.Vector.{Counts, in_order, count_in, count_of, vector_of, no_counts, join, vector_cmp, Covers}
+
+-- a list of eight counts is that of its vector
+pub same_eight : (counts : List ℕ) → length counts ≡ 8 → in_order (vector_of (count_in counts)) ≡ counts
+same_eight (a ∷ b ∷ c ∷ d ∷ e ∷ f ∷ g ∷ h ∷ []) long = refl
+same_eight counts long = absurd (omega arith)
+
+-- vectors with the same counts are equal
+pub same_vector : (v w : Counts) → ((replica : ℕ) → count_of v replica ≡ count_of w replica) → v ≡ w
+same_vector v w same = λ i. vector_of (λ replica. same replica i)
+
+-- two vectors that cover each other are equal
+pub equal_by_covers : (v w : Counts) → Covers v w → Covers w v → v ≡ w
+equal_by_covers v w over under = same_vector v w (λ replica. let a = over.each replica in let b = under.each replica in omega (arith, a, b))
+
+pub covers_itself : (v : Counts) → Covers v v
+covers_itself v = record { each = λ replica. omega arith }
+
+pub covers_trans : (v w u : Counts) → Covers v w → Covers w u → Covers v u
+covers_trans v w u first second = record { each = λ replica. omega (arith, first.each replica, second.each replica) }
+
+-- the order of vectors is total, and tells different ones apart
+pub vector_cmp_total : IsTotalOrder vector_cmp
+vector_cmp_total = on_total in_order nat_list_cmp_total
+
+pub vector_cmp-Equal : (v w : Counts) → vector_cmp v w ≡ Equal → v ≡ w
+vector_cmp-Equal v w is = ap (λ counts. vector_of (count_in counts)) (exact_bytes (in_order v) (in_order w) is)
+
+-- the counts of a join
+pub count_of-join : (v w : Counts) (replica : ℕ) → count_of (join v w) replica ≡ max (count_of v replica) (count_of w replica)
+unfolding join
+count_of-join v w zero = refl
+count_of-join v w (suc zero) = refl
+count_of-join v w (suc (suc zero)) = refl
+count_of-join v w (suc (suc (suc zero))) = refl
+count_of-join v w (suc (suc (suc (suc zero)))) = refl
+count_of-join v w (suc (suc (suc (suc (suc zero))))) = refl
+count_of-join v w (suc (suc (suc (suc (suc (suc zero)))))) = refl
+count_of-join v w (suc (suc (suc (suc (suc (suc (suc zero))))))) = refl
+count_of-join v w (suc (suc (suc (suc (suc (suc (suc (suc zero)))))))) = refl
+count_of-join v w (suc (suc (suc (suc (suc (suc (suc (suc (suc replica))))))))) = refl
+
+pub count_of-none : (replica : ℕ) → count_of no_counts replica ≡ 0
+unfolding no_counts
+count_of-none zero = refl
+count_of-none (suc zero) = refl
+count_of-none (suc (suc zero)) = refl
+count_of-none (suc (suc (suc zero))) = refl
+count_of-none (suc (suc (suc (suc zero)))) = refl
+count_of-none (suc (suc (suc (suc (suc zero))))) = refl
+count_of-none (suc (suc (suc (suc (suc (suc zero)))))) = refl
+count_of-none (suc (suc (suc (suc (suc (suc (suc zero))))))) = refl
+count_of-none (suc (suc (suc (suc (suc (suc (suc (suc zero)))))))) = refl
+count_of-none (suc (suc (suc (suc (suc (suc (suc (suc (suc replica))))))))) = refl
+
+pub join_comm : (v w : Counts) → join v w ≡ join w v
+join_comm v w = same_vector (join v w) (join w v) (λ replica. rw (count_of-join v w replica, count_of-join w v replica) (omega arith))
+
+pub join_assoc : (v w u : Counts) → join (join v w) u ≡ join v (join w u)
+join_assoc v w u = same_vector (join (join v w) u) (join v (join w u)) (λ replica.
+    rw (count_of-join (join v w) u replica, count_of-join v w replica, count_of-join v (join w u) replica, count_of-join w u replica) (omega arith))
+
+-- the join with what is covered already changes nothing
+pub join_covered : (v w : Counts) → Covers v w → join v w ≡ v
+join_covered v w covers = same_vector (join v w) v (λ replica. rw (count_of-join v w replica) (omega (arith, covers.each replica)))
+
+pub join_with_none : (v : Counts) → join v no_counts ≡ v
+join_with_none v = join_covered v no_counts (record { each = λ replica. none_below replica })
+  where
+    none_below : (replica : ℕ) → count_of no_counts replica ≤ count_of v replica
+    none_below replica = omega (arith, count_of-none replica)
+
+pub none_joined : (v : Counts) → join no_counts v ≡ v
+none_joined v = join_comm no_counts v ∙ join_with_none v
