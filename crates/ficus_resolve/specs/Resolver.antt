@@ -6,7 +6,7 @@ use Rattle.ficus_resolve.specs.Keep.{KeepsAll}
 use Rattle.ficus_resolve.specs.Lines.{IsUnionOfLines}
 use Rattle.ficus_resolve.specs.Max.{IsMaximum}
 
--- the text that the resolver of the kind makes of the contents, or nothing where it declines; none is for directories
+-- what the resolver of the kind makes of the contents, or nothing where it declines; a directory has no resolver
 abbrev pub IsResolution : Kind → List (List ℕ) → Option (List ℕ) → Type 0
 IsResolution Dir contents outcome = ⊥
 IsResolution Plain contents outcome = outcome ≡ None
