@@ -9,6 +9,7 @@ use ficus_persistent::{Cut, Item};
 // 32 bits (FNV, 1991), so that names which differ little have digests which differ much. A sum stands in place of
 // their exclusive or.
 const DIGEST_START: u64 = 2_166_136_261;
+
 const DIGEST_FACTOR: u64 = 16_777_619;
 
 /// The rank of removed entries, behind all digests, which have 32 bits.
