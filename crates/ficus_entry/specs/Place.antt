@@ -8,17 +8,29 @@ use Rattle.ficus_entry.specs.declared.entry.State.TheVariants.{Live, Dead}
 use Rattle.ficus_entry.specs.declared.place.Link.{Link}
 use Rattle.ficus_entry.specs.declared.place.Place.{Place}
 
+-- where the digest of Fowler, Noll and Vo starts, for 32 bits
+abbrev pub digest_start : ℕ
+digest_start = 2166136261
+
+-- by what it is multiplied at each byte
+abbrev pub digest_factor : ℕ
+digest_factor = 16777619
+
+-- how many digests there are
+abbrev pub digest_count : ℕ
+digest_count = 2 ^ 32
+
 -- the digest with one byte more
 abbrev pub mixed : ℕ → ℕ → ℕ
-mixed digest byte = (digest * 16777619 + byte) % 4294967296
+mixed digest byte = (digest * digest_factor + byte) % digest_count
 
 -- the digest of a name, which other names may share
 abbrev pub digest_of : List ℕ → ℕ
-digest_of name = fold mixed 2166136261 name
+digest_of name = fold mixed digest_start name
 
 -- within its directory a live entry ranks by the digest of its name, and a removed one behind all of these
 abbrev pub rank_of : Entry → ℕ
-rank_of entry = elim entry.state [ Live ↦ digest_of entry.name | Dead one two ↦ 4294967296 ]
+rank_of entry = elim entry.state [ Live ↦ digest_of entry.name | Dead one two ↦ digest_count ]
 
 -- the place of an entry: its directory and its rank there
 abbrev pub place_of : Entry → Place
@@ -47,4 +59,5 @@ IsLinkAt links id index = (index < length links) × HoldsAt (λ link. link.id �
 -- the indexes from start up to end are those of all links from one place up to another
 pub record IsSpan (links : List Link) (from to : Place) (start end : ℕ) : Type 0 where
   pub within : end ≤ length links
-  pub all : (k : ℕ) (d : Link) → k < length links → order_of from ≤ order_of (get_or links k d).place → order_of (get_or links k d).place < order_of to → (start ≤ k) × (k < end)
+  pub all : (k : ℕ) (d : Link) → k < length links → order_of from ≤ order_of (get_or links k d).place →
+      order_of (get_or links k d).place < order_of to → (start ≤ k) × (k < end)

@@ -3,6 +3,7 @@ ghost use Rattle.std.specs.List.Sorted.{IsStrictlySortedBy};
 ghost use Rattle.ficus_ids.specs.Id.{id_cmp};
 ghost use Rattle.ficus_ids.specs.declared.id.Id.{Id as IdValue};
 ghost use Rattle.ficus_entry.specs.declared.entry.Entry.{Entry as EntryValue};
+ghost use Rattle.ficus_entry.specs.declared.entry.State.TheVariants.{Live};
 ghost use Rattle.ficus_entry.specs.Inside.{IsNamedIn, Leads, HasLiveInside, LiesInside, LiesBetween, IsLinkedWithin};
 
 use crate::place::{Link, Place, REMOVED, digest};
@@ -107,7 +108,19 @@ impl Entries {
         Ok(ids)
     }
 
-    // The same, in the order of the index, perhaps some twice.
+    /// The identifiers of the entries of the directory that the index notes as live: of each that is, and perhaps of
+    /// some that were removed since. It takes time for these alone, however many are removed.
+    pub fn noted_live_inside(&self, dir: Id) -> Result<Vec<Id>, Memory>
+        ensures inside { IfOk result (λ ids. (id : IdValue) → Contains ids.items id → LiesInside self.now dir id) }
+        ensures live { IfOk result (λ ids. (entry : EntryValue) → Contains self.now entry
+            → entry.state ≡ Live → entry.dir ≡ dir → Contains ids.items entry.id) }
+    {
+        let from = Place { dir, rank: 0 };
+        let to = Place { dir, rank: REMOVED };
+        noted_of(self, &self.table.links, self.table.span(from, to), dir)
+    }
+
+    // The same as `inside`, in the order of the index, perhaps some twice.
     fn noted_inside(&self, dir: Id) -> Result<Vec<Id>, Memory>
         ensures { IfOk result (λ ids. (id : IdValue) → Contains ids.items id ↔ LiesInside self.now dir id) }
     {

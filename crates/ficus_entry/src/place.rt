@@ -5,7 +5,14 @@ use crate::{Entry, State};
 use ficus_ids::{Id, Memory, Name};
 use ficus_persistent::{Cut, Item};
 
-/// The rank of removed entries, behind all digests.
+// Where the digest starts, and by what it is multiplied at each byte: the numbers that Fowler, Noll and Vo chose for
+// 32 bits (FNV, 1991), so that names which differ little have digests which differ much. A sum stands in place of
+// their exclusive or.
+const DIGEST_START: u64 = 2_166_136_261;
+
+const DIGEST_FACTOR: u64 = 16_777_619;
+
+/// The rank of removed entries, behind all digests, which have 32 bits.
 pub(crate) const REMOVED: u64 = 1 << 32;
 
 /// Where an entry is noted in the index: by directory, and there by rank, which is the digest of its name while it
@@ -82,9 +89,9 @@ pub(crate) fn digest(name: &Name) -> u64
     ensures value { result ≡ digest_of name.now }
     ensures small { result < REMOVED }
 {
-    let mut digest = 2166136261;
+    let mut digest = DIGEST_START;
     for byte in name.bytes() {
-        digest = (digest * 16777619 + u64::from(*byte)) % REMOVED;
+        digest = (digest * DIGEST_FACTOR + u64::from(*byte)) % REMOVED;
     }
     digest
 }

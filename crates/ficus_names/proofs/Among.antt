@@ -6,7 +6,7 @@ use Rattle.ficus_ids.specs.declared.id.Id.{Id}
 use Rattle.ficus_ids.specs.RisingLaws.{one_item}
 use Rattle.ficus_entry.specs.declared.entry.Entry.{Entry}
 use Rattle.ficus_entry.specs.Entry.{IsRising}
-use Rattle.ficus_entry.specs.Inside.{LiesInside}
+use Rattle.ficus_entry.specs.declared.entry.State.TheVariants.{Live}
 use Rattle.ficus_names.specs.Binding.{Binds}
 use Rattle.ficus_names.specs.Binds.{BindsIn, IsLiveIn}
 use Rattle.ficus_names.specs.declared.binding.Binding.{Binding}
@@ -61,11 +61,11 @@ module _ (entries : List Entry) (dir : Id) (bindings : List Binding) (ids : List
     ],
   )
 
-pub among_all : (entries : List Entry) (dir : Id) (bindings : List Binding) (ids : List Id) → ((id : Id) → Contains ids id ↔ LiesInside entries dir id) → AreAmong bindings ids entries dir → (name : List ℕ) (target : Id) → Binds bindings name target ↔ BindsIn entries dir name target
+pub among_all : (entries : List Entry) (dir : Id) (bindings : List Binding) (ids : List Id) → ((entry : Entry) → Contains entries entry → entry.state ≡ Live → entry.dir ≡ dir → Contains ids entry.id) → AreAmong bindings ids entries dir → (name : List ℕ) (target : Id) → Binds bindings name target ↔ BindsIn entries dir name target
 among_all entries dir bindings ids all known name target = (
   λ binds. ((known name target).0 binds).bound,
   λ bound. (known name target).1 (record {
     bound = bound;
-    among = (all bound.entry.id).1 (record { entry = bound.entry; inside = bound.inside; in_dir = bound.in_dir; has_id = λ _. bound.entry.id });
+    among = all bound.entry bound.inside bound.live bound.in_dir;
   }),
 )

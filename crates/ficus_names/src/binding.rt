@@ -26,7 +26,7 @@ pub fn bindings_in(alloc: Global, entries: &Entries, dir: Id) -> Result<Vec<Bind
     ensures { IfOk result (λ bindings. (name : List ℕ) (target : IdValue) →
         Binds bindings.items name target ↔ BindsIn entries.now dir name target) }
 {
-    let ids = entries.inside(dir)?;
+    let ids = entries.noted_live_inside(dir)?;
     let mut bindings = Vec::new(alloc);
     for id in &ids {
         if let Some(entry) = live_in(entries, *id, dir) {

@@ -2,7 +2,7 @@ ghost use Rattle.std.specs.Prelude.{◌-◌, ◌^◌, ◌<◌, ℕ, List, IfOk, 
 
 use crate::{Asked, Replica};
 use ficus_entry::{Entries, Entry};
-use ficus_ids::{Id, Refusal};
+use ficus_ids::{Id, Memory, Refusal};
 use ficus_recon_dir::merge_entries;
 use std::alloc::Global;
 
@@ -37,7 +37,7 @@ impl Replica {
         if self.ask != Some(Asked { to: from, number }) {
             return Err(Refusal::Stale);
         }
-        if !self.has_issued_all(entries) {
+        if !self.has_issued_all(entries)? {
             return Err(Refusal::BadMessage);
         }
         let merged = merge_entries(
@@ -53,15 +53,16 @@ impl Replica {
     }
 
     // Whether it has issued each identifier of its own in the entries.
-    fn has_issued_all(&self, entries: &Entries) -> bool
-        ensures { IsTrue result ↔ FitsPast self.now entries.now }
+    fn has_issued_all(&self, entries: &Entries) -> Result<bool, Memory>
+        ensures { IfOk result (λ issued. IsTrue issued ↔ FitsPast self.now entries.now) }
     {
-        for index in 0..entries.len() {
-            if !self.has_issued_in(entries.at(index)) {
-                return false;
+        let in_order = entries.in_order()?;
+        for index in 0..in_order.len() {
+            if !self.has_issued_in(in_order.at(index)) {
+                return Ok(false);
             }
         }
-        true
+        Ok(true)
     }
 
     // Whether it has issued each identifier of its own in the entry.

@@ -53,6 +53,7 @@ fn removed_entries_leave_their_names(rt: HostRuntime) -> Result<(), Fail> {
     assert_eq!(rt; entries.inside(ROOT)?.len(), 199);
     assert!(rt; entries.inside(id(1))?.is_empty());
     assert!(rt; entries.live_inside(ROOT));
+    assert_eq!(rt; entries.copy()?.noted_live_inside(ROOT)?.len(), 1);
     remove(&mut entries, 1);
     assert!(rt; !entries.live_inside(ROOT));
     let dead = State::Dead {
@@ -60,5 +61,10 @@ fn removed_entries_leave_their_names(rt: HostRuntime) -> Result<(), Fail> {
         two: Marks::empty(),
     };
     assert_eq!(rt; entries.get(id(7)).map(|entry| entry.state), Some(dead));
+    let in_order = entries.in_order()?;
+    assert_eq!(rt; in_order.len(), 199);
+    for index in 0..in_order.len() {
+        assert_eq!(rt; in_order.at(index).state, dead, "at {index}");
+    }
     Ok(())
 }

@@ -27,4 +27,4 @@ pub returns : goal.returns
 returns c =
     let ids = c.deref-id-items.result.now in
     let whole : take c.loop-id.id-index ids ≡ ids = grind (arith, common_steps) in
-    among_all c.args.entries.now c.args.dir c.loop-id.bindings.items ids (rw c.deref-id-items.ensures.value c.in_ok-ids.ensures.entries) (rw whole at c.loop-id.invariant)
+    among_all c.args.entries.now c.args.dir c.loop-id.bindings.items ids (rw c.deref-id-items.ensures.value c.in_ok-ids.ensures.live) (rw whole at c.loop-id.invariant)

@@ -12,14 +12,14 @@ returns-then-ne-clause-stands c =
     c.args.number c.args.entries.now serve c.args.self.now (Err Stale) lawful stands served
     (returns-then-ne-clause-gives c)
 
-pub returns-then-not-has_issued_all-clause-gives : goal.returns-then-not-has_issued_all-clause-gives
-returns-then-not-has_issued_all-clause-gives c = search rules
+pub returns-then-not-branch-clause-gives : goal.returns-then-not-branch-clause-gives
+returns-then-not-branch-clause-gives c = search rules
 
-pub returns-then-not-has_issued_all-clause-stands : goal.returns-then-not-has_issued_all-clause-stands
-returns-then-not-has_issued_all-clause-stands c =
+pub returns-then-not-branch-clause-stands : goal.returns-then-not-branch-clause-stands
+returns-then-not-branch-clause-stands c =
     λ volume H serve lawful stands served. accept_gives_stands volume H c.args.self.now.saved.me c.args.from
     c.args.number c.args.entries.now serve c.args.self.now (Err BadMessage) lawful stands served
-    (returns-then-not-has_issued_all-clause-gives c)
+    (returns-then-not-branch-clause-gives c)
 
 pub returns-clause-gives : goal.returns-clause-gives
 returns-clause-gives c = search rules
