@@ -9,13 +9,14 @@ fn a_second_update_is_refused_where_one_is_allowed(rt: HostRuntime) -> Result<()
     let members = Members::new(2).ok_or("two members")?;
     assert!(rt; members.has(1));
     let path = read_path(alloc, b"/a")?;
-    let other = read_path(alloc, b"/b")?;
-    assert!(rt; path.is_new() && other.is_new());
-
+    assert!(rt; path.is_new());
     let full = Replica::fresh(alloc, 1, members, 1, 0)
         .make(&path, Kind::Dir)?
         .replica;
     assert_eq!(rt; full.saved.generation, 1);
+
+    let other = read_path(alloc, b"/b")?;
+    assert!(rt; other.is_new());
     assert_eq!(rt; full.make(&other, Kind::Dir).err(), Some(Refusal::Spent));
     Ok(())
 }

@@ -20,8 +20,9 @@ fn entry(number: u32, name: &[u8]) -> Result<Entry, NameFault> {
 
 // Removes the entry, if it is live.
 fn remove(entries: &mut Entries, number: u32) {
-    if entries.holds_live(id(number)) {
-        entries.kill(id(number), 1);
+    let id = id(number);
+    if entries.holds_live(id) {
+        entries.kill(id, 1);
     }
 }
 

@@ -1,4 +1,4 @@
-ghost use Rattle.std.specs.Prelude.{◌≡◌, Ok};
+ghost use Rattle.std.specs.Prelude.{◌≡◌, ◌≤◌, Ok};
 
 use ficus_ids::Memory;
 use ficus_persistent::{Item, PersistentList};
@@ -23,21 +23,30 @@ impl Item for Number {
 enum Order {
     Rising,
     Falling,
-    // By a congruential sequence.
+    // By a congruential sequence (Numerical Recipes).
     Random,
+}
+
+impl Order {
+    // Where the next item goes in a list of this length.
+    fn place(self, length: usize, state: u32) -> usize
+        ensures { result ≤ length }
+    {
+        match self {
+            Order::Rising => length,
+            Order::Random if length > 0 => (state >> 8) as usize % length,
+            Order::Falling | Order::Random => 0,
+        }
+    }
 }
 
 // The height of a list after so many insertions.
 fn height(alloc: Global, order: Order, count: u32) -> Result<u8, Memory> {
     let mut list = PersistentList::new();
-    let mut state: u64 = 1;
+    let mut state: u32 = 1;
     for value in 0..count {
-        state = (state * 48271) % 2147483647;
-        let index = match order {
-            Order::Rising => list.len(),
-            Order::Falling => 0,
-            Order::Random => (state as usize) % (list.len() + 1),
-        };
+        state = state.wrapping_mul(1664525).wrapping_add(1013904223);
+        let index = order.place(list.len(), state);
         list = list.insert(alloc, index, Number { value })?;
     }
     Ok(list.height())
