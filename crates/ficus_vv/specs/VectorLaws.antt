@@ -2,7 +2,8 @@
 use Rattle.std.specs.Prelude.{◌≡◌, ℕ, zero, suc, ◌≤◌, max, List, [], ◌∷◌, length, refl}
 use Rattle.std.specs.Cmp.{IsTotalOrder, on_total}
 use Rattle.std.specs.Cmp.Lexicographic.{nat_list_cmp_total}
-use Rattle.std.specs.declared.cmp.Ordering.TheVariants.{Equal}
+use Rattle.std.specs.declared.cmp.Ordering.TheVariants.{Less, Equal, Greater}
+use Rattle.std.specs.Ordering.{ordering_reverse}
 use Rattle.std.proofs.Common.{arith, ap, ◌∙◌}
 use Rattle.std.proofs.lemmas.Map.Lookups.{exact_bytes}
 use Rattle.ficus_vv.specs.Vector.{Counts, in_order, count_in, count_of, vector_of, no_counts, join, vector_cmp, Covers}
@@ -28,10 +29,15 @@ covers_trans v w u first second = record { each = λ replica. omega (arith, firs
 
 -- the order of vectors is total, and tells different ones apart
 pub vector_cmp_total : IsTotalOrder vector_cmp
+unfolding vector_cmp
 vector_cmp_total = on_total in_order nat_list_cmp_total
 
 pub vector_cmp-Equal : (v w : Counts) → vector_cmp v w ≡ Equal → v ≡ w
+unfolding vector_cmp
 vector_cmp-Equal v w is = ap (λ counts. vector_of (count_in counts)) (exact_bytes (in_order v) (in_order w) is)
+
+pub vector_cmp-flip : (v w : Counts) → vector_cmp v w ≡ Greater → vector_cmp w v ≡ Less
+vector_cmp-flip v w is = vector_cmp_total.antisymm w v ∙ ap ordering_reverse is
 
 -- the counts of a join
 pub count_of-join : (v w : Counts) (replica : ℕ) → count_of (join v w) replica ≡ max (count_of v replica) (count_of w replica)
