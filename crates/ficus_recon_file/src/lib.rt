@@ -1,6 +1,7 @@
 //! What the files of two replicas make together.
 #![tactic(auto)]
 
+mod merge;
 mod versions;
 
-pub use versions::merged_versions;
+pub use merge::merge_files;

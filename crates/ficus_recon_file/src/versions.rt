@@ -143,7 +143,7 @@ fn joined(alloc: Global, mine: &[Version], theirs: &[Version]) -> Result<Version
 }
 
 /// The versions of both that no version of either is over. Bytes are copied only where neither has them all.
-pub fn merged_versions(
+pub(crate) fn merged_versions(
     alloc: Global,
     mine: &Versions,
     theirs: &Versions,
