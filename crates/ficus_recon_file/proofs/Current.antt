@@ -18,21 +18,26 @@ use Rattle.ficus_file.specs.Files.{IsHeldFile}
 use Rattle.ficus_recon_file.specs.Versions.{IsLatest, IsOfEither, IsKept, AreOrdered, AreMerged, HaveOneText}
 use Rattle.ficus_recon_file.specs.Merge.{AgreeOnBytes, CanMerge}
 
-not_same_vector : (versions : List Version) (i j : ℕ) (d : Version) → AreOrdered versions → i < j → j < length versions → (get_or versions i d).vector ≡ (get_or versions j d).vector → ⊥
+not_same_vector : (versions : List Version) (i j : ℕ) (d : Version) → AreOrdered versions → i < j →
+    j < length versions → (get_or versions i d).vector ≡ (get_or versions j d).vector → ⊥
 not_same_vector versions i j d ordered before within same =
     not_before_itself (get_or versions j d).vector (subst (λ v. vector_cmp v (get_or versions j d).vector ≡ Less) same (ordered i j d before within))
 
 -- in an ordered list a vector stands once
-one_version : (versions : List Version) (a b : Version) → AreOrdered versions → Contains versions a → Contains versions b → a.vector ≡ b.vector → a ≡ b
+one_version : (versions : List Version) (a b : Version) → AreOrdered versions → Contains versions a →
+    Contains versions b → a.vector ≡ b.vector → a ≡ b
 one_version versions a b ordered (i, within_i, is_a) (j, within_j, is_b) same =
     let at_b : get_or versions j a ≡ b = get_or_default versions j a b within_j ∙ is_b in
     elim (cases_order i j) [
       | inl here ↦ sym is_a ∙ ap (λ k. get_or versions k a) here ∙ at_b
-      | inr (inl before) ↦ absurd (not_same_vector versions i j a ordered before within_j (ap (λ (v : Version). v.vector) is_a ∙ same ∙ ap (λ (v : Version). v.vector) (sym at_b)))
-      | inr (inr behind) ↦ absurd (not_same_vector versions j i a ordered behind within_i (ap (λ (v : Version). v.vector) at_b ∙ sym same ∙ ap (λ (v : Version). v.vector) (sym is_a)))
+      | inr (inl before) ↦ absurd (not_same_vector versions i j a ordered before within_j
+          (ap (λ (v : Version). v.vector) is_a ∙ same ∙ ap (λ (v : Version). v.vector) (sym at_b)))
+      | inr (inr behind) ↦ absurd (not_same_vector versions j i a ordered behind within_i
+          (ap (λ (v : Version). v.vector) at_b ∙ sym same ∙ ap (λ (v : Version). v.vector) (sym is_a)))
     ]
 
-pub one_text : (mine theirs : List Version) → AreOrdered mine → AreOrdered theirs → AgreeOnBytes mine theirs → HaveOneText mine theirs
+pub one_text : (mine theirs : List Version) → AreOrdered mine → AreOrdered theirs → AgreeOnBytes mine theirs →
+    HaveOneText mine theirs
 one_text mine theirs ordered others agree a b (inl of_a) (inl of_b) same = one_version mine a b ordered of_a of_b same
 one_text mine theirs ordered others agree a b (inr of_a) (inr of_b) same = one_version theirs a b others of_a of_b same
 one_text mine theirs ordered others agree a b (inl of_a) (inr of_b) same = λ i. record { vector = same i; bytes = agree a b of_a of_b same i }
@@ -84,8 +89,10 @@ none_over : (mine theirs : List Version) (last : IsLast (mine ++ theirs)) → Is
 none_over mine theirs last = record {
   from = Contains-append_cases mine theirs last.version last.inside;
   latest = record {
-    not_mine = λ over. last.last over.version (Contains-append_left mine theirs over.version over.inside) (before_over over.version.vector last.version.vector over.over);
-    not_theirs = λ over. last.last over.version (Contains-append_right mine theirs over.version over.inside) (before_over over.version.vector last.version.vector over.over);
+    not_mine = λ over. last.last over.version (Contains-append_left mine theirs over.version over.inside)
+        (before_over over.version.vector last.version.vector over.over);
+    not_theirs = λ over. last.last over.version (Contains-append_right mine theirs over.version over.inside)
+        (before_over over.version.vector last.version.vector over.over);
   };
 }
 
@@ -93,7 +100,8 @@ some_kept : (mine theirs : List Version) → 1 ≤ length mine → (version : Ve
 some_kept [] theirs some = absurd (omega arith)
 some_kept (first ∷ mine) theirs some = let last = some_last first (mine ++ theirs) in (last.version, none_over (first ∷ mine) theirs last)
 
-not_over : (mine theirs both : List Version) (merged : AreMerged mine theirs both) (a b : Version) → Contains both a → Contains both b → IsOver a.vector b.vector → ⊥
+not_over : (mine theirs both : List Version) (merged : AreMerged mine theirs both) (a b : Version) → Contains both a →
+    Contains both b → IsOver a.vector b.vector → ⊥
 not_over mine theirs both merged a b has_a has_b over = go ((merged.items a).0 has_a).from
   where
     latest : IsLatest mine theirs b.vector
@@ -103,7 +111,8 @@ not_over mine theirs both merged a b has_a has_b over = go ((merged.items a).0 h
     go (inl inside) = latest.not_mine (record { version = a; inside = inside; over = over })
     go (inr inside) = latest.not_theirs (record { version = a; inside = inside; over = over })
 
-pub merged_current : (mine theirs both : List Version) → 1 ≤ length mine → length both ≤ 8 → AreMerged mine theirs both → AreCurrent both
+pub merged_current : (mine theirs both : List Version) → 1 ≤ length mine → length both ≤ 8 →
+    AreMerged mine theirs both → AreCurrent both
 merged_current mine theirs both some few merged =
     let kept = some_kept mine theirs some in
     let inside = (merged.items kept.0).1 kept.1 in
@@ -114,8 +123,10 @@ merged_current mine theirs both some few merged =
           let has_i = Contains-get_or both i d (omega arith) in
           let has_j = Contains-get_or both j d within in
           record {
-            not_covering = λ covers. not_over mine theirs both merged (get_or both i d) (get_or both j d) has_i has_j (record { covers = covers; differ = not_same_vector both i j d merged.ordered before within });
-            not_covered = λ covers. not_over mine theirs both merged (get_or both j d) (get_or both i d) has_j has_i (record { covers = covers; differ = λ same. not_same_vector both i j d merged.ordered before within (sym same) });
+            not_covering = λ covers. not_over mine theirs both merged (get_or both i d) (get_or both j d) has_i has_j
+                (record { covers = covers; differ = not_same_vector both i j d merged.ordered before within });
+            not_covered = λ covers. not_over mine theirs both merged (get_or both j d) (get_or both i d) has_j has_i
+                (record { covers = covers; differ = λ same. not_same_vector both i j d merged.ordered before within (sym same) });
           };
       ordered = merged.ordered;
     }
@@ -139,7 +150,9 @@ none_inside [] none = refl
 none_inside (first ∷ later) none = absurd (none first (here first later))
 
 -- and what two of them make together is well formed
-pub merged_held : (mine theirs both : FileReplica) → IsHeldFile mine → IsHeldFile theirs → CanMerge mine theirs → both.id ≡ mine.id → both.kind ≡ mine.kind → AreMerged mine.versions theirs.versions both.versions → IsHeldFile both
+pub merged_held : (mine theirs both : FileReplica) → IsHeldFile mine → IsHeldFile theirs → CanMerge mine theirs →
+    both.id ≡ mine.id → both.kind ≡ mine.kind → AreMerged mine.versions theirs.versions both.versions →
+    IsHeldFile both
 merged_held mine theirs both held others can same_id same_kind merged = record {
   well_formed = record {
     directory = λ dir.
@@ -157,6 +170,7 @@ merged_held mine theirs both held others can same_id same_kind merged = record {
     nothing is version (inl inside) = not_inside_none version (subst (λ l. Contains l version) (held.well_formed.directory is) inside)
     nothing is version (inr inside) = not_inside_none version (subst (λ l. Contains l version) (others.well_formed.directory (sym can.kind ∙ is)) inside)
 
-pub text_of_files : (mine theirs : FileReplica) → IsHeldFile mine → IsHeldFile theirs → CanMerge mine theirs → HaveOneText mine.versions theirs.versions
+pub text_of_files : (mine theirs : FileReplica) → IsHeldFile mine → IsHeldFile theirs → CanMerge mine theirs →
+    HaveOneText mine.versions theirs.versions
 text_of_files mine theirs held others can =
     one_text mine.versions theirs.versions (ordered_of mine held.well_formed) (ordered_of theirs others.well_formed) can.agree

@@ -15,7 +15,8 @@ use Rattle.ficus_recon_file.specs.Merge.{IsMergedFile, IsTaken, Merges, AreMerge
 
 pub same_versions : (mine theirs a b : List Version) → AreMerged mine theirs a → AreMerged mine theirs b → a ≡ b
 same_versions mine theirs a b is_a is_b =
-    same_rising (λ (v w : Version). vector_cmp v.vector w.vector ≡ Less) (λ v. not_before_itself v.vector) (λ x y z. vector_cmp_total.trans x.vector y.vector z.vector)
+    same_rising (λ (v w : Version). vector_cmp v.vector w.vector ≡ Less) (λ v. not_before_itself v.vector)
+        (λ x y z. vector_cmp_total.trans x.vector y.vector z.vector)
     a b is_a.ordered is_b.ordered (λ v inside. (is_b.items v).1 ((is_a.items v).0 inside)) (λ v inside. (is_a.items v).1 ((is_b.items v).0 inside))
 
 same_file : (mine theirs a b : FileReplica) → IsMergedFile mine theirs a → IsMergedFile mine theirs b → a ≡ b
@@ -26,7 +27,8 @@ same_file mine theirs a b is_a is_b =
     let covered = is_a.covered ∙ sym is_b.covered in
     λ i. record { id = id i; kind = kind i; versions = versions i; covered = covered i }
 
-same_taken : (held : List Id) (theirs : FileReplica) (a b : Option FileReplica) → IsTaken held theirs a → IsTaken held theirs b → a ≡ b
+same_taken : (held : List Id) (theirs : FileReplica) (a b : Option FileReplica) → IsTaken held theirs a →
+    IsTaken held theirs b → a ≡ b
 same_taken held theirs a b is_a is_b = by_held (held_or_not (λ id. id) held theirs.id)
   where
     by_held : (found : Option Id) × HoldsUnderBy (λ id. id) held theirs.id found → a ≡ b
@@ -37,7 +39,8 @@ same_taken held theirs a b is_a is_b = by_held (held_or_not (λ id. id) held the
         let unnamed : Contains held theirs.id → ⊥ = λ inside. none (record { item = theirs.id; inside = inside; has_id = refl }) in
         is_a.unnamed unnamed ∙ sym (is_b.unnamed unnamed)
 
-pub same_under : (held : List Id) (mine theirs a b : Option FileReplica) → Merges held mine theirs a → Merges held mine theirs b → a ≡ b
+pub same_under : (held : List Id) (mine theirs a b : Option FileReplica) → Merges held mine theirs a →
+    Merges held mine theirs b → a ≡ b
 same_under held (Some mine) (Some theirs) (Some a) (Some b) is_a is_b = ap Some (same_file mine theirs a b is_a is_b)
 same_under held (Some mine) (Some theirs) None b is_a is_b = absurd is_a
 same_under held (Some mine) (Some theirs) (Some a) None is_a is_b = absurd is_b
@@ -45,7 +48,8 @@ same_under held (Some mine) None a b is_a is_b = is_a ∙ sym is_b
 same_under held None (Some theirs) a b is_a is_b = same_taken held theirs a b is_a is_b
 same_under held None None a b is_a is_b = is_a ∙ sym is_b
 
-same_inside : (held : List Id) (mine theirs one other : List FileReplica) → AreMergedFiles held mine theirs one → AreMergedFiles held mine theirs other → (file : FileReplica) → Contains one file → Contains other file
+same_inside : (held : List Id) (mine theirs one other : List FileReplica) → AreMergedFiles held mine theirs one →
+    AreMergedFiles held mine theirs other → (file : FileReplica) → Contains one file → Contains other file
 same_inside held mine theirs one other merged_one merged_other file inside =
     let at_mine = held_or_not id_of mine file.id in
     let at_theirs = held_or_not id_of theirs file.id in
@@ -56,7 +60,8 @@ same_inside held mine theirs one other merged_one merged_other file inside =
     (subst (HoldsUnder other file.id) (sym is) found.1).0
 
 -- two lists have one merge
-pub same_merge : (held : List Id) (mine theirs one other : List FileReplica) → IsRising one → IsRising other → AreMergedFiles held mine theirs one → AreMergedFiles held mine theirs other → one ≡ other
+pub same_merge : (held : List Id) (mine theirs one other : List FileReplica) → IsRising one → IsRising other →
+    AreMergedFiles held mine theirs one → AreMergedFiles held mine theirs other → one ≡ other
 same_merge held mine theirs one other rising_one rising_other merged_one merged_other =
     same_items id_of one other rising_one rising_other (λ file.
     (same_inside held mine theirs one other merged_one merged_other file, same_inside held mine theirs other one merged_other merged_one file))

@@ -12,7 +12,8 @@ module _ {X : Type 0} (Below : X → X → Type 0) (xs : List X) (index : ℕ) (
       subst (λ n. get_or (insert xs index y) n d ≡ get_or xs (k - 1) d) back (get_or-insert_above xs index y d (k - 1) (omega arith) fits)
 
   -- an item at its place keeps the order
-  pub insert_rises : AllPairs Below xs → index ≤ length xs → AllWithin (λ x. Below x y) xs 0 index → AllWithin (λ x. Below y x) xs index (length xs) → AllPairs Below (insert xs index y)
+  pub insert_rises : AllPairs Below xs → index ≤ length xs → AllWithin (λ x. Below x y) xs 0 index →
+      AllWithin (λ x. Below y x) xs index (length xs) → AllPairs Below (insert xs index y)
   insert_rises rises fits above below i j d before within =
       let inside : j < length xs + 1 = omega (arith, within, length-insert xs index y fits) in
       elim (cases_order i index) [

@@ -12,14 +12,17 @@ use Rattle.ficus_file.specs.declared.version.Version.{Version}
 use Rattle.ficus_recon_file.specs.Versions.{HasVector, IsLatest, IsOfEither, IsKept, IsKeptOf, AreOrdered, AreMerged, AreOfEither, HaveOneText, IsPlaceOf, Gains, GainsKept}
 use Rattle.ficus_recon_file.proofs.Inserted.{insert_rises}
 
-module _ (versions : List Version) (vector : Counts) (index : ℕ) (version : Version) (inside : index < length versions) (at : get_or versions index version ≡ version) where
+module _ (versions : List Version) (vector : Counts) (index : ℕ) (version : Version) (inside : index < length versions)
+    (at : get_or versions index version ≡ version) where
   here_is : (d : Version) → get_or versions index d ≡ version
   here_is d = get_or_default versions index d version inside ∙ at
 
   pub found_at : vector_cmp version.vector vector ≡ Equal → HasVector versions vector
   found_at equal = record { version = version; inside = (index, inside, at); same = vector_cmp-Equal version.vector vector equal }
 
-  pub place_at : AreOrdered versions → ((k : ℕ) (d : Version) → k < index → vector_cmp (get_or versions k d).vector vector ≡ Less) → vector_cmp version.vector vector ≡ Greater → IsPlaceOf versions vector index
+  pub place_at : AreOrdered versions →
+      ((k : ℕ) (d : Version) → k < index → vector_cmp (get_or versions k d).vector vector ≡ Less) →
+      vector_cmp version.vector vector ≡ Greater → IsPlaceOf versions vector index
   place_at ordered before after = record {
     within = omega arith;
     above = λ k d _ front. before k d front;
@@ -31,7 +34,8 @@ module _ (versions : List Version) (vector : Counts) (index : ℕ) (version : Ve
         ];
   }
 
-pub insert_ordered : (versions : List Version) (version : Version) (index : ℕ) → AreOrdered versions → IsPlaceOf versions version.vector index → AreOrdered (insert versions index version)
+pub insert_ordered : (versions : List Version) (version : Version) (index : ℕ) → AreOrdered versions →
+    IsPlaceOf versions version.vector index → AreOrdered (insert versions index version)
 insert_ordered versions version index ordered place =
     insert_rises (λ (one other : Version). vector_cmp one.vector other.vector ≡ Less) versions index version ordered place.within place.above place.below
 
@@ -63,11 +67,13 @@ module _ (from : List Version) (i : ℕ) (version : Version) (within : i < lengt
     pub passed_by : (IsLatest mine theirs version.vector → ⊥) → GainsKept (take (i + 1) from) mine theirs old kept
     passed_by under v = (λ inside. into v ((gains v).0 inside), λ had. (gains v).1 (back v had))
       where
-        into : (v : Version) → Contains old v ⊎ IsKeptOf (take i from) mine theirs v → Contains old v ⊎ IsKeptOf (take (i + 1) from) mine theirs v
+        into : (v : Version) → Contains old v ⊎ IsKeptOf (take i from) mine theirs v →
+            Contains old v ⊎ IsKeptOf (take (i + 1) from) mine theirs v
         into v (inl had) = inl had
         into v (inr now) = inr (record { inside = earlier v now.inside; latest = now.latest })
 
-        back : (v : Version) → Contains old v ⊎ IsKeptOf (take (i + 1) from) mine theirs v → Contains old v ⊎ IsKeptOf (take i from) mine theirs v
+        back : (v : Version) → Contains old v ⊎ IsKeptOf (take (i + 1) from) mine theirs v →
+            Contains old v ⊎ IsKeptOf (take i from) mine theirs v
         back v (inl had) = inl had
         back v (inr now) = elim (one_more v now.inside) [
           | inl early ↦ inr (record { inside = early; latest = now.latest })
@@ -82,7 +88,10 @@ module _ (from : List Version) (i : ℕ) (version : Version) (within : i < lengt
     ]
 
     -- and one that none is over is kept, if its vector isn't there
-    pub kept_too : (new : List Version) → HaveOneText mine theirs → AreOfEither from mine theirs → AreOfEither old mine theirs → IsLatest mine theirs version.vector → ((new ≡ kept) × HasVector kept version.vector) ⊎ Gains kept new version → GainsKept (take (i + 1) from) mine theirs old new
+    pub kept_too : (new : List Version) → HaveOneText mine theirs → AreOfEither from mine theirs →
+        AreOfEither old mine theirs → IsLatest mine theirs version.vector →
+        ((new ≡ kept) × HasVector kept version.vector) ⊎ Gains kept new version →
+        GainsKept (take (i + 1) from) mine theirs old new
     kept_too new one_text each_from each_old latest (inr added) v = (λ inside. into ((added v).0 inside), λ had. (added v).1 (back had))
       where
         into : Contains kept v ⊎ (v ≡ version) → Contains old v ⊎ IsKeptOf (take (i + 1) from) mine theirs v
@@ -90,7 +99,8 @@ module _ (from : List Version) (i : ℕ) (version : Version) (within : i < lengt
           | inl had ↦ inl had
           | inr now ↦ inr (record { inside = earlier v now.inside; latest = now.latest })
         ]
-        into (inr is) = inr (record { inside = subst (Contains (take (i + 1) from)) (sym is) itself; latest = subst (λ (w : Version). IsLatest mine theirs w.vector) (sym is) latest })
+        into (inr is) = inr (record { inside = subst (Contains (take (i + 1) from)) (sym is) itself; latest = subst
+            (λ (w : Version). IsLatest mine theirs w.vector) (sym is) latest })
 
         back : Contains old v ⊎ IsKeptOf (take (i + 1) from) mine theirs v → Contains kept v ⊎ (v ≡ version)
         back (inl had) = inl ((gains v).1 (inl had))
@@ -98,13 +108,15 @@ module _ (from : List Version) (i : ℕ) (version : Version) (within : i < lengt
           | inl early ↦ inl ((gains v).1 (inr (record { inside = early; latest = now.latest })))
           | inr is ↦ inr is
         ]
-    kept_too new one_text each_from each_old latest (inl (same, there)) v = (λ inside. into (subst (λ l. Contains l v) same inside), λ had. subst (λ l. Contains l v) (sym same) (back had))
+    kept_too new one_text each_from each_old latest (inl (same, there)) v =
+        (λ inside. into (subst (λ l. Contains l v) same inside), λ had. subst (λ l. Contains l v) (sym same) (back had))
       where
         version_inside : Contains from version
         version_inside = subst (Contains from) at (Contains-get_or from i version within)
 
         known : Contains kept version
-        known = subst (Contains kept) (one_text there.version version (of_either each_from each_old there.version there.inside) (each_from version version_inside) there.same) there.inside
+        known = subst (Contains kept) (one_text there.version version (of_either each_from each_old there.version there.inside)
+            (each_from version version_inside) there.same) there.inside
 
         into : Contains kept v → Contains old v ⊎ IsKeptOf (take (i + 1) from) mine theirs v
         into before = elim ((gains v).0 before) [
@@ -120,8 +132,10 @@ module _ (from : List Version) (i : ℕ) (version : Version) (within : i < lengt
         ]
 
 -- all of both lists together
-pub merged_from : (mine theirs none first both : List Version) → none ≡ [] → GainsKept mine mine theirs none first → GainsKept theirs mine theirs first both → AreOrdered both → AreMerged mine theirs both
-merged_from mine theirs none first both empty gains_mine gains_theirs ordered = record { items = λ v. (λ inside. into v ((gains_theirs v).0 inside), λ kept. back v kept.from kept.latest); ordered = ordered }
+pub merged_from : (mine theirs none first both : List Version) → none ≡ [] → GainsKept mine mine theirs none first →
+    GainsKept theirs mine theirs first both → AreOrdered both → AreMerged mine theirs both
+merged_from mine theirs none first both empty gains_mine gains_theirs ordered = record { items = λ v.
+    (λ inside. into v ((gains_theirs v).0 inside), λ kept. back v kept.from kept.latest); ordered = ordered }
   where
     nothing : (v : Version) → Contains none v → ⊥
     nothing v inside = not_inside_none v (subst (λ l. Contains l v) empty inside)
@@ -137,7 +151,8 @@ merged_from mine theirs none first both empty gains_mine gains_theirs ordered = 
     back v (inl inside) latest = (gains_theirs v).1 (inl ((gains_mine v).1 (inr (record { inside = inside; latest = latest }))))
     back v (inr inside) latest = (gains_theirs v).1 (inr (record { inside = inside; latest = latest }))
 
-pub first_of_either : (mine theirs none first : List Version) → none ≡ [] → GainsKept mine mine theirs none first → AreOfEither first mine theirs
+pub first_of_either : (mine theirs none first : List Version) → none ≡ [] → GainsKept mine mine theirs none first →
+    AreOfEither first mine theirs
 first_of_either mine theirs none first empty gains v inside = elim ((gains v).0 inside) [
   | inl had ↦ absurd (not_inside_none v (subst (λ l. Contains l v) empty had))
   | inr kept ↦ inl kept.inside
@@ -154,12 +169,14 @@ one_text_flip mine theirs one_text v w of_v of_w same = one_text v w (turn of_v)
 pub merged_flip : (mine theirs both : List Version) → AreMerged mine theirs both → AreMerged theirs mine both
 merged_flip mine theirs both merged = record {
   items = λ v. (
-    λ inside. let kept = (merged.items v).0 inside in record { from = turn kept.from; latest = record { not_mine = kept.latest.not_theirs; not_theirs = kept.latest.not_mine } },
+    λ inside. let kept = (merged.items v).0 inside in record { from = turn kept.from; latest = record { not_mine = kept.latest.not_theirs; not_theirs =
+        kept.latest.not_mine } },
     λ kept. (merged.items v).1 (record { from = turn kept.from; latest = record { not_mine = kept.latest.not_theirs; not_theirs = kept.latest.not_mine } }),
   );
   ordered = merged.ordered;
 }
 
 -- all of the list is gone through
-pub at_end : (from mine theirs old kept : List Version) (n : ℕ) → length from ≤ n → GainsKept (take n from) mine theirs old kept → GainsKept from mine theirs old kept
+pub at_end : (from mine theirs old kept : List Version) (n : ℕ) → length from ≤ n →
+    GainsKept (take n from) mine theirs old kept → GainsKept from mine theirs old kept
 at_end from mine theirs old kept n all gains = subst (λ l. GainsKept l mine theirs old kept) (take_all n from all) gains

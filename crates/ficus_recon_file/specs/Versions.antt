@@ -56,6 +56,10 @@ pub record IsPlaceOf (versions : List Version) (vector : Counts) (index : ℕ) :
 abbrev pub Gains : List Version → List Version → Version → Type 0
 Gains old new version = (other : Version) → Contains new other ↔ (Contains old other ⊎ (other ≡ version))
 
+-- the new list has the old versions and this one, or is the old one, which has its vector
+abbrev pub KeepsOrGains : List Version → List Version → Version → Type 0
+KeepsOrGains old new version = ((new ≡ old) × HasVector old version.vector) ⊎ Gains old new version
+
 -- a version of the list that none of the two lists is over
 pub record IsKeptOf (from mine theirs : List Version) (version : Version) : Type 0 where
   pub inside : Contains from version

@@ -1,6 +1,6 @@
 ghost use Rattle.std.specs.Prelude.{◌≡◌, ◌⊎◌, ◌↔◌, IsTrue, IfOk, IfErr, OnOk, Contains};
 ghost use Rattle.ficus_file.specs.declared.version.Version.{Version as VersionValue};
-ghost use Rattle.ficus_recon_file.specs.Versions.{HasOver, HasVector, IsLatest, AreOrdered, AreMerged, AreOfEither, HaveOneText, IsPlaceOf, Gains, GainsKept};
+ghost use Rattle.ficus_recon_file.specs.Versions.{HasOver, HasVector, IsLatest, AreOrdered, AreMerged, AreOfEither, HaveOneText, IsPlaceOf, KeepsOrGains, GainsKept};
 
 use ficus_file::{Version, Versions};
 use ficus_ids::Memory;
@@ -48,7 +48,8 @@ fn is_settled(mine: &[Version], theirs: &[Version], vector: Vector) -> bool
 
 // Whether no version of either list is over any of mine.
 fn are_latest(mine: &[Version], theirs: &[Version]) -> bool
-    ensures { IsTrue result → (version : VersionValue) → Contains mine.now version → IsLatest mine.now theirs.now version.vector }
+    ensures { IsTrue result → (version : VersionValue) → Contains mine.now version →
+        IsLatest mine.now theirs.now version.vector }
 {
     for version in mine {
         if !is_latest(mine, theirs, version.vector) {
@@ -99,7 +100,7 @@ fn search(versions: &[Version], vector: Vector) -> Result<usize, usize>
 // Adds a version at its place, if none has its vector.
 fn keep(alloc: Global, version: &Version, kept: &mut Vec<Version>) -> Result<(), Memory>
     requires { AreOrdered kept.old.items }
-    ensures gained { OnOk result ((kept.new.items ≡ kept.old.items × HasVector kept.old.items version.now.vector) ⊎ Gains kept.old.items kept.new.items version.now) }
+    ensures gained { OnOk result (KeepsOrGains kept.old.items kept.new.items version.now) }
     ensures ordered { OnOk result (AreOrdered kept.new.items) }
 {
     if let Err(place) = search(kept, version.vector) {

@@ -41,7 +41,8 @@ pub vector_cmp-flip : (v w : Counts) → vector_cmp v w ≡ Greater → vector_c
 vector_cmp-flip v w is = vector_cmp_total.antisymm w v ∙ ap ordering_reverse is
 
 -- the counts of a join
-pub count_of-join : (v w : Counts) (replica : ℕ) → count_of (join v w) replica ≡ max (count_of v replica) (count_of w replica)
+pub count_of-join : (v w : Counts) (replica : ℕ) → count_of (join v w) replica ≡ max (count_of v replica)
+    (count_of w replica)
 unfolding join
 count_of-join v w zero = refl
 count_of-join v w (suc zero) = refl
@@ -90,7 +91,8 @@ none_joined v = join_comm no_counts v ∙ join_with_none v
 pub not_before_itself : (v : Counts) → vector_cmp v v ≡ Less → ⊥
 not_before_itself v is = let other : vector_cmp v v ≡ Greater = vector_cmp_total.antisymm v v ∙ ap ordering_reverse is in cc
 
-lists_after : (xs ys : List ℕ) → length xs ≡ length ys → ((k : ℕ) → get_or xs k 0 ≤ get_or ys k 0) → (slice_cmp nat_cmp xs ys ≡ Less) ⊎ (xs ≡ ys)
+lists_after : (xs ys : List ℕ) → length xs ≡ length ys → ((k : ℕ) → get_or xs k 0 ≤ get_or ys k 0) →
+    (slice_cmp nat_cmp xs ys ≡ Less) ⊎ (xs ≡ ys)
 lists_after [] [] long least = inr refl
 lists_after [] (y ∷ ys) long least = absurd (omega arith)
 lists_after (x ∷ xs) [] long least = absurd (omega arith)

@@ -4,4 +4,5 @@ use Rattle.ficus_recon_file.specs.Versions.{IsLatest, HasVector}
 use Rattle.ficus_recon_file.proofs.versions.are_settled.Given as goal
 
 abbrev pub invariant-loop-version : goal.invariant-loop-version
-invariant-loop-version l = (k : ℕ) (d : Version) → k < l.version-index → IsLatest l.mine l.theirs (get_or l.theirs k d).vector → HasVector l.mine (get_or l.theirs k d).vector
+invariant-loop-version l = (k : ℕ) (d : Version) → k < l.version-index → IsLatest l.mine l.theirs (get_or l.theirs k d).vector → HasVector l.mine
+    (get_or l.theirs k d).vector
