@@ -15,7 +15,9 @@ pub among_by : (ids : List Id) (id : Id) (answer : Result ℕ ℕ) (found : Bool
 among_by ids id (Ok index) found rising is within result =
     let at = found_by_search (λ other. other) ids id (Ok index) within result in
     (λ _. (index, at.0, at.1 id), λ _. is)
-among_by ids id (Err index) found rising is within result =
-    (λ true_too. absurd (both_ways found is true_too), λ inside. absurd
-        (none_at_place (λ other. other) ids id index (place_by_search (λ other. other) ids id (Err index) rising within result)
-        (record { item = id; inside = inside; has_id = refl })))
+among_by ids id (Err index) found rising is within result = (
+  λ true_too. absurd (both_ways found is true_too),
+  λ inside. absurd
+      (none_at_place (λ other. other) ids id index (place_by_search (λ other. other) ids id (Err index) rising within result)
+      (record { item = id; inside = inside; has_id = refl })),
+)

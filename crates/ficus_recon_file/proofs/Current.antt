@@ -174,3 +174,17 @@ pub text_of_files : (mine theirs : FileReplica) → IsHeldFile mine → IsHeldFi
     HaveOneText mine.versions theirs.versions
 text_of_files mine theirs held others can =
     one_text mine.versions theirs.versions (ordered_of mine held.well_formed) (ordered_of theirs others.well_formed) can.agree
+
+-- a file or a directory has at most 8 versions
+pub few_of : (file : FileReplica) → IsWellFormed file → length file.versions ≤ 8
+few_of file well = by_kind file.kind refl
+  where
+    of_file : file.kind ≢ Dir → length file.versions ≤ 8
+    of_file is_file = (well.current is_file).at_most
+
+    by_kind : (kind : Kind) → file.kind ≡ kind → length file.versions ≤ 8
+    by_kind Dir is = subst (λ (l : List Version). length l ≤ 8) (sym (well.directory is)) (omega arith)
+    by_kind Plain is = of_file (λ dir. let clash : Plain ≡ Dir = sym is ∙ dir in cc)
+    by_kind Lines is = of_file (λ dir. let clash : Lines ≡ Dir = sym is ∙ dir in cc)
+    by_kind Max is = of_file (λ dir. let clash : Max ≡ Dir = sym is ∙ dir in cc)
+    by_kind Keep is = of_file (λ dir. let clash : Keep ≡ Dir = sym is ∙ dir in cc)

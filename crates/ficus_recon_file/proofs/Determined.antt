@@ -16,7 +16,7 @@ use Rattle.ficus_recon_file.specs.Merge.{IsMergedFile, IsTaken, Merges, AreMerge
 pub same_versions : (mine theirs a b : List Version) → AreMerged mine theirs a → AreMerged mine theirs b → a ≡ b
 same_versions mine theirs a b is_a is_b =
     same_rising (λ (v w : Version). vector_cmp v.vector w.vector ≡ Less) (λ v. not_before_itself v.vector)
-        (λ x y z. vector_cmp_total.trans x.vector y.vector z.vector)
+    (λ x y z. vector_cmp_total.trans x.vector y.vector z.vector)
     a b is_a.ordered is_b.ordered (λ v inside. (is_b.items v).1 ((is_a.items v).0 inside)) (λ v inside. (is_a.items v).1 ((is_b.items v).0 inside))
 
 same_file : (mine theirs a b : FileReplica) → IsMergedFile mine theirs a → IsMergedFile mine theirs b → a ≡ b

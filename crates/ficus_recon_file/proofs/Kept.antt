@@ -3,11 +3,11 @@ use Rattle.std.proofs.Common.{◌≡◌, ◌⊎◌, inl, inr, ℕ, ◌+◌, ◌<
 use Rattle.std.specs.List.{insert}
 use Rattle.std.specs.declared.cmp.Ordering.TheVariants.{Less, Equal, Greater}
 use Rattle.std.proofs.lemmas.Bool.{cases_lt}
-use Rattle.std.proofs.lemmas.List.{get_or_default, take_all, take_more, take-append-drop}
+use Rattle.std.proofs.lemmas.List.{get_or_default, take_all, take_more, take-append-drop, get_or-take, length-take}
 use Rattle.std.proofs.lemmas.List.Elements.{Contains-get_or, Contains-append_cases, Contains-append_left, Contains-append_right}
 use Rattle.ficus_ids.specs.ListLaws.{here, here_or_there, not_inside_none}
 use Rattle.ficus_vv.specs.Vector.{Counts, vector_cmp}
-use Rattle.ficus_vv.specs.VectorLaws.{vector_cmp_total, vector_cmp-flip, vector_cmp-Equal}
+use Rattle.ficus_vv.specs.VectorLaws.{vector_cmp_total, vector_cmp-flip, vector_cmp-Equal, not_before_itself}
 use Rattle.ficus_file.specs.declared.version.Version.{Version}
 use Rattle.ficus_recon_file.specs.Versions.{HasVector, IsLatest, IsOfEither, IsKept, IsKeptOf, AreOrdered, AreMerged, AreOfEither, HaveOneText, IsPlaceOf, Gains, GainsKept}
 use Rattle.ficus_recon_file.proofs.Inserted.{insert_rises}
@@ -62,6 +62,14 @@ module _ (from : List Version) (i : ℕ) (version : Version) (within : i < lengt
   whole : (v : Version) → Contains (take i from) v → Contains from v
   whole v inside = subst (λ l. Contains l v) (take-append-drop i from) (Contains-append_left (take i from) (drop i from) v inside)
 
+  -- it isn't among those before
+  pub earlier_only : AreOrdered from → Contains (take i from) version → ⊥
+  earlier_only ordered (j, short, is) =
+      let before : j < i = omega (arith, length-take i from, short) in
+      let same : get_or from j version ≡ version = sym (get_or-take i from j version before) ∙ is in
+      let less : vector_cmp (get_or from j version).vector (get_or from i version).vector ≡ Less = ordered j i version before within in
+      not_before_itself version.vector (rw (same, at) at less)
+
   module _ (mine theirs old kept : List Version) (gains : GainsKept (take i from) mine theirs old kept) where
     -- a version that one is over is passed by
     pub passed_by : (IsLatest mine theirs version.vector → ⊥) → GainsKept (take (i + 1) from) mine theirs old kept
@@ -87,6 +95,32 @@ module _ (from : List Version) (i : ℕ) (version : Version) (within : i < lengt
       | inr now ↦ each_from v (whole v now.inside)
     ]
 
+    -- one that is over by none stays away where its vector is there
+    pub settled : HaveOneText mine theirs → AreOfEither from mine theirs → AreOfEither old mine theirs →
+        (IsLatest mine theirs version.vector → HasVector kept version.vector) →
+        GainsKept (take (i + 1) from) mine theirs old kept
+    settled one_text each_from each_old known v = (λ inside. into ((gains v).0 inside), back)
+      where
+        into : Contains old v ⊎ IsKeptOf (take i from) mine theirs v →
+            Contains old v ⊎ IsKeptOf (take (i + 1) from) mine theirs v
+        into (inl had) = inl had
+        into (inr now) = inr (record { inside = earlier v now.inside; latest = now.latest })
+
+        there_too : IsLatest mine theirs version.vector → Contains kept version
+        there_too latest =
+            let has = known latest in
+            subst (Contains kept)
+            (one_text has.version version (of_either each_from each_old has.version has.inside) (each_from version (i, within, at)) has.same)
+            has.inside
+
+        back : Contains old v ⊎ IsKeptOf (take (i + 1) from) mine theirs v → Contains kept v
+        back (inl had) = (gains v).1 (inl had)
+        back (inr now) = elim (one_more v now.inside) [
+          | inl early ↦ (gains v).1 (inr (record { inside = early; latest = now.latest }))
+          | inr is ↦ subst (Contains kept) (sym is)
+              (there_too (subst (λ (w : Version). IsLatest mine theirs w.vector) is now.latest))
+        ]
+
     -- and one that none is over is kept, if its vector isn't there
     pub kept_too : (new : List Version) → HaveOneText mine theirs → AreOfEither from mine theirs →
         AreOfEither old mine theirs → IsLatest mine theirs version.vector →
@@ -99,8 +133,11 @@ module _ (from : List Version) (i : ℕ) (version : Version) (within : i < lengt
           | inl had ↦ inl had
           | inr now ↦ inr (record { inside = earlier v now.inside; latest = now.latest })
         ]
-        into (inr is) = inr (record { inside = subst (Contains (take (i + 1) from)) (sym is) itself; latest = subst
-            (λ (w : Version). IsLatest mine theirs w.vector) (sym is) latest })
+        into (inr is) = inr (record {
+          inside = subst (Contains (take (i + 1) from)) (sym is) itself;
+          latest = subst
+              (λ (w : Version). IsLatest mine theirs w.vector) (sym is) latest;
+        })
 
         back : Contains old v ⊎ IsKeptOf (take (i + 1) from) mine theirs v → Contains kept v ⊎ (v ≡ version)
         back (inl had) = inl ((gains v).1 (inl had))
@@ -134,8 +171,11 @@ module _ (from : List Version) (i : ℕ) (version : Version) (within : i < lengt
 -- all of both lists together
 pub merged_from : (mine theirs none first both : List Version) → none ≡ [] → GainsKept mine mine theirs none first →
     GainsKept theirs mine theirs first both → AreOrdered both → AreMerged mine theirs both
-merged_from mine theirs none first both empty gains_mine gains_theirs ordered = record { items = λ v.
-    (λ inside. into v ((gains_theirs v).0 inside), λ kept. back v kept.from kept.latest); ordered = ordered }
+merged_from mine theirs none first both empty gains_mine gains_theirs ordered = record {
+  items = λ v.
+      (λ inside. into v ((gains_theirs v).0 inside), λ kept. back v kept.from kept.latest);
+  ordered = ordered;
+}
   where
     nothing : (v : Version) → Contains none v → ⊥
     nothing v inside = not_inside_none v (subst (λ l. Contains l v) empty inside)
@@ -169,8 +209,14 @@ one_text_flip mine theirs one_text v w of_v of_w same = one_text v w (turn of_v)
 pub merged_flip : (mine theirs both : List Version) → AreMerged mine theirs both → AreMerged theirs mine both
 merged_flip mine theirs both merged = record {
   items = λ v. (
-    λ inside. let kept = (merged.items v).0 inside in record { from = turn kept.from; latest = record { not_mine = kept.latest.not_theirs; not_theirs =
-        kept.latest.not_mine } },
+    λ inside. let kept = (merged.items v).0 inside in record {
+      from = turn kept.from;
+      latest = record {
+        not_mine = kept.latest.not_theirs;
+        not_theirs =
+            kept.latest.not_mine;
+      };
+    },
     λ kept. (merged.items v).1 (record { from = turn kept.from; latest = record { not_mine = kept.latest.not_theirs; not_theirs = kept.latest.not_mine } }),
   );
   ordered = merged.ordered;
@@ -180,3 +226,20 @@ merged_flip mine theirs both merged = record {
 pub at_end : (from mine theirs old kept : List Version) (n : ℕ) → length from ≤ n →
     GainsKept (take n from) mine theirs old kept → GainsKept from mine theirs old kept
 at_end from mine theirs old kept n all gains = subst (λ l. GainsKept l mine theirs old kept) (take_all n from all) gains
+
+-- what holds of each item by its index holds of each item
+pub by_index : (P : Version → Type 0) (versions : List Version) →
+    ((k : ℕ) (d : Version) → k < length versions → P (get_or versions k d)) →
+    (version : Version) → Contains versions version → P version
+by_index P versions each version (k, within, is) = subst P is (each k version within)
+
+-- and for one index more
+pub next_index : (P : Version → Type 0) (versions : List Version) (i : ℕ) (version : Version) → i < length versions →
+    get_or versions i version ≡ version → ((k : ℕ) (d : Version) → k < i → P (get_or versions k d)) → P version →
+    (k : ℕ) (d : Version) → k < i + 1 → P (get_or versions k d)
+next_index P versions i version within at before now k d below = elim (cases_lt k i) [
+  | inl front ↦ before k d front
+  | inr last ↦
+      let same : k ≡ i = omega arith in
+      rw same (subst P (sym (get_or_default versions i d version within ∙ at)) now)
+]

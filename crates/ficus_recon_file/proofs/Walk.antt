@@ -24,8 +24,10 @@ inside_whole xs k x inside = subst (λ l. Contains l x) (take-append-drop k xs) 
 
 pub none_changes : (held : List Id) (mine both : List FileReplica) → IsRising mine → both ≡ mine →
     AreMergedFiles held mine [] both
-none_changes held mine both rising is = record { each = λ id m t b has_m has_t has_b. go id m t b has_m has_t
-    (one_held id_of mine id b m rising (subst (λ l. HoldsUnderBy id_of l id b) is has_b) has_m) }
+none_changes held mine both rising is = record {
+  each = λ id m t b has_m has_t has_b. go id m t b has_m has_t
+      (one_held id_of mine id b m rising (subst (λ l. HoldsUnderBy id_of l id b) is has_b) has_m);
+}
   where
     go : (id : Id) (m t b : Option FileReplica) → HoldsUnderBy id_of mine id m → HoldsUnderBy id_of [] id t → b ≡ m →
         Merges held m t b
@@ -58,7 +60,7 @@ module _ (held : List Id) (mine theirs : List FileReplica) (k : ℕ) (their : Fi
       let is : get_or theirs j has.item ≡ has.item = sym (get_or-take k theirs j has.item short) ∙ has.inside.2 in
       let below = rising.each j k has.item short within in
       let same : id_of (get_or theirs j has.item) ≡ id_of (get_or theirs k has.item) = ap id_of is ∙ has.has_id ∙ ap id_of
-          (sym (get_or_from_slice_get theirs k their has.item at)) in
+      (sym (get_or_from_slice_get theirs k their has.item at)) in
       not_below_itself (id_of (get_or theirs k has.item)) (subst (λ id. id_cmp id (id_of (get_or theirs k has.item)) ≡ Less) same below)
 
   their_now : (t : Option FileReplica) → HoldsUnderBy id_of (take (k + 1) theirs) their.id t → t ≡ Some their

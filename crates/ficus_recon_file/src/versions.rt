@@ -21,7 +21,7 @@ fn has_over(versions: &[Version], vector: Vector) -> bool
 }
 
 /// Whether some version has the vector.
-fn has_vector(versions: &[Version], vector: Vector) -> bool
+pub(crate) fn has_vector(versions: &[Version], vector: Vector) -> bool
     ensures { IsTrue result ↔ HasVector versions.now vector }
 {
     for version in versions {
@@ -33,7 +33,7 @@ fn has_vector(versions: &[Version], vector: Vector) -> bool
 }
 
 /// Whether no version of either list is over the vector.
-fn is_latest(mine: &[Version], theirs: &[Version], vector: Vector) -> bool
+pub(crate) fn is_latest(mine: &[Version], theirs: &[Version], vector: Vector) -> bool
     ensures { IsTrue result ↔ IsLatest mine.now theirs.now vector }
 {
     !has_over(mine, vector) && !has_over(theirs, vector)

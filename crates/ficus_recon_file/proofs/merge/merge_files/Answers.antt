@@ -37,7 +37,7 @@ pub put-requires-then-is_among : goal.put-requires-then-is_among
 put-requires-then-is_among c =
     let is : c.in_ok-copy-in-None.field-0 ≡ c.at-their.result.now = c.in_ok-copy-in-None.ensures in
     subst IsHeldFile (sym is) (c.len-index-end.ensures.files.each c.at-their.result.now
-        (contains_at c.args.theirs.now c.loop-index.index c.at-their.result.now c.at-their.ensures))
+    (contains_at c.args.theirs.now c.loop-index.index c.at-their.result.now c.at-their.ensures))
 
 pub loop-index-preserved : goal.loop-index-preserved
 loop-index-preserved c =
@@ -52,24 +52,39 @@ loop-index-preserved c =
       | in-Some+then-not-adds_nothing+in_ok-merged_file-in-Some+in_ok-put-in-Some w ↦
           let merged = w.in_ok-merged_file-in-Some.ensures.merged in
           let found = w.in-Some.ensures.found in
-          rw w.both-is (put_there held mine theirs c.loop-index.index their rising_mine rising c.at-their.ensures c.loop-index.both w.put.new.self
-              w.in_ok-merged_file-in-Some.field-0 (Some w.in-Some.file.now) found
-              (merged.id ∙ found.1) merged w.in_ok-put-in-Some.ensures.puts w.put.ensures.files.rising before.0, w.put.ensures.files)
+          rw w.both-is (
+            put_there held mine theirs c.loop-index.index their rising_mine rising c.at-their.ensures c.loop-index.both w.put.new.self
+                w.in_ok-merged_file-in-Some.field-0 (Some w.in-Some.file.now) found
+                (merged.id ∙ found.1) merged w.in_ok-put-in-Some.ensures.puts w.put.ensures.files.rising before.0,
+            w.put.ensures.files,
+          )
       | in-Some+else-not-adds_nothing w ↦
           let nothing : w.adds_nothing.result ≡ true = w.if-not-adds_nothing.false in
-          rw w.both-is (skipped held mine theirs c.loop-index.index their rising_mine rising c.at-their.ensures c.loop-index.both
-              (Some w.in-Some.file.now) w.in-Some.ensures.found (w.adds_nothing.ensures nothing) before.0, before.1)
+          rw w.both-is (
+            skipped held mine theirs c.loop-index.index their rising_mine rising c.at-their.ensures c.loop-index.both
+                (Some w.in-Some.file.now) w.in-Some.ensures.found (w.adds_nothing.ensures nothing) before.0,
+            before.1,
+          )
       | in-None+then-is_among+in_ok-copy-in-None+in_ok-put-in-None w ↦
           let item : FileReplica = w.in_ok-copy-in-None.field-0 in
           let is : item ≡ their = w.in_ok-copy-in-None.ensures in
           let among : Contains held their.id = w.is_among.ensures.0 w.if-is_among.true in
           let taken : IsTaken held their (Some item) = record { named = λ _. ap Some is; unnamed = λ none. absurd (none among) } in
-          rw w.both-is (put_there held mine theirs c.loop-index.index their rising_mine rising c.at-their.ensures c.loop-index.both
-              w.put-then-is_among.new.self item None w.in-None.ensures.found
-              (ap id_of is) taken w.in_ok-put-in-None.ensures.puts w.put-then-is_among.ensures.files.rising before.0, w.put-then-is_among.ensures.files)
+          rw w.both-is (
+            put_there held mine theirs c.loop-index.index their rising_mine rising c.at-their.ensures c.loop-index.both
+                w.put-then-is_among.new.self item None w.in-None.ensures.found
+                (ap id_of is) taken w.in_ok-put-in-None.ensures.puts w.put-then-is_among.ensures.files.rising before.0,
+            w.put-then-is_among.ensures.files,
+          )
       | in-None+else-is_among w ↦
-          let taken : IsTaken held their None = record { named = λ among. absurd
-              (both_ways w.is_among.result w.if-is_among.false (w.is_among.ensures.1 among)); unnamed = λ _. refl } in
-          rw w.both-is (skipped held mine theirs c.loop-index.index their rising_mine rising c.at-their.ensures c.loop-index.both None
-              w.in-None.ensures.found taken before.0, before.1)
+          let taken : IsTaken held their None = record {
+            named = λ among. absurd
+                (both_ways w.is_among.result w.if-is_among.false (w.is_among.ensures.1 among));
+            unnamed = λ _. refl;
+          } in
+          rw w.both-is (
+            skipped held mine theirs c.loop-index.index their rising_mine rising c.at-their.ensures c.loop-index.both None
+                w.in-None.ensures.found taken before.0,
+            before.1,
+          )
     ]

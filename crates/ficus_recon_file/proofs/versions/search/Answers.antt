@@ -13,4 +13,4 @@ pub returns-in-Greater-clause-place : goal.returns-in-Greater-clause-place
 returns-in-Greater-clause-place c =
     let after : vector_cmp c.index-versions-index.result.vector c.args.vector ≡ Greater = search rules in
     place_at c.args.versions.now c.args.vector c.loop-index.index c.index-versions-index.result (omega arith)
-        (search rules) c.requires c.loop-index.invariant after
+    (search rules) c.requires c.loop-index.invariant after
