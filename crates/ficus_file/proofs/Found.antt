@@ -38,11 +38,13 @@ module _ {X : Type 0} (id_of : X → Id) (items : List X) (id : Id) where
       by_order Equal is = absurd (other (id_cmp-Equal (id_of item) id is))
       by_order Greater is = id_cmp-flip_back (id_of item) id is
 
-  pub place_by_cut : (index : ℕ) → IsRisingBy id_of items → IsCutAt before_id items index → index ≤ length items → ((d : X) → index < length items → id_of (get_or items index d) ≢ id) → IsPlaceBy id_of items id index
+  pub place_by_cut : (index : ℕ) → IsRisingBy id_of items → IsCutAt before_id items index → index ≤ length items →
+      ((d : X) → index < length items → id_of (get_or items index d) ≢ id) → IsPlaceBy id_of items id index
   place_by_cut index rising cut within other =
       let above_it : (k : ℕ) (d : X) → index ≤ k → k < length items → id_cmp id (id_of (get_or items k d)) ≡ Less =
       λ k d from to.
-      let next : id_cmp id (id_of (get_or items index d)) ≡ Less = not_below (get_or items index d) (cut.1 index d (omega arith) (omega arith)) (other d (omega arith)) in
+      let next : id_cmp id (id_of (get_or items index d)) ≡ Less = not_below (get_or items index d) (cut.1 index d (omega arith) (omega arith))
+          (other d (omega arith)) in
       elim (cases_lt index k) [
         | inl past ↦ id_cmp_total.trans id (id_of (get_or items index d)) (id_of (get_or items k d)) next (rising.each index k d past to)
         | inr here ↦ let same : k ≡ index = omega arith in rw same next
@@ -53,12 +55,16 @@ module _ {X : Type 0} (id_of : X → Id) (items : List X) (id : Id) where
         below = above_it;
       }
 
-  pub found_here : (index : ℕ) (item : X) → index < length items → slice_get items index ≡ Some item → id_of item ≡ id → IsFoundAt id_of items id index
+  pub found_here : (index : ℕ) (item : X) → index < length items → slice_get items index ≡ Some item →
+      id_of item ≡ id → IsFoundAt id_of items id index
   found_here index item within at has_id = (within, λ d. rw (get_or_from_slice_get items index item d at) has_id)
 
-  pub differs_here : (index : ℕ) (item d : X) → slice_get items index ≡ Some item → (eqb (id_of item).replica id.replica && eqb (id_of item).number id.number) ≡ false → id_of (get_or items index d) ≢ id
+  pub differs_here : (index : ℕ) (item d : X) → slice_get items index ≡ Some item →
+      (eqb (id_of item).replica id.replica && eqb (id_of item).number id.number) ≡ false →
+      id_of (get_or items index d) ≢ id
   differs_here index item d at fails same =
       let is : (id_of item) ≡ id = ap id_of (sym (get_or_from_slice_get items index item d at)) ∙ same in
       let replica = eq-eqb (id_of item).replica id.replica (ap (λ (i : Id). i.replica) is) in
       let number = eq-eqb (id_of item).number id.number (ap (λ (i : Id). i.number) is) in
-      both_ways (eqb (id_of item).replica id.replica && eqb (id_of item).number id.number) fails (and_from (eqb (id_of item).replica id.replica) (eqb (id_of item).number id.number) replica number)
+      both_ways (eqb (id_of item).replica id.replica && eqb (id_of item).number id.number) fails
+          (and_from (eqb (id_of item).replica id.replica) (eqb (id_of item).number id.number) replica number)

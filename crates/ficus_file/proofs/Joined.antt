@@ -8,18 +8,23 @@ use Rattle.ficus_file.specs.declared.file.FileReplica.{FileReplica}
 use Rattle.ficus_file.specs.Version.{join_all}
 use Rattle.ficus_file.specs.File.{covered_file}
 
-join_all_more : (versions : List Version) (version : Version) → join_all (versions ++ version ∷ []) ≡ join (join_all versions) version.vector
+join_all_more : (versions : List Version) (version : Version) →
+    join_all (versions ++ version ∷ []) ≡ join (join_all versions) version.vector
 join_all_more [] version = join_comm version.vector no_counts
 join_all_more (first ∷ later) version =
     ap (join first.vector) (join_all_more later version) ∙ sym (join_assoc first.vector (join_all later) version.vector)
 
 -- one version more is joined to what was joined
-pub joined_step : (versions : List Version) (k : ℕ) (d : Version) (from : Counts) → k < length versions → join (join from (join_all (take k versions))) (get_or versions k d).vector ≡ join from (join_all (take (k + 1) versions))
+pub joined_step : (versions : List Version) (k : ℕ) (d : Version) (from : Counts) → k < length versions →
+    join (join from (join_all (take k versions)))
+    (get_or versions k d).vector ≡ join from (join_all (take (k + 1) versions))
 joined_step versions k d from within =
-    join_assoc from (join_all (take k versions)) (get_or versions k d).vector ∙ ap (join from) (sym (join_all_more (take k versions) (get_or versions k d)) ∙ ap join_all (sym (take_more versions k d within)))
+    join_assoc from (join_all (take k versions)) (get_or versions k d).vector ∙ ap (join from)
+        (sym (join_all_more (take k versions) (get_or versions k d)) ∙ ap join_all (sym (take_more versions k d within)))
 
 -- what is joined from no counts on
-pub joined_from_none : (versions items : List Version) (from joined : Counts) → joined ≡ join from (join_all items) → from ≡ no_counts → items ≡ versions → joined ≡ join_all versions
+pub joined_from_none : (versions items : List Version) (from joined : Counts) → joined ≡ join from (join_all items) →
+    from ≡ no_counts → items ≡ versions → joined ≡ join_all versions
 joined_from_none versions items from joined is none same =
     is ∙ ap (λ v. join v (join_all items)) none ∙ none_joined (join_all items) ∙ ap join_all same
 

@@ -14,7 +14,8 @@ use Rattle.std.proofs.lemmas.List.Elements.{Contains-get_or}
 use Rattle.std.proofs.Math.Seq.{drop-cons}
 use Rattle.ficus_file.proofs.Joined.{covered_twice}
 
-pub length_overlaid : (changes : List Change) (files : List FileReplica) → length (overlaid changes files) ≡ length files
+pub length_overlaid : (changes : List Change) (files : List FileReplica) →
+    length (overlaid changes files) ≡ length files
 length_overlaid [] files = refl
 length_overlaid (change ∷ later) files = length-set (overlaid later files) change.index (file_of change files) ∙ length_overlaid later files
 
@@ -35,37 +36,49 @@ or_false true y is = cc
 or_false false y is = (refl, is)
 
 -- what a file is at an index without a change, and with one
-pub at_none : (changes : List Change) (files : List FileReplica) (i : ℕ) → has changes i ≡ false → slice_get (overlaid changes files) i ≡ slice_get files i
+pub at_none : (changes : List Change) (files : List FileReplica) (i : ℕ) → has changes i ≡ false →
+    slice_get (overlaid changes files) i ≡ slice_get files i
 at_none [] files i none = refl
 at_none (change ∷ later) files i none =
     let parts = or_false (change.index == i) (has later i) none in
     slice_get_set_other (overlaid later files) change.index i (file_of change files) (eqb-false change.index i parts.0) ∙ at_none later files i parts.1
 
-pub at_some : (changes : List Change) (files : List FileReplica) (i k : ℕ) (d : Change) → k < length changes → ((get_or changes k d).index == i) ≡ true → ((j : ℕ) → j < k → ((get_or changes j d).index == i) ≡ false) → i < length files → slice_get (overlaid changes files) i ≡ Some (file_of (get_or changes k d) files)
+pub at_some : (changes : List Change) (files : List FileReplica) (i k : ℕ) (d : Change) → k < length changes →
+    ((get_or changes k d).index == i) ≡ true → ((j : ℕ) → j < k → ((get_or changes j d).index == i) ≡ false) →
+    i < length files → slice_get (overlaid changes files) i ≡ Some (file_of (get_or changes k d) files)
 at_some [] files i k d within hit miss inside = absurd (omega arith)
 at_some (change ∷ later) files i zero d within hit miss inside =
     let is : change.index ≡ i = eqb-true change.index i hit in
     let room : i < length (overlaid later files) = rw (length_overlaid later files) inside in
-    subst (λ n. slice_get (set (overlaid later files) n (file_of change files)) i ≡ Some (file_of change files)) (sym is) (slice_get_set_same (overlaid later files) i (file_of change files) room)
+    subst (λ n. slice_get (set (overlaid later files) n (file_of change files)) i ≡ Some (file_of change files)) (sym is)
+        (slice_get_set_same (overlaid later files) i (file_of change files) room)
 at_some (change ∷ later) files i (suc k) d within hit miss inside =
-    slice_get_set_other (overlaid later files) change.index i (file_of change files) (eqb-false change.index i (miss 0 (omega arith))) ∙ at_some later files i k d (omega arith) hit (λ j before. miss (suc j) (omega arith)) inside
+    slice_get_set_other (overlaid later files) change.index i (file_of change files) (eqb-false change.index i (miss 0 (omega arith)))
+        ∙ at_some later files i k d (omega arith) hit (λ j before. miss (suc j) (omega arith)) inside
 
 -- one more change
-put_in_here : (change new : Change) (later : List Change) → (change.index == new.index) ≡ true → put_in (change ∷ later) new ≡ new ∷ later
+put_in_here : (change new : Change) (later : List Change) → (change.index == new.index) ≡ true →
+    put_in (change ∷ later) new ≡ new ∷ later
 put_in_here change new later hit = rw hit refl
 
-put_in_later : (change new : Change) (later : List Change) → (change.index == new.index) ≡ false → put_in (change ∷ later) new ≡ change ∷ put_in later new
+put_in_later : (change new : Change) (later : List Change) → (change.index == new.index) ≡ false →
+    put_in (change ∷ later) new ≡ change ∷ put_in later new
 put_in_later change new later miss = rw miss refl
 
-pub overlaid_put : (changes : List Change) (new : Change) (files : List FileReplica) → overlaid (put_in changes new) files ≡ set (overlaid changes files) new.index (file_of new files)
+pub overlaid_put : (changes : List Change) (new : Change) (files : List FileReplica) →
+    overlaid (put_in changes new) files ≡ set (overlaid changes files) new.index (file_of new files)
 overlaid_put [] new files = refl
 overlaid_put (change ∷ later) new files =
     elim (cases_Bool (change.index == new.index)) [
       | inl hit ↦
           let is : change.index ≡ new.index = eqb-true change.index new.index hit in
-          rw (put_in_here change new later hit) (subst (λ n. set (overlaid later files) new.index (file_of new files) ≡ set (set (overlaid later files) n (file_of change files)) new.index (file_of new files)) (sym is) (sym (set-set (overlaid later files) new.index (file_of change files) (file_of new files))))
+          rw (put_in_here change new later hit)
+              (subst (λ n. set (overlaid later files) new.index (file_of new files) ≡ set (set (overlaid later files) n (file_of change files)) new.index
+              (file_of new files)) (sym is) (sym (set-set (overlaid later files) new.index (file_of change files) (file_of new files))))
       | inr miss ↦
-          rw (put_in_later change new later miss, overlaid_put later new files) (set_comm (overlaid later files) new.index change.index (file_of new files) (file_of change files) (λ is. eqb-false change.index new.index miss (sym is)))
+          rw (put_in_later change new later miss, overlaid_put later new files)
+              (set_comm (overlaid later files) new.index change.index (file_of new files) (file_of change files)
+              (λ is. eqb-false change.index new.index miss (sym is)))
     ]
 
 or_again : (x y : Bool) → x || (x || y) ≡ x || y
@@ -78,7 +91,8 @@ or_swap true false z = refl
 or_swap false true z = refl
 or_swap false false z = refl
 
-has_put : (changes : List Change) (new : Change) (k : ℕ) → has (put_in changes new) k ≡ (new.index == k) || has changes k
+has_put : (changes : List Change) (new : Change) (k : ℕ) →
+    has (put_in changes new) k ≡ (new.index == k) || has changes k
 has_put [] new k = refl
 has_put (change ∷ later) new k =
     elim (cases_Bool (change.index == new.index)) [
@@ -89,7 +103,8 @@ has_put (change ∷ later) new k =
           rw (put_in_later change new later miss, has_put later new k) (or_swap (change.index == k) (new.index == k) (has later k))
     ]
 
-length_put_old : (changes : List Change) (new : Change) → has changes new.index ≡ true → length (put_in changes new) ≡ length changes
+length_put_old : (changes : List Change) (new : Change) → has changes new.index ≡ true →
+    length (put_in changes new) ≡ length changes
 length_put_old [] new old = cc
 length_put_old (change ∷ later) new old =
     elim (cases_Bool (change.index == new.index)) [
@@ -97,24 +112,28 @@ length_put_old (change ∷ later) new old =
       | inr miss ↦ rw (put_in_later change new later miss) (ap suc (length_put_old later new (rw miss at old)))
     ]
 
-length_put_new : (changes : List Change) (new : Change) → has changes new.index ≡ false → length (put_in changes new) ≡ suc (length changes)
+length_put_new : (changes : List Change) (new : Change) → has changes new.index ≡ false →
+    length (put_in changes new) ≡ suc (length changes)
 length_put_new [] new none = refl
 length_put_new (change ∷ later) new none =
     let parts = or_false (change.index == new.index) (has later new.index) none in
     rw (put_in_later change new later parts.0) (ap suc (length_put_new later new parts.1))
 
-untouched_same : (one other : List Change) (n : ℕ) → ((k : ℕ) → k < n → has one k ≡ has other k) → untouched one n ≡ untouched other n
+untouched_same : (one other : List Change) (n : ℕ) → ((k : ℕ) → k < n → has one k ≡ has other k) →
+    untouched one n ≡ untouched other n
 untouched_same one other zero same = refl
 untouched_same one other (suc n) same = rw (same n (omega arith), untouched_same one other n (λ k below. same k (omega arith))) refl
 
-has_old : (changes : List Change) (index k : ℕ) → has changes index ≡ true → (index == k) || has changes k ≡ has changes k
+has_old : (changes : List Change) (index k : ℕ) → has changes index ≡ true →
+    (index == k) || has changes k ≡ has changes k
 has_old changes index k old =
     elim (cases_Bool (index == k)) [
       | inl is ↦ rw is (sym (subst (λ n. has changes n ≡ true) (eqb-true index k is) old))
       | inr other ↦ rw other refl
     ]
 
-touched : (one other : List Change) (index n : ℕ) → has other index ≡ false → ((k : ℕ) → has one k ≡ (index == k) || has other k) → index < n → untouched one n + 1 ≡ untouched other n
+touched : (one other : List Change) (index n : ℕ) → has other index ≡ false →
+    ((k : ℕ) → has one k ≡ (index == k) || has other k) → index < n → untouched one n + 1 ≡ untouched other n
 touched one other index zero none is within = absurd (omega arith)
 touched one other index (suc n) none is within =
     elim (cases_eq index n) [
@@ -129,12 +148,14 @@ touched one other index (suc n) none is within =
           rw same (omega arith)
     ]
 
-room_put : (changes : List Change) (new : Change) (n : ℕ) → new.index < n → length (put_in changes new) + untouched (put_in changes new) n ≡ length changes + untouched changes n
+room_put : (changes : List Change) (new : Change) (n : ℕ) → new.index < n →
+    length (put_in changes new) + untouched (put_in changes new) n ≡ length changes + untouched changes n
 room_put changes new n within =
     elim (cases_Bool (has changes new.index)) [
       | inl old ↦
           let long = length_put_old changes new old in
-          let rest : untouched (put_in changes new) n ≡ untouched changes n = untouched_same (put_in changes new) changes n (λ k below. has_put changes new k ∙ has_old changes new.index k old) in
+          let rest : untouched (put_in changes new) n ≡ untouched changes n = untouched_same (put_in changes new) changes n
+              (λ k below. has_put changes new k ∙ has_old changes new.index k old) in
           omega arith
       | inr none ↦
           let long = length_put_new changes new none in
@@ -148,25 +169,31 @@ some_room changes index n none within =
     let rest = touched (put_in changes new) changes index n none (has_put changes new) within in
     omega arith
 
-pub room_for : (changes : List Change) (files : List FileReplica) (used capacity index : ℕ) → IsSound changes files used capacity → index < length files → has changes index ≡ false → used < capacity
+pub room_for : (changes : List Change) (files : List FileReplica) (used capacity index : ℕ) →
+    IsSound changes files used capacity → index < length files → has changes index ≡ false → used < capacity
 room_for changes files used capacity index sound within none =
     let some = some_room changes index (length files) none within in
     omega (arith, sound.room)
 
 -- a change at a place
-pub put_some : (changes : List Change) (new : Change) (i : ℕ) (d : Change) → i < length changes → ((get_or changes i d).index == new.index) ≡ true → ((k : ℕ) → k < i → ((get_or changes k d).index == new.index) ≡ false) → set changes i new ≡ put_in changes new
+pub put_some : (changes : List Change) (new : Change) (i : ℕ) (d : Change) → i < length changes →
+    ((get_or changes i d).index == new.index) ≡ true →
+    ((k : ℕ) → k < i → ((get_or changes k d).index == new.index) ≡ false) → set changes i new ≡ put_in changes new
 put_some [] new i d within hit miss = absurd (omega arith)
 put_some (change ∷ later) new zero d within hit miss = sym (put_in_here change new later hit)
 put_some (change ∷ later) new (suc i) d within hit miss =
-    ap (λ l. change ∷ l) (put_some later new i d (omega arith) hit (λ k before. miss (suc k) (omega arith))) ∙ sym (put_in_later change new later (miss 0 (omega arith)))
+    ap (λ l. change ∷ l) (put_some later new i d (omega arith) hit (λ k before. miss (suc k) (omega arith))) ∙ sym
+        (put_in_later change new later (miss 0 (omega arith)))
 
-pub put_none : (changes : List Change) (new : Change) → has changes new.index ≡ false → changes ++ new ∷ [] ≡ put_in changes new
+pub put_none : (changes : List Change) (new : Change) → has changes new.index ≡ false →
+    changes ++ new ∷ [] ≡ put_in changes new
 put_none [] new none = refl
 put_none (change ∷ later) new none =
     let parts = or_false (change.index == new.index) (has later new.index) none in
     ap (λ l. change ∷ l) (put_none later new parts.1) ∙ sym (put_in_later change new later parts.0)
 
-none_has : (changes : List Change) (index : ℕ) → length changes ≤ position_or_len (λ change. change.index == index) changes → has changes index ≡ false
+none_has : (changes : List Change) (index : ℕ) →
+    length changes ≤ position_or_len (λ change. change.index == index) changes → has changes index ≡ false
 none_has [] index none = refl
 none_has (change ∷ later) index none =
     elim (cases_Bool (change.index == index)) [
@@ -174,7 +201,8 @@ none_has (change ∷ later) index none =
       | inr miss ↦ rw miss (none_has later index (let long = rw miss at none in omega arith))
     ]
 
-pub position_none : (changes : List Change) (index : ℕ) → position (λ change. change.index == index) changes ≡ None → has changes index ≡ false
+pub position_none : (changes : List Change) (index : ℕ) → position (λ change. change.index == index) changes ≡ None →
+    has changes index ≡ false
 position_none changes index none =
     elim (cases_lt (position_or_len (λ (change : Change). change.index == index) changes) (length changes)) [
       | inl some ↦ absurd (grind arith)
@@ -185,7 +213,8 @@ position_none changes index none =
 pub same_ids_self : (files : List FileReplica) → HasSameIds files files
 same_ids_self files = record { lengths = refl; ids = λ i d. refl }
 
-pub set_keeps_ids : (one other : List FileReplica) (i : ℕ) (file : FileReplica) → HasSameIds one other → i < length other → ((d : FileReplica) → file.id ≡ (get_or other i d).id) → HasSameIds (set one i file) other
+pub set_keeps_ids : (one other : List FileReplica) (i : ℕ) (file : FileReplica) → HasSameIds one other →
+    i < length other → ((d : FileReplica) → file.id ≡ (get_or other i d).id) → HasSameIds (set one i file) other
 set_keeps_ids one other i file same within is = record {
   lengths = length-set one i file ∙ same.lengths;
   ids = λ k d. elim (cases_eq k i) [
@@ -194,7 +223,8 @@ set_keeps_ids one other i file same within is = record {
   ];
 }
 
-below_put : (changes : List Change) (new : Change) (end : ℕ) → AreBelow changes end → new.index < end → AreBelow (put_in changes new) end
+below_put : (changes : List Change) (new : Change) (end : ℕ) → AreBelow changes end → new.index < end →
+    AreBelow (put_in changes new) end
 below_put [] new end below here = (here, tt)
 below_put (change ∷ later) new end below here =
     elim (cases_Bool (change.index == new.index)) [
@@ -202,12 +232,14 @@ below_put (change ∷ later) new end below here =
       | inr miss ↦ rw (put_in_later change new later miss) (below.0, below_put later new end below.1 here)
     ]
 
-pub one_below : (changes : List Change) (end k : ℕ) (d : Change) → AreBelow changes end → k < length changes → (get_or changes k d).index < end
+pub one_below : (changes : List Change) (end k : ℕ) (d : Change) → AreBelow changes end → k < length changes →
+    (get_or changes k d).index < end
 one_below [] end k d below within = absurd (omega arith)
 one_below (change ∷ later) end zero d below within = below.0
 one_below (change ∷ later) end (suc k) d below within = one_below later end k d below.1 (omega arith)
 
-set_held : (files : List FileReplica) (i : ℕ) (file : FileReplica) → IsHeldFile file → AllAt IsHeldFile files → AllAt IsHeldFile (set files i file)
+set_held : (files : List FileReplica) (i : ℕ) (file : FileReplica) → IsHeldFile file → AllAt IsHeldFile files →
+    AllAt IsHeldFile (set files i file)
 set_held files i file held each k d within =
     let inside : k < length files = omega (arith, within, length-set files i file) in
     elim (cases_eq k i) [
@@ -215,7 +247,10 @@ set_held files i file held each k d within =
       | inr elsewhere ↦ rw (get_or-set_other files i k file d elsewhere) (each k d inside)
     ]
 
-pub sound_put : (changes : List Change) (new : Change) (files : List FileReplica) (used capacity more : ℕ) → IsSound changes files used capacity → new.index < length files → ((d : FileReplica) → (file_of new files).id ≡ (get_or files new.index d).id) → IsHeldFile (file_of new files) → more ≡ length (put_in changes new) → IsSound (put_in changes new) files more capacity
+pub sound_put : (changes : List Change) (new : Change) (files : List FileReplica) (used capacity more : ℕ) →
+    IsSound changes files used capacity → new.index < length files →
+    ((d : FileReplica) → (file_of new files).id ≡ (get_or files new.index d).id) → IsHeldFile (file_of new files) →
+    more ≡ length (put_in changes new) → IsSound (put_in changes new) files more capacity
 sound_put changes new files used capacity more sound within is held long = record {
   each = rw (overlaid_put changes new files) (set_held (overlaid changes files) new.index (file_of new files) held sound.each);
   rising = sound.rising;
@@ -234,31 +269,41 @@ covered_at_index (change ∷ later) index =
       | inr miss ↦ rw miss (covered_at_index later index)
     ]
 
-pub covered_at_some : (changes : List Change) (index i : ℕ) (d : Change) → i < length changes → ((get_or changes i d).index == index) ≡ true → ((k : ℕ) → k < i → ((get_or changes k d).index == index) ≡ false) → covered_at changes index ≡ covered_change (get_or changes i d)
+pub covered_at_some : (changes : List Change) (index i : ℕ) (d : Change) → i < length changes →
+    ((get_or changes i d).index == index) ≡ true → ((k : ℕ) → k < i → ((get_or changes k d).index == index) ≡ false) →
+    covered_at changes index ≡ covered_change (get_or changes i d)
 covered_at_some [] index i d within hit miss = absurd (omega arith)
 covered_at_some (change ∷ later) index zero d within hit miss = rw hit refl
-covered_at_some (change ∷ later) index (suc i) d within hit miss = rw (miss 0 (omega arith)) (covered_at_some later index i d (omega arith) hit (λ k before. miss (suc k) (omega arith)))
+covered_at_some (change ∷ later) index (suc i) d within hit miss = rw (miss 0 (omega arith))
+    (covered_at_some later index i d (omega arith) hit (λ k before. miss (suc k) (omega arith)))
 
-pub covered_at_none : (changes : List Change) (index : ℕ) → has changes index ≡ false → covered_at changes index ≡ record { index = index; file = None }
+pub covered_at_none : (changes : List Change) (index : ℕ) → has changes index ≡ false →
+    covered_at changes index ≡ record { index = index; file = None }
 covered_at_none [] index none = refl
 covered_at_none (change ∷ later) index none =
     let parts = or_false (change.index == index) (has later index) none in
     rw parts.0 (covered_at_none later index parts.1)
 
-become_covered : (file : Option FileReplica) (old : FileReplica) → become (option_map covered_file file) old ≡ covered_file (become file old)
+become_covered : (file : Option FileReplica) (old : FileReplica) →
+    become (option_map covered_file file) old ≡ covered_file (become file old)
 become_covered (Some file) old = refl
 become_covered None old = sym (covered_twice old)
 
-pub covered_at_is : (changes : List Change) (files : List FileReplica) (index : ℕ) → index < length files → file_of (covered_at changes index) files ≡ covered_file (get_or (overlaid changes files) index any_file)
+pub covered_at_is : (changes : List Change) (files : List FileReplica) (index : ℕ) → index < length files →
+    file_of (covered_at changes index) files ≡ covered_file (get_or (overlaid changes files) index any_file)
 covered_at_is [] files index within = refl
 covered_at_is (change ∷ later) files index within =
     elim (cases_Bool (change.index == index)) [
       | inl hit ↦
           let is : change.index ≡ index = eqb-true change.index index hit in
-          let here : get_or (set (overlaid later files) change.index (file_of change files)) index any_file ≡ file_of change files = subst (λ n. get_or (set (overlaid later files) change.index (file_of change files)) n any_file ≡ file_of change files) is (get_or-set_same (overlaid later files) change.index (file_of change files) any_file (rw (length_overlaid later files, is) within)) in
+          let here : get_or (set (overlaid later files) change.index (file_of change files)) index any_file ≡ file_of change files = subst
+              (λ n. get_or (set (overlaid later files) change.index (file_of change files)) n any_file ≡ file_of change files) is
+              (get_or-set_same (overlaid later files) change.index (file_of change files) any_file (rw (length_overlaid later files, is) within)) in
           rw (hit, here) (become_covered change.file (get_or files change.index any_file))
       | inr miss ↦
-          let there : get_or (set (overlaid later files) change.index (file_of change files)) index any_file ≡ get_or (overlaid later files) index any_file = get_or-set_other (overlaid later files) change.index index (file_of change files) any_file (λ is. eqb-false change.index index miss (sym is)) in
+          let there : get_or (set (overlaid later files) change.index (file_of change files)) index any_file ≡ get_or
+              (overlaid later files) index any_file = get_or-set_other (overlaid later files) change.index index (file_of change files) any_file
+              (λ is. eqb-false change.index index miss (sym is)) in
           rw (miss, there) (covered_at_is later files index within)
     ]
 
@@ -271,11 +316,15 @@ untouched_most changes (suc n) =
       | inr none ↦ rw none (omega arith)
     ]
 
-pub sound_fresh : (files : List FileReplica) (used capacity : ℕ) → AreFiles files → used ≡ 0 → length files ≤ capacity → IsSound [] files used capacity
+pub sound_fresh : (files : List FileReplica) (used capacity : ℕ) → AreFiles files → used ≡ 0 →
+    length files ≤ capacity → IsSound [] files used capacity
 sound_fresh files used capacity are none within =
-    record { rising = are.rising; each = λ i d inside. are.each (get_or files i d) (Contains-get_or files i d inside); within = tt; same = same_ids_self files; used_is = none; room = omega (arith, untouched_most [] (length files)) }
+    record { rising = are.rising; each = λ i d inside. are.each (get_or files i d)
+        (Contains-get_or files i d inside); within = tt; same = same_ids_self files; used_is = none; room = omega (arith, untouched_most [] (length files)) }
 
-pub overlaid_drop : (changes : List Change) (files : List FileReplica) (n k : ℕ) (d : Change) → n ≡ k + 1 → k < length changes → overlaid (drop k changes) files ≡ set (overlaid (drop n changes) files) (get_or changes k d).index (file_of (get_or changes k d) files)
+pub overlaid_drop : (changes : List Change) (files : List FileReplica) (n k : ℕ) (d : Change) → n ≡ k + 1 →
+    k < length changes → overlaid (drop k changes) files ≡ set (overlaid (drop n changes) files)
+    (get_or changes k d).index (file_of (get_or changes k d) files)
 overlaid_drop changes files n k d is within =
     let next : n ≡ suc k = omega arith in
     rw (drop-cons changes k d within, next) refl

@@ -25,7 +25,8 @@ made_well_formed id Lines by = record { directory = λ is. absurd cc; current = 
 made_well_formed id Max by = record { directory = λ is. absurd cc; current = λ _. one_current (over_all by [] []) }
 made_well_formed id Keep by = record { directory = λ is. absurd cc; current = λ _. one_current (over_all by [] []) }
 
-pub advanced_well_formed : (by : ℕ) (bytes : List ℕ) (file : FileReplica) → file.kind ≢ Dir → IsWellFormed (advanced by bytes file)
+pub advanced_well_formed : (by : ℕ) (bytes : List ℕ) (file : FileReplica) → file.kind ≢ Dir →
+    IsWellFormed (advanced by bytes file)
 advanced_well_formed by bytes file is_file =
     record { directory = λ is. absurd (is_file is); current = λ _. one_current (over_all by bytes file.versions) }
 

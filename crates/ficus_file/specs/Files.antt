@@ -46,7 +46,8 @@ Adds old new item = (other : _) → Contains new other ↔ (Contains old other �
 
 -- the new list holds this item, and those old ones that have other identifiers
 abbrev pub Puts : {X : Type 0} → (X → Id) → List X → List X → X → Type 0
-Puts id_of old new item = (other : _) → Contains new other ↔ ((Contains old other × (id_of other ≢ id_of item)) ⊎ (other ≡ item))
+Puts id_of old new item =
+    (other : _) → Contains new other ↔ ((Contains old other × (id_of other ≢ id_of item)) ⊎ (other ≡ item))
 
 -- a file with the identifier for which this is true is in the list
 pub record HoldsFile (files : List FileReplica) (id : Id) (fits : FileReplica → Type 0) : Type 0 where

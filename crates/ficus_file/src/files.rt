@@ -83,7 +83,8 @@ impl Files {
 
     /// The same files once more, with memory from where these have theirs.
     pub fn copy(&self) -> Result<Files, Memory>
-        ensures { IfOk result (λ files. files ≡ self.now) }
+        ensures same { IfOk result (λ files. files ≡ self.now) }
+        ensures files { AreFiles self.now }
     {
         let list = self.whole()?;
         let room = (list.len() / ROOM).saturating_add(1).saturating_mul(ROOM);

@@ -68,5 +68,5 @@ pub record AreApart (vector other : Counts) : Type 0 where
   pub not_covered : Covers other vector → ⊥
 
 -- the order of vectors: the first count that differs decides, from replica 1 upwards
-abbrev pub vector_cmp : Counts → Counts → Ordering
+unfoldable pub vector_cmp : Counts → Counts → Ordering
 vector_cmp vector other = slice_cmp nat_cmp (in_order vector) (in_order other)

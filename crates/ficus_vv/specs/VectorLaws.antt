@@ -1,11 +1,13 @@
 -- Laws of vectors, for the proofs of this crate and of those above it.
-use Rattle.std.specs.Prelude.{◌≡◌, ℕ, zero, suc, ◌≤◌, max, List, [], ◌∷◌, length, refl}
-use Rattle.std.specs.Cmp.{IsTotalOrder, on_total}
-use Rattle.std.specs.Cmp.Lexicographic.{nat_list_cmp_total}
-use Rattle.std.specs.declared.cmp.Ordering.TheVariants.{Equal}
-use Rattle.std.proofs.Common.{arith, ap, ◌∙◌}
+use Rattle.std.specs.Prelude.{◌≡◌, ◌⊎◌, get_or, ℕ, zero, suc, ◌≤◌, max, List, [], ◌∷◌, length, refl}
+use Rattle.std.specs.Cmp.{IsTotalOrder, on_total, nat_cmp_is}
+use Rattle.std.specs.Cmp.Lexicographic.{slice_cmp, nat_list_cmp_total}
+use Rattle.std.specs.declared.cmp.Ordering.TheVariants.{Less, Equal, Greater}
+use Rattle.std.specs.Ordering.{nat_cmp, ordering_reverse, ordering_then}
+use Rattle.std.proofs.Common.{arith, ap, sym, ◌∙◌, inl, inr}
+use Rattle.std.proofs.lemmas.Bool.{cases_order}
 use Rattle.std.proofs.lemmas.Map.Lookups.{exact_bytes}
-use Rattle.ficus_vv.specs.Vector.{Counts, in_order, count_in, count_of, vector_of, no_counts, join, vector_cmp, Covers}
+use Rattle.ficus_vv.specs.Vector.{Counts, in_order, count_in, count_of, vector_of, no_counts, join, vector_cmp, Covers, IsOver}
 
 -- a list of eight counts is that of its vector
 pub same_eight : (counts : List ℕ) → length counts ≡ 8 → in_order (vector_of (count_in counts)) ≡ counts
@@ -28,13 +30,19 @@ covers_trans v w u first second = record { each = λ replica. omega (arith, firs
 
 -- the order of vectors is total, and tells different ones apart
 pub vector_cmp_total : IsTotalOrder vector_cmp
+unfolding vector_cmp
 vector_cmp_total = on_total in_order nat_list_cmp_total
 
 pub vector_cmp-Equal : (v w : Counts) → vector_cmp v w ≡ Equal → v ≡ w
+unfolding vector_cmp
 vector_cmp-Equal v w is = ap (λ counts. vector_of (count_in counts)) (exact_bytes (in_order v) (in_order w) is)
 
+pub vector_cmp-flip : (v w : Counts) → vector_cmp v w ≡ Greater → vector_cmp w v ≡ Less
+vector_cmp-flip v w is = vector_cmp_total.antisymm w v ∙ ap ordering_reverse is
+
 -- the counts of a join
-pub count_of-join : (v w : Counts) (replica : ℕ) → count_of (join v w) replica ≡ max (count_of v replica) (count_of w replica)
+pub count_of-join : (v w : Counts) (replica : ℕ) → count_of (join v w) replica ≡ max (count_of v replica)
+    (count_of w replica)
 unfolding join
 count_of-join v w zero = refl
 count_of-join v w (suc zero) = refl
@@ -79,3 +87,36 @@ join_with_none v = join_covered v no_counts (record { each = λ replica. none_be
 
 pub none_joined : (v : Counts) → join no_counts v ≡ v
 none_joined v = join_comm no_counts v ∙ join_with_none v
+
+pub not_before_itself : (v : Counts) → vector_cmp v v ≡ Less → ⊥
+not_before_itself v is = let other : vector_cmp v v ≡ Greater = vector_cmp_total.antisymm v v ∙ ap ordering_reverse is in cc
+
+lists_after : (xs ys : List ℕ) → length xs ≡ length ys → ((k : ℕ) → get_or xs k 0 ≤ get_or ys k 0) →
+    (slice_cmp nat_cmp xs ys ≡ Less) ⊎ (xs ≡ ys)
+lists_after [] [] long least = inr refl
+lists_after [] (y ∷ ys) long least = absurd (omega arith)
+lists_after (x ∷ xs) [] long least = absurd (omega arith)
+lists_after (x ∷ xs) (y ∷ ys) long least =
+    let rest = lists_after xs ys (omega arith) (λ k. least (suc k)) in
+    let first : x ≤ y = least 0 in
+    elim (cases_order x y) [
+      | inl same ↦ elim rest [
+        | inl later ↦
+            let first_is : nat_cmp x y ≡ Equal = sym (nat_cmp_is x y Equal same) in
+            inl (ap (λ o. ordering_then o (slice_cmp nat_cmp xs ys)) first_is ∙ later)
+        | inr equal ↦ inr (ap (λ n. n ∷ xs) same ∙ ap (λ l. y ∷ l) equal)
+      ]
+      | inr (inl less) ↦
+          let first_is : nat_cmp x y ≡ Less = sym (nat_cmp_is x y Less less) in
+          inl (ap (λ o. ordering_then o (slice_cmp nat_cmp xs ys)) first_is)
+      | inr (inr more) ↦ absurd (omega arith)
+    ]
+
+-- a vector that another is over comes before it
+pub before_over : (v w : Counts) → IsOver v w → vector_cmp w v ≡ Less
+unfolding vector_cmp
+before_over v w over =
+    elim (lists_after (in_order w) (in_order v) refl (λ k. over.covers.each (suc k))) [
+      | inl less ↦ less
+      | inr same ↦ absurd (over.differ (ap (λ counts. vector_of (count_in counts)) (sym same)))
+    ]

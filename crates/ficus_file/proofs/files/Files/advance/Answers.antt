@@ -14,7 +14,8 @@ pub unreachable-requires : goal.unreachable-requires
 unreachable-requires c = not_missing c.args.self.now c.args.id _ (MayAdvance c.args.by) c.requires.held c.in_default.ensures.place
 
 pub advanced-file-requires-clause-may : goal.advanced-file-requires-clause-may
-advanced-file-requires-clause-may c = found_fits c.args.self.now c.args.id c.in-Ok.index c.at.result.now (MayAdvance c.args.by) c.search.ensures.files.rising c.requires.held c.in-Ok.ensures.found c.at.ensures
+advanced-file-requires-clause-may c = found_fits c.args.self.now c.args.id c.in-Ok.index c.at.result.now
+    (MayAdvance c.args.by) c.search.ensures.files.rising c.requires.held c.in-Ok.ensures.found c.at.ensures
 
 pub put-requires : goal.put-requires
 put-requires c =
@@ -28,21 +29,29 @@ found_at c = rw c.self.view_is c.in-Ok.ensures.found
 new_change : After-put → Change
 new_change c = record { index = c.in-Ok.index; file = Some c.advanced-file.result }
 
-becomes : (c : After-put) → file_of (new_change c) c.self.inside.list ≡ advanced c.args.by c.args.bytes.items (get_or (overlaid c.self.inside.changes.items c.self.inside.list) c.in-Ok.index any_file)
+becomes : (c : After-put) → file_of (new_change c) c.self.inside.list ≡ advanced c.args.by c.args.bytes.items
+    (get_or (overlaid c.self.inside.changes.items c.self.inside.list) c.in-Ok.index any_file)
 unfolding new_change
 becomes c =
-    let at : get_or c.args.self.now c.in-Ok.index any_file ≡ c.at.result.now = get_or_from_slice_get c.args.self.now c.in-Ok.index c.at.result.now any_file c.at.ensures in
+    let at : get_or c.args.self.now c.in-Ok.index any_file ≡ c.at.result.now = get_or_from_slice_get c.args.self.now c.in-Ok.index c.at.result.now any_file
+        c.at.ensures in
     rw (c.self.view_is, at) c.advanced-file.ensures.advanced
 
-fits : (c : After-put) → IsHeldFile (advanced c.args.by c.args.bytes.items (get_or (overlaid c.self.inside.changes.items c.self.inside.list) c.in-Ok.index any_file))
+fits : (c : After-put) → IsHeldFile
+    (advanced c.args.by c.args.bytes.items (get_or (overlaid c.self.inside.changes.items c.self.inside.list) c.in-Ok.index any_file))
 fits c =
-    let at : get_or c.args.self.now c.in-Ok.index any_file ≡ c.at.result.now = get_or_from_slice_get c.args.self.now c.in-Ok.index c.at.result.now any_file c.at.ensures in
-    let may : MayAdvance c.args.by c.at.result.now = found_fits c.args.self.now c.args.id c.in-Ok.index c.at.result.now (MayAdvance c.args.by) c.search.ensures.files.rising c.requires.held c.in-Ok.ensures.found c.at.ensures in
-    rw (c.self.view_is, at) (advanced_held c.args.by c.args.bytes.items c.at.result.now may.is_file (c.search.ensures.files.each c.at.result.now (contains_at c.args.self.now c.in-Ok.index c.at.result.now c.at.ensures)))
+    let at : get_or c.args.self.now c.in-Ok.index any_file ≡ c.at.result.now = get_or_from_slice_get c.args.self.now c.in-Ok.index c.at.result.now any_file
+        c.at.ensures in
+    let may : MayAdvance c.args.by c.at.result.now = found_fits c.args.self.now c.args.id c.in-Ok.index c.at.result.now
+        (MayAdvance c.args.by) c.search.ensures.files.rising c.requires.held c.in-Ok.ensures.found c.at.ensures in
+    rw (c.self.view_is, at) (advanced_held c.args.by c.args.bytes.items c.at.result.now may.is_file
+        (c.search.ensures.files.each c.at.result.now (contains_at c.args.self.now c.in-Ok.index c.at.result.now c.at.ensures)))
 
-sound : (c : After-put) → IsSound (put_in c.self.inside.changes.items (new_change c)) c.self.inside.list (length (put_in c.self.inside.changes.items (new_change c))) (vec_capacity c.self.inside.changes)
+sound : (c : After-put) → IsSound (put_in c.self.inside.changes.items (new_change c)) c.self.inside.list
+    (length (put_in c.self.inside.changes.items (new_change c))) (vec_capacity c.self.inside.changes)
 unfolding new_change
-sound c = sound_changed c.self.inside.changes.items (new_change c) c.self.inside.list _ _ _ c.in-Ok.index c.args.id (advanced c.args.by c.args.bytes.items) c.self.invariant (found_at c) refl (λ file. refl) (fits c) (becomes c) refl
+sound c = sound_changed c.self.inside.changes.items (new_change c) c.self.inside.list _ _ _ c.in-Ok.index c.args.id
+    (advanced c.args.by c.args.bytes.items) c.self.invariant (found_at c) refl (λ file. refl) (fits c) (becomes c) refl
 
 pub invariant_of-self : goal.invariant_of-self
 unfolding new_change
@@ -53,7 +62,9 @@ invariant_of-self c =
 pub returns-clause-changed : goal.returns-clause-changed
 unfolding new_change
 returns-clause-changed c =
-    rw (← c.self.view_is, c.put.ensures.put) (is_changed c.self.inside.changes.items (new_change c) c.self.inside.list c.in-Ok.index c.args.id (advanced c.args.by c.args.bytes.items) (found_at c) refl (becomes c))
+    rw (← c.self.view_is, c.put.ensures.put)
+        (is_changed c.self.inside.changes.items (new_change c) c.self.inside.list c.in-Ok.index c.args.id (advanced c.args.by c.args.bytes.items)
+        (found_at c) refl (becomes c))
 
 pub returns-clause-files : goal.returns-clause-files
 unfolding new_change

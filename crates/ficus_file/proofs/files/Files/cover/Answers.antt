@@ -29,7 +29,8 @@ new_index : (c : After-cover_at) → (new_change c).index ≡ c.in-Ok.index
 unfolding new_change
 new_index c = covered_at_index c.self.inside.changes.items c.in-Ok.index
 
-becomes : (c : After-cover_at) → file_of (new_change c) c.self.inside.list ≡ covered_file (get_or (overlaid c.self.inside.changes.items c.self.inside.list) c.in-Ok.index any_file)
+becomes : (c : After-cover_at) → file_of (new_change c) c.self.inside.list ≡ covered_file
+    (get_or (overlaid c.self.inside.changes.items c.self.inside.list) c.in-Ok.index any_file)
 unfolding new_change
 becomes c =
     let found = found_at c in
@@ -37,10 +38,13 @@ becomes c =
     covered_at_is c.self.inside.changes.items c.self.inside.list c.in-Ok.index within
 
 fits : (c : After-cover_at) → IsHeldFile (covered_file (get_or (overlaid c.self.inside.changes.items c.self.inside.list) c.in-Ok.index any_file))
-fits c = covered_held (get_or (overlaid c.self.inside.changes.items c.self.inside.list) c.in-Ok.index any_file) (c.self.invariant.each c.in-Ok.index any_file (found_at c).0)
+fits c = covered_held (get_or (overlaid c.self.inside.changes.items c.self.inside.list) c.in-Ok.index any_file)
+    (c.self.invariant.each c.in-Ok.index any_file (found_at c).0)
 
-sound : (c : After-cover_at) → IsSound (put_in c.self.inside.changes.items (new_change c)) c.self.inside.list (length (put_in c.self.inside.changes.items (new_change c))) (vec_capacity c.self.inside.changes)
-sound c = sound_changed c.self.inside.changes.items (new_change c) c.self.inside.list _ _ _ c.in-Ok.index c.args.id covered_file c.self.invariant (found_at c) (new_index c) (λ file. refl) (fits c) (becomes c) refl
+sound : (c : After-cover_at) → IsSound (put_in c.self.inside.changes.items (new_change c)) c.self.inside.list
+    (length (put_in c.self.inside.changes.items (new_change c))) (vec_capacity c.self.inside.changes)
+sound c = sound_changed c.self.inside.changes.items (new_change c) c.self.inside.list _ _ _ c.in-Ok.index c.args.id covered_file c.self.invariant (found_at c)
+    (new_index c) (λ file. refl) (fits c) (becomes c) refl
 
 pub invariant_of-self : goal.invariant_of-self
 unfolding new_change
@@ -51,7 +55,8 @@ invariant_of-self c =
 pub returns-clause-changed : goal.returns-clause-changed
 unfolding new_change
 returns-clause-changed c =
-    rw (← c.self.view_is, c.cover_at.ensures.put) (is_changed c.self.inside.changes.items (new_change c) c.self.inside.list c.in-Ok.index c.args.id covered_file (found_at c) (new_index c) (becomes c))
+    rw (← c.self.view_is, c.cover_at.ensures.put)
+        (is_changed c.self.inside.changes.items (new_change c) c.self.inside.list c.in-Ok.index c.args.id covered_file (found_at c) (new_index c) (becomes c))
 
 pub returns-clause-files : goal.returns-clause-files
 unfolding new_change

@@ -1,0 +1,190 @@
+-- What two lists of versions make together is again a list of versions of a file.
+use Rattle.std.proofs.Common.{◌≡◌, ◌≢◌, inl, inr, ℕ, ◌<◌, ◌≤◌, List, [], ◌∷◌, ◌++◌, length, get_or, Contains, refl, sym, ap, ◌∙◌, subst, arith}
+use Rattle.std.specs.declared.cmp.Ordering.{Ordering}
+use Rattle.std.specs.declared.cmp.Ordering.TheVariants.{Less, Equal, Greater}
+use Rattle.std.proofs.lemmas.Bool.{cases_order}
+use Rattle.std.proofs.lemmas.List.{get_or_default}
+use Rattle.std.proofs.lemmas.List.Elements.{Contains-get_or, Contains-append_cases, Contains-append_left, Contains-append_right}
+use Rattle.ficus_ids.specs.ListLaws.{here, there, here_or_there, not_inside_none}
+use Rattle.ficus_vv.specs.Vector.{vector_cmp, IsOver}
+use Rattle.ficus_vv.specs.VectorLaws.{vector_cmp_total, not_before_itself, before_over}
+use Rattle.ficus_file.specs.declared.version.Version.{Version}
+use Rattle.ficus_ids.specs.declared.kind.Kind.{Kind}
+use Rattle.ficus_ids.specs.declared.kind.Kind.TheVariants.{Dir, Plain, Lines, Max, Keep}
+use Rattle.ficus_file.specs.declared.file.FileReplica.{FileReplica}
+use Rattle.ficus_file.specs.Version.{AreCurrent}
+use Rattle.ficus_file.specs.File.{IsWellFormed}
+use Rattle.ficus_file.specs.Files.{IsHeldFile}
+use Rattle.ficus_recon_file.specs.Versions.{IsLatest, IsOfEither, IsKept, AreOrdered, AreMerged, HaveOneText}
+use Rattle.ficus_recon_file.specs.Merge.{AgreeOnBytes, CanMerge}
+
+not_same_vector : (versions : List Version) (i j : ℕ) (d : Version) → AreOrdered versions → i < j →
+    j < length versions → (get_or versions i d).vector ≡ (get_or versions j d).vector → ⊥
+not_same_vector versions i j d ordered before within same =
+    not_before_itself (get_or versions j d).vector (subst (λ v. vector_cmp v (get_or versions j d).vector ≡ Less) same (ordered i j d before within))
+
+-- in an ordered list a vector stands once
+one_version : (versions : List Version) (a b : Version) → AreOrdered versions → Contains versions a →
+    Contains versions b → a.vector ≡ b.vector → a ≡ b
+one_version versions a b ordered (i, within_i, is_a) (j, within_j, is_b) same =
+    let at_b : get_or versions j a ≡ b = get_or_default versions j a b within_j ∙ is_b in
+    elim (cases_order i j) [
+      | inl here ↦ sym is_a ∙ ap (λ k. get_or versions k a) here ∙ at_b
+      | inr (inl before) ↦ absurd (not_same_vector versions i j a ordered before within_j
+          (ap (λ (v : Version). v.vector) is_a ∙ same ∙ ap (λ (v : Version). v.vector) (sym at_b)))
+      | inr (inr behind) ↦ absurd (not_same_vector versions j i a ordered behind within_i
+          (ap (λ (v : Version). v.vector) at_b ∙ sym same ∙ ap (λ (v : Version). v.vector) (sym is_a)))
+    ]
+
+pub one_text : (mine theirs : List Version) → AreOrdered mine → AreOrdered theirs → AgreeOnBytes mine theirs →
+    HaveOneText mine theirs
+one_text mine theirs ordered others agree a b (inl of_a) (inl of_b) same = one_version mine a b ordered of_a of_b same
+one_text mine theirs ordered others agree a b (inr of_a) (inr of_b) same = one_version theirs a b others of_a of_b same
+one_text mine theirs ordered others agree a b (inl of_a) (inr of_b) same = λ i. record { vector = same i; bytes = agree a b of_a of_b same i }
+one_text mine theirs ordered others agree a b (inr of_a) (inl of_b) same = sym (λ i. record { vector = sym same i; bytes = agree b a of_b of_a (sym same) i })
+
+-- a version of the list behind which none comes
+record IsLast (versions : List Version) : Type 0 where
+  version : Version
+  inside : Contains versions version
+  last : (other : Version) → Contains versions other → vector_cmp version.vector other.vector ≡ Less → ⊥
+
+of_two : (first : Version) (later : List Version) → IsLast later → IsLast (first ∷ later)
+of_two first later rest = pick (vector_cmp rest.version.vector first.vector) refl
+  where
+    stays : (vector_cmp rest.version.vector first.vector ≡ Less → ⊥) → IsLast (first ∷ later)
+    stays not_less = record {
+      version = rest.version;
+      inside = there first rest.version later rest.inside;
+      last = λ other inside less. elim (here_or_there first other later inside) [
+        | inl is ↦ not_less (subst (λ (v : Version). vector_cmp rest.version.vector v.vector ≡ Less) is less)
+        | inr behind ↦ rest.last other behind less
+      ];
+    }
+
+    pick : (o : Ordering) → vector_cmp rest.version.vector first.vector ≡ o → IsLast (first ∷ later)
+    pick Less is = record {
+      version = first;
+      inside = here first later;
+      last = λ other inside less. elim (here_or_there first other later inside) [
+        | inl same ↦ not_before_itself first.vector (subst (λ (v : Version). vector_cmp first.vector v.vector ≡ Less) same less)
+        | inr behind ↦ rest.last other behind (vector_cmp_total.trans rest.version.vector first.vector other.vector is less)
+      ];
+    }
+    pick Equal is = stays (λ less. let clash : Equal ≡ Less = sym is ∙ less in cc)
+    pick Greater is = stays (λ less. let clash : Greater ≡ Less = sym is ∙ less in cc)
+
+some_last : (first : Version) (versions : List Version) → IsLast (first ∷ versions)
+some_last first [] = record {
+  version = first;
+  inside = here first [];
+  last = λ other inside less. elim (here_or_there first other [] inside) [
+    | inl is ↦ not_before_itself first.vector (subst (λ (v : Version). vector_cmp first.vector v.vector ≡ Less) is less)
+    | inr none ↦ not_inside_none other none
+  ];
+}
+some_last first (second ∷ later) = of_two first (second ∷ later) (some_last second later)
+
+none_over : (mine theirs : List Version) (last : IsLast (mine ++ theirs)) → IsKept mine theirs last.version
+none_over mine theirs last = record {
+  from = Contains-append_cases mine theirs last.version last.inside;
+  latest = record {
+    not_mine = λ over. last.last over.version (Contains-append_left mine theirs over.version over.inside)
+        (before_over over.version.vector last.version.vector over.over);
+    not_theirs = λ over. last.last over.version (Contains-append_right mine theirs over.version over.inside)
+        (before_over over.version.vector last.version.vector over.over);
+  };
+}
+
+some_kept : (mine theirs : List Version) → 1 ≤ length mine → (version : Version) × IsKept mine theirs version
+some_kept [] theirs some = absurd (omega arith)
+some_kept (first ∷ mine) theirs some = let last = some_last first (mine ++ theirs) in (last.version, none_over (first ∷ mine) theirs last)
+
+not_over : (mine theirs both : List Version) (merged : AreMerged mine theirs both) (a b : Version) → Contains both a →
+    Contains both b → IsOver a.vector b.vector → ⊥
+not_over mine theirs both merged a b has_a has_b over = go ((merged.items a).0 has_a).from
+  where
+    latest : IsLatest mine theirs b.vector
+    latest = ((merged.items b).0 has_b).latest
+
+    go : IsOfEither mine theirs a → ⊥
+    go (inl inside) = latest.not_mine (record { version = a; inside = inside; over = over })
+    go (inr inside) = latest.not_theirs (record { version = a; inside = inside; over = over })
+
+pub merged_current : (mine theirs both : List Version) → 1 ≤ length mine → length both ≤ 8 →
+    AreMerged mine theirs both → AreCurrent both
+merged_current mine theirs both some few merged =
+    let kept = some_kept mine theirs some in
+    let inside = (merged.items kept.0).1 kept.1 in
+    record {
+      at_least = omega (arith, inside.1);
+      at_most = few;
+      apart = λ i j d before within.
+          let has_i = Contains-get_or both i d (omega arith) in
+          let has_j = Contains-get_or both j d within in
+          record {
+            not_covering = λ covers. not_over mine theirs both merged (get_or both i d) (get_or both j d) has_i has_j
+                (record { covers = covers; differ = not_same_vector both i j d merged.ordered before within });
+            not_covered = λ covers. not_over mine theirs both merged (get_or both j d) (get_or both i d) has_j has_i
+                (record { covers = covers; differ = λ same. not_same_vector both i j d merged.ordered before within (sym same) });
+          };
+      ordered = merged.ordered;
+    }
+
+-- the versions of a file or a directory are in order
+pub ordered_of : (file : FileReplica) → IsWellFormed file → AreOrdered file.versions
+ordered_of file well = by_kind file.kind refl
+  where
+    of_file : file.kind ≢ Dir → AreOrdered file.versions
+    of_file is_file = (well.current is_file).ordered
+
+    by_kind : (kind : Kind) → file.kind ≡ kind → AreOrdered file.versions
+    by_kind Dir is = subst AreOrdered (sym (well.directory is)) (λ i j d before within. absurd (omega arith))
+    by_kind Plain is = of_file (λ dir. let clash : Plain ≡ Dir = sym is ∙ dir in cc)
+    by_kind Lines is = of_file (λ dir. let clash : Lines ≡ Dir = sym is ∙ dir in cc)
+    by_kind Max is = of_file (λ dir. let clash : Max ≡ Dir = sym is ∙ dir in cc)
+    by_kind Keep is = of_file (λ dir. let clash : Keep ≡ Dir = sym is ∙ dir in cc)
+
+none_inside : (versions : List Version) → ((version : Version) → Contains versions version → ⊥) → versions ≡ []
+none_inside [] none = refl
+none_inside (first ∷ later) none = absurd (none first (here first later))
+
+-- and what two of them make together is well formed
+pub merged_held : (mine theirs both : FileReplica) → IsHeldFile mine → IsHeldFile theirs → CanMerge mine theirs →
+    both.id ≡ mine.id → both.kind ≡ mine.kind → AreMerged mine.versions theirs.versions both.versions →
+    IsHeldFile both
+merged_held mine theirs both held others can same_id same_kind merged = record {
+  well_formed = record {
+    directory = λ dir.
+        let is : mine.kind ≡ Dir = sym same_kind ∙ dir in
+        none_inside both.versions (λ version inside. nothing is version ((merged.items version).0 inside).from);
+    current = λ is_file.
+        let mine_file : mine.kind ≢ Dir = λ dir. is_file (same_kind ∙ dir) in
+        merged_current mine.versions theirs.versions both.versions (held.well_formed.current mine_file).at_least (can.few both.versions merged) merged;
+  };
+  not_root = λ root. held.not_root (sym same_id ∙ root);
+  not_attic = λ attic. held.not_attic (sym same_id ∙ attic);
+}
+  where
+    nothing : mine.kind ≡ Dir → (version : Version) → IsOfEither mine.versions theirs.versions version → ⊥
+    nothing is version (inl inside) = not_inside_none version (subst (λ l. Contains l version) (held.well_formed.directory is) inside)
+    nothing is version (inr inside) = not_inside_none version (subst (λ l. Contains l version) (others.well_formed.directory (sym can.kind ∙ is)) inside)
+
+pub text_of_files : (mine theirs : FileReplica) → IsHeldFile mine → IsHeldFile theirs → CanMerge mine theirs →
+    HaveOneText mine.versions theirs.versions
+text_of_files mine theirs held others can =
+    one_text mine.versions theirs.versions (ordered_of mine held.well_formed) (ordered_of theirs others.well_formed) can.agree
+
+-- a file or a directory has at most 8 versions
+pub few_of : (file : FileReplica) → IsWellFormed file → length file.versions ≤ 8
+few_of file well = by_kind file.kind refl
+  where
+    of_file : file.kind ≢ Dir → length file.versions ≤ 8
+    of_file is_file = (well.current is_file).at_most
+
+    by_kind : (kind : Kind) → file.kind ≡ kind → length file.versions ≤ 8
+    by_kind Dir is = subst (λ (l : List Version). length l ≤ 8) (sym (well.directory is)) (omega arith)
+    by_kind Plain is = of_file (λ dir. let clash : Plain ≡ Dir = sym is ∙ dir in cc)
+    by_kind Lines is = of_file (λ dir. let clash : Lines ≡ Dir = sym is ∙ dir in cc)
+    by_kind Max is = of_file (λ dir. let clash : Max ≡ Dir = sym is ∙ dir in cc)
+    by_kind Keep is = of_file (λ dir. let clash : Keep ≡ Dir = sym is ∙ dir in cc)

@@ -1,0 +1,7 @@
+use Rattle.std.proofs.Common.{take}
+use Rattle.ficus_file.specs.Files.{AreFiles}
+use Rattle.ficus_recon_file.specs.Merge.{AreMergedFiles}
+use Rattle.ficus_recon_file.proofs.merge.merge_files.Given as goal
+
+abbrev pub invariant-loop-index : goal.invariant-loop-index
+invariant-loop-index l = AreMergedFiles l.held l.mine (take l.index l.theirs) l.both × AreFiles l.both

@@ -1,0 +1,17 @@
+ghost use Rattle.std.specs.Prelude.{◌≡◌, List};
+ghost use Rattle.ficus_ids.specs.declared.id.Id.{Id};
+ghost use Rattle.ficus_file.specs.Files.{IsRising};
+ghost use Rattle.ficus_file.specs.declared.file.FileReplica.{FileReplica};
+ghost use Rattle.ficus_file.specs.declared.version.Version.{Version};
+ghost use Rattle.ficus_recon_file.specs.Merge.{AreMergedFiles};
+ghost use Rattle.ficus_recon_file.specs.Versions.{AreMerged};
+
+/// The law that two lists of versions make exactly one list together, and so do two lists of files. It does nothing
+/// when it runs.
+pub fn one_merge()
+    ensures versions { (mine theirs one other : List Version) →
+        AreMerged mine theirs one → AreMerged mine theirs other → one ≡ other }
+    ensures files { (held : List Id) (mine theirs one other : List FileReplica) →
+        IsRising one → IsRising other →
+        AreMergedFiles held mine theirs one → AreMergedFiles held mine theirs other → one ≡ other }
+{}
