@@ -15,8 +15,10 @@ use Rattle.ficus_file.specs.Changes.{any_file, file_of, overlaid, put_in, HasSam
 use Rattle.ficus_file.proofs.Overlaid.{length_overlaid, overlaid_put, sound_put}
 
 pub rising_by_same : (one other : List FileReplica) → HasSameIds one other → IsRising other → IsRising one
-rising_by_same one other same rising = record { each = λ i j d before within. rw (same.ids i d, same.ids j d)
-    (rising.each i j d before (rw (← same.lengths) within)) }
+rising_by_same one other same rising = record {
+  each = λ i j d before within. rw (same.ids i d, same.ids j d)
+      (rising.each i j d before (rw (← same.lengths) within));
+}
 
 -- what stands over the list may be held
 pub view_files : (changes : List Change) (files : List FileReplica) (used capacity : ℕ) →
@@ -69,7 +71,7 @@ sound_changed changes new files used capacity more i id into sound found here ke
     let within : i < length files = rw (length_overlaid changes files) at found.0 in
     let fresh : (file_of new files).id ≡ id = ap id_of is ∙ keeps (get_or (overlaid changes files) i any_file) ∙ found.1 any_file in
     sound_put changes new files used capacity more sound (rw here within)
-        (λ d. fresh ∙ sym (found.1 d) ∙ sound.same.ids i d ∙ ap (λ n. (get_or files n d).id) (sym here)) (rw is held) long
+    (λ d. fresh ∙ sym (found.1 d) ∙ sound.same.ids i d ∙ ap (λ n. (get_or files n d).id) (sym here)) (rw is held) long
 
 pub is_changed : (changes : List Change) (new : Change) (files : List FileReplica) (i : ℕ) (id : Id)
     (into : FileReplica → FileReplica) → IsFoundAt id_of (overlaid changes files) id i → new.index ≡ i →

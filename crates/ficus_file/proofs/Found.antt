@@ -44,7 +44,7 @@ module _ {X : Type 0} (id_of : X → Id) (items : List X) (id : Id) where
       let above_it : (k : ℕ) (d : X) → index ≤ k → k < length items → id_cmp id (id_of (get_or items k d)) ≡ Less =
       λ k d from to.
       let next : id_cmp id (id_of (get_or items index d)) ≡ Less = not_below (get_or items index d) (cut.1 index d (omega arith) (omega arith))
-          (other d (omega arith)) in
+      (other d (omega arith)) in
       elim (cases_lt index k) [
         | inl past ↦ id_cmp_total.trans id (id_of (get_or items index d)) (id_of (get_or items k d)) next (rising.each index k d past to)
         | inr here ↦ let same : k ≡ index = omega arith in rw same next
@@ -67,4 +67,4 @@ module _ {X : Type 0} (id_of : X → Id) (items : List X) (id : Id) where
       let replica = eq-eqb (id_of item).replica id.replica (ap (λ (i : Id). i.replica) is) in
       let number = eq-eqb (id_of item).number id.number (ap (λ (i : Id). i.number) is) in
       both_ways (eqb (id_of item).replica id.replica && eqb (id_of item).number id.number) fails
-          (and_from (eqb (id_of item).replica id.replica) (eqb (id_of item).number id.number) replica number)
+      (and_from (eqb (id_of item).replica id.replica) (eqb (id_of item).number id.number) replica number)

@@ -20,7 +20,7 @@ pub joined_step : (versions : List Version) (k : ℕ) (d : Version) (from : Coun
     (get_or versions k d).vector ≡ join from (join_all (take (k + 1) versions))
 joined_step versions k d from within =
     join_assoc from (join_all (take k versions)) (get_or versions k d).vector ∙ ap (join from)
-        (sym (join_all_more (take k versions) (get_or versions k d)) ∙ ap join_all (sym (take_more versions k d within)))
+    (sym (join_all_more (take k versions) (get_or versions k d)) ∙ ap join_all (sym (take_more versions k d within)))
 
 -- what is joined from no counts on
 pub joined_from_none : (versions items : List Version) (from joined : Counts) → joined ≡ join from (join_all items) →

@@ -51,10 +51,10 @@ at_some (change ∷ later) files i zero d within hit miss inside =
     let is : change.index ≡ i = eqb-true change.index i hit in
     let room : i < length (overlaid later files) = rw (length_overlaid later files) inside in
     subst (λ n. slice_get (set (overlaid later files) n (file_of change files)) i ≡ Some (file_of change files)) (sym is)
-        (slice_get_set_same (overlaid later files) i (file_of change files) room)
+    (slice_get_set_same (overlaid later files) i (file_of change files) room)
 at_some (change ∷ later) files i (suc k) d within hit miss inside =
     slice_get_set_other (overlaid later files) change.index i (file_of change files) (eqb-false change.index i (miss 0 (omega arith)))
-        ∙ at_some later files i k d (omega arith) hit (λ j before. miss (suc j) (omega arith)) inside
+    ∙ at_some later files i k d (omega arith) hit (λ j before. miss (suc j) (omega arith)) inside
 
 -- one more change
 put_in_here : (change new : Change) (later : List Change) → (change.index == new.index) ≡ true →
@@ -73,12 +73,12 @@ overlaid_put (change ∷ later) new files =
       | inl hit ↦
           let is : change.index ≡ new.index = eqb-true change.index new.index hit in
           rw (put_in_here change new later hit)
-              (subst (λ n. set (overlaid later files) new.index (file_of new files) ≡ set (set (overlaid later files) n (file_of change files)) new.index
-              (file_of new files)) (sym is) (sym (set-set (overlaid later files) new.index (file_of change files) (file_of new files))))
+          (subst (λ n. set (overlaid later files) new.index (file_of new files) ≡ set (set (overlaid later files) n (file_of change files)) new.index
+          (file_of new files)) (sym is) (sym (set-set (overlaid later files) new.index (file_of change files) (file_of new files))))
       | inr miss ↦
           rw (put_in_later change new later miss, overlaid_put later new files)
-              (set_comm (overlaid later files) new.index change.index (file_of new files) (file_of change files)
-              (λ is. eqb-false change.index new.index miss (sym is)))
+          (set_comm (overlaid later files) new.index change.index (file_of new files) (file_of change files)
+          (λ is. eqb-false change.index new.index miss (sym is)))
     ]
 
 or_again : (x y : Bool) → x || (x || y) ≡ x || y
@@ -155,7 +155,7 @@ room_put changes new n within =
       | inl old ↦
           let long = length_put_old changes new old in
           let rest : untouched (put_in changes new) n ≡ untouched changes n = untouched_same (put_in changes new) changes n
-              (λ k below. has_put changes new k ∙ has_old changes new.index k old) in
+          (λ k below. has_put changes new k ∙ has_old changes new.index k old) in
           omega arith
       | inr none ↦
           let long = length_put_new changes new none in
@@ -183,7 +183,7 @@ put_some [] new i d within hit miss = absurd (omega arith)
 put_some (change ∷ later) new zero d within hit miss = sym (put_in_here change new later hit)
 put_some (change ∷ later) new (suc i) d within hit miss =
     ap (λ l. change ∷ l) (put_some later new i d (omega arith) hit (λ k before. miss (suc k) (omega arith))) ∙ sym
-        (put_in_later change new later (miss 0 (omega arith)))
+    (put_in_later change new later (miss 0 (omega arith)))
 
 pub put_none : (changes : List Change) (new : Change) → has changes new.index ≡ false →
     changes ++ new ∷ [] ≡ put_in changes new
@@ -297,13 +297,13 @@ covered_at_is (change ∷ later) files index within =
       | inl hit ↦
           let is : change.index ≡ index = eqb-true change.index index hit in
           let here : get_or (set (overlaid later files) change.index (file_of change files)) index any_file ≡ file_of change files = subst
-              (λ n. get_or (set (overlaid later files) change.index (file_of change files)) n any_file ≡ file_of change files) is
-              (get_or-set_same (overlaid later files) change.index (file_of change files) any_file (rw (length_overlaid later files, is) within)) in
+          (λ n. get_or (set (overlaid later files) change.index (file_of change files)) n any_file ≡ file_of change files) is
+          (get_or-set_same (overlaid later files) change.index (file_of change files) any_file (rw (length_overlaid later files, is) within)) in
           rw (hit, here) (become_covered change.file (get_or files change.index any_file))
       | inr miss ↦
           let there : get_or (set (overlaid later files) change.index (file_of change files)) index any_file ≡ get_or
-              (overlaid later files) index any_file = get_or-set_other (overlaid later files) change.index index (file_of change files) any_file
-              (λ is. eqb-false change.index index miss (sym is)) in
+          (overlaid later files) index any_file = get_or-set_other (overlaid later files) change.index index (file_of change files) any_file
+          (λ is. eqb-false change.index index miss (sym is)) in
           rw (miss, there) (covered_at_is later files index within)
     ]
 
@@ -319,8 +319,15 @@ untouched_most changes (suc n) =
 pub sound_fresh : (files : List FileReplica) (used capacity : ℕ) → AreFiles files → used ≡ 0 →
     length files ≤ capacity → IsSound [] files used capacity
 sound_fresh files used capacity are none within =
-    record { rising = are.rising; each = λ i d inside. are.each (get_or files i d)
-        (Contains-get_or files i d inside); within = tt; same = same_ids_self files; used_is = none; room = omega (arith, untouched_most [] (length files)) }
+    record {
+      rising = are.rising;
+      each = λ i d inside. are.each (get_or files i d)
+          (Contains-get_or files i d inside);
+      within = tt;
+      same = same_ids_self files;
+      used_is = none;
+      room = omega (arith, untouched_most [] (length files));
+    }
 
 pub overlaid_drop : (changes : List Change) (files : List FileReplica) (n k : ℕ) (d : Change) → n ≡ k + 1 →
     k < length changes → overlaid (drop k changes) files ≡ set (overlaid (drop n changes) files)

@@ -23,8 +23,10 @@ module _ {X : Type 0} (id_of : X → Id) (items : List X) (item : X) (i : ℕ) w
       ]
 
   pub set_rises : IsRisingBy id_of items → IsFoundAt id_of items (id_of item) i → IsRisingBy id_of (set items i item)
-  set_rises rising found = record { each = λ j k d before within. rw (same_at found j d, same_at found k d)
-      (rising.each j k d before (rw length-set at within)) }
+  set_rises rising found = record {
+    each = λ j k d before within. rw (same_at found j d, same_at found k d)
+        (rising.each j k d before (rw length-set at within));
+  }
 
   other_id : IsRisingBy id_of items → IsFoundAt id_of items (id_of item) i → (k : ℕ) (d : X) → k < length items →
       (k ≡ i → ⊥) → id_of (get_or items k d) ≢ id_of item

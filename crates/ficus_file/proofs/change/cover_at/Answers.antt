@@ -16,11 +16,11 @@ returns-in-Some-clause-put c =
     let changes = c.args.changes.now.items in
     let old : Change = c.index_mut-change.result.now in
     let some : position (λ (change : Change). change.index == c.args.index) c.args.changes.now.items ≡ Some c.in-Some.place = cc
-        (c.in-Some.ensures, c.deref.ensures.value) in
+    (c.in-Some.ensures, c.deref.ensures.value) in
     let parts = position-Some (λ (change : Change). change.index == c.args.index) changes c.in-Some.place old some in
     let is : get_or changes c.in-Some.place old ≡ old = sym c.index_mut-change.ensures.value in
     let new : covered_at changes c.args.index ≡ c.cover.new.self = covered_at_some changes c.args.index c.in-Some.place old parts.0 parts.1 parts.2 ∙ rw is
-        (sym c.cover.ensures) in
+    (sym c.cover.ensures) in
     let same = covered_at_index changes c.args.index in
     rw (← new) (put_some changes (covered_at changes c.args.index) c.in-Some.place old parts.0 (rw same parts.1) (λ k before. rw same (parts.2 k before)))
 

@@ -12,7 +12,7 @@ returns-clause-adds c =
     let held : c.in_ok-held.held ≡ c.args.file = c.in_ok-held.ensures in
     IfOk-weaker c.insert.result _ _
     (λ list is other. let all : list ≡ insert old place c.args.file = is ∙ rw (c.in_ok-list.ensures.same, held) refl in rw all
-        (Contains-insert old place c.args.file other))
+    (Contains-insert old place c.args.file other))
     c.insert.ensures
 
 pub returns-clause-files : goal.returns-clause-files
@@ -20,5 +20,5 @@ returns-clause-files c =
     let held : c.in_ok-held.held ≡ c.args.file = c.in_ok-held.ensures in
     IfOk-weaker c.insert.result _ _
     (λ list is. insert_files c.args.self.now list c.args.file c.place-place.result c.whole.ensures.files c.requires.may c.place-place.ensures
-        (is ∙ rw (c.in_ok-list.ensures.same, held) refl))
+    (is ∙ rw (c.in_ok-list.ensures.same, held) refl))
     c.insert.ensures

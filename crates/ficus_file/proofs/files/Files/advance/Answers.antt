@@ -34,18 +34,18 @@ becomes : (c : After-put) → file_of (new_change c) c.self.inside.list ≡ adva
 unfolding new_change
 becomes c =
     let at : get_or c.args.self.now c.in-Ok.index any_file ≡ c.at.result.now = get_or_from_slice_get c.args.self.now c.in-Ok.index c.at.result.now any_file
-        c.at.ensures in
+    c.at.ensures in
     rw (c.self.view_is, at) c.advanced-file.ensures.advanced
 
 fits : (c : After-put) → IsHeldFile
     (advanced c.args.by c.args.bytes.items (get_or (overlaid c.self.inside.changes.items c.self.inside.list) c.in-Ok.index any_file))
 fits c =
     let at : get_or c.args.self.now c.in-Ok.index any_file ≡ c.at.result.now = get_or_from_slice_get c.args.self.now c.in-Ok.index c.at.result.now any_file
-        c.at.ensures in
+    c.at.ensures in
     let may : MayAdvance c.args.by c.at.result.now = found_fits c.args.self.now c.args.id c.in-Ok.index c.at.result.now
-        (MayAdvance c.args.by) c.search.ensures.files.rising c.requires.held c.in-Ok.ensures.found c.at.ensures in
+    (MayAdvance c.args.by) c.search.ensures.files.rising c.requires.held c.in-Ok.ensures.found c.at.ensures in
     rw (c.self.view_is, at) (advanced_held c.args.by c.args.bytes.items c.at.result.now may.is_file
-        (c.search.ensures.files.each c.at.result.now (contains_at c.args.self.now c.in-Ok.index c.at.result.now c.at.ensures)))
+    (c.search.ensures.files.each c.at.result.now (contains_at c.args.self.now c.in-Ok.index c.at.result.now c.at.ensures)))
 
 sound : (c : After-put) → IsSound (put_in c.self.inside.changes.items (new_change c)) c.self.inside.list
     (length (put_in c.self.inside.changes.items (new_change c))) (vec_capacity c.self.inside.changes)
@@ -63,8 +63,8 @@ pub returns-clause-changed : goal.returns-clause-changed
 unfolding new_change
 returns-clause-changed c =
     rw (← c.self.view_is, c.put.ensures.put)
-        (is_changed c.self.inside.changes.items (new_change c) c.self.inside.list c.in-Ok.index c.args.id (advanced c.args.by c.args.bytes.items)
-        (found_at c) refl (becomes c))
+    (is_changed c.self.inside.changes.items (new_change c) c.self.inside.list c.in-Ok.index c.args.id (advanced c.args.by c.args.bytes.items)
+    (found_at c) refl (becomes c))
 
 pub returns-clause-files : goal.returns-clause-files
 unfolding new_change

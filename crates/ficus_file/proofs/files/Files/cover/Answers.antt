@@ -56,7 +56,7 @@ pub returns-clause-changed : goal.returns-clause-changed
 unfolding new_change
 returns-clause-changed c =
     rw (← c.self.view_is, c.cover_at.ensures.put)
-        (is_changed c.self.inside.changes.items (new_change c) c.self.inside.list c.in-Ok.index c.args.id covered_file (found_at c) (new_index c) (becomes c))
+    (is_changed c.self.inside.changes.items (new_change c) c.self.inside.list c.in-Ok.index c.args.id covered_file (found_at c) (new_index c) (becomes c))
 
 pub returns-clause-files : goal.returns-clause-files
 unfolding new_change

@@ -8,7 +8,7 @@ pub changed_file-file-requires : goal.changed_file-file-requires
 changed_file-file-requires c =
     let within : c.loop-left.left - 1 < length c.self.inside.changes.items = omega arith in
     rw (c.index-change.ensures) (one_below c.self.inside.changes.items (length c.self.inside.list)
-        (c.loop-left.left - 1) c.index-change.result.now c.self.invariant.within within)
+    (c.loop-left.left - 1) c.index-change.result.now c.self.invariant.within within)
 
 pub loop-left-preserved : goal.loop-left-preserved
 loop-left-preserved c =
@@ -19,6 +19,14 @@ loop-left-preserved c =
     let is : change ≡ get_or changes (c.loop-left.left - 1) change = c.index-change.ensures in
     let file : c.in_ok-copy.field-0 ≡ c.changed_file-file.result.now = c.in_ok-copy.ensures in
     let kept : c.in_ok-held.held ≡ c.in_ok-copy.field-0 = c.in_ok-held.ensures in
-    let held : c.in_ok-held.held ≡ file_of change c.self.inside.list = kept ∙ file ∙ c.changed_file-file.ensures in
-    (omega arith, rw (c.in_ok-list-2.ensures, overlaid_drop changes c.self.inside.list c.loop-left.left
-        (c.loop-left.left - 1) change more within, ← is, held, c.loop-left.invariant.1) refl)
+    let held : c.in_ok-held.held ≡ file_of change c.self.inside.list = kept ∙ file ∙ c.changed_file-file.ensures in (
+      omega arith,
+      rw (
+        c.in_ok-list-2.ensures,
+        overlaid_drop changes c.self.inside.list c.loop-left.left
+            (c.loop-left.left - 1) change more within,
+        ← is,
+        held,
+        c.loop-left.invariant.1,
+      ) refl,
+    )
