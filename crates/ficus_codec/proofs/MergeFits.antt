@@ -2,14 +2,13 @@
 use Rattle.std.proofs.Common.{◌≡◌, ℕ, Bool, true, false, ◌==◌, List, Option, Some, None, IsTrue, MatchBool, IfSome, refl, sym, subst, ◌∙◌, inl, inr}
 use Rattle.std.specs.Prelude.{All, Contains}
 use Rattle.std.proofs.lemmas.Bool.{or_cases, or_left, and_parts, eqb-true, leb-true}
-use Rattle.std.proofs.lemmas.List.Elements.{All-contains, All-contains_itself, All-weaker}
+use Rattle.std.proofs.lemmas.List.Elements.{All-contains_itself, All-weaker}
 use Rattle.std.proofs.lemmas.Option.{same_Some}
 use Rattle.ficus_ids.specs.Marks.{has, HasMembersOnly}
 use Rattle.ficus_ids.specs.MarksLaws.{full_or_one_missing}
 use Rattle.ficus_ids.specs.Members.{IsMember}
 use Rattle.ficus_ids.specs.RisingLaws.{held_or_not}
 use Rattle.ficus_ids.specs.declared.id.Id.{Id}
-use Rattle.ficus_entry.specs.Entry.{HoldsUnder}
 use Rattle.ficus_entry.specs.declared.entry.Entry.{Entry}
 use Rattle.ficus_entry.specs.declared.entry.State.{State}
 use Rattle.ficus_entry.specs.declared.entry.State.TheVariants.{Live, Dead}
@@ -17,6 +16,7 @@ use Rattle.ficus_recon_dir.specs.Merge.{MergesEntries}
 use Rattle.ficus_recon_dir.specs.Table.{everyone, with, union, HasMarks, IsDead, Merges, MergesEntry}
 use Rattle.ficus_codec.specs.Saved.{IsEntryOfPast}
 use Rattle.ficus_codec.specs.Tables.{FitsState, FitsAttic, FitsEntry}
+use Rattle.ficus_codec.proofs.Held.{all_under}
 
 module _ (r members : ℕ) (me : IsMember members r) where
   -- sets of members
@@ -166,12 +166,12 @@ module _ (r members : ℕ) (me : IsMember members r) where
 
   module _ (next : ℕ) where
     -- an entry of a replica's tables
-    record FitsReplica (entry : Entry) : Type 0 where
+    record FitsAsEntry (entry : Entry) : Type 0 where
       tables : FitsEntry members entry
       past : IsEntryOfPast r next entry
 
-    replica_mine : (mine : Entry) (theirs : Option Entry) (after : Entry) → FitsReplica mine →
-        IfSome theirs FitsReplica → MergesEntry r members (Some mine) theirs (Some after) → FitsReplica after
+    replica_mine : (mine : Entry) (theirs : Option Entry) (after : Entry) → FitsAsEntry mine →
+        IfSome theirs FitsAsEntry → MergesEntry r members (Some mine) theirs (Some after) → FitsAsEntry after
     replica_mine mine None after fits fits_other row = record {
       tables = tables_after mine after fits.tables row.place (fits_mine mine.state None after.state fits.tables.state tt row.state);
       past = past_after next mine after fits.past row.place;
@@ -182,8 +182,8 @@ module _ (r members : ℕ) (me : IsMember members r) where
       past = past_after next mine after fits.past row.place;
     }
 
-    replica_after : (mine theirs : Option Entry) (after : Entry) → IfSome mine FitsReplica → IfSome theirs FitsReplica →
-        MergesEntry r members mine theirs (Some after) → FitsReplica after
+    replica_after : (mine theirs : Option Entry) (after : Entry) → IfSome mine FitsAsEntry → IfSome theirs FitsAsEntry →
+        MergesEntry r members mine theirs (Some after) → FitsAsEntry after
     replica_after (Some mine) theirs after fits fits_other row = replica_mine mine theirs after fits fits_other row
     replica_after None (Some theirs) after fits fits_other row = record {
       tables = tables_after theirs after fits_other.tables row.place (fits_theirs theirs.state after.state fits_other.tables.state row.state);
@@ -191,22 +191,19 @@ module _ (r members : ℕ) (me : IsMember members r) where
     }
     replica_after None None after fits fits_other row = absurd row.place
 
-    held_fits : (entries : List Entry) (id : Id) (found : Option Entry) → All FitsReplica entries →
-        HoldsUnder entries id found → IfSome found FitsReplica
-    held_fits entries id None all held = tt
-    held_fits entries id (Some entry) all held = All-contains FitsReplica entries entry all held.0
-
-    merged_replica : (mine theirs merged : List Entry) → All FitsReplica mine → All FitsReplica theirs →
-        MergesEntries r members mine theirs merged → All FitsReplica merged
+    merged_replica : (mine theirs merged : List Entry) → All FitsAsEntry mine → All FitsAsEntry theirs →
+        MergesEntries r members mine theirs merged → All FitsAsEntry merged
     merged_replica mine theirs merged all_mine all_theirs merges =
-        All-weaker (Contains merged) FitsReplica (λ entry inside.
+        All-weaker (Contains merged) FitsAsEntry (λ entry inside.
         let at_r = held_or_not (λ (e : Entry). e.id) mine entry.id in
         let at_peer = held_or_not (λ (e : Entry). e.id) theirs entry.id in
-        replica_after at_r.0 at_peer.0 entry (held_fits mine entry.id at_r.0 all_mine at_r.1) (held_fits theirs entry.id at_peer.0 all_theirs at_peer.1)
+        replica_after at_r.0 at_peer.0 entry
+        (all_under FitsAsEntry (λ (e : Entry). e.id) mine entry.id at_r.0 all_mine at_r.1)
+        (all_under FitsAsEntry (λ (e : Entry). e.id) theirs entry.id at_peer.0 all_theirs at_peer.1)
         (merges.each entry.id at_r.0 at_peer.0 (Some entry) at_r.1 at_peer.1 (inside, refl))) merged (All-contains_itself merged)
 
     replicas : (entries : List Entry) → All (FitsEntry members) entries → All (IsEntryOfPast r next) entries →
-        All FitsReplica entries
+        All FitsAsEntry entries
     replicas entries tables past k d within = record { tables = tables k d within; past = past k d within }
 
     -- What the merge of tables that fit holds fits.

@@ -1,2 +1,3 @@
-pub mod Saved
 pub mod Tables
+pub mod Saved
+pub mod Laws

@@ -1,4 +1,5 @@
 use ficus_entry::Entries;
+use ficus_file::Files;
 use ficus_ids::Members;
 
 /// The most updates that a volume allows one replica over its life.
@@ -6,6 +7,9 @@ pub const UPDATE_LIMIT: u32 = 100_000;
 
 /// The most bytes that a volume allows one replica to write over its life: 4 MiB.
 pub const BYTE_LIMIT: u32 = 4_194_304;
+
+/// The most bytes of one file.
+pub const FILE_LIMIT: usize = 16_384;
 
 /// What a replica saves: all that outlives a restart.
 #[derive(Drop)]
@@ -26,4 +30,6 @@ pub struct Saved {
     pub generation: u64,
     /// The entries that it holds.
     pub entries: Entries,
+    /// The files and directories that it holds.
+    pub files: Files,
 }

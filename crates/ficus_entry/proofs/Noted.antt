@@ -1,54 +1,26 @@
--- What an edit of the entries or of their links keeps.
-use Rattle.std.proofs.Common.{◌≡◌, ◌≢◌, ◌⊎◌, ℕ, ◌+◌, ◌-◌, ◌<◌, ◌≤◌, List, length, get_or, set, Some, slice_get, ◌∙◌, refl, sym, ap, subst, arith, inl, inr}
+-- What an edit of the entries keeps.
+use Rattle.std.proofs.Common.{◌≡◌, ◌≢◌, ◌⊎◌, ℕ, ◌<◌, List, length, get_or, set, map, Some, slice_get, ◌∙◌, refl, sym, ap, subst, inl, inr}
 use Rattle.std.specs.Prelude.{Contains}
-use Rattle.std.specs.List.{insert, remove}
+use Rattle.std.specs.List.{insert}
 use Rattle.std.specs.declared.cmp.Ordering.TheVariants.{Less}
-use Rattle.std.proofs.lemmas.Bool.{cases_lt, cases_eq, cases_order, ltb-true, ltb-false}
-use Rattle.std.proofs.lemmas.List.{length-set, get_or-set_same, get_or-set_other}
-use Rattle.std.proofs.lemmas.List.Sorted.{IsNonDecreasingBy-insert}
-use Rattle.std.proofs.lemmas.List.Edits.{length-remove, get_or-remove_below, get_or-remove_above}
+use Rattle.std.proofs.lemmas.Bool.{cases_eq, cases_order}
+use Rattle.std.proofs.lemmas.List.{length-set, length-map, get_or-map, get_or-set_same, get_or-set_other}
 use Rattle.std.proofs.lemmas.Option.{get_or_from_slice_get}
-use Rattle.ficus_persistent.specs.Cut.{IsCutAt}
 use Rattle.ficus_ids.specs.declared.id.Id.{Id}
 use Rattle.ficus_ids.specs.Id.{id_cmp}
 use Rattle.ficus_ids.specs.IdLaws.{not_below_itself}
 use Rattle.ficus_ids.specs.RisingLaws.{Contains-insert, none_at_place}
 use Rattle.ficus_entry.specs.declared.entry.Entry.{Entry}
-use Rattle.ficus_entry.specs.declared.place.Link.{Link}
+use Rattle.ficus_index.specs.declared.place.Link.{Link}
 use Rattle.ficus_entry.specs.Entry.{IsRising, IsPlace, IsFoundAt, PutsEntry}
-use Rattle.ficus_entry.specs.Place.{order_of, link_of, AreOrdered, AreNoted, IsLinkAt}
-use Rattle.ficus_entry.proofs.Search.{before_place}
+use Rattle.ficus_entry.specs.Place.{link_of, AreNoted}
 
-module _ (links : List Link) (ordered : AreOrdered links) where
-  pub insert_ordered : (index : ℕ) (link : Link) → index ≤ length links → IsCutAt (before_place link.place) links index → AreOrdered (insert links index link)
-  insert_ordered index link within cut =
-      IsNonDecreasingBy-insert (λ l. order_of l.place) links index link ordered within
-      (λ k d before. let less = ltb-true (order_of (get_or links k d).place) (order_of link.place) (cut.0 k d (omega arith) before) in omega arith)
-      (λ k d from to. ltb-false (order_of (get_or links k d).place) (order_of link.place) (cut.1 k d from to))
+Contains-map : {X Y : Type 0} (f : X → Y) (xs : List X) (x : X) → Contains xs x → Contains (map f xs) (f x)
+Contains-map f xs x (k, within, is) = (k, rw length-map within, get_or-map f xs k x (f x) within ∙ ap f is)
 
-  pub remove_ordered : (index : ℕ) → index < length links → AreOrdered (remove links index)
-  remove_ordered index inside i j d before within =
-      let long = length-remove links index inside in
-      elim (cases_lt i index) [
-        | inl i_front ↦ elim (cases_lt j index) [
-          | inl j_front ↦ rw (get_or-remove_below links index d i i_front inside, get_or-remove_below links index d j j_front inside) (ordered i j d before (omega arith))
-          | inr j_behind ↦ rw (get_or-remove_below links index d i i_front inside, get_or-remove_above links index d j j_behind inside) (ordered i (j + 1) d (omega arith) (omega arith))
-        ]
-        | inr i_behind ↦ rw (get_or-remove_above links index d i i_behind inside, get_or-remove_above links index d j (omega arith) inside) (ordered (i + 1) (j + 1) d (omega arith) (omega arith))
-      ]
-
-pub remove_keeps : (links : List Link) (index : ℕ) (id : Id) (other : Link) → IsLinkAt links id index → other.id ≢ id → Contains links other → Contains (remove links index) other
-remove_keeps links index id other found differs (k, within, is) =
-    let long = length-remove links index found.0 in
-    elim (cases_order k index) [
-      | inl here ↦ absurd (differs (ap (λ (l : Link). l.id) (sym is) ∙ rw here (found.1 other)))
-      | inr (inl front) ↦ (k, omega arith, rw (get_or-remove_below links index other k front found.0) is)
-      | inr (inr behind) ↦
-          let back : k - 1 + 1 ≡ k = omega arith in
-          (k - 1, omega arith, get_or-remove_above links index other (k - 1) (omega arith) found.0 ∙ rw back is)
-    ]
-
-pub insert_noted : (entries : List Entry) (links more : List Link) (index : ℕ) (entry : Entry) → AreNoted entries links → ((other : Link) → Contains links other ⊎ (other ≡ link_of entry) → Contains more other) → AreNoted (insert entries index entry) more
+pub insert_noted : (entries : List Entry) (links more : List Link) (index : ℕ) (entry : Entry) →
+    AreNoted entries links → ((other : Link) → Contains links other ⊎ (other ≡ link_of entry) → Contains more other) →
+    AreNoted (insert entries index entry) more
 insert_noted entries links more index entry noted into one inside missing =
     elim ((Contains-insert entries index entry one).0 inside) [
       | inl old ↦ noted one old (λ link. missing (into (link_of one) (inl link)))
@@ -64,54 +36,85 @@ module _ (entries : List Entry) (entry : Entry) (index : ℕ) (found : IsFoundAt
       ]
 
   pub set_rises : IsRising entries → IsRising (set entries index entry)
-  set_rises rising = record { each = λ j k d before within. rw (same_at j d, same_at k d) (rising.each j k d before (rw length-set at within)) }
+  set_rises rising = record {
+    each = λ j k d before within. rw (same_at j d, same_at k d)
+        (rising.each j k d before (rw length-set at within));
+  }
 
-  other_id : IsRising entries → (k : ℕ) (d : Entry) → k < length entries → (k ≡ index → ⊥) → (get_or entries k d).id ≢ entry.id
+  other_id : IsRising entries → (k : ℕ) (d : Entry) → k < length entries → (k ≡ index → ⊥) →
+      (get_or entries k d).id ≢ entry.id
   other_id rising k d within elsewhere is =
       let one : (get_or entries k d).id ≡ (get_or entries index d).id = is ∙ sym (found.1 d) in
       elim (cases_order k index) [
         | inl here ↦ elsewhere here
-        | inr (inl before) ↦ not_below_itself (get_or entries index d).id (subst (λ id. id_cmp id (get_or entries index d).id ≡ Less) one (rising.each k index d before found.0))
-        | inr (inr behind) ↦ not_below_itself (get_or entries index d).id (subst (λ id. id_cmp (get_or entries index d).id id ≡ Less) one (rising.each index k d behind within))
+        | inr (inl before) ↦ not_below_itself (get_or entries index d).id
+            (subst (λ id. id_cmp id (get_or entries index d).id ≡ Less) one (rising.each k index d before found.0))
+        | inr (inr behind) ↦ not_below_itself (get_or entries index d).id
+            (subst (λ id. id_cmp (get_or entries index d).id id ≡ Less) one (rising.each index k d behind within))
       ]
 
-  from_set : IsRising entries → (other : Entry) → Contains (set entries index entry) other → (Contains entries other × (other.id ≢ entry.id)) ⊎ (other ≡ entry)
+  from_set : IsRising entries → (other : Entry) → Contains (set entries index entry) other →
+      (Contains entries other × (other.id ≢ entry.id)) ⊎ (other ≡ entry)
   from_set rising other (k, within, is) =
       elim (cases_eq k index) [
         | inl here ↦ inr (sym is ∙ rw here (get_or-set_same entries index entry other found.0))
         | inr elsewhere ↦
-            let old : get_or entries k other ≡ other = rw (get_or-set_other entries index k entry other elsewhere) at is in
+            let old : get_or entries k other ≡ other =
+            rw (get_or-set_other entries index k entry other elsewhere) at is in
             let inside : k < length entries = rw length-set at within in
-            inl ((k, inside, old), subst (λ (x : Entry). x.id ≢ entry.id) old (other_id rising k other inside elsewhere))
+            inl (
+              (k, inside, old),
+              subst (λ (x : Entry). x.id ≢ entry.id) old
+                  (other_id rising k other inside elsewhere),
+            )
       ]
 
-  into_set : (other : Entry) → (Contains entries other × (other.id ≢ entry.id)) ⊎ (other ≡ entry) → Contains (set entries index entry) other
+  into_set : (other : Entry) → (Contains entries other × (other.id ≢ entry.id)) ⊎ (other ≡ entry) →
+      Contains (set entries index entry) other
   into_set other (inl kept) =
       let k = kept.0.0 in
-      let elsewhere : k ≡ index → ⊥ = λ here. kept.1 (ap (λ (e : Entry). e.id) (sym kept.0.2) ∙ rw here (found.1 other)) in
+      let elsewhere : k ≡ index → ⊥ =
+      λ here. kept.1 (ap (λ (e : Entry). e.id) (sym kept.0.2) ∙ rw here (found.1 other)) in
       (k, rw length-set kept.0.1, rw (get_or-set_other entries index k entry other elsewhere) kept.0.2)
   into_set other (inr is) = (index, rw length-set found.0, get_or-set_same entries index entry other found.0 ∙ sym is)
 
   pub set_puts : IsRising entries → PutsEntry entries (set entries index entry) entry
   set_puts rising other = (from_set rising other, into_set other)
 
-  pub set_noted : (links fewer more : List Link) (id : Id) → id ≡ entry.id → IsRising entries → AreNoted entries links → ((other : Link) → other.id ≢ id → Contains links other → Contains fewer other) → ((other : Link) → Contains fewer other ⊎ (other ≡ link_of entry) → Contains more other) → AreNoted (set entries index entry) more
+  pub set_noted : (links fewer more : List Link) (id : Id) → id ≡ entry.id → IsRising entries →
+      AreNoted entries links → ((other : Link) → other.id ≢ id → Contains links other → Contains fewer other) →
+      ((other : Link) → Contains fewer other ⊎ (other ≡ link_of entry) → Contains more other) →
+      AreNoted (set entries index entry) more
   set_noted links fewer more id same rising noted kept into one inside missing =
       elim (from_set rising one inside) [
-        | inl old ↦ noted one old.0 (λ link. missing (into (link_of one) (inl (kept (link_of one) (λ is. old.1 (is ∙ same)) link))))
+        | inl old ↦ noted one old.0
+            (λ link. missing (into (link_of one) (inl (kept (link_of one) (λ is. old.1 (is ∙ same)) link))))
         | inr is ↦ missing (into (link_of one) (inr (ap link_of is)))
       ]
 
-pub insert_puts : (entries : List Entry) (entry : Entry) (index : ℕ) → IsPlace entries entry.id index → PutsEntry entries (insert entries index entry) entry
+pub insert_puts : (entries : List Entry) (entry : Entry) (index : ℕ) → IsPlace entries entry.id index →
+    PutsEntry entries (insert entries index entry) entry
 insert_puts entries entry index place other =
     let both = Contains-insert entries index entry other in (
       λ inside. elim (both.0 inside) [
-        | inl old ↦ inl (old, λ is. none_at_place (λ (e : Entry). e.id) entries entry.id index place (record { item = other; inside = old; has_id = is }))
+        | inl old ↦ inl (
+          old,
+          λ is. none_at_place (λ (e : Entry). e.id) entries entry.id index place
+              (record { item = other; inside = old; has_id = is }),
+        )
         | inr is ↦ inr is
       ],
       λ either. both.1 (elim either [ inl kept ↦ inl kept.0 | inr is ↦ inr is ]),
     )
 
 -- what stands at the index has the identifier
-pub id_at : (entries : List Entry) (id : Id) (index : ℕ) (entry : Entry) → IsFoundAt entries id index → slice_get entries index ≡ Some entry → entry.id ≡ id
-id_at entries id index entry found at = ap (λ (e : Entry). e.id) (sym (get_or_from_slice_get entries index entry entry at)) ∙ found.1 entry
+pub id_of_found : (entries : List Entry) (id : Id) (index : ℕ) (entry : Entry) → IsFoundAt entries id index →
+    slice_get entries index ≡ Some entry → entry.id ≡ id
+id_of_found entries id index entry found at =
+    ap (λ (e : Entry). e.id) (sym (get_or_from_slice_get entries index entry entry at)) ∙ found.1 entry
+
+-- the entries are noted by a link of each
+pub all_noted : (entries : List Entry) (links : List Link) →
+    ((link : Link) → Contains (map link_of entries) link → Contains links link) → AreNoted entries links
+all_noted entries links linked entry inside missing =
+    missing (linked (link_of entry) (Contains-map link_of entries entry inside))

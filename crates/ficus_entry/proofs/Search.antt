@@ -1,21 +1,17 @@
--- What cuts through lists in order find.
-use Rattle.std.proofs.Common.{◌≡◌, ◌≢◌, ℕ, ◌<◌, ◌≤◌, Bool, true, false, List, length, get_or, Some, slice_get, ◌∙◌, refl, sym, ap, arith, inl, inr, nat_lt, eqb, ◌&&◌}
+-- What a cut through entries in order finds.
+use Rattle.std.proofs.Common.{◌≡◌, ◌≢◌, ℕ, ◌<◌, ◌≤◌, Bool, true, false, List, length, get_or, Some, slice_get, ◌∙◌, refl, sym, ap, arith, inl, inr, eqb, ◌&&◌}
 use Rattle.std.specs.List.Sorted.{IsPartitionedBy}
 use Rattle.std.specs.Ordering.{is_lt}
 use Rattle.std.specs.declared.cmp.Ordering.{Ordering}
 use Rattle.std.specs.declared.cmp.Ordering.TheVariants.{Less, Equal, Greater}
-use Rattle.std.proofs.lemmas.Bool.{cases_lt, ltb-true, ltb-false, eq-eqb, and_from, both_ways}
-use Rattle.std.proofs.lemmas.List.Sorted.{IsPartitionedBy-ltb}
+use Rattle.std.proofs.lemmas.Bool.{cases_lt, eq-eqb, and_from, both_ways}
 use Rattle.std.proofs.lemmas.Option.{get_or_from_slice_get}
 use Rattle.ficus_persistent.specs.Cut.{IsCutAt}
 use Rattle.ficus_ids.specs.declared.id.Id.{Id}
 use Rattle.ficus_ids.specs.Id.{id_cmp}
 use Rattle.ficus_ids.specs.IdLaws.{id_cmp_total, id_cmp-Equal, id_cmp-flip_back}
 use Rattle.ficus_entry.specs.declared.entry.Entry.{Entry}
-use Rattle.ficus_entry.specs.declared.place.Link.{Link}
-use Rattle.ficus_entry.specs.declared.place.Place.{Place}
 use Rattle.ficus_entry.specs.Entry.{IsRising, IsPlace, IsFoundAt}
-use Rattle.ficus_entry.specs.Place.{order_of, AreOrdered, IsSpan}
 
 less_from_lt : (o : Ordering) → is_lt o ≡ true → o ≡ Less
 less_from_lt Less is = refl
@@ -30,7 +26,9 @@ module _ (entries : List Entry) (id : Id) where
   ids_parted rising i j d before within passes =
       let below : id_cmp (get_or entries j d).id id ≡ Less = less_from_lt (id_cmp (get_or entries j d).id id) passes in
       elim (cases_lt i j) [
-        | inl front ↦ ap is_lt (id_cmp_total.trans (get_or entries i d).id (get_or entries j d).id id (rising.each i j d front within) below)
+        | inl front ↦ ap is_lt
+            (id_cmp_total.trans (get_or entries i d).id (get_or entries j d).id id
+            (rising.each i j d front within) below)
         | inr back ↦ let same : i ≡ j = omega arith in rw same passes
       ]
 
@@ -42,13 +40,16 @@ module _ (entries : List Entry) (id : Id) where
       by_order Equal is = absurd (other (id_cmp-Equal entry.id id is))
       by_order Greater is = id_cmp-flip_back entry.id id is
 
-  pub place_by_cut : (index : ℕ) → IsRising entries → IsCutAt before_id entries index → index ≤ length entries → ((d : Entry) → index < length entries → (get_or entries index d).id ≢ id) → IsPlace entries id index
+  pub place_by_cut : (index : ℕ) → IsRising entries → IsCutAt before_id entries index → index ≤ length entries →
+      ((d : Entry) → index < length entries → (get_or entries index d).id ≢ id) → IsPlace entries id index
   place_by_cut index rising cut within other =
       let above_it : (k : ℕ) (d : Entry) → index ≤ k → k < length entries → id_cmp id (get_or entries k d).id ≡ Less =
       λ k d from to.
-      let next : id_cmp id (get_or entries index d).id ≡ Less = not_below (get_or entries index d) (cut.1 index d (omega arith) (omega arith)) (other d (omega arith)) in
+      let next : id_cmp id (get_or entries index d).id ≡ Less =
+      not_below (get_or entries index d) (cut.1 index d (omega arith) (omega arith)) (other d (omega arith)) in
       elim (cases_lt index k) [
-        | inl past ↦ id_cmp_total.trans id (get_or entries index d).id (get_or entries k d).id next (rising.each index k d past to)
+        | inl past ↦ id_cmp_total.trans id (get_or entries index d).id (get_or entries k d).id next
+            (rising.each index k d past to)
         | inr here ↦ let same : k ≡ index = omega arith in rw same next
       ] in
       record {
@@ -57,34 +58,17 @@ module _ (entries : List Entry) (id : Id) where
         below = above_it;
       }
 
-pub found_here : (entries : List Entry) (id : Id) (index : ℕ) (entry : Entry) → index < length entries → slice_get entries index ≡ Some entry → entry.id ≡ id → IsFoundAt entries id index
-found_here entries id index entry within at has_id = (within, λ d. rw (get_or_from_slice_get entries index entry d at) has_id)
+pub found_here : (entries : List Entry) (id : Id) (index : ℕ) (entry : Entry) → index < length entries →
+    slice_get entries index ≡ Some entry → entry.id ≡ id → IsFoundAt entries id index
+found_here entries id index entry within at has_id =
+    (within, λ d. rw (get_or_from_slice_get entries index entry d at) has_id)
 
-pub differs_here : (entries : List Entry) (id : Id) (index : ℕ) (entry d : Entry) → slice_get entries index ≡ Some entry → (eqb entry.id.replica id.replica && eqb entry.id.number id.number) ≡ false → (get_or entries index d).id ≢ id
+pub differs_here : (entries : List Entry) (id : Id) (index : ℕ) (entry d : Entry) →
+    slice_get entries index ≡ Some entry →
+    (eqb entry.id.replica id.replica && eqb entry.id.number id.number) ≡ false → (get_or entries index d).id ≢ id
 differs_here entries id index entry d at fails same =
     let is : entry.id ≡ id = ap (λ (e : Entry). e.id) (sym (get_or_from_slice_get entries index entry d at)) ∙ same in
     let replica = eq-eqb entry.id.replica id.replica (ap (λ (i : Id). i.replica) is) in
     let number = eq-eqb entry.id.number id.number (ap (λ (i : Id). i.number) is) in
-    both_ways (eqb entry.id.replica id.replica && eqb entry.id.number id.number) fails (and_from (eqb entry.id.replica id.replica) (eqb entry.id.number id.number) replica number)
-
-abbrev pub before_place : Place → Link → Bool
-before_place place link = nat_lt (order_of link.place) (order_of place)
-
-module _ (links : List Link) (ordered : AreOrdered links) where
-  pub links_parted : (place : Place) → IsPartitionedBy (before_place place) links
-  links_parted place = IsPartitionedBy-ltb (λ link. order_of link.place) links (order_of place) ordered
-
-  pub span_by_cuts : (from to : Place) (start end : ℕ) → end ≤ length links → IsCutAt (before_place from) links start → IsCutAt (before_place to) links end → IsSpan links from to start end
-  span_by_cuts from to start end within first last = record {
-    within = within;
-    all = λ k d inside at_least below_it. (
-      elim (cases_lt k start) [
-        | inl front ↦ let less = ltb-true (order_of (get_or links k d).place) (order_of from) (first.0 k d (omega arith) front) in absurd (omega arith)
-        | inr behind ↦ omega arith
-      ],
-      elim (cases_lt k end) [
-        | inl front ↦ front
-        | inr behind ↦ let more = ltb-false (order_of (get_or links k d).place) (order_of to) (last.1 k d (omega arith) inside) in absurd (omega arith)
-      ],
-    );
-  }
+    both_ways (eqb entry.id.replica id.replica && eqb entry.id.number id.number) fails
+    (and_from (eqb entry.id.replica id.replica) (eqb entry.id.number id.number) replica number)

@@ -31,4 +31,5 @@ IsFoundAt entries id index = (index < length entries) × HoldsAt (λ entry. entr
 
 -- the new list holds this entry, and those old ones that have other identifiers
 abbrev pub PutsEntry : List Entry → List Entry → Entry → Type 0
-PutsEntry old new entry = (other : Entry) → Contains new other ↔ ((Contains old other × (other.id ≢ entry.id)) ⊎ (other ≡ entry))
+PutsEntry old new entry = (other : Entry) →
+    Contains new other ↔ ((Contains old other × (other.id ≢ entry.id)) ⊎ (other ≡ entry))

@@ -5,9 +5,9 @@ use Rattle.ficus_entry.specs.declared.entry.Entry.{Entry}
 use Rattle.ficus_entry.specs.declared.entry.State.TheVariants.{Live}
 use Rattle.ficus_entry.specs.declared.inside.Leading.{Leading}
 use Rattle.ficus_entry.specs.declared.inside.Leading.TheVariants.{Anywhere, To, Besides}
-use Rattle.ficus_entry.specs.declared.place.Link.{Link}
-use Rattle.ficus_entry.specs.declared.place.Place.{Place}
-use Rattle.ficus_entry.specs.Place.{IsLinkAt, order_of, place_of}
+use Rattle.ficus_index.specs.declared.place.Place.{Place}
+use Rattle.ficus_index.specs.Place.{order_of}
+use Rattle.ficus_entry.specs.Place.{place_of}
 
 -- the entry is live, lies in the directory and has the name
 pub record IsNamedIn (entry : Entry) (dir : Id) (name : List ℕ) : Type 0 where
@@ -39,10 +39,3 @@ pub record LiesInside (entries : List Entry) (dir id : Id) : Type 0 where
 pub record LiesBetween (from to : Place) (entry : Entry) : Type 0 where
   pub at_least : order_of from ≤ order_of (place_of entry)
   pub below : order_of (place_of entry) < order_of to
-
--- a link with the identifier stands at an index from start up to end
-pub record IsLinkedWithin (links : List Link) (start end : ℕ) (id : Id) : Type 0 where
-  pub index : ℕ
-  pub from : start ≤ index
-  pub to : index < end
-  pub at : IsLinkAt links id index

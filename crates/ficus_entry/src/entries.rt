@@ -54,6 +54,16 @@ impl Entries {
         }
     }
 
+    /// These entries, whose identifiers rise strictly. It takes less time than to put one after the other.
+    pub fn of(alloc: Global, entries: &[Entry]) -> Result<Entries, Memory>
+        requires { IsRising entries.now }
+        ensures { IfOk result (λ built. built ≡ entries.now) }
+    {
+        let table = Table::of(alloc, entries)?;
+        let changed = room_for(alloc, table.list.len())?;
+        Ok(Entries { table, changed })
+    }
+
     /// How many entries there are.
     pub fn len(&self) -> usize
         ensures value { result ≡ length self.now }
@@ -101,10 +111,7 @@ impl Entries {
         ensures { IfOk result (λ entries. entries ≡ self.now) }
     {
         let table = self.whole()?;
-        let room = (table.list.len() / ROOM)
-            .saturating_add(1)
-            .saturating_mul(ROOM);
-        let changed = Vec::with_capacity(self.allocator(), room)?;
+        let changed = room_for(self.allocator(), table.list.len())?;
         Ok(Entries { table, changed })
     }
 
@@ -163,7 +170,7 @@ impl Entries {
     }
 
     /// From where these have their memory.
-    pub(crate) fn allocator(&self) -> Global {
+    pub fn allocator(&self) -> Global {
         *self.changed.allocator()
     }
 

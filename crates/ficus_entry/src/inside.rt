@@ -4,13 +4,12 @@ ghost use Rattle.ficus_ids.specs.Id.{id_cmp};
 ghost use Rattle.ficus_ids.specs.declared.id.Id.{Id as IdValue};
 ghost use Rattle.ficus_entry.specs.declared.entry.Entry.{Entry as EntryValue};
 ghost use Rattle.ficus_entry.specs.declared.entry.State.TheVariants.{Live};
-ghost use Rattle.ficus_entry.specs.Inside.{IsNamedIn, Leads, HasLiveInside, LiesInside, LiesBetween, IsLinkedWithin};
+ghost use Rattle.ficus_entry.specs.Inside.{IsNamedIn, Leads, HasLiveInside, LiesInside, LiesBetween};
+ghost use Rattle.ficus_index.specs.Place.{IsLinkedWithin};
 
-use crate::place::{Link, Place, REMOVED, digest};
-use crate::table::Span;
 use crate::{Entries, Entry};
 use ficus_ids::{Id, Memory, Name};
-use ficus_persistent::PersistentList;
+use ficus_index::{Index, Place, REMOVED, Span, digest};
 
 /// To which objects an entry may lead.
 #[derive(Clone, Copy)]
@@ -117,7 +116,12 @@ impl Entries {
     {
         let from = Place { dir, rank: 0 };
         let to = Place { dir, rank: REMOVED };
-        noted_of(self, &self.table.links, self.table.span(from, to), dir)
+        noted_of(
+            self,
+            &self.table.index,
+            self.table.index.span(from, to),
+            dir,
+        )
     }
 
     // The same as `inside`, in the order of the index, perhaps some twice.
@@ -129,7 +133,12 @@ impl Entries {
             dir,
             rank: REMOVED + 1,
         };
-        noted_of(self, &self.table.links, self.table.span(from, to), dir)
+        noted_of(
+            self,
+            &self.table.index,
+            self.table.index.span(from, to),
+            dir,
+        )
     }
 
     // Whether the entry with the identifier lies in the directory.
@@ -148,7 +157,12 @@ impl Entries {
         ensures none { IfNone result ((entry : EntryValue) → Contains self.now entry
             → T.Passes test.now entry → LiesBetween from to entry → ⊥) }
     {
-        first_of(self, &self.table.links, self.table.span(from, to), test)
+        first_of(
+            self,
+            &self.table.index,
+            self.table.index.span(from, to),
+            test,
+        )
     }
 
     // The entry with the identifier, if it passes the test.
@@ -167,17 +181,17 @@ impl Entries {
 // The first entry that passes the test among those that the links of a span note.
 fn first_of<'a, T: Test>(
     entries: &'a Entries,
-    links: &PersistentList<Link>,
+    index: &Index,
     span: Span,
     test: &T,
 ) -> Option<&'a Entry>
-    requires { span.end ≤ length links.now }
+    requires { span.end ≤ length index.now }
     ensures some { IfSome result (λ entry. Contains entries.now entry.now × T.Passes test.now entry.now) }
     ensures none { IfNone result ((entry : EntryValue) → Contains entries.now entry
-        → T.Passes test.now entry → IsLinkedWithin links.now span.start span.end entry.id → ⊥) }
+        → T.Passes test.now entry → IsLinkedWithin index.now span.start span.end entry.id → ⊥) }
 {
-    for index in span.start..span.end {
-        if let Some(entry) = entries.passing(links.at(index).id, test) {
+    for position in span.start..span.end {
+        if let Some(entry) = entries.passing(index.id_at(position), test) {
             return Some(entry);
         }
     }
@@ -185,20 +199,15 @@ fn first_of<'a, T: Test>(
 }
 
 // The identifiers in the links of a span whose entries lie in the directory.
-fn noted_of(
-    entries: &Entries,
-    links: &PersistentList<Link>,
-    span: Span,
-    dir: Id,
-) -> Result<Vec<Id>, Memory>
-    requires { span.end ≤ length links.now }
+fn noted_of(entries: &Entries, index: &Index, span: Span, dir: Id) -> Result<Vec<Id>, Memory>
+    requires { span.end ≤ length index.now }
     ensures sound { IfOk result (λ ids. (id : IdValue) → Contains ids.items id → LiesInside entries.now dir id) }
     ensures complete { IfOk result (λ ids. (id : IdValue) → LiesInside entries.now dir id
-        → IsLinkedWithin links.now span.start span.end id → Contains ids.items id) }
+        → IsLinkedWithin index.now span.start span.end id → Contains ids.items id) }
 {
     let mut ids = Vec::new(entries.allocator());
-    for index in span.start..span.end {
-        let id = links.at(index).id;
+    for position in span.start..span.end {
+        let id = index.id_at(position);
         if entries.lies_inside(id, dir) {
             ids.push(id)?;
         }

@@ -6,7 +6,7 @@ mod entry;
 mod in_order;
 mod inside;
 mod laws;
-mod place;
+mod link;
 mod table;
 
 pub use entries::Entries;

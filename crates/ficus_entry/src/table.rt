@@ -1,12 +1,12 @@
-ghost use Rattle.std.specs.Prelude.{◌≡◌, ◌≢◌, ◌⊎◌, ◌↔◌, [], Ok, IfOk, IfErr, IfSome, Contains, slice_set};
+ghost use Rattle.std.specs.Prelude.{◌≡◌, [], Ok, IfOk, IfErr, slice_set};
 ghost use Rattle.std.specs.List.{insert};
 ghost use Rattle.ficus_entry.specs.Entry.{IsRising, IsFoundAt, IsPlace};
-ghost use Rattle.ficus_entry.specs.Place.{AreOrdered, AreNoted, IsSpan, IsLinkAt};
-ghost use Rattle.ficus_entry.specs.declared.place.Link.{Link as LinkValue};
+ghost use Rattle.ficus_entry.specs.Place.{AreNoted};
 
 use crate::Entry;
-use crate::place::{Before, Link, Place};
+use crate::link::links;
 use ficus_ids::{Id, Memory};
+use ficus_index::Index;
 use ficus_persistent::{Cut, Item, PersistentList};
 use std::alloc::Global;
 
@@ -40,18 +40,10 @@ impl Cut<Entry> for BeforeId {
 #[derive(Drop)]
 pub(crate) struct Table {
     pub(crate) list: PersistentList<Entry>,
-    /// In the order of places, a link for each entry.
-    pub(crate) links: PersistentList<Link>,
+    /// A link for each entry.
+    pub(crate) index: Index,
     ghost rising: { IsRising list },
-    ghost ordered: { AreOrdered links },
-    ghost noted: { AreNoted list links },
-}
-
-/// Indexes of links.
-#[derive(Clone, Copy)]
-pub(crate) struct Span {
-    pub(crate) start: usize,
-    pub(crate) end: usize,
+    ghost noted: { AreNoted list index },
 }
 
 impl Table {
@@ -61,8 +53,19 @@ impl Table {
     {
         Table {
             list: PersistentList::new(),
-            links: PersistentList::new(),
+            index: Index::new(),
         }
+    }
+
+    /// These entries, in nodes of the least height.
+    pub(crate) fn of(alloc: Global, entries: &[Entry]) -> Result<Table, Memory>
+        requires { IsRising entries.now }
+        ensures { IfOk result (λ table. table.list ≡ entries.now) }
+    {
+        let links = links(alloc, entries)?;
+        let index = Index::of(alloc, links)?;
+        let list = PersistentList::of(alloc, entries)?;
+        Ok(Table { list, index })
     }
 
     /// The same entries once more, in the same nodes.
@@ -70,8 +73,8 @@ impl Table {
         ensures { IfOk result (λ table. table.list ≡ self.now.list) }
     {
         let list = self.list.copy()?;
-        let links = self.links.copy()?;
-        Ok(Table { list, links })
+        let index = self.index.copy()?;
+        Ok(Table { list, index })
     }
 
     /// Where the entry with the identifier is, or where one with it would go.
@@ -87,23 +90,14 @@ impl Table {
         }
     }
 
-    /// The links from one place up to another.
-    pub(crate) fn span(&self, from: Place, to: Place) -> Span
-        ensures { IsSpan self.now.links from to result.start result.end }
-    {
-        let start = self.links.partition_point(&Before { place: from });
-        let end = self.links.partition_point(&Before { place: to });
-        Span { start, end }
-    }
-
     /// With one entry more, in front of the one at the index.
     pub(crate) fn insert(&self, alloc: Global, index: usize, entry: Entry) -> Result<Table, Memory>
         requires { IsPlace self.now.list entry.id index }
         ensures { IfOk result (λ table. table.list ≡ insert self.now.list index entry) }
     {
-        let links = noting(alloc, &self.links, Link::of(&entry))?;
+        let noted = self.index.with(alloc, entry.link())?;
         let list = self.list.insert(alloc, index, entry)?;
-        Ok(Table { list, links })
+        Ok(Table { list, index: noted })
     }
 
     /// With another entry in place of the one at the index, which has the same identifier.
@@ -111,56 +105,9 @@ impl Table {
         requires { IsFoundAt self.now.list entry.id index }
         ensures { IfOk result (λ table. table.list ≡ slice_set self.now.list index entry) }
     {
-        let others = without(alloc, &self.links, Link::of(self.list.at(index)))?;
-        let links = noting(alloc, &others, Link::of(&entry))?;
+        let others = self.index.without(alloc, self.list.at(index).link())?;
+        let noted = others.with(alloc, entry.link())?;
         let list = self.list.put(alloc, index, entry)?;
-        Ok(Table { list, links })
+        Ok(Table { list, index: noted })
     }
-}
-
-// With this link besides, at its place.
-fn noting(
-    alloc: Global,
-    links: &PersistentList<Link>,
-    link: Link,
-) -> Result<PersistentList<Link>, Memory>
-    requires { AreOrdered links.now }
-    ensures ordered { IfOk result AreOrdered }
-    ensures noted { IfOk result (λ more. (other : LinkValue) → Contains more other ↔ (Contains links.now other ⊎ (other ≡ link))) }
-{
-    let index = links.partition_point(&Before { place: link.place });
-    links.insert(alloc, index, link)
-}
-
-// Without this link. It keeps all with other identifiers.
-fn without(
-    alloc: Global,
-    links: &PersistentList<Link>,
-    link: Link,
-) -> Result<PersistentList<Link>, Memory>
-    requires { AreOrdered links.now }
-    ensures ordered { IfOk result AreOrdered }
-    ensures kept { IfOk result (λ fewer. (other : LinkValue) → other.id ≢ link.id → Contains links.now other → Contains fewer other) }
-{
-    match position(links, link) {
-        Some(index) => links.remove(alloc, index),
-        None => links.copy(),
-    }
-}
-
-// An index at which a link has the identifier of this one.
-fn position(links: &PersistentList<Link>, link: Link) -> Option<usize>
-    requires { AreOrdered links.now }
-    ensures { IfSome result (IsLinkAt links.now link.id) }
-{
-    for index in links.partition_point(&Before { place: link.place })..links.len() {
-        let other = links.at(index);
-        if other.id == link.id {
-            return Some(index);
-        }
-        if link.place.is_before(other.place) {
-            return None;
-        }
-    }
-    None
 }

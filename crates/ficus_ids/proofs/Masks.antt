@@ -17,10 +17,12 @@ has-shr marks replica from_one = rw (shr_and_one marks (replica - 1)) (grind (ar
 abbrev with : ℕ → ℕ → ℕ
 with marks replica = bit_or marks (1 * 2 ^ (replica - 1) % 256)
 
-has-with_other : (marks replica other : ℕ) → 1 ≤ replica → replica ≤ 8 → other ≢ replica → has (with marks replica) other ≡ (has marks other || other == replica)
+has-with_other : (marks replica other : ℕ) → 1 ≤ replica → replica ≤ 8 → other ≢ replica →
+    has (with marks replica) other ≡ (has marks other || other == replica)
 unfolding has
 has-with_other marks replica other from_one to_eight different =
-    elim (cases_lt 0 other) as (λ _. (nat_le 1 other && (bit_at (with marks replica) (other - 1) == 1)) ≡ ((nat_le 1 other && (bit_at marks (other - 1) == 1)) || other == replica)) [
+    elim (cases_lt 0 other) as (λ _. (nat_le 1 other && (bit_at (with marks replica) (other - 1) == 1)) ≡
+    ((nat_le 1 other && (bit_at marks (other - 1) == 1)) || other == replica)) [
       | inl positive ↦
           let within : replica - 1 < 8 = omega arith in
           let elsewhere : other - 1 ≢ replica - 1 = λ same. absurd (omega arith) in
@@ -29,10 +31,12 @@ has-with_other marks replica other from_one to_eight different =
     ]
 
 -- `marks | 1 << (replica - 1)` adds the replica
-pub has-with : (marks replica other : ℕ) → 1 ≤ replica → replica ≤ 8 → has (bit_or marks (1 * 2 ^ (replica - 1) % 256)) other ≡ (has marks other || other == replica)
+pub has-with : (marks replica other : ℕ) → 1 ≤ replica → replica ≤ 8 →
+    has (bit_or marks (1 * 2 ^ (replica - 1) % 256)) other ≡ (has marks other || other == replica)
 unfolding has
 has-with marks replica other from_one to_eight =
-    elim (cases_eq other replica) as (λ _. (nat_le 1 other && (bit_at (with marks replica) (other - 1) == 1)) ≡ ((nat_le 1 other && (bit_at marks (other - 1) == 1)) || other == replica)) [
+    elim (cases_eq other replica) as (λ _. (nat_le 1 other && (bit_at (with marks replica) (other - 1) == 1)) ≡
+    ((nat_le 1 other && (bit_at marks (other - 1) == 1)) || other == replica)) [
       | inl same ↦
           let within : replica - 1 < 8 = omega arith in
           let set = bit_at_set_same w8 marks (replica - 1) within in
@@ -55,7 +59,8 @@ module _ (marks members : ℕ) where
       let both = sym (bit_at_and marks (2 ^ members - 1) (replica - 1)) ∙ ap (λ n. bit_at n (replica - 1)) all ∙ ones in
       has_from_bit marks replica member.at_least (omega (arith, bit_at-lt marks (replica - 1), ones, both))
 
-  bit_of_full : IsFull marks members → (index : ℕ) → min (bit_at marks index) (bit_at (2 ^ members - 1) index) ≡ bit_at (2 ^ members - 1) index
+  bit_of_full : IsFull marks members → (index : ℕ) →
+      min (bit_at marks index) (bit_at (2 ^ members - 1) index) ≡ bit_at (2 ^ members - 1) index
   bit_of_full full index =
       elim (cases_lt index members) as (λ _. min (bit_at marks index) (bit_at (2 ^ members - 1) index) ≡ bit_at (2 ^ members - 1) index) [
         | inl below ↦
@@ -80,7 +85,8 @@ module _ (marks members : ℕ) where
             absurd (omega (arith, clear, both, bit.1))
       ]
 
-  bit_of_members : HasMembersOnly marks members → (index : ℕ) → min (bit_at marks index) (bit_at (2 ^ members - 1) index) ≡ bit_at marks index
+  bit_of_members : HasMembersOnly marks members → (index : ℕ) →
+      min (bit_at marks index) (bit_at (2 ^ members - 1) index) ≡ bit_at marks index
   bit_of_members only index =
       elim (cases_lt index members) as (λ _. min (bit_at marks index) (bit_at (2 ^ members - 1) index) ≡ bit_at marks index) [
         | inl below ↦ rw (bit_at_ones members index below) (omega (arith, bit_at-lt marks index))
@@ -99,7 +105,8 @@ module _ (marks members : ℕ) where
   bits_from_members only = same_from_bits _ _ (λ index. bit_at_and marks (2 ^ members - 1) index ∙ bit_of_members only index)
 
   -- the test `marks & all == all`, for `all` as above
-  pub full_by_mask : members ≤ 8 → (bit_and marks (255 / 2 ^ (8 - members)) ≡ 255 / 2 ^ (8 - members)) ↔ IsFull marks members
+  pub full_by_mask : members ≤ 8 →
+      (bit_and marks (255 / 2 ^ (8 - members)) ≡ 255 / 2 ^ (8 - members)) ↔ IsFull marks members
   full_by_mask to_eight = rw (all_members members to_eight) (full_from_bits, bits_from_full)
 
   -- the test `marks & all == marks`

@@ -32,13 +32,15 @@ pub IsUtf8-decimal : (n : ℕ) → n < 2 ^ 64 → IsUtf8 (decimal n)
 IsUtf8-decimal n fits = IsUtf8-from_ascii _ (IsAscii-decimal n fits)
 
 -- what `parse` gives where nothing stands before the digits
-pub found_by_parse : {E : Type 0} (bytes : List ℕ) (r : Result ℕ E) → BeginsPlainly bytes → ParsesUnsigned 32 10 bytes r → IfSome (result_ok r) (λ n. bytes ≡ decimal n)
+pub found_by_parse : {E : Type 0} (bytes : List ℕ) (r : Result ℕ E) → BeginsPlainly bytes →
+    ParsesUnsigned 32 10 bytes r → IfSome (result_ok r) (λ n. bytes ≡ decimal n)
 found_by_parse {E} bytes (Ok n) plain h =
     let p = parse_plain numerals {E = E} 32 bytes (Ok n) h plain.0 in
     sym (decimal-digits_value numerals bytes p.0.0 p.0.1 plain.1 (omega arith)) ∙ ap decimal (sym p.1)
 found_by_parse bytes (Err e) plain h = tt
 
-pub none_by_parse : {E : Type 0} (bytes : List ℕ) (r : Result ℕ E) → ParsesUnsigned 32 10 bytes r → IfNone (result_ok r) ((n : ℕ) → n < 2 ^ 32 → bytes ≡ decimal n → ⊥)
+pub none_by_parse : {E : Type 0} (bytes : List ℕ) (r : Result ℕ E) → ParsesUnsigned 32 10 bytes r →
+    IfNone (result_ok r) ((n : ℕ) → n < 2 ^ 32 → bytes ≡ decimal n → ⊥)
 none_by_parse bytes (Ok n) h = tt
 none_by_parse bytes (Err e) h = λ n small same.
     let p = parse-decimal 32 n bytes (Err e) small (omega arith) same h in

@@ -32,7 +32,8 @@ both_Equal Equal second same = (refl, same)
 both_Equal Greater second same = cc
 
 nat_cmp-Equal : (x y : ℕ) → nat_cmp x y ≡ Equal → x ≡ y
-nat_cmp-Equal x y same = subst (λ answer. MatchOrdering answer (x < y) (x ≡ y) (y < x)) same (ranked x y (nat_cmp x y) refl)
+nat_cmp-Equal x y same = subst (λ answer. MatchOrdering answer (x < y) (x ≡ y) (y < x)) same
+    (ranked x y (nat_cmp x y) refl)
 
 -- identifiers that the order doesn't tell apart are the same
 pub id_cmp-Equal : (a b : Id) → id_cmp a b ≡ Equal → a ≡ b
@@ -52,12 +53,15 @@ same_id_by a b Greater above = inr (λ same. cc (subst (λ id. id_cmp id b ≡ G
 pub same_id_or_not : (a b : Id) → (a ≡ b) ⊎ (a ≢ b)
 same_id_or_not a b = same_id_by a b (id_cmp a b) refl
 
-partial_then : (test : Ordering → Bool) (first second : Ordering) → is_some_and test (partial_ordering_then (Some first) (Some second)) ≡ test (ordering_then first second)
+partial_then : (test : Ordering → Bool) (first second : Ordering) →
+    is_some_and test (partial_ordering_then (Some first) (Some second)) ≡ test (ordering_then first second)
 partial_then test Less second = refl
 partial_then test Equal second = refl
 partial_then test Greater second = refl
 
 -- what `<`, `<=`, `>` and `>=` test
-pub id_cmp-partial : (test : Ordering → Bool) (a b : Id) → is_some_and test (partial_ordering_then (Some (nat_cmp a.replica b.replica)) (Some (nat_cmp a.number b.number))) ≡ test (id_cmp a b)
+pub id_cmp-partial : (test : Ordering → Bool) (a b : Id) →
+    is_some_and test (partial_ordering_then (Some (nat_cmp a.replica b.replica)) (Some (nat_cmp a.number b.number))) ≡
+    test (id_cmp a b)
 unfolding id_cmp
 id_cmp-partial test a b = partial_then test (nat_cmp a.replica b.replica) (nat_cmp a.number b.number)

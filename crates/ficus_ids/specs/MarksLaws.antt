@@ -54,9 +54,12 @@ same_bit x y low_x low_y same = grind (arith, nat_tests)
 -- sets with the same replicas are the same number
 pub same_marks : (a b : ℕ) → ((replica : ℕ) → has a replica ≡ has b replica) → a ≡ b
 same_marks a b same =
-    let same_at : (index : ℕ) → (bit_at a index == 1) ≡ (bit_at b index == 1) = λ index. sym (has-at a index) ∙ same (index + 1) ∙ has-at b index in
-    same_from_bits a b (λ index. same_bit (bit_at a index) (bit_at b index) (bit_at-lt a index) (bit_at-lt b index) (same_at index))
+    let same_at : (index : ℕ) → (bit_at a index == 1) ≡ (bit_at b index == 1) =
+    λ index. sym (has-at a index) ∙ same (index + 1) ∙ has-at b index in
+    same_from_bits a b (λ index. same_bit (bit_at a index) (bit_at b index) (bit_at-lt a index) (bit_at-lt b index)
+    (same_at index))
 
 -- a set that isn't full lacks a member
-pub full_or_one_missing : (marks members : ℕ) → IsFull marks members ⊎ ((replica : ℕ) × IsMember members replica × (has marks replica ≡ false))
+pub full_or_one_missing : (marks members : ℕ) →
+    IsFull marks members ⊎ ((replica : ℕ) × IsMember members replica × (has marks replica ≡ false))
 full_or_one_missing marks members = all_or_one_not (has marks) members

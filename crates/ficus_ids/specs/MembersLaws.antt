@@ -19,7 +19,8 @@ is_member_or_not members replica =
           ]
     ]
 
-all_with_last : (p : ℕ → Bool) (members : ℕ) → ((replica : ℕ) → IsMember members replica → IsTrue (p replica)) → IsTrue (p (suc members)) → (replica : ℕ) → IsMember (suc members) replica → IsTrue (p replica)
+all_with_last : (p : ℕ → Bool) (members : ℕ) → ((replica : ℕ) → IsMember members replica → IsTrue (p replica)) →
+    IsTrue (p (suc members)) → (replica : ℕ) → IsMember (suc members) replica → IsTrue (p replica)
 all_with_last p members all last replica member =
     elim (cases_eq replica (suc members)) as (λ _. IsTrue (p replica)) [
       | inl same ↦ rw same last
@@ -27,11 +28,20 @@ all_with_last p members all last replica member =
     ]
 
 -- a test passes at every member, or fails at one
-pub all_or_one_not : (p : ℕ → Bool) (members : ℕ) → ((replica : ℕ) → IsMember members replica → IsTrue (p replica)) ⊎ ((replica : ℕ) × IsMember members replica × (p replica ≡ false))
+pub all_or_one_not : (p : ℕ → Bool) (members : ℕ) →
+    ((replica : ℕ) → IsMember members replica → IsTrue (p replica)) ⊎
+    ((replica : ℕ) × IsMember members replica × (p replica ≡ false))
 all_or_one_not p zero = inl (λ replica member. absurd (omega (arith, member.at_least, member.at_most)))
 all_or_one_not p (suc members) =
     elim (all_or_one_not p members) [
-      | inr below ↦ inr (below.0, record { at_least = below.1.at_least; at_most = omega (arith, below.1.at_most) }, below.2)
+      | inr below ↦ inr (
+        below.0,
+        record {
+          at_least = below.1.at_least;
+          at_most = omega (arith, below.1.at_most);
+        },
+        below.2,
+      )
       | inl all ↦
           elim (cases_Bool (p (suc members))) [
             | inr fails ↦ inr (suc members, record { at_least = omega arith; at_most = omega arith }, fails)

@@ -18,12 +18,16 @@ use Rattle.ficus_ids.specs.IdLaws.{id_cmp_total, id_cmp-Equal, not_below_itself,
 use Rattle.ficus_ids.specs.ListLaws.{here, there, here_or_there, not_inside_none, first_below, rest_rises, same_rising}
 use Rattle.ficus_ids.specs.Rising.{IsRisingBy, HoldsBy, HoldsUnderBy, IsPlaceBy}
 
-inside_parts : {X : Type 0} (xs : List X) (index : ℕ) (x : X) → Contains xs x → Contains (take index xs) x ⊎ Contains (drop index xs) x
-inside_parts xs index x inside = Contains-append_cases (take index xs) (drop index xs) x (subst (λ l. Contains l x) (sym (take-append-drop index xs)) inside)
+inside_parts : {X : Type 0} (xs : List X) (index : ℕ) (x : X) → Contains xs x →
+    Contains (take index xs) x ⊎ Contains (drop index xs) x
+inside_parts xs index x inside = Contains-append_cases (take index xs) (drop index xs) x
+    (subst (λ l. Contains l x) (sym (take-append-drop index xs)) inside)
 
-from_insert : {X : Type 0} (xs : List X) (index : ℕ) (y x : X) → Contains (insert xs index y) x → Contains xs x ⊎ (x ≡ y)
+from_insert : {X : Type 0} (xs : List X) (index : ℕ) (y x : X) → Contains (insert xs index y) x →
+    Contains xs x ⊎ (x ≡ y)
 from_insert xs index y x inside =
-    let whole : (z : _) → Contains (take index xs ++ drop index xs) z → Contains xs z = λ z. subst (λ l. Contains l z) (take-append-drop index xs) in
+    let whole : (z : _) → Contains (take index xs ++ drop index xs) z → Contains xs z =
+    λ z. subst (λ l. Contains l z) (take-append-drop index xs) in
     elim (Contains-append_cases (take index xs) (y ∷ drop index xs) x inside) [
       | inl before ↦ inl (whole x (Contains-append_left (take index xs) (drop index xs) x before))
       | inr from ↦ elim (here_or_there y x (drop index xs) from) [
@@ -32,17 +36,20 @@ from_insert xs index y x inside =
       ]
     ]
 
-into_insert : {X : Type 0} (xs : List X) (index : ℕ) (y x : X) → Contains xs x ⊎ (x ≡ y) → Contains (insert xs index y) x
+into_insert : {X : Type 0} (xs : List X) (index : ℕ) (y x : X) → Contains xs x ⊎ (x ≡ y) →
+    Contains (insert xs index y) x
 into_insert xs index y x (inl inside) =
     elim (inside_parts xs index x inside) [
       | inl before ↦ Contains-append_left (take index xs) (y ∷ drop index xs) x before
       | inr behind ↦ Contains-append_right (take index xs) (y ∷ drop index xs) x (there y x (drop index xs) behind)
     ]
 into_insert xs index y x (inr is) =
-    subst (Contains (insert xs index y)) (sym is) (Contains-append_right (take index xs) (y ∷ drop index xs) y (here y (drop index xs)))
+    subst (Contains (insert xs index y)) (sym is)
+    (Contains-append_right (take index xs) (y ∷ drop index xs) y (here y (drop index xs)))
 
 -- an insert adds one item and keeps all others
-pub Contains-insert : {X : Type 0} (xs : List X) (index : ℕ) (y x : X) → Contains (insert xs index y) x ↔ (Contains xs x ⊎ (x ≡ y))
+pub Contains-insert : {X : Type 0} (xs : List X) (index : ℕ) (y x : X) →
+    Contains (insert xs index y) x ↔ (Contains xs x ⊎ (x ≡ y))
 Contains-insert xs index y x = (from_insert xs index y x, into_insert xs index y x)
 
 item_at : {X : Type 0} (xs : List X) (i : ℕ) → i < length xs → (x : X) × (get_or xs i x ≡ x)
@@ -54,14 +61,16 @@ module _ {X : Type 0} (id_of : X → Id) where
   abbrev Below : X → X → Type 0
   Below a b = id_cmp (id_of a) (id_of b) ≡ Less
 
-  not_first_and_later : (x : X) (xs : List X) (a b : X) → IsRisingBy id_of (x ∷ xs) → a ≡ x → Contains xs b → id_of a ≡ id_of b → ⊥
+  not_first_and_later : (x : X) (xs : List X) (a b : X) → IsRisingBy id_of (x ∷ xs) → a ≡ x → Contains xs b →
+      id_of a ≡ id_of b → ⊥
   not_first_and_later x xs a b rising first later same =
       let below : id_cmp (id_of x) (id_of b) ≡ Less = first_below Below x xs b rising.each later in
       let one : id_of x ≡ id_of b = sym (ap id_of first) ∙ same in
       not_below_itself (id_of b) (subst (λ id. id_cmp id (id_of b) ≡ Less) one below)
 
   -- two items with one identifier are one
-  pub one_item : (xs : List X) (a b : X) → IsRisingBy id_of xs → Contains xs a → Contains xs b → id_of a ≡ id_of b → a ≡ b
+  pub one_item : (xs : List X) (a b : X) → IsRisingBy id_of xs → Contains xs a → Contains xs b → id_of a ≡ id_of b →
+      a ≡ b
   one_item [] a b rising has_a has_b same = absurd (not_inside_none a has_a)
   one_item (x ∷ xs) a b rising has_a has_b same =
       elim (here_or_there x a xs has_a) [
@@ -76,38 +85,65 @@ module _ {X : Type 0} (id_of : X → Id) where
       ]
 
   -- two rising lists with the same items are the same list
-  pub same_items : (xs ys : List X) → IsRisingBy id_of xs → IsRisingBy id_of ys → ((x : X) → Contains xs x ↔ Contains ys x) → xs ≡ ys
+  pub same_items : (xs ys : List X) → IsRisingBy id_of xs → IsRisingBy id_of ys →
+      ((x : X) → Contains xs x ↔ Contains ys x) → xs ≡ ys
   same_items xs ys rising_xs rising_ys same =
-      same_rising Below (λ x. not_below_itself (id_of x)) (λ x y z. id_cmp_total.trans (id_of x) (id_of y) (id_of z)) xs ys rising_xs.each rising_ys.each (λ z. (same z).0) (λ z. (same z).1)
+      same_rising Below (λ x. not_below_itself (id_of x))
+      (λ x y z. id_cmp_total.trans (id_of x) (id_of y) (id_of z)) xs ys rising_xs.each rising_ys.each
+      (λ z. (same z).0) (λ z. (same z).1)
 
-  insert_past : (xs : List X) (index : ℕ) (y d : X) → index ≤ length xs → (k : ℕ) → index < k → get_or (insert xs index y) k d ≡ get_or xs (k - 1) d
+  insert_past : (xs : List X) (index : ℕ) (y d : X) → index ≤ length xs → (k : ℕ) → index < k →
+      get_or (insert xs index y) k d ≡ get_or xs (k - 1) d
   insert_past xs index y d fits k past =
       let back : k - 1 + 1 ≡ k = omega arith in
-      subst (λ n. get_or (insert xs index y) n d ≡ get_or xs (k - 1) d) back (get_or-insert_above xs index y d (k - 1) (omega arith) fits)
+      subst (λ n. get_or (insert xs index y) n d ≡ get_or xs (k - 1) d) back
+      (get_or-insert_above xs index y d (k - 1) (omega arith) fits)
 
-  rise_at : (xs : List X) (y : X) (index : ℕ) → IsRisingBy id_of xs → IsPlaceBy id_of xs (id_of y) index → (i j : ℕ) (d : X) → i < j → j < length xs + 1 → id_cmp (id_of (get_or (insert xs index y) i d)) (id_of (get_or (insert xs index y) j d)) ≡ Less
+  rise_at : (xs : List X) (y : X) (index : ℕ) → IsRisingBy id_of xs → IsPlaceBy id_of xs (id_of y) index →
+      (i j : ℕ) (d : X) → i < j → j < length xs + 1 →
+      id_cmp (id_of (get_or (insert xs index y) i d)) (id_of (get_or (insert xs index y) j d)) ≡ Less
   rise_at xs y index rising place i j d before within =
       let fits = place.within in
       let place_i = cases_order i index in
       let place_j = cases_order j index in
-      grind (arith, get_or-insert_below xs index y d, get_or-insert_at xs index y d fits, insert_past xs index y d fits, rising.each i j d, rising.each i (j - 1) d, rising.each (i - 1) (j - 1) d, place.above i d, place.below (j - 1) d)
+      grind (
+        arith,
+        get_or-insert_below xs index y d,
+        get_or-insert_at xs index y d fits,
+        insert_past xs index y d fits,
+        rising.each i j d,
+        rising.each i (j - 1) d,
+        rising.each (i - 1) (j - 1) d,
+        place.above i d,
+        place.below (j - 1) d,
+      )
 
   -- a list with one more item at its place still rises
-  pub IsRisingBy-insert : (xs : List X) (y : X) (index : ℕ) → IsRisingBy id_of xs → IsPlaceBy id_of xs (id_of y) index → IsRisingBy id_of (insert xs index y)
+  pub IsRisingBy-insert : (xs : List X) (y : X) (index : ℕ) → IsRisingBy id_of xs → IsPlaceBy id_of xs (id_of y) index →
+      IsRisingBy id_of (insert xs index y)
   IsRisingBy-insert xs y index rising place =
-      record { each = λ i j d before within. rise_at xs y index rising place i j d before (omega (arith, length-insert xs index y place.within)) }
+      record {
+        each = λ i j d before within. rise_at xs y index rising place i j d before
+            (omega (arith, length-insert xs index y place.within));
+      }
 
   -- what a binary search finds, and where there is no such item
-  pub found_by_search : (xs : List X) (id : Id) (answer : Result ℕ ℕ) → IsSearchInRange answer (length xs) → IsBinarySearchResult (λ x. id_cmp (id_of x) id) xs answer → IfOk answer (λ index. (index < length xs) × HoldsAt (λ x. id_of x ≡ id) xs index)
+  pub found_by_search : (xs : List X) (id : Id) (answer : Result ℕ ℕ) → IsSearchInRange answer (length xs) →
+      IsBinarySearchResult (λ x. id_cmp (id_of x) id) xs answer →
+      IfOk answer (λ index. (index < length xs) × HoldsAt (λ x. id_of x ≡ id) xs index)
   found_by_search xs id (Ok index) within found = (within, λ d. id_cmp-Equal (id_of (get_or xs index d)) id (found d))
   found_by_search xs id (Err index) within found = tt
 
-  answers_rise : (xs : List X) (id : Id) → IsRisingBy id_of xs → IsNonDecreasingBy (λ x. ordering_index (id_cmp (id_of x) id)) xs
+  answers_rise : (xs : List X) (id : Id) → IsRisingBy id_of xs →
+      IsNonDecreasingBy (λ x. ordering_index (id_cmp (id_of x) id)) xs
   answers_rise xs id rising =
       searchable_from_sorted id_cmp_total id_of xs id (λ k d _ more.
-      ap is_lt (id_cmp-flip (id_of (get_or xs k d)) (id_of (get_or xs (k + 1) d)) (rising.each k (k + 1) d (omega arith) more)))
+      ap is_lt (id_cmp-flip (id_of (get_or xs k d)) (id_of (get_or xs (k + 1) d))
+      (rising.each k (k + 1) d (omega arith) more)))
 
-  pub place_by_search : (xs : List X) (id : Id) (answer : Result ℕ ℕ) → IsRisingBy id_of xs → IsSearchInRange answer (length xs) → IsBinarySearchResult (λ x. id_cmp (id_of x) id) xs answer → IfErr answer (IsPlaceBy id_of xs id)
+  pub place_by_search : (xs : List X) (id : Id) (answer : Result ℕ ℕ) → IsRisingBy id_of xs →
+      IsSearchInRange answer (length xs) → IsBinarySearchResult (λ x. id_cmp (id_of x) id) xs answer →
+      IfErr answer (IsPlaceBy id_of xs id)
   place_by_search xs id (Ok index) rising within found = tt
   place_by_search xs id (Err index) rising within found =
       let parts = found (answers_rise xs id rising) in
@@ -118,21 +154,37 @@ module _ {X : Type 0} (id_of : X → Id) where
       }
 
   -- where no item has the identifier, either answer of the search is its place
-  pub place_by_either : (xs : List X) (id : Id) (answer : Result ℕ ℕ) (index : ℕ) → (HoldsBy id_of xs id → ⊥) → IfOk answer (λ i. (i < length xs) × HoldsAt (λ x. id_of x ≡ id) xs i) → IfErr answer (IsPlaceBy id_of xs id) → (answer ≡ Ok index) ⊎ (answer ≡ Err index) → IsPlaceBy id_of xs id index
+  pub place_by_either : (xs : List X) (id : Id) (answer : Result ℕ ℕ) (index : ℕ) → (HoldsBy id_of xs id → ⊥) →
+      IfOk answer (λ i. (i < length xs) × HoldsAt (λ x. id_of x ≡ id) xs i) → IfErr answer (IsPlaceBy id_of xs id) →
+      (answer ≡ Ok index) ⊎ (answer ≡ Err index) → IsPlaceBy id_of xs id index
   place_by_either xs id (Ok i) index none found place is =
       let item = item_at xs i found.0 in
-      absurd (none (record { item = item.0; inside = (i, found.0, item.1); has_id = ap id_of (sym item.1) ∙ found.1 item.0 }))
+      absurd (none (record {
+        item = item.0;
+        inside = (i, found.0, item.1);
+        has_id = ap id_of (sym item.1) ∙ found.1 item.0;
+      }))
   place_by_either xs id (Err i) index none found place (inl is) = cc
-  place_by_either xs id (Err i) index none found place (inr is) = let same : i ≡ index = cc in subst (IsPlaceBy id_of xs id) same place
+  place_by_either xs id (Err i) index none found place (inr is) =
+      let same : i ≡ index = cc in
+      subst (IsPlaceBy id_of xs id) same place
 
-  last_below : (xs : List X) (id : Id) (d : X) → 0 < length xs → (HoldsBy id_of xs id → ⊥) → (order : Ordering) → id_cmp (id_of (get_or xs (length xs - 1) d)) id ≡ order → is_gt order ≡ false → id_cmp (id_of (get_or xs (length xs - 1) d)) id ≡ Less
+  last_below : (xs : List X) (id : Id) (d : X) → 0 < length xs → (HoldsBy id_of xs id → ⊥) → (order : Ordering) →
+      id_cmp (id_of (get_or xs (length xs - 1) d)) id ≡ order → is_gt order ≡ false →
+      id_cmp (id_of (get_or xs (length xs - 1) d)) id ≡ Less
   last_below xs id d some none Less is not_above = is
   last_below xs id d some none Equal is not_above =
       let last : X = get_or xs (length xs - 1) d in
-      absurd (none (record { item = last; inside = Contains-get_or xs (length xs - 1) d (omega arith); has_id = id_cmp-Equal (id_of last) id is }))
+      absurd (none (record {
+        item = last;
+        inside = Contains-get_or xs (length xs - 1) d (omega arith);
+        has_id = id_cmp-Equal (id_of last) id is;
+      }))
   last_below xs id d some none Greater is not_above = cc
 
-  place_at_end : (xs : List X) (id : Id) → IsRisingBy id_of xs → (HoldsBy id_of xs id → ⊥) → ((d : X) → 0 < length xs → is_gt (id_cmp (id_of (get_or xs (length xs - 1) d)) id) ≡ false) → IsPlaceBy id_of xs id (length xs)
+  place_at_end : (xs : List X) (id : Id) → IsRisingBy id_of xs → (HoldsBy id_of xs id → ⊥) →
+      ((d : X) → 0 < length xs → is_gt (id_cmp (id_of (get_or xs (length xs - 1) d)) id) ≡ false) →
+      IsPlaceBy id_of xs id (length xs)
   place_at_end xs id rising none not_above =
       let at_last : (d : X) → 0 < length xs → id_cmp (id_of (get_or xs (length xs - 1) d)) id ≡ Less =
       λ d some. last_below xs id d some none _ refl (not_above d some) in
@@ -140,14 +192,17 @@ module _ {X : Type 0} (id_of : X → Id) where
         within = omega arith;
         above = λ k d _ within. elim (cases_order k (length xs - 1)) [
           | inl is ↦ rw is (at_last d (omega arith))
-          | inr (inl before) ↦ id_cmp_total.trans (id_of (get_or xs k d)) (id_of (get_or xs (length xs - 1) d)) id (rising.each k (length xs - 1) d before (omega arith)) (at_last d (omega arith))
+          | inr (inl before) ↦ id_cmp_total.trans (id_of (get_or xs k d)) (id_of (get_or xs (length xs - 1) d)) id
+              (rising.each k (length xs - 1) d before (omega arith)) (at_last d (omega arith))
           | inr (inr behind) ↦ absurd (omega arith)
         ];
         below = λ k d from to. absurd (omega arith);
       }
 
   -- an identifier that no item has and that isn't below the last one has its place at the end
-  pub place_behind_last : (xs : List X) (id : Id) (end : ℕ) (last : Option X) → IsRisingBy id_of xs → (HoldsBy id_of xs id → ⊥) → end ≡ length xs → slice_get xs (length xs - 1) ≡ last → IfSome last (λ x. is_gt (id_cmp (id_of x) id) ≡ false) → IsPlaceBy id_of xs id end
+  pub place_behind_last : (xs : List X) (id : Id) (end : ℕ) (last : Option X) → IsRisingBy id_of xs →
+      (HoldsBy id_of xs id → ⊥) → end ≡ length xs → slice_get xs (length xs - 1) ≡ last →
+      IfSome last (λ x. is_gt (id_cmp (id_of x) id) ≡ false) → IsPlaceBy id_of xs id end
   place_behind_last xs id end None rising none is_end is_last not_above =
       let empty : length xs ≡ 0 = elim (cases_lt 0 (length xs)) [
         | inl some ↦ cc (is_last, slice_get-get_or xs (length xs - 1) (item_at xs 0 some).0 (omega arith))
@@ -155,7 +210,8 @@ module _ {X : Type 0} (id_of : X → Id) where
       ] in
       rw is_end (place_at_end xs id rising none (λ d some. absurd (omega arith)))
   place_behind_last xs id end (Some x) rising none is_end is_last not_above =
-      rw is_end (place_at_end xs id rising none (λ d some. rw (get_or_from_slice_get xs (length xs - 1) x d is_last) not_above))
+      rw is_end (place_at_end xs id rising none
+      (λ d some. rw (get_or_from_slice_get xs (length xs - 1) x d is_last) not_above))
 
   -- nothing in the list has an identifier that has its place there
   pub none_at_place : (xs : List X) (id : Id) (index : ℕ) → IsPlaceBy id_of xs id index → HoldsBy id_of xs id → ⊥
@@ -163,11 +219,14 @@ module _ {X : Type 0} (id_of : X → Id) where
       let k = held.inside.0 in
       let is : id_of (get_or xs k held.item) ≡ id = ap id_of held.inside.2 ∙ held.has_id in
       elim (cases_lt k index) [
-        | inl before ↦ not_below_itself id (subst (λ z. id_cmp z id ≡ Less) is (place.above k held.item (omega arith) before))
-        | inr from ↦ not_below_itself id (subst (λ z. id_cmp id z ≡ Less) is (place.below k held.item from held.inside.1))
+        | inl before ↦ not_below_itself id
+            (subst (λ z. id_cmp z id ≡ Less) is (place.above k held.item (omega arith) before))
+        | inr from ↦ not_below_itself id
+            (subst (λ z. id_cmp id z ≡ Less) is (place.below k held.item from held.inside.1))
       ]
 
-  held_with : (x : X) (xs : List X) (id : Id) → id_of x ≢ id → (found : Option X) × HoldsUnderBy id_of xs id found → (found : Option X) × HoldsUnderBy id_of (x ∷ xs) id found
+  held_with : (x : X) (xs : List X) (id : Id) → id_of x ≢ id → (found : Option X) × HoldsUnderBy id_of xs id found →
+      (found : Option X) × HoldsUnderBy id_of (x ∷ xs) id found
   held_with x xs id other (None, none) = (
     None,
     λ held. elim (here_or_there x held.item xs held.inside) [
@@ -186,8 +245,12 @@ module _ {X : Type 0} (id_of : X → Id) where
         | inr other ↦ held_with x xs id other (held_or_not xs id)
       ]
 
-  pub one_held : (xs : List X) (id : Id) (a b : Option X) → IsRisingBy id_of xs → HoldsUnderBy id_of xs id a → HoldsUnderBy id_of xs id b → a ≡ b
+  pub one_held : (xs : List X) (id : Id) (a b : Option X) → IsRisingBy id_of xs → HoldsUnderBy id_of xs id a →
+      HoldsUnderBy id_of xs id b → a ≡ b
   one_held xs id None None rising held_a held_b = refl
-  one_held xs id None (Some b) rising held_a held_b = absurd (held_a (record { item = b; inside = held_b.0; has_id = held_b.1 }))
-  one_held xs id (Some a) None rising held_a held_b = absurd (held_b (record { item = a; inside = held_a.0; has_id = held_a.1 }))
-  one_held xs id (Some a) (Some b) rising held_a held_b = ap Some (one_item xs a b rising held_a.0 held_b.0 (held_a.1 ∙ sym held_b.1))
+  one_held xs id None (Some b) rising held_a held_b =
+      absurd (held_a (record { item = b; inside = held_b.0; has_id = held_b.1 }))
+  one_held xs id (Some a) None rising held_a held_b =
+      absurd (held_b (record { item = a; inside = held_a.0; has_id = held_a.1 }))
+  one_held xs id (Some a) (Some b) rising held_a held_b =
+      ap Some (one_item xs a b rising held_a.0 held_b.0 (held_a.1 ∙ sym held_b.1))

@@ -1,5 +1,5 @@
 use ficus_ids::{Marks, Members, Name, NameFault, read_number};
-use ficus_path::{PathFault, read_path, write_path};
+use ficus_path::{PathFault, TextFault, append_text, read_path, read_text, write_path};
 use std::test::Fail;
 
 #[test]
@@ -144,4 +144,47 @@ fn paths_are_written_as_they_were_read(rt: HostRuntime) -> Result<(), Fail> {
         assert_eq!(rt; write_path(rt.alloc(), &copy)?.as_slice(), text.as_bytes());
     }
     Ok(())
+}
+
+#[test]
+fn every_byte_of_a_text_is_read_as_it_was_written(rt: HostRuntime) -> Result<(), Fail> {
+    for byte in 0..=255u8 {
+        let mut spelling = Vec::new(rt.alloc());
+        append_text(&mut spelling, &[byte, b'a', byte])?;
+        let text = read_text(rt.alloc(), &spelling)?;
+        assert_eq!(rt; text.as_slice(), [byte, b'a', byte].as_slice(), "{byte}");
+    }
+    for (text, spelling) in [
+        (b"".as_slice(), b"\"\"".as_slice()),
+        (b" \"\\\n", b"\" \\\"\\\\\\n\""),
+        (b"a/#\0\x1f!", b"\"a/#\\x00\\x1f!\""),
+        (b"~\x7f\x80\xff", b"\"~\\x7f\x80\xff\""),
+    ] {
+        let mut found = Vec::new(rt.alloc());
+        append_text(&mut found, text)?;
+        assert_eq!(rt; found.as_slice(), spelling, "{text:?}");
+    }
+    Ok(())
+}
+
+#[test]
+fn bytes_are_a_text_or_are_refused_as_none(rt: HostRuntime) {
+    for (bytes, fault) in [
+        (b"\"\"".as_slice(), None),
+        (b"", Some(TextFault::NotText)),
+        (b"\"", Some(TextFault::NotText)),
+        (b"a", Some(TextFault::NotText)),
+        (b"\"a", Some(TextFault::NotText)),
+        (b"a\"", Some(TextFault::NotText)),
+        (b"\"\"\"", Some(TextFault::NotText)),
+        (b"\"\\\"", Some(TextFault::NotText)),
+        (b"\"\\x20\"", Some(TextFault::NotText)),
+        (b"\"\\x22\"", Some(TextFault::NotText)),
+        (b"\"\\x0A\"", Some(TextFault::NotText)),
+        (b"\"\n\"", Some(TextFault::NotText)),
+        (b"\"\\t\"", Some(TextFault::NotText)),
+        (b"\"\" ", Some(TextFault::NotText)),
+    ] {
+        assert_eq!(rt; read_text(rt.alloc(), bytes).err(), fault, "{bytes:?}");
+    }
 }

@@ -81,7 +81,8 @@ module _ (H : List Event) (replica served server : ℕ) (by_server : IsOf H serv
   pub accept_brings : {position : ℕ} → Knows (through served H) server position → Knows after replica position
   accept_brings k = knows_heard replica (knows_seen by_server k)
 
-  within_served : UpdatesWithin (through served H) (Knows (through served H) server) H (Joined (Knows H replica) (HasSeen H served))
+  within_served : UpdatesWithin (through served H) (Knows (through served H) server) H
+      (Joined (Knows H replica) (HasSeen H served))
   within_served = within_chain (same_seen H served server by_server).back within_joined_right
 
   within_after : UpdatesWithin (through served H) (Knows (through served H) server) after (Knows after replica)

@@ -8,7 +8,8 @@ use Rattle.ficus_model.specs.Events.{IsAt, before, through}
 use Rattle.ficus_laws.proofs.Positions.{through_is}
 
 module _ (test : Event → Bool) where
-  counted_push : (H : List Event) (event : Event) → count_by test (H ++ event ∷ []) ≡ count_by test H + cond (test event) 1 0
+  counted_push : (H : List Event) (event : Event) →
+      count_by test (H ++ event ∷ []) ≡ count_by test H + cond (test event) 1 0
   counted_push H event = sum_by_push (λ x. cond (test x) 1 0) H event
 
   pub counted_one : (H : List Event) (event : Event) → test event ≡ true →

@@ -24,7 +24,8 @@ within_more H T replica =
 pub has_cases : {H : List Event} {replica : ℕ} {number : Id} {op : Op} (event : Event) →
     HasUpdate (H ++ event ∷ []) (Knows (H ++ event ∷ []) replica) number op →
     HasUpdate H (Knows H replica) number op ⊎
-    ((actor event ≡ replica) × (((event ≡ Update replica op) × (number ≡ next_number replica H)) ⊎ HasUpdate H (IsTold H event) number op))
+    ((actor event ≡ replica) ×
+    (((event ≡ Update replica op) × (number ≡ next_number replica H)) ⊎ HasUpdate H (IsTold H event) number op))
 has_cases {H} {replica} {number} {op} event u = go (update_cases event u.update) (knows_cases event u.known)
   where
     last : (number.replica ≡ replica) → event ≡ Update number.replica op → number ≡ next_number number.replica H →
@@ -35,7 +36,8 @@ has_cases {H} {replica} {number} {op} event u = go (update_cases event u.update)
         ((u.position ≡ length H) × (event ≡ Update number.replica op) × (number ≡ next_number number.replica H)) →
         IsKnownAfter H event replica u.position →
         HasUpdate H (Knows H replica) number op ⊎
-        ((actor event ≡ replica) × (((event ≡ Update replica op) × (number ≡ next_number replica H)) ⊎ HasUpdate H (IsTold H event) number op))
+        ((actor event ≡ replica) ×
+        (((event ≡ Update replica op) × (number ≡ next_number replica H)) ⊎ HasUpdate H (IsTold H event) number op))
     go (inl was) (inl known) = inl (record { position = u.position; known = known; update = was })
     go (inl was) (inr (of, inl end)) = absurd (omega (arith, update_within was))
     go (inl was) (inr (of, inr told)) = inr (of, inr (record { position = u.position; known = told; update = was }))
@@ -52,7 +54,8 @@ same_of_other H event replica other = record {
   where
     go : (number : Id) (op : Op) →
         HasUpdate H (Knows H replica) number op ⊎
-        ((actor event ≡ replica) × (((event ≡ Update replica op) × (number ≡ next_number replica H)) ⊎ HasUpdate H (IsTold H event) number op)) →
+        ((actor event ≡ replica) ×
+        (((event ≡ Update replica op) × (number ≡ next_number replica H)) ⊎ HasUpdate H (IsTold H event) number op)) →
         HasUpdate H (Knows H replica) number op
     go number op (inl was) = was
     go number op (inr (of, rest)) = absurd (other of)
@@ -75,7 +78,8 @@ same_quiet H event replica quiet = record {
   where
     go : (number : Id) (op : Op) →
         HasUpdate H (Knows H replica) number op ⊎
-        ((actor event ≡ replica) × (((event ≡ Update replica op) × (number ≡ next_number replica H)) ⊎ HasUpdate H (IsTold H event) number op)) →
+        ((actor event ≡ replica) ×
+        (((event ≡ Update replica op) × (number ≡ next_number replica H)) ⊎ HasUpdate H (IsTold H event) number op)) →
         HasUpdate H (Knows H replica) number op
     go number op (inl was) = was
     go number op (inr (of, inl (is, next))) = absurd (subst IsQuiet is quiet)
@@ -102,7 +106,8 @@ has_after_update {H} {replica} {number} {op} done u = go (has_cases (Update repl
 
 -- an Accept adds the updates that the event which it takes has seen
 pub same_accept : (H : List Event) (replica served : ℕ) →
-    SameUpdates H (Joined (Knows H replica) (HasSeen H served)) (H ++ Accept replica served ∷ []) (Knows (H ++ Accept replica served ∷ []) replica)
+    SameUpdates H (Joined (Knows H replica) (HasSeen H served))
+    (H ++ Accept replica served ∷ []) (Knows (H ++ Accept replica served ∷ []) replica)
 same_accept H replica served = record {
   there = record { has = λ number op u. joined (has_either u) };
   back = record { has = λ number op u. go number op (has_cases (Accept replica served) u) };
@@ -121,7 +126,8 @@ same_accept H replica served = record {
 
     go : (number : Id) (op : Op) →
         HasUpdate H (Knows H replica) number op ⊎
-        ((replica ≡ replica) × (((event ≡ Update replica op) × (number ≡ next_number replica H)) ⊎ HasUpdate H (IsTold H event) number op)) →
+        ((replica ≡ replica) ×
+        (((event ≡ Update replica op) × (number ≡ next_number replica H)) ⊎ HasUpdate H (IsTold H event) number op)) →
         HasUpdate H (Joined (Knows H replica) (HasSeen H served)) number op
     go number op (inl u) = record { position = u.position; known = inl u.known; update = u.update }
     go number op (inr (of, inl (is, next))) = (let clash : Accept replica served ≡ Update replica op = is in cc)

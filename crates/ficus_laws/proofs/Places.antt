@@ -14,7 +14,7 @@ use Rattle.ficus_model.specs.declared.event.Op.TheVariants.{Make, Link, Remove, 
 use Rattle.ficus_model.specs.Events.{IsOf, before}
 use Rattle.ficus_model.specs.Known.{HasSeen, Knows}
 use Rattle.ficus_model.specs.Known.HasSeen.{Earlier}
-use Rattle.ficus_model.specs.Live.{Entry, entry_of, entered_by, removed_by, IsEntered, IsLive, IsMade, IsDirectory}
+use Rattle.ficus_model.specs.Live.{Entry, entry_of, entered_by, removed_by, IsEntered, IsRemoved, IsLive, IsMade, IsDirectory}
 use Rattle.ficus_model.specs.View.{IsFilled, HasUnseen, IsOrphan}
 use Rattle.ficus_model.specs.Lawful.{Volume, AreNames, IsAllowed, MayUpdate, IsLawful}
 use Rattle.ficus_laws.specs.Updates.{HasUpdate, UpdatesWithin}
@@ -52,9 +52,10 @@ orphan_made {H} {U} {object} orphan = go orphan.kept
     go (inl filled) = (Dir, filled.made)
     go (inr unseen) = (unseen.is_file.kind, unseen.is_file.made)
 
--- an entry lies in a directory, or it is removed by the update that enters it
+-- an entry lies in a directory, or in the attic and is removed by the update that enters it
 entered_place : (H : List Event) (U : ℕ → Type 0) (number : Id) (op : Op) (entry : Entry) → IsAllowed H U op →
-    entered_by number op ≡ Some entry → IsDirectory H U entry.dir ⊎ Contains (removed_by number op) number
+    entered_by number op ≡ Some entry →
+    IsDirectory H U entry.dir ⊎ ((entry.dir ≡ ATTIC) × Contains (removed_by number op) number)
 entered_place H U number (Make dir name kind) entry place enters =
     inl (subst (λ found. IsDirectory H U found.dir) (same_Some (entry_of number dir name number) entry enters) place.parent.directory)
 entered_place H U number (Link dir name target) entry may enters =
@@ -67,17 +68,17 @@ entered_place H U number (Settle file bytes) entry may enters = absurd (enters_n
 entered_place H U number (Resolve file bytes) entry may enters = absurd (enters_none entry enters)
 entered_place H U number (Adopt file dir name) entry may enters =
     inl (subst (λ found. IsDirectory H U found.dir) (same_Some (entry_of number dir name file) entry enters) may.place.parent.directory)
-entered_place H U number (Discard file) entry may enters = inr (here number [])
+entered_place H U number (Discard file) entry may enters =
+    let same = same_Some (entry_of number ATTIC (codes "discarded") file) entry enters in
+    inr (subst (λ found. found.dir ≡ ATTIC) same refl, here number [])
 
--- in a lawful history each live entry lies in a directory
-pub live_in_directory : (volume : Volume) (H : List Event) {replica : ℕ} {entry : Entry} → IsLawful volume H →
-    IsLive H (Knows H replica) entry → IsDirectory H (Knows H replica) entry.dir
-live_in_directory volume H {replica} {entry} lawful live =
+-- in a lawful history each entry lies in a directory, or in the attic and is removed
+pub entered_in_place : (volume : Volume) (H : List Event) {replica : ℕ} {entry : Entry} → IsLawful volume H →
+    IsEntered H (Knows H replica) entry →
+    IsDirectory H (Knows H replica) entry.dir ⊎ ((entry.dir ≡ ATTIC) × IsRemoved H (Knows H replica) entry.id)
+entered_in_place volume H {replica} {entry} lawful e =
     go (entered_place earlier (Knows earlier by) entry.id e.op entry may.allowed e.enters)
   where
-    e : IsEntered H (Knows H replica) entry
-    e = live.entered
-
     by : ℕ
     by = entry.id.replica
 
@@ -87,10 +88,21 @@ live_in_directory volume H {replica} {entry} lawful live =
     may : MayUpdate volume earlier by e.op
     may = lawful.each e.position (Update by e.op) e.update.at
 
-    go : IsDirectory earlier (Knows earlier by) entry.dir ⊎ Contains (removed_by entry.id e.op) entry.id →
+    go : IsDirectory earlier (Knows earlier by) entry.dir ⊎
+        ((entry.dir ≡ ATTIC) × Contains (removed_by entry.id e.op) entry.id) →
+        IsDirectory H (Knows H replica) entry.dir ⊎ ((entry.dir ≡ ATTIC) × IsRemoved H (Knows H replica) entry.id)
+    go (inl directory) = inl (directory_within (within_past (of_at e.update.at) e.known) directory)
+    go (inr (attic, removes)) = inr (attic, removed_from entry.id (entered_has e) removes)
+
+-- so each live entry lies in a directory
+pub live_in_directory : (volume : Volume) (H : List Event) {replica : ℕ} {entry : Entry} → IsLawful volume H →
+    IsLive H (Knows H replica) entry → IsDirectory H (Knows H replica) entry.dir
+live_in_directory volume H {replica} {entry} lawful live = go (entered_in_place volume H lawful live.entered)
+  where
+    go : IsDirectory H (Knows H replica) entry.dir ⊎ ((entry.dir ≡ ATTIC) × IsRemoved H (Knows H replica) entry.id) →
         IsDirectory H (Knows H replica) entry.dir
-    go (inl directory) = directory_within (within_past (of_at e.update.at) e.known) directory
-    go (inr removes) = absurd (live.not_removed (removed_from entry.id (entered_has e) removes))
+    go (inl directory) = directory
+    go (inr (attic, removed)) = absurd (live.not_removed removed)
 
 -- In each of these an operation is done where less is known, by a replica that knows what the names lead to.
 module _ {H K : List Event} {U V : ℕ → Type 0} (more : UpdatesWithin K V H U)

@@ -87,7 +87,8 @@ module _ (H : List Event) (replica server : ℕ) where
   update_pulled {position} {number} {op} u = first (update_cases (Accept replica (length H + 1)) u)
     where
       third : IsUpdate H position number op ⊎
-          ((position ≡ length H) × (Ask replica server ≡ Update number.replica op) × (number ≡ next_number number.replica H)) →
+          ((position ≡ length H) × (Ask replica server ≡ Update number.replica op) ×
+          (number ≡ next_number number.replica H)) →
           IsUpdate H position number op
       third (inl was) = was
       third (inr (end, is, next)) = cc
@@ -131,7 +132,8 @@ module _ (H : List Event) (replica server : ℕ) where
   knows_pulled {position} k h = go (knows_accept (length H + 1) k)
     where
       go : Knows (answered H replica server) replica position ⊎
-          ((position ≡ length (answered H replica server)) ⊎ HasSeen (answered H replica server) (length H + 1) position) →
+          ((position ≡ length (answered H replica server)) ⊎
+          HasSeen (answered H replica server) (length H + 1) position) →
           Knows H replica position ⊎ Knows H server position
       go (inl own) = inl (knows_answered own h)
       go (inr (inl end)) = absurd (omega (arith, length_answered))
@@ -149,7 +151,8 @@ module _ (H : List Event) (replica server : ℕ) where
       update_more (Accept replica (length H + 1) ∷ []) (update_more (Serve server (length H) ∷ []) (update_more (Ask replica server ∷ []) u))
 
   -- after a pull the replica knows the updates that it or the server knew, and the others know those that they knew
-  pub same_pulled : SameUpdates H (Joined (Knows H replica) (Knows H server)) (pulled H replica server) (Knows (pulled H replica server) replica)
+  pub same_pulled : SameUpdates H (Joined (Knows H replica) (Knows H server))
+      (pulled H replica server) (Knows (pulled H replica server) replica)
   same_pulled = record {
     there = record { has = λ number op u. record { position = u.position; known = known u.known; update = update_kept u.update } };
     back = record { has = λ number op u. back u };
@@ -206,7 +209,8 @@ module _ (H : List Event) (replica server : ℕ) where
   pub answered_is : answered H replica server ≡ H ++ Ask replica server ∷ Serve server (length H) ∷ []
   answered_is = append_assoc H (Ask replica server ∷ []) (Serve server (length H) ∷ [])
 
-  pub pulled_is : pulled H replica server ≡ H ++ Ask replica server ∷ Serve server (length H) ∷ Accept replica (length H + 1) ∷ []
+  pub pulled_is : pulled H replica server ≡
+      H ++ Ask replica server ∷ Serve server (length H) ∷ Accept replica (length H + 1) ∷ []
   pulled_is =
       ap (λ K. K ++ Accept replica (length H + 1) ∷ []) answered_is
       ∙ append_assoc H (Ask replica server ∷ Serve server (length H) ∷ []) (Accept replica (length H + 1) ∷ [])

@@ -92,7 +92,8 @@ kept_known H event replica kept = record {
     untold quiet u (inr end) = absurd (quiet_no_update quiet end (update_cases event u))
 
     was : {position : ℕ} {number : Id} {op : Op} → (actor event ≢ replica) ⊎ IsQuiet event →
-        IsUpdate (H ++ event ∷ []) position number op → Knows (H ++ event ∷ []) replica position → Knows H replica position
+        IsUpdate (H ++ event ∷ []) position number op → Knows (H ++ event ∷ []) replica position →
+        Knows H replica position
     was (inl other) u k = knows_of_other event other k
     was (inr quiet) u k = untold quiet u (knows_untold event (λ served takes. quiet_takes event served quiet takes) k)
 

@@ -5,7 +5,8 @@ use Rattle.ficus_model.specs.declared.event.Event.TheVariants.{Ask, Serve, Accep
 use Rattle.ficus_model.specs.Live.{Entry, IsEntered, IsRemoved}
 
 -- entered in one of the two, and removed in neither
-pub record IsLiveJoined (H : List Event) (U : ℕ → Type 0) (K : List Event) (V : ℕ → Type 0) (entry : Entry) : Type 0 where
+pub record IsLiveJoined (H : List Event) (U : ℕ → Type 0) (K : List Event) (V : ℕ → Type 0) (entry : Entry) :
+    Type 0 where
   pub entered : IsEntered H U entry ⊎ IsEntered K V entry
   pub kept : IsRemoved H U entry.id → ⊥
   pub kept_there : IsRemoved K V entry.id → ⊥

@@ -23,11 +23,14 @@ apart dir other differs Less is = refl
 apart dir other differs Equal is = absurd (differs (sym (id_cmp-Equal dir other is)))
 apart dir other differs Greater is = refl
 
-pub items_or : (found : Option (Vec Binding Global)) (empty : Vec Binding Global) → empty.items ≡ [] → (unwrap_or found empty).items ≡ items_of found
+pub items_or : (found : Option (Vec Binding Global)) (empty : Vec Binding Global) → empty.items ≡ [] →
+    (unwrap_or found empty).items ≡ items_of found
 items_or None empty none = none
 items_or (Some bindings) empty none = refl
 
-module _ (old between new : BTreeMap Id (Vec Binding Global)) (dir : Id) (bindings : Vec Binding Global) (taken : UpdatesBy id_cmp (id_cmp dir) old between None) (put : Updates id_cmp between new dir (Some bindings)) where
+module _ (old between new : BTreeMap Id (Vec Binding Global)) (dir : Id) (bindings : Vec Binding Global)
+    (taken : UpdatesBy id_cmp (id_cmp dir) old between None)
+    (put : Updates id_cmp between new dir (Some bindings)) where
   pub put_here : items_of (get id_cmp new dir) ≡ bindings.items
   put_here = ap items_of put.1
 
@@ -38,15 +41,24 @@ module _ (old between new : BTreeMap Id (Vec Binding Global)) (dir : Id) (bindin
 
 -- the names of each directory are those that the entries in front of the place have in it
 abbrev pub AreBindings : Directories → List Entry → ℕ → Type 0
-AreBindings directories entries index = (dir target : Id) (name : List ℕ) → Binds (bindings_of directories dir) name target ↔ BindsIn (take index entries) dir name target
+AreBindings directories entries index =
+    (dir target : Id) (name : List ℕ) →
+    Binds (bindings_of directories dir) name target ↔ BindsIn (take index entries) dir name target
 
 module _ (entries : List Entry) (index : ℕ) (entry : Entry) (at : slice_get entries index ≡ Some entry) where
   -- one more name in the directory of a live entry
-  pub directories_push : (old new : Directories) → entry.state ≡ Live → bindings_of new entry.dir ≡ bindings_of old entry.dir ++ record { name = entry.name; target = entry.target } ∷ [] → ((other : Id) → other ≢ entry.dir → bindings_of new other ≡ bindings_of old other) → AreBindings old entries index → AreBindings new entries (index + 1)
+  pub directories_push : (old new : Directories) → entry.state ≡ Live →
+      bindings_of new entry.dir ≡
+      bindings_of old entry.dir ++ record { name = entry.name; target = entry.target } ∷ [] →
+      ((other : Id) → other ≢ entry.dir → bindings_of new other ≡ bindings_of old other) →
+      AreBindings old entries index → AreBindings new entries (index + 1)
   directories_push old new live here others are dir target name =
       elim (same_id_or_not dir entry.dir) [
         | inl same ↦
-            let now : bindings_of new dir ≡ bindings_of old dir ++ record { name = entry.name; target = entry.target } ∷ [] = subst (λ d. bindings_of new d ≡ bindings_of old d ++ record { name = entry.name; target = entry.target } ∷ []) (sym same) here in
+            let now : bindings_of new dir ≡
+            bindings_of old dir ++ record { name = entry.name; target = entry.target } ∷ [] =
+            subst (λ d. bindings_of new d ≡
+            bindings_of old d ++ record { name = entry.name; target = entry.target } ∷ []) (sym same) here in
             subst (λ bindings. Binds bindings name target ↔ BindsIn (take (index + 1) entries) dir name target) (sym now)
             (bindings_push entries index entry at (bindings_of old dir) dir live (sym same) (λ n t. are dir t n) name target)
         | inr differs ↦
@@ -55,6 +67,7 @@ module _ (entries : List Entry) (index : ℕ) (entry : Entry) (at : slice_get en
       ]
 
   -- a dead entry adds none
-  pub directories_stay : (directories : Directories) → (entry.state ≡ Live → ⊥) → AreBindings directories entries index → AreBindings directories entries (index + 1)
+  pub directories_stay : (directories : Directories) → (entry.state ≡ Live → ⊥) →
+      AreBindings directories entries index → AreBindings directories entries (index + 1)
   directories_stay directories dead are dir target name =
       bindings_stay entries index entry at (bindings_of directories dir) dir (λ own. dead own.0) (λ n t. are dir t n) name target

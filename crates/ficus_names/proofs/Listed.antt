@@ -34,15 +34,21 @@ module _ (items : List ShownName) where
         leads = ap (λ b. b.target) is;
       }
 
-  rises : IsStrictlySortedBy binding_cmp (map binding_of items) → (one other : ℕ) (d : ShownName) → one < other → other < length items → shown_cmp (get_or items one d) (get_or items other d) ≡ Less
+  rises : IsStrictlySortedBy binding_cmp (map binding_of items) → (one other : ℕ) (d : ShownName) →
+      one < other → other < length items → shown_cmp (get_or items one d) (get_or items other d) ≡ Less
   rises rising one other d before within =
       let less = Less-from_sorted binding_cmp (map binding_of items) one other (binding_of d) rising before (omega (arith, length-map items binding_of)) in
       rw (get_or-map binding_of items one d, get_or-map binding_of items other d) at less
 
-  listing_of : IsStrictlySortedBy binding_cmp (map binding_of items) → All (λ item. IsShownAs (Binds (map binding_of items)) item.name item.target item.suffixed) items → IsListing (Binds (map binding_of items)) items
+  listing_of : IsStrictlySortedBy binding_cmp (map binding_of items) →
+      All (λ item. IsShownAs (Binds (map binding_of items)) item.name item.target item.suffixed) items →
+      IsListing (Binds (map binding_of items)) items
   listing_of rising right = record { shown = right; complete = shows; rising = rises rising }
 
-pub listing : (bindings : List Binding) (items : List ShownName) → map binding_of items ≡ bindings → IsStrictlySortedBy binding_cmp bindings → All (λ item. IsShownAs (Binds bindings) item.name item.target item.suffixed) items → IsListing (Binds bindings) items
+pub listing : (bindings : List Binding) (items : List ShownName) → map binding_of items ≡ bindings →
+    IsStrictlySortedBy binding_cmp bindings →
+    All (λ item. IsShownAs (Binds bindings) item.name item.target item.suffixed) items →
+    IsListing (Binds bindings) items
 listing bindings items same rising right =
     let IsAll : List Binding → Type 0 = λ bs. All (λ item. IsShownAs (Binds bs) item.name item.target item.suffixed) items in
     subst (λ bs. IsListing (Binds bs) items) same (listing_of items (subst (IsStrictlySortedBy binding_cmp) (sym same) rising) (subst IsAll (sym same) right))
@@ -55,11 +61,15 @@ pub record IsListedUpTo (bindings : List Binding) (index : ℕ) (items : List Sh
 pub listed_none : (bindings : List Binding) → IsListedUpTo bindings 0 []
 listed_none bindings = record { same = refl; right = All-nil (λ item. IsShownAs (Binds bindings) item.name item.target item.suffixed) }
 
-pub listed_more : (bindings : List Binding) (index : ℕ) (items : List ShownName) (item : ShownName) → slice_get bindings index ≡ Some (binding_of item) → (IsTrue item.suffixed ↔ HasOther (Binds bindings) item.name item.target) → IsListedUpTo bindings index items → IsListedUpTo bindings (index + 1) (items ++ item ∷ [])
+pub listed_more : (bindings : List Binding) (index : ℕ) (items : List ShownName) (item : ShownName) →
+    slice_get bindings index ≡ Some (binding_of item) →
+    (IsTrue item.suffixed ↔ HasOther (Binds bindings) item.name item.target) → IsListedUpTo bindings index items →
+    IsListedUpTo bindings (index + 1) (items ++ item ∷ [])
 listed_more bindings index items item at several listed =
     let within = slice_get_within bindings index (binding_of item) at in
     let here = get_or_from_slice_get bindings index (binding_of item) (binding_of item) at in
-    let taken : take (index + 1) bindings ≡ take index bindings ++ binding_of item ∷ [] = take_more bindings index (binding_of item) within ∙ ap (λ b. take index bindings ++ b ∷ []) here in
+    let taken : take (index + 1) bindings ≡ take index bindings ++ binding_of item ∷ [] =
+    take_more bindings index (binding_of item) within ∙ ap (λ b. take index bindings ++ b ∷ []) here in
     let shown : IsShownAs (Binds bindings) item.name item.target item.suffixed = record { bound = (index, within, here); several = several } in
     record {
       same = map-append binding_of items (item ∷ []) ∙ ap (λ bs. bs ++ binding_of item ∷ []) listed.same ∙ sym taken;

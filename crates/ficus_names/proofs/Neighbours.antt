@@ -15,58 +15,79 @@ use Rattle.ficus_names.specs.Binding.{Binds, binding_cmp}
 use Rattle.ficus_names.specs.declared.binding.Binding.{Binding}
 
 -- a binding of the list, whose fields are known by equations
-binds_at : (bindings : List Binding) (index : ℕ) (d : Binding) → index < length bindings → (name : List ℕ) → (get_or bindings index d).name ≡ name → Binds bindings name (get_or bindings index d).target
+binds_at : (bindings : List Binding) (index : ℕ) (d : Binding) → index < length bindings → (name : List ℕ) →
+    (get_or bindings index d).name ≡ name → Binds bindings name (get_or bindings index d).target
 binds_at bindings index d within name same =
     let here = Contains-get_or bindings index d within in
     subst (λ n. Binds bindings n (get_or bindings index d).target) same here
 
 -- a neighbour of the binding x at the index has the name of x
 abbrev pub NeighbourHasName : List Binding → ℕ → Binding → Type 0
-NeighbourHasName bindings index x = ((0 < index) × ((get_or bindings (index - 1) x).name ≡ x.name)) ⊎ ((index + 1 < length bindings) × ((get_or bindings (index + 1) x).name ≡ x.name))
+NeighbourHasName bindings index x = ((0 < index) × ((get_or bindings (index - 1) x).name ≡ x.name)) ⊎
+    ((index + 1 < length bindings) × ((get_or bindings (index + 1) x).name ≡ x.name))
 
 module _ (bindings : List Binding) (rising : IsStrictlySortedBy binding_cmp bindings) where
   -- two places with one name lead to different objects
-  targets_differ : (one other : ℕ) (d : Binding) → one < other → other < length bindings → (get_or bindings one d).name ≡ (get_or bindings other d).name → (get_or bindings one d).target ≡ (get_or bindings other d).target → ⊥
+  targets_differ : (one other : ℕ) (d : Binding) → one < other → other < length bindings →
+      (get_or bindings one d).name ≡ (get_or bindings other d).name →
+      (get_or bindings one d).target ≡ (get_or bindings other d).target → ⊥
   targets_differ one other d before within name target =
       let same : get_or bindings one d ≡ get_or bindings other d = λ i. record { name = name i; target = target i } in
       let less = Less-from_sorted binding_cmp bindings one other d rising before within in
-      let tie : binding_cmp (get_or bindings one d) (get_or bindings other d) ≡ Equal = ap (binding_cmp (get_or bindings one d)) (sym same) ∙ tied_itself binding_cmp_total (get_or bindings one d) in
+      let tie : binding_cmp (get_or bindings one d) (get_or bindings other d) ≡ Equal =
+      ap (binding_cmp (get_or bindings one d)) (sym same) ∙ tied_itself binding_cmp_total (get_or bindings one d) in
       cc (less, tie)
 
-  pub shared_by_next : (index : ℕ) (d : Binding) → index + 1 < length bindings → (get_or bindings (index + 1) d).name ≡ (get_or bindings index d).name → HasOther (Binds bindings) (get_or bindings index d).name (get_or bindings index d).target
+  pub shared_by_next : (index : ℕ) (d : Binding) → index + 1 < length bindings →
+      (get_or bindings (index + 1) d).name ≡ (get_or bindings index d).name →
+      HasOther (Binds bindings) (get_or bindings index d).name (get_or bindings index d).target
   shared_by_next index d within same = record {
     other = (get_or bindings (index + 1) d).target;
     bound = binds_at bindings (index + 1) d within _ same;
     differs = λ equal. targets_differ index (index + 1) d (omega arith) within (sym same) (sym equal);
   }
 
-  pub shared_by_previous : (index : ℕ) (d : Binding) → 0 < index → index < length bindings → (get_or bindings (index - 1) d).name ≡ (get_or bindings index d).name → HasOther (Binds bindings) (get_or bindings index d).name (get_or bindings index d).target
+  pub shared_by_previous : (index : ℕ) (d : Binding) → 0 < index → index < length bindings →
+      (get_or bindings (index - 1) d).name ≡ (get_or bindings index d).name →
+      HasOther (Binds bindings) (get_or bindings index d).name (get_or bindings index d).target
   shared_by_previous index d positive within same = record {
     other = (get_or bindings (index - 1) d).target;
     bound = binds_at bindings (index - 1) d (omega arith) _ same;
     differs = λ equal. targets_differ (index - 1) index d (omega arith) within same equal;
   }
 
-  below : (one other : ℕ) (d : Binding) → one < other → other < length bindings → binding_cmp (get_or bindings one d) (get_or bindings other d) ≡ Less
+  below : (one other : ℕ) (d : Binding) → one < other → other < length bindings →
+      binding_cmp (get_or bindings one d) (get_or bindings other d) ≡ Less
   below one other d before within = Less-from_sorted binding_cmp bindings one other d rising before within
 
   -- the next binding has the name that a later one has
-  next_has_name : (index later : ℕ) (d : Binding) → index < later → later < length bindings → (get_or bindings later d).name ≡ (get_or bindings index d).name → (get_or bindings (index + 1) d).name ≡ (get_or bindings index d).name
+  next_has_name : (index later : ℕ) (d : Binding) → index < later → later < length bindings →
+      (get_or bindings later d).name ≡ (get_or bindings index d).name →
+      (get_or bindings (index + 1) d).name ≡ (get_or bindings index d).name
   next_has_name index later d before within same =
       elim (cases_lt (index + 1) later) as (λ _. (get_or bindings (index + 1) d).name ≡ (get_or bindings index d).name) [
-        | inl gap ↦ same_name_between (get_or bindings index d) (get_or bindings (index + 1) d) (get_or bindings later d) (below index (index + 1) d (omega arith) (omega arith)) (below (index + 1) later d gap within) (sym same)
+        | inl gap ↦ same_name_between (get_or bindings index d) (get_or bindings (index + 1) d)
+            (get_or bindings later d) (below index (index + 1) d (omega arith) (omega arith))
+            (below (index + 1) later d gap within) (sym same)
         | inr beside ↦ let here : later ≡ index + 1 = omega arith in subst (λ k. (get_or bindings k d).name ≡ (get_or bindings index d).name) here same
       ]
 
-  previous_has_name : (index earlier : ℕ) (d : Binding) → earlier < index → index < length bindings → (get_or bindings earlier d).name ≡ (get_or bindings index d).name → (get_or bindings (index - 1) d).name ≡ (get_or bindings index d).name
+  previous_has_name : (index earlier : ℕ) (d : Binding) → earlier < index → index < length bindings →
+      (get_or bindings earlier d).name ≡ (get_or bindings index d).name →
+      (get_or bindings (index - 1) d).name ≡ (get_or bindings index d).name
   previous_has_name index earlier d before within same =
       elim (cases_lt earlier (index - 1)) as (λ _. (get_or bindings (index - 1) d).name ≡ (get_or bindings index d).name) [
-        | inl gap ↦ same_name_between (get_or bindings earlier d) (get_or bindings (index - 1) d) (get_or bindings index d) (below earlier (index - 1) d gap (omega arith)) (below (index - 1) index d (omega arith) within) same ∙ same
+        | inl gap ↦ same_name_between (get_or bindings earlier d) (get_or bindings (index - 1) d)
+            (get_or bindings index d) (below earlier (index - 1) d gap (omega arith))
+            (below (index - 1) index d (omega arith) within) same ∙ same
         | inr beside ↦ let here : earlier ≡ index - 1 = omega arith in subst (λ k. (get_or bindings k d).name ≡ (get_or bindings index d).name) here same
       ]
 
   -- where the name has another object, a neighbour has the name
-  pub neighbour_has_name : (index : ℕ) (d : Binding) → index < length bindings → HasOther (Binds bindings) (get_or bindings index d).name (get_or bindings index d).target → ((0 < index) × ((get_or bindings (index - 1) d).name ≡ (get_or bindings index d).name)) ⊎ ((index + 1 < length bindings) × ((get_or bindings (index + 1) d).name ≡ (get_or bindings index d).name))
+  pub neighbour_has_name : (index : ℕ) (d : Binding) → index < length bindings →
+      HasOther (Binds bindings) (get_or bindings index d).name (get_or bindings index d).target →
+      ((0 < index) × ((get_or bindings (index - 1) d).name ≡ (get_or bindings index d).name)) ⊎
+      ((index + 1 < length bindings) × ((get_or bindings (index + 1) d).name ≡ (get_or bindings index d).name))
   neighbour_has_name index d within shared =
       let place = shared.bound.0 in
       let inside = shared.bound.1 in
@@ -82,7 +103,10 @@ module _ (bindings : List Binding) (rising : IsStrictlySortedBy binding_cmp bind
             ]
       ]
 
-  pub answers : (index : ℕ) (x : Binding) (result : Bool) → index < length bindings → x ≡ get_or bindings index x → (IsTrue result ↔ NeighbourHasName bindings index x) → IfSome (slice_get bindings index) (λ binding. IsTrue result ↔ HasOther (Binds bindings) binding.name binding.target)
+  pub answers : (index : ℕ) (x : Binding) (result : Bool) → index < length bindings → x ≡ get_or bindings index x →
+      (IsTrue result ↔ NeighbourHasName bindings index x) →
+      IfSome (slice_get bindings index)
+      (λ binding. IsTrue result ↔ HasOther (Binds bindings) binding.name binding.target)
   answers index x result within here means =
       let y : Binding = get_or bindings index x in
       let named : x.name ≡ y.name = ap (λ b. b.name) here in
@@ -91,7 +115,8 @@ module _ (bindings : List Binding) (rising : IsStrictlySortedBy binding_cmp bind
         | inl before ↦ shared_by_previous index x before.0 within (before.1 ∙ named)
         | inr after ↦ shared_by_next index x after.0 (after.1 ∙ named)
       ] in
-      let shown : HasOther (Binds bindings) y.name y.target → IsTrue result = λ shared. means.1 (elim (neighbour_has_name index x within shared) as (λ _. NeighbourHasName bindings index x) [
+      let shown : HasOther (Binds bindings) y.name y.target → IsTrue result = λ shared. means.1
+      (elim (neighbour_has_name index x within shared) as (λ _. NeighbourHasName bindings index x) [
         | inl before ↦ inl (before.0, before.1 ∙ sym named)
         | inr after ↦ inr (after.0, after.1 ∙ sym named)
       ]) in

@@ -30,11 +30,15 @@ binding_cmp-Equal a b e =
     λ i. record { name = name i; target = target i }
 
 -- two bindings are equal where the order doesn't tell them apart
-ties : (a b : Binding) → (pointwise nat_eq a.name b.name && (nat_eq a.target.replica b.target.replica && nat_eq a.target.number b.target.number)) ≡ eq_by_cmp binding_cmp a b
+ties : (a b : Binding) →
+    (pointwise nat_eq a.name b.name &&
+    (nat_eq a.target.replica b.target.replica && nat_eq a.target.number b.target.number)) ≡
+    eq_by_cmp binding_cmp a b
 unfolding id_cmp
 ties a b = search (comparing, rules)
 
-pub equality : (λ (a : Binding) (b : Binding). pointwise nat_eq a.name b.name && (nat_eq a.target.replica b.target.replica && nat_eq a.target.number b.target.number)) ≡ eq_by_cmp binding_cmp
+pub equality : (λ (a : Binding) (b : Binding). pointwise nat_eq a.name b.name &&
+    (nat_eq a.target.replica b.target.replica && nat_eq a.target.number b.target.number)) ≡ eq_by_cmp binding_cmp
 equality = λ i a b. ties a b i
 
 first_not_greater : (one other : Ordering) → ordering_then one other ≡ Less → (one ≡ Less) ⊎ (one ≡ Equal)
@@ -43,7 +47,8 @@ first_not_greater Equal other e = inr refl
 first_not_greater Greater other e = cc
 
 -- what stands between two bindings of one name has that name too
-pub same_name_between : (a b c : Binding) → binding_cmp a b ≡ Less → binding_cmp b c ≡ Less → a.name ≡ c.name → b.name ≡ a.name
+pub same_name_between : (a b c : Binding) → binding_cmp a b ≡ Less → binding_cmp b c ≡ Less →
+    a.name ≡ c.name → b.name ≡ a.name
 same_name_between a b c below above same =
     elim (first_not_greater (slice_cmp nat_cmp a.name b.name) _ below) [
       | inr tie ↦ sym (exact_bytes a.name b.name tie)

@@ -68,7 +68,8 @@ impl Directories {
     // Adds a name in a directory. What is left after `Memory` is of no use.
     fn add(&mut self, alloc: Global, dir: Id, binding: Binding) -> Result<(), Memory>
         ensures here { OnOk result (bindings_of self.new dir ≡ bindings_of self.old dir ++ binding ∷ []) }
-        ensures others { OnOk result ((other : IdValue) → other ≢ dir → bindings_of self.new other ≡ bindings_of self.old other) }
+        ensures others { OnOk result
+            ((other : IdValue) → other ≢ dir → bindings_of self.new other ≡ bindings_of self.old other) }
     {
         let mut bindings = self.bindings.remove(&dir).unwrap_or(Vec::new(alloc));
         bindings.push(binding)?;

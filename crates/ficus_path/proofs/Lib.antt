@@ -5,4 +5,6 @@ mod Lists
 pub mod NameLaws
 pub mod PartLaws
 pub mod PathLaws
+pub mod SpelledLaws
+pub mod TextLaws
 mod Weaker

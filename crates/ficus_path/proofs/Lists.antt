@@ -10,7 +10,8 @@ pub tail_same : {A : Type 0} {x y : A} {xs ys : List A} → x ∷ xs ≡ y ∷ y
 tail_same e = cc
 
 -- what holds in each piece holds in all of them
-pub All-flat_map : {X A : Type 0} (P : A → Type 0) (Q : X → Type 0) (f : X → List A) → ((x : X) → Q x → All P (f x)) → (xs : List X) → All Q xs → All P (flat_map f xs)
+pub All-flat_map : {X A : Type 0} (P : A → Type 0) (Q : X → Type 0) (f : X → List A) → ((x : X) → Q x → All P (f x)) →
+    (xs : List X) → All Q xs → All P (flat_map f xs)
 All-flat_map P Q f each [] all = All-nil P
 All-flat_map P Q f each (x ∷ xs) all =
     All-append P (f x) (flat_map f xs) (each x (All-head Q x xs all)) (All-flat_map P Q f each xs (All-tail Q x xs all))

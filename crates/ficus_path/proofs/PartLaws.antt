@@ -14,19 +14,22 @@ use Rattle.ficus_path.proofs.NameLaws.{name_text_injective, IsFreeOf-name_text}
 
 -- no `#` stands in the spelling of a name
 no_sign : (name : List ℕ) → IsName name → IsFreeOf 35 (name_text name)
-no_sign name is_name = IsFreeOf-name_text 35 name (omega arith) (All-weaker IsNameByte (λ byte. byte ≢ 35) (λ byte allowed. allowed.not_number_sign) name is_name.each)
+no_sign name is_name = IsFreeOf-name_text 35 name (omega arith)
+    (All-weaker IsNameByte (λ byte. byte ≢ 35) (λ byte allowed. allowed.not_number_sign) name is_name.each)
 
 IsEndOr-target_text : (target : Option Id) → IsEndOr 35 (target_text target)
 IsEndOr-target_text None = tt
 IsEndOr-target_text (Some id) = refl
 
 -- a component is cut at its `#`
-pub component_cut : (front rest : List ℕ) (part : Part) → IsPart part → IsFreeOf 35 front → IsEndOr 35 rest → front ++ rest ≡ component_text part → (front ≡ name_text part.name) × (rest ≡ target_text part.target)
+pub component_cut : (front rest : List ℕ) (part : Part) → IsPart part → IsFreeOf 35 front → IsEndOr 35 rest →
+    front ++ rest ≡ component_text part → (front ≡ name_text part.name) × (rest ≡ target_text part.target)
 component_cut front rest part is_part free end e =
     cut_same 35 front rest (name_text part.name) (target_text part.target) free end (no_sign part.name is_part.name) (IsEndOr-target_text part.target) e
 
 -- behind the `#` of a component stands an identifier
-pub target_behind : (rest : List ℕ) (target : Option Id) → IfSome target IsIssued → rest ≡ target_text target → 1 ≤ length rest → (id : Id) × IsIssued id × (take (length rest - 1) (drop 1 rest) ≡ id_text id)
+pub target_behind : (rest : List ℕ) (target : Option Id) → IfSome target IsIssued → rest ≡ target_text target →
+    1 ≤ length rest → (id : Id) × IsIssued id × (take (length rest - 1) (drop 1 rest) ≡ id_text id)
 target_behind rest None issued e more = absurd (omega (arith, ap length e))
 target_behind rest (Some id) issued e more = (id, issued, behind_first 35 (id_text id) rest e)
 
@@ -37,14 +40,18 @@ IsFreeOf-target_text (Some id) issued =
     let P = λ (byte : ℕ). byte ≢ 47 in
     let replica = IsFreeOf-decimal 47 id.replica (omega (arith, issued.to_last)) (omega arith) in
     let number = IsFreeOf-decimal 47 id.number (omega (arith, issued.fits)) (omega arith) in
-    All-cons P 35 (id_text id) (λ e. omega arith) (All-append P (decimal id.replica) (46 ∷ decimal id.number) replica (All-cons P 46 (decimal id.number) (λ e. omega arith) number))
+    All-cons P 35 (id_text id) (λ e. omega arith)
+    (All-append P (decimal id.replica) (46 ∷ decimal id.number) replica
+    (All-cons P 46 (decimal id.number) (λ e. omega arith) number))
 
 pub IsFreeOf-component_text : (part : Part) → IsPart part → IsFreeOf 47 (component_text part)
 IsFreeOf-component_text part is_part =
-    let name = IsFreeOf-name_text 47 part.name (omega arith) (All-weaker IsNameByte (λ byte. byte ≢ 47) (λ byte allowed. allowed.not_slash) part.name is_part.name.each) in
+    let name = IsFreeOf-name_text 47 part.name (omega arith)
+    (All-weaker IsNameByte (λ byte. byte ≢ 47) (λ byte allowed. allowed.not_slash) part.name is_part.name.each) in
     All-append (λ byte. byte ≢ 47) (name_text part.name) (target_text part.target) name (IsFreeOf-target_text part.target is_part.target)
 
-target_same : (target other : Option Id) → IfSome target IsIssued → IfSome other IsIssued → target_text target ≡ target_text other → target ≡ other
+target_same : (target other : Option Id) → IfSome target IsIssued → IfSome other IsIssued →
+    target_text target ≡ target_text other → target ≡ other
 target_same None None issued also e = refl
 target_same None (Some id) issued also e = cc
 target_same (Some id) None issued also e = cc
@@ -59,7 +66,8 @@ part_same part other e f =
     let with_target = λ (target : Option Id). let made : Part = record { name = other.name; target = target } in made in
     ap with_name e ∙ ap with_target f
 
-pub component_text_injective : (part other : Part) → IsPart part → IsPart other → component_text part ≡ component_text other → part ≡ other
+pub component_text_injective : (part other : Part) → IsPart part → IsPart other →
+    component_text part ≡ component_text other → part ≡ other
 component_text_injective part other is_part also e =
     let cut = component_cut (name_text part.name) (target_text part.target) other also (no_sign part.name is_part.name) (IsEndOr-target_text part.target) e in
     part_same part other (name_text_injective part.name other.name cut.0) (target_same part.target other.target is_part.target also.target cut.1)

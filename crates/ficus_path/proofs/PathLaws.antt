@@ -31,12 +31,15 @@ IsEndOr-texts_append [] rest end = end
 IsEndOr-texts_append (part ∷ front) rest end = refl
 
 -- the first part of a spelling is one part
-first_same : (part other : Part) (x y : List ℕ) → IsPart part → IsPart other → IsEndOr 47 x → IsEndOr 47 y → component_text part ++ x ≡ component_text other ++ y → (part ≡ other) × (x ≡ y)
+first_same : (part other : Part) (x y : List ℕ) → IsPart part → IsPart other → IsEndOr 47 x → IsEndOr 47 y →
+    component_text part ++ x ≡ component_text other ++ y → (part ≡ other) × (x ≡ y)
 first_same part other x y is_part also end_x end_y e =
-    let cut = cut_same 47 (component_text part) x (component_text other) y (IsFreeOf-component_text part is_part) end_x (IsFreeOf-component_text other also) end_y e in
+    let cut = cut_same 47 (component_text part) x (component_text other) y (IsFreeOf-component_text part is_part) end_x
+    (IsFreeOf-component_text other also) end_y e in
     (component_text_injective part other is_part also cut.0, cut.1)
 
-texts_injective : (parts others : List Part) → AreParts parts → AreParts others → texts parts ≡ texts others → parts ≡ others
+texts_injective : (parts others : List Part) → AreParts parts → AreParts others → texts parts ≡ texts others →
+    parts ≡ others
 texts_injective [] [] are also e = refl
 texts_injective [] (other ∷ others) are also e = cc
 texts_injective (part ∷ parts) [] are also e = cc
@@ -45,20 +48,26 @@ texts_injective (part ∷ parts) (other ∷ others) are also e =
     cons_same first.0 (texts_injective parts others are.1 also.1 first.1)
 
 -- parts whose spelling begins as other parts' are the first of these
-pub texts_front : (front parts : List Part) (rest : List ℕ) → AreParts front → AreParts parts → IsEndOr 47 rest → texts front ++ rest ≡ texts parts → (others : List Part) × (parts ≡ front ++ others) × AreParts others × (rest ≡ texts others)
+pub texts_front : (front parts : List Part) (rest : List ℕ) → AreParts front → AreParts parts → IsEndOr 47 rest →
+    texts front ++ rest ≡ texts parts →
+    (others : List Part) × (parts ≡ front ++ others) × AreParts others × (rest ≡ texts others)
 texts_front [] parts rest are all end e = (parts, refl, all, e)
 texts_front (part ∷ front) [] rest are all end e = cc
 texts_front (part ∷ front) (other ∷ parts) rest are all end e =
-    let first = first_same part other (texts front ++ rest) (texts parts) are.0 all.0 (IsEndOr-texts_append front rest end) (IsEndOr-texts parts) (sym (append_assoc (component_text part) (texts front) rest) ∙ tail_same e) in
+    let first = first_same part other (texts front ++ rest) (texts parts) are.0 all.0
+    (IsEndOr-texts_append front rest end) (IsEndOr-texts parts)
+    (sym (append_assoc (component_text part) (texts front) rest) ∙ tail_same e) in
     let more = texts_front front parts rest are.1 all.1 end first.1 in
     (more.0, cons_same (sym first.0) more.1, more.2, more.3)
 
 -- no part is empty
 no_empty_part : (part : Part) (rest : List ℕ) → IsPart part → component_text part ++ rest ≡ [] → ⊥
 no_empty_part part rest is_part e =
-    name_text_not_empty part.name (target_text part.target ++ rest) is_part.name.not_empty (sym (append_assoc (name_text part.name) (target_text part.target) rest) ∙ e)
+    name_text_not_empty part.name (target_text part.target ++ rest) is_part.name.not_empty
+    (sym (append_assoc (name_text part.name) (target_text part.target) rest) ∙ e)
 
-parts_text_injective : (parts others : List Part) → AreParts parts → AreParts others → parts_text parts ≡ parts_text others → parts ≡ others
+parts_text_injective : (parts others : List Part) → AreParts parts → AreParts others →
+    parts_text parts ≡ parts_text others → parts ≡ others
 parts_text_injective [] [] are also e = refl
 parts_text_injective [] (other ∷ others) are also e = absurd (no_empty_part other (texts others) also.0 (sym (tail_same e)))
 parts_text_injective (part ∷ parts) [] are also e = absurd (no_empty_part part (texts parts) are.0 (tail_same e))
@@ -73,9 +82,11 @@ path_same path other e =
     let with_parts = λ (parts : List Part). let made : Path = record { base = other.base; parts = parts } in made in
     ap with_base (base_same path.base other.base) ∙ ap with_parts e
 
-pub path_text_injective : (path other : Path) → IsPath path → IsPath other → path_text path ≡ path_text other → path ≡ other
+pub path_text_injective : (path other : Path) → IsPath path → IsPath other → path_text path ≡ path_text other →
+    path ≡ other
 path_text_injective path other is_path also e =
-    path_same path other (parts_text_injective path.parts other.parts (recursion_from_All IsPart path.parts is_path.each) (recursion_from_All IsPart other.parts also.each) e)
+    path_same path other (parts_text_injective path.parts other.parts
+    (recursion_from_All IsPart path.parts is_path.each) (recursion_from_All IsPart other.parts also.each) e)
 
 -- the text is the spelling of these parts, and a rest that may go on with more
 pub record IsReadTo (text : List ℕ) (parts : List Part) (rest : List ℕ) : Type 0 where
@@ -92,13 +103,16 @@ begins_with_slash : (rest : List ℕ) → IsEndOr 47 rest → 1 ≤ length rest 
 begins_with_slash [] next more = absurd (omega arith)
 begins_with_slash (x ∷ rest) next more = cons_same next (sym (behind_first x rest (x ∷ rest) refl))
 
-texts_push : (parts : List Part) (part : Part) (others : List ℕ) → texts (parts ++ part ∷ []) ++ others ≡ texts parts ++ (part_text part ++ others)
+texts_push : (parts : List Part) (part : Part) (others : List ℕ) →
+    texts (parts ++ part ∷ []) ++ others ≡ texts parts ++ (part_text part ++ others)
 texts_push parts part others =
     let last : texts (part ∷ []) ≡ part_text part = append-nil (part_text part) in
     ap (λ t. t ++ others) (flat_map-append part_text parts (part ∷ []) ∙ ap (λ t. texts parts ++ t) last) ∙ append_assoc (texts parts) (part_text part) others
 
 -- one more part is read
-pub IsReadTo-more : (text component others : List ℕ) (parts : List Part) (rest : List ℕ) (part : Part) → IsReadTo text parts rest → 1 ≤ length rest → length parts < 32 → tail_of rest ≡ component ++ others → IsEndOr 47 others → IsPart part → component ≡ component_text part → IsReadTo text (parts ++ part ∷ []) others
+pub IsReadTo-more : (text component others : List ℕ) (parts : List Part) (rest : List ℕ) (part : Part) →
+    IsReadTo text parts rest → 1 ≤ length rest → length parts < 32 → tail_of rest ≡ component ++ others →
+    IsEndOr 47 others → IsPart part → component ≡ component_text part → IsReadTo text (parts ++ part ∷ []) others
 IsReadTo-more text component others parts rest part so_far more room cut next is_part spelled =
     let rest_is : rest ≡ part_text part ++ others = begins_with_slash rest so_far.next more ∙ ap (λ t. 47 ∷ t) (cut ∙ ap (λ t. t ++ others) spelled) in
     record {
@@ -116,7 +130,8 @@ pub record GoesOn (front parts : List Part) (rest : List ℕ) : Type 0 where
   pub is_part : IsPart part
   pub spelled : tail_of rest ≡ component_text part ++ texts others
 
-first_other : (front parts : List Part) (rest : List ℕ) (others : List Part) → parts ≡ front ++ others → AreParts others → rest ≡ texts others → 1 ≤ length rest → GoesOn front parts rest
+first_other : (front parts : List Part) (rest : List ℕ) (others : List Part) → parts ≡ front ++ others →
+    AreParts others → rest ≡ texts others → 1 ≤ length rest → GoesOn front parts rest
 first_other front parts rest [] whole are same more = absurd (omega (arith, ap length same))
 first_other front parts rest (part ∷ others) whole are same more = record {
   part = part;
@@ -126,9 +141,11 @@ first_other front parts rest (part ∷ others) whole are same more = record {
   spelled = behind_first 47 (component_text part ++ texts others) rest same;
 }
 
-pub goes_on : (text : List ℕ) (front parts : List Part) (rest : List ℕ) → IsReadTo text front rest → 1 ≤ length rest → All IsPart parts → text ≡ texts parts → GoesOn front parts rest
+pub goes_on : (text : List ℕ) (front parts : List Part) (rest : List ℕ) → IsReadTo text front rest → 1 ≤ length rest →
+    All IsPart parts → text ≡ texts parts → GoesOn front parts rest
 goes_on text front parts rest so_far more all e =
-    let others = texts_front front parts rest (recursion_from_All IsPart front so_far.each) (recursion_from_All IsPart parts all) so_far.next (sym so_far.whole ∙ e) in
+    let others = texts_front front parts rest (recursion_from_All IsPart front so_far.each)
+    (recursion_from_All IsPart parts all) so_far.next (sym so_far.whole ∙ e) in
     first_other front parts rest others.0 others.1 others.2 others.3 more
 
 pub GoesOn-longer : {front parts : List Part} {rest : List ℕ} → GoesOn front parts rest → length front < length parts
@@ -136,16 +153,21 @@ GoesOn-longer {front} more =
     omega (arith, ap length more.whole, length-append front (more.part ∷ more.others))
 
 -- the component behind the slash is that of a part
-pub GoesOn-component : {front parts : List Part} {rest : List ℕ} (component others : List ℕ) → GoesOn front parts rest → tail_of rest ≡ component ++ others → IsFreeOf 47 component → IsEndOr 47 others → (part : Part) × IsPart part × (component ≡ component_text part)
+pub GoesOn-component : {front parts : List Part} {rest : List ℕ} (component others : List ℕ) → GoesOn front parts rest →
+    tail_of rest ≡ component ++ others → IsFreeOf 47 component → IsEndOr 47 others →
+    (part : Part) × IsPart part × (component ≡ component_text part)
 GoesOn-component component others more cut free next =
-    let same = cut_same 47 component others (component_text more.part) (texts more.others) free next (IsFreeOf-component_text more.part more.is_part) (IsEndOr-texts more.others) (sym cut ∙ more.spelled) in
+    let same = cut_same 47 component others (component_text more.part) (texts more.others) free next
+    (IsFreeOf-component_text more.part more.is_part) (IsEndOr-texts more.others) (sym cut ∙ more.spelled) in
     (more.part, more.is_part, same.0)
 
 -- no blank and no control byte stands in the spelling of a path
 part_text_visible : (part : Part) → IsPart part → All (λ byte. 33 ≤ byte) (part_text part)
 part_text_visible part is_part =
     let P = λ (byte : ℕ). 33 ≤ byte in
-    All-cons P 47 (component_text part) (omega arith) (All-append P (name_text part.name) (target_text part.target) (name_text_visible part.name) (target_text_visible part.target is_part.target))
+    All-cons P 47 (component_text part) (omega arith)
+    (All-append P (name_text part.name) (target_text part.target)
+    (name_text_visible part.name) (target_text_visible part.target is_part.target))
 
 parts_text_visible : (parts : List Part) → All IsPart parts → All (λ byte. 33 ≤ byte) (parts_text parts)
 parts_text_visible [] all =

@@ -1,4 +1,4 @@
-//! Paths, and how names and paths are spelled.
+//! Paths, and how names, paths and texts are spelled.
 #![tactic(auto)]
 
 mod byte;
@@ -8,6 +8,7 @@ mod name;
 mod part;
 mod path;
 mod reading;
+mod text;
 mod writing;
 
 pub use byte::{append_byte, read_byte};
@@ -15,4 +16,5 @@ pub use id::read_id;
 pub use name::{one_name, write_name};
 pub use path::{Base, PART_LIMIT, Part, Path, PathFault};
 pub use reading::{one_path, read_path};
+pub use text::{TextFault, append_text, one_text, read_text};
 pub use writing::write_path;

@@ -60,6 +60,13 @@ struct Sides<T> {
     right: PersistentList<T>,
 }
 
+// The last item and those in front of it.
+#[derive(Drop)]
+struct Parted<T> {
+    front: PersistentList<T>,
+    last: T,
+}
+
 impl<T> Model for PersistentList<T> {
     ghost use Rattle.std.specs.Prelude.{List, length};
 
@@ -221,13 +228,12 @@ impl<T: Item> PersistentList<T> {
             Node::Fork(branch) => {
                 let branch = branch.as_ref();
                 let before = branch.left.len();
-                let old = branch.item.copied()?;
                 if index <= before {
                     let left = branch.left.insert(alloc, index, item)?;
-                    PersistentList::balanced(alloc, left, old, branch.right.copy()?)
+                    branch.with_left(alloc, left)
                 } else {
                     let right = branch.right.insert(alloc, index - before - 1, item)?;
-                    PersistentList::balanced(alloc, branch.left.copy()?, old, right)
+                    branch.with_right(alloc, right)
                 }
             }
         }
@@ -251,12 +257,12 @@ impl<T: Item> PersistentList<T> {
                 let before = branch.left.len();
                 if index < before {
                     let left = branch.left.put(alloc, index, item)?;
-                    PersistentList::join(alloc, left, branch.item.copied()?, branch.right.copy()?)
+                    branch.with_left(alloc, left)
                 } else if index == before {
-                    PersistentList::join(alloc, branch.left.copy()?, item, branch.right.copy()?)
+                    branch.with_item(alloc, item)
                 } else {
                     let right = branch.right.put(alloc, index - before - 1, item)?;
-                    PersistentList::join(alloc, branch.left.copy()?, branch.item.copied()?, right)
+                    branch.with_right(alloc, right)
                 }
             }
         }
@@ -275,26 +281,12 @@ impl<T: Item> PersistentList<T> {
                 let before = branch.left.len();
                 if index < before {
                     let left = branch.left.remove(alloc, index)?;
-                    PersistentList::balanced(
-                        alloc,
-                        left,
-                        branch.item.copied()?,
-                        branch.right.copy()?,
-                    )
+                    branch.with_left(alloc, left)
                 } else if index > before {
                     let right = branch.right.remove(alloc, index - before - 1)?;
-                    PersistentList::balanced(
-                        alloc,
-                        branch.left.copy()?,
-                        branch.item.copied()?,
-                        right,
-                    )
-                } else if before == 0 {
-                    branch.right.copy()
+                    branch.with_right(alloc, right)
                 } else {
-                    let last = branch.left.at(before - 1).copied()?;
-                    let left = branch.left.remove(alloc, before - 1)?;
-                    PersistentList::balanced(alloc, left, last, branch.right.copy()?)
+                    branch.left.joined(alloc, &branch.right)
                 }
             }
         }
@@ -307,10 +299,51 @@ impl<T: Item> PersistentList<T> {
         if items.is_empty() {
             return Ok(PersistentList::new());
         }
-        let middle = items.len() / 2;
+        let middle = left_of(items.len());
         let left = PersistentList::of(alloc, &items[..middle])?;
         let right = PersistentList::of(alloc, &items[middle + 1..])?;
         PersistentList::join(alloc, left, items[middle].copied()?, right)
+    }
+
+    // The list and then the other.
+    fn joined(&self, alloc: Global, other: &PersistentList<T>) -> Result<PersistentList<T>, Memory>
+        ensures { IfOk result (λ list. list ≡ self.now ++ other.now) }
+    {
+        if self.is_empty() {
+            return other.copy();
+        }
+        let parted = self.parted(alloc)?;
+        let right = other.copy()?;
+        PersistentList::balanced(alloc, parted.front, parted.last, right)
+    }
+
+    // The list but for its last item, and this item.
+    fn parted(&self, alloc: Global) -> Result<Parted<T>, Memory>
+        requires { 0 < length self.now }
+        ensures { IfOk result (λ parted. self.now ≡ parted.front ++ parted.last ∷ []) }
+    {
+        match &self.node {
+            Node::Empty => unreachable!(),
+            Node::One(item) => {
+                let last = item.as_ref().copied()?;
+                Ok(Parted {
+                    front: PersistentList::new(),
+                    last,
+                })
+            }
+            Node::Fork(branch) => {
+                let branch = branch.as_ref();
+                if branch.right.is_empty() {
+                    return branch.parted();
+                }
+                let parted = branch.right.parted(alloc)?;
+                let front = branch.with_right(alloc, parted.front)?;
+                Ok(Parted {
+                    front,
+                    last: parted.last,
+                })
+            }
+        }
     }
 
     // One node above two lists.
@@ -383,12 +416,7 @@ impl<T: Item> PersistentList<T> {
             let below = PersistentList::join(alloc, outer.right, item, right)?;
             return PersistentList::join(alloc, outer.left, outer.item, below);
         }
-        let Some(inner) = outer.right.opened()? else {
-            return PersistentList::join(alloc, left.copy()?, item, right);
-        };
-        let first = PersistentList::join(alloc, outer.left, outer.item, inner.left)?;
-        let second = PersistentList::join(alloc, inner.right, item, right)?;
-        PersistentList::join(alloc, first, inner.item, second)
+        PersistentList::turn_left(alloc, outer, item, right)
     }
 
     // The same as `join`, where the right side is too high.
@@ -407,11 +435,42 @@ impl<T: Item> PersistentList<T> {
             let below = PersistentList::join(alloc, left, item, outer.left)?;
             return PersistentList::join(alloc, below, outer.item, outer.right);
         }
-        let Some(inner) = outer.left.opened()? else {
-            return PersistentList::join(alloc, left, item, right.copy()?);
+        PersistentList::turn_right(alloc, left, item, outer)
+    }
+
+    // The same as `join`, where the right side of the left one is what is too high.
+    fn turn_left(
+        alloc: Global,
+        left: Sides<T>,
+        item: T,
+        right: PersistentList<T>,
+    ) -> Result<PersistentList<T>, Memory>
+        ensures { IfOk result (λ list. list ≡ (left.left ++ left.item ∷ left.right) ++ item ∷ right) }
+    {
+        let Some(inner) = left.right.opened()? else {
+            let first = PersistentList::join(alloc, left.left, left.item, left.right)?;
+            return PersistentList::join(alloc, first, item, right);
+        };
+        let first = PersistentList::join(alloc, left.left, left.item, inner.left)?;
+        let second = PersistentList::join(alloc, inner.right, item, right)?;
+        PersistentList::join(alloc, first, inner.item, second)
+    }
+
+    // The same as `join`, where the left side of the right one is what is too high.
+    fn turn_right(
+        alloc: Global,
+        left: PersistentList<T>,
+        item: T,
+        right: Sides<T>,
+    ) -> Result<PersistentList<T>, Memory>
+        ensures { IfOk result (λ list. list ≡ left ++ item ∷ right.left ++ right.item ∷ right.right) }
+    {
+        let Some(inner) = right.left.opened()? else {
+            let second = PersistentList::join(alloc, right.left, right.item, right.right)?;
+            return PersistentList::join(alloc, left, item, second);
         };
         let first = PersistentList::join(alloc, left, item, inner.left)?;
-        let second = PersistentList::join(alloc, inner.right, outer.item, outer.right)?;
+        let second = PersistentList::join(alloc, inner.right, right.item, right.right)?;
         PersistentList::join(alloc, first, inner.item, second)
     }
 
@@ -436,4 +495,59 @@ impl<T: Item> PersistentList<T> {
             }
         }
     }
+}
+
+impl<T: Item> Branch<T> {
+    // With another left side.
+    fn with_left(&self, alloc: Global, left: PersistentList<T>) -> Result<PersistentList<T>, Memory>
+        ensures { IfOk result (λ list. list ≡ left ++ self.now.item ∷ self.now.right) }
+    {
+        let item = self.item.copied()?;
+        let right = self.right.copy()?;
+        PersistentList::balanced(alloc, left, item, right)
+    }
+
+    // With another right side.
+    fn with_right(
+        &self,
+        alloc: Global,
+        right: PersistentList<T>,
+    ) -> Result<PersistentList<T>, Memory>
+        ensures { IfOk result (λ list. list ≡ self.now.left ++ self.now.item ∷ right) }
+    {
+        let left = self.left.copy()?;
+        let item = self.item.copied()?;
+        PersistentList::balanced(alloc, left, item, right)
+    }
+
+    // With another item between the same sides.
+    fn with_item(&self, alloc: Global, item: T) -> Result<PersistentList<T>, Memory>
+        ensures { IfOk result (λ list. list ≡ self.now.left ++ item ∷ self.now.right) }
+    {
+        let left = self.left.copy()?;
+        let right = self.right.copy()?;
+        PersistentList::join(alloc, left, item, right)
+    }
+
+    // The left side and the item.
+    fn parted(&self) -> Result<Parted<T>, Memory>
+        ensures { IfOk result (λ parted. (parted.front ≡ self.now.left) × (parted.last ≡ self.now.item)) }
+    {
+        let front = self.left.copy()?;
+        let last = self.item.copied()?;
+        Ok(Parted { front, last })
+    }
+}
+
+// How many of so many items stand on the left where only the lowest row of nodes isn't full, and is filled from the
+// left: so most nodes have no sides.
+fn left_of(count: usize) -> usize
+    requires { 0 < count }
+    ensures { result < count }
+{
+    let row = 1 << count.ilog2();
+    let lowest = count - row + 1;
+    (row / 2 + lowest.min(row / 2))
+        .saturating_sub(1)
+        .min(count - 1)
 }

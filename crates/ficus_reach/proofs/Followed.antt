@@ -26,9 +26,11 @@ pub record IsFollowing (links : List Link) (start : List Id) (set : BTreeSet Id)
   pub tracked : IsTracked set order
   pub begins : (object : Id) → Contains start object → Contains order object
   pub sound : (object : Id) → Contains order object → IsReached (Links links) (Contains start) object
-  pub closed : (place : ℕ) (d object : Id) → place < next → place < length order → Links links (get_or order place d) object → Contains order object
+  pub closed : (place : ℕ) (d object : Id) → place < next → place < length order →
+      Links links (get_or order place d) object → Contains order object
 
-pub following_none : (links : List Link) (start : List Id) (set : BTreeSet Id) → IsTracked set start → IsFollowing links start set start 0
+pub following_none : (links : List Link) (start : List Id) (set : BTreeSet Id) → IsTracked set start →
+    IsFollowing links start set start 0
 following_none links start set tracked = record {
   tracked = tracked;
   begins = λ object inside. inside;
@@ -36,8 +38,12 @@ following_none links start set tracked = record {
   closed = λ place d object before. absurd (omega arith);
 }
 
-module _ (links out : List Link) (start : List Id) (set new : BTreeSet Id) (order found : List Id) (next : ℕ) (dir : Id) (within : next < length order) (here : dir ≡ get_or order next dir) (out_of_dir : (link : Link) → Contains out link ↔ (Contains links link × (link.dir ≡ dir))) (gains : Gains order found (λ gained. (from : Id) × Links out from gained)) where
-  reached_by : IsFollowing links start set order next → (object : Id) → Contains found object → IsReached (Links links) (Contains start) object
+module _ (links out : List Link) (start : List Id) (set new : BTreeSet Id) (order found : List Id) (next : ℕ) (dir : Id)
+    (within : next < length order) (here : dir ≡ get_or order next dir)
+    (out_of_dir : (link : Link) → Contains out link ↔ (Contains links link × (link.dir ≡ dir)))
+    (gains : Gains order found (λ gained. (from : Id) × Links out from gained)) where
+  reached_by : IsFollowing links start set order next → (object : Id) → Contains found object →
+      IsReached (Links links) (Contains start) object
   reached_by following object inside =
       elim ((gains.objects object).0 inside) [
         | inl earlier ↦ following.sound object earlier
@@ -51,7 +57,8 @@ module _ (links out : List Link) (start : List Id) (set new : BTreeSet Id) (orde
   at_place : (place : ℕ) (d : Id) → place < length order → get_or found place d ≡ get_or order place d
   at_place place d before = ap (λ l. get_or l place d) gains.appended ∙ get_or_append_left order gains.more d place before
 
-  closed_by : IsFollowing links start set order next → (place : ℕ) (d object : Id) → place < next + 1 → place < length found → Links links (get_or found place d) object → Contains found object
+  closed_by : IsFollowing links start set order next → (place : ℕ) (d object : Id) →
+      place < next + 1 → place < length found → Links links (get_or found place d) object → Contains found object
   closed_by following place d object before inside leads =
       let from : Links links (get_or order place d) object = subst (λ o. Links links o object) (at_place place d (omega arith)) leads in
       elim (cases_eq place next) [
@@ -62,7 +69,8 @@ module _ (links out : List Link) (start : List Id) (set new : BTreeSet Id) (orde
       ]
 
   -- one more place
-  pub following_more : IsTracked new found → IsFollowing links start set order next → IsFollowing links start new found (next + 1)
+  pub following_more : IsTracked new found → IsFollowing links start set order next →
+      IsFollowing links start new found (next + 1)
   following_more tracked following = record {
     tracked = tracked;
     begins = λ object inside. (gains.objects object).1 (inl (following.begins object inside));
@@ -74,37 +82,52 @@ module _ (links out : List Link) (start : List Id) (set new : BTreeSet Id) (orde
 abbrev pub within_reach : List Id → List Link → List Id
 within_reach start links = start ++ map (λ link. link.target) links
 
-target_inside : (links : List Link) (dir object : Id) → Links links dir object → Contains (map (λ link. link.target) links) object
-target_inside links dir object (place, within, is) =
-    (place, omega (arith, length-map links (λ (link : Link). link.target)), get_or-map (λ (link : Link). link.target) links place (record { dir = dir; target = object }) ∙ ap (λ link. link.target) is)
+target_inside : (links : List Link) (dir object : Id) → Links links dir object →
+    Contains (map (λ link. link.target) links) object
+target_inside links dir object (place, within, is) = (
+  place,
+  omega (arith, length-map links (λ (link : Link). link.target)),
+  get_or-map (λ (link : Link). link.target) links place (record { dir = dir; target = object }) ∙
+      ap (λ link. link.target) is,
+)
 
-inside_reach : (links : List Link) (start : List Id) (object : Id) → IsReached (Links links) (Contains start) object → Contains (within_reach start links) object
+inside_reach : (links : List Link) (start : List Id) (object : Id) → IsReached (Links links) (Contains start) object →
+    Contains (within_reach start links) object
 inside_reach links start object (Base begins) = Contains-append_left start (map (λ link. link.target) links) object begins
 inside_reach links start object (Through {dir} reached leads) =
     Contains-append_right start (map (λ link. link.target) links) object (target_inside links dir object leads)
 
 -- so there are no more than these
-pub found_fit : {links : List Link} {start : List Id} {set : BTreeSet Id} (order : List Id) {next : ℕ} → IsFollowing links start set order next → length order ≤ length start + length links
+pub found_fit : {links : List Link} {start : List Id} {set : BTreeSet Id} (order : List Id) {next : ℕ} →
+    IsFollowing links start set order next → length order ≤ length start + length links
 found_fit {links} {start} {set} order following =
     let keys = set.keys in
     let laws = eq_by_cmp_equiv id_cmp_total in
     let apart = IsDistinct-from_sorted id_cmp keys following.tracked.ordered in
     let few = length-le_from_is_member laws keys (within_reach start links) apart (λ object inside.
-    list_any-from_Contains laws object (within_reach start links) (inside_reach links start object (following.sound object ((following.tracked.same object).0 inside)))) in
+    list_any-from_Contains laws object (within_reach start links)
+    (inside_reach links start object (following.sound object ((following.tracked.same object).0 inside)))) in
     omega (arith, few, following.tracked.count, length-append start (map (λ (link : Link). link.target) links), length-map links (λ (link : Link). link.target))
 
-complete : {links : List Link} {start : List Id} {set : BTreeSet Id} (order : List Id) {next : ℕ} → IsFollowing links start set order next → length order ≤ next → (object : Id) → IsReached (Links links) (Contains start) object → Contains order object
+complete : {links : List Link} {start : List Id} {set : BTreeSet Id} (order : List Id) {next : ℕ} →
+    IsFollowing links start set order next → length order ≤ next →
+    (object : Id) → IsReached (Links links) (Contains start) object → Contains order object
 complete order following past object (Base begins) = following.begins object begins
 complete {links} order following past object (Through {dir} reached leads) =
     let inside = complete order following past dir reached in
     following.closed inside.0 dir object (omega (arith, inside.1)) inside.1 (subst (λ o. Links links o object) (sym inside.2) leads)
 
 -- at the end exactly what is reached was found
-pub followed : {links : List Link} {start : List Id} {set : BTreeSet Id} (order : List Id) {next : ℕ} → IsFollowing links start set order next → length order ≤ next → (object : Id) → Contains order object ↔ IsReached (Links links) (Contains start) object
+pub followed : {links : List Link} {start : List Id} {set : BTreeSet Id} (order : List Id) {next : ℕ} →
+    IsFollowing links start set order next → length order ≤ next →
+    (object : Id) → Contains order object ↔ IsReached (Links links) (Contains start) object
 followed order following past object = (following.sound object, complete order following past object)
 
 -- from nothing, along the links of the entries
-pub reached_along : (entries : List Entry) (links : List Link) (from nothing start order : List Id) → nothing ≡ [] → Gains nothing start (Contains from) → ((dir object : Id) → Links links dir object ↔ LeadsIn entries dir object) → ((object : Id) → Contains order object ↔ IsReached (Links links) (Contains start) object) → (object : Id) → Contains order object ↔ IsReached (LeadsIn entries) (Contains from) object
+pub reached_along : (entries : List Entry) (links : List Link) (from nothing start order : List Id) → nothing ≡ [] →
+    Gains nothing start (Contains from) → ((dir object : Id) → Links links dir object ↔ LeadsIn entries dir object) →
+    ((object : Id) → Contains order object ↔ IsReached (Links links) (Contains start) object) →
+    (object : Id) → Contains order object ↔ IsReached (LeadsIn entries) (Contains from) object
 reached_along entries links from nothing start order empty gains known reached object =
     let started : (o : Id) → Contains start o → Contains from o = λ o inside. elim ((gains.objects o).0 inside) [
       | inl before ↦ absurd (omega (arith, before.1, ap length empty))

@@ -36,7 +36,9 @@ gains_push xs object = record {
 }
 
 -- one gain after another
-pub gains_more : (xs ys zs : List Id) {before here all : Id → Type 0} → ((object : Id) → all object ↔ (before object ⊎ here object)) → Gains xs ys before → Gains ys zs here → Gains xs zs all
+pub gains_more : (xs ys zs : List Id) {before here all : Id → Type 0} →
+    ((object : Id) → all object ↔ (before object ⊎ here object)) →
+    Gains xs ys before → Gains ys zs here → Gains xs zs all
 gains_more xs ys zs {before} {here} {all} both first second = record {
   more = first.more ++ second.more;
   appended = second.appended ∙ ap (λ l. l ++ second.more) first.appended ∙ append_assoc xs first.more second.more;

@@ -11,7 +11,8 @@ use Rattle.ficus_reach.specs.Leads.{LeadsIn}
 use Rattle.ficus_reach.specs.Link.{Links}
 use Rattle.ficus_reach.specs.declared.link.Link.{Link}
 
-leads_in : {xs : List Entry} {dir object : Id} (known : LeadsIn xs dir object) (ys : List Entry) → Contains ys known.entry → LeadsIn ys dir object
+leads_in : {xs : List Entry} {dir object : Id} (known : LeadsIn xs dir object) (ys : List Entry) →
+    Contains ys known.entry → LeadsIn ys dir object
 leads_in known ys inside = record {
   entry = known.entry;
   inside = inside;
@@ -28,22 +29,28 @@ abbrev pub AreLinks : List Link → List Entry → ℕ → Type 0
 AreLinks links entries index = (dir object : Id) → Links links dir object ↔ LeadsIn (take index entries) dir object
 
 module _ (entries : List Entry) (index : ℕ) (entry : Entry) (at : slice_get entries index ≡ Some entry) where
-  more : (other : Entry) → Contains (take (index + 1) entries) other ↔ (Contains (take index entries) other ⊎ (other ≡ entry))
+  more : (other : Entry) → Contains (take (index + 1) entries) other ↔
+      (Contains (take index entries) other ⊎ (other ≡ entry))
   more = subst (λ e. (other : Entry) → Contains (take (index + 1) entries) other ↔ (Contains (take index entries) other ⊎ (other ≡ e)))
       (get_or_from_slice_get entries index entry entry at) (Contains-take_more entries index entry (slice_get_within entries index entry at))
 
-  leads_before : {dir object : Id} → LeadsIn (take index entries) dir object → LeadsIn (take (index + 1) entries) dir object
+  leads_before : {dir object : Id} → LeadsIn (take index entries) dir object →
+      LeadsIn (take (index + 1) entries) dir object
   leads_before known = leads_in known _ ((more known.entry).1 (inl known.inside))
 
-  leads_cases : {dir object : Id} → LeadsIn (take (index + 1) entries) dir object → LeadsIn (take index entries) dir object ⊎ ((entry.state ≡ Live) × (entry.dir ≡ dir) × (entry.target ≡ object))
+  leads_cases : {dir object : Id} → LeadsIn (take (index + 1) entries) dir object →
+      LeadsIn (take index entries) dir object ⊎ ((entry.state ≡ Live) × (entry.dir ≡ dir) × (entry.target ≡ object))
   leads_cases {dir} {object} known =
-      elim ((more known.entry).0 known.inside) as (λ _. LeadsIn (take index entries) dir object ⊎ ((entry.state ≡ Live) × (entry.dir ≡ dir) × (entry.target ≡ object))) [
+      elim ((more known.entry).0 known.inside)
+      as (λ _. LeadsIn (take index entries) dir object ⊎
+      ((entry.state ≡ Live) × (entry.dir ≡ dir) × (entry.target ≡ object))) [
         | inl before ↦ inl (leads_in known _ before)
         | inr here ↦ inr (ap (λ e. e.state) (sym here) ∙ known.live, ap (λ e. e.dir) (sym here) ∙ known.in_dir, ap (λ e. e.target) (sym here) ∙ known.leads)
       ]
 
   -- a live entry has a link
-  pub links_push : (links : List Link) → entry.state ≡ Live → AreLinks links entries index → AreLinks (links ++ record { dir = entry.dir; target = entry.target } ∷ []) entries (index + 1)
+  pub links_push : (links : List Link) → entry.state ≡ Live → AreLinks links entries index →
+      AreLinks (links ++ record { dir = entry.dir; target = entry.target } ∷ []) entries (index + 1)
   links_push links live known dir object =
       let pushed : Link = record { dir = entry.dir; target = entry.target } in (
         λ inside. elim (Contains-push_cases links pushed (record { dir = dir; target = object }) inside) [
@@ -59,7 +66,8 @@ module _ (entries : List Entry) (index : ℕ) (entry : Entry) (at : slice_get en
       )
 
   -- a dead one has none
-  pub links_stay : (links : List Link) → (entry.state ≡ Live → ⊥) → AreLinks links entries index → AreLinks links entries (index + 1)
+  pub links_stay : (links : List Link) → (entry.state ≡ Live → ⊥) → AreLinks links entries index →
+      AreLinks links entries (index + 1)
   links_stay links dead known dir object = (
     λ inside. leads_before ((known dir object).0 inside),
     λ leads. elim (leads_cases leads) [

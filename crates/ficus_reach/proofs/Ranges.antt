@@ -30,10 +30,16 @@ within_test Equal = refl
 within_test Greater = refl
 
 -- what `<` and `<=` answer at directories
-pub below_answers : (link dir : Id) → is_some_and is_lt (partial_ordering_then (Some (nat_cmp link.replica dir.replica)) (Some (nat_cmp link.number dir.number))) ≡ nat_le (ordering_index (id_cmp link dir)) 0
+pub below_answers : (link dir : Id) →
+    is_some_and is_lt
+    (partial_ordering_then (Some (nat_cmp link.replica dir.replica)) (Some (nat_cmp link.number dir.number))) ≡
+    nat_le (ordering_index (id_cmp link dir)) 0
 below_answers link dir = id_cmp-partial is_lt link dir ∙ below_test (id_cmp link dir)
 
-pub within_answers : (link dir : Id) → is_some_and is_le (partial_ordering_then (Some (nat_cmp link.replica dir.replica)) (Some (nat_cmp link.number dir.number))) ≡ nat_le (ordering_index (id_cmp link dir)) 1
+pub within_answers : (link dir : Id) →
+    is_some_and is_le
+    (partial_ordering_then (Some (nat_cmp link.replica dir.replica)) (Some (nat_cmp link.number dir.number))) ≡
+    nat_le (ordering_index (id_cmp link dir)) 1
 within_answers link dir = id_cmp-partial is_le link dir ∙ within_test (id_cmp link dir)
 
 is_equal : (answer : Ordering) → ordering_index answer ≡ 1 → answer ≡ Equal
@@ -51,7 +57,9 @@ at_dir dir link = (
 pub standings_rise : (links : List Link) (dir : Id) → IsSortedByDir links → IsNonDecreasingBy (standing dir) links
 standings_rise links dir sorted = searchable_from_sorted id_cmp_total (λ link. link.dir) links dir sorted
 
-module _ {X : Type 0} (n : X → ℕ) (xs : List X) (start end : ℕ) (first : IsPartitionPoint (λ x. nat_le (n x) 0 ≡ true) (λ x. nat_le (n x) 0 ≡ false) xs start) (second : IsPartitionPoint (λ x. nat_le (n x) 1 ≡ true) (λ x. nat_le (n x) 1 ≡ false) (drop start xs) end) where
+module _ {X : Type 0} (n : X → ℕ) (xs : List X) (start end : ℕ)
+    (first : IsPartitionPoint (λ x. nat_le (n x) 0 ≡ true) (λ x. nat_le (n x) 0 ≡ false) xs start)
+    (second : IsPartitionPoint (λ x. nat_le (n x) 1 ≡ true) (λ x. nat_le (n x) 1 ≡ false) (drop start xs) end) where
   low : (k : ℕ) (d : X) → k < start → n (get_or xs k d) ≡ 0
   low k d before = let test : nat_le (n (get_or xs k d)) 0 ≡ true = first.0 k d (omega arith) before in grind (arith, nat_tests)
 
@@ -87,14 +95,21 @@ module _ {X : Type 0} (n : X → ℕ) (xs : List X) (start end : ℕ) (first : I
       ]
 
 -- what stands between the two places is what stands at 1
-pub Contains-between : {X : Type 0} (n : X → ℕ) (xs rest : List X) (start end : ℕ) → rest ≡ drop start xs → IsPartitionPoint (λ x. nat_le (n x) 0 ≡ true) (λ x. nat_le (n x) 0 ≡ false) xs start → IsPartitionPoint (λ x. nat_le (n x) 1 ≡ true) (λ x. nat_le (n x) 1 ≡ false) rest end → (x : X) → Contains (take end rest) x ↔ (Contains xs x × (n x ≡ 1))
+pub Contains-between : {X : Type 0} (n : X → ℕ) (xs rest : List X) (start end : ℕ) → rest ≡ drop start xs →
+    IsPartitionPoint (λ x. nat_le (n x) 0 ≡ true) (λ x. nat_le (n x) 0 ≡ false) xs start →
+    IsPartitionPoint (λ x. nat_le (n x) 1 ≡ true) (λ x. nat_le (n x) 1 ≡ false) rest end →
+    (x : X) → Contains (take end rest) x ↔ (Contains xs x × (n x ≡ 1))
 Contains-between {X} n xs rest start end is_rest first second x =
-    let point : IsPartitionPoint (λ y. nat_le (n y) 1 ≡ true) (λ y. nat_le (n y) 1 ≡ false) (drop start xs) end = subst (λ l. IsPartitionPoint (λ y. nat_le (n y) 1 ≡ true) (λ y. nat_le (n y) 1 ≡ false) l end) is_rest second in
+    let point : IsPartitionPoint (λ y. nat_le (n y) 1 ≡ true) (λ y. nat_le (n y) 1 ≡ false) (drop start xs) end =
+    subst (λ l. IsPartitionPoint (λ y. nat_le (n y) 1 ≡ true) (λ y. nat_le (n y) 1 ≡ false) l end) is_rest second in
     subst (λ l. Contains (take end l) x ↔ (Contains xs x × (n x ≡ 1))) (sym is_rest)
     (there n xs start end first point x, back n xs start end first point x)
 
 -- the links between the two places are those out of the directory
-pub links_between : (links rest : List Link) (dir : Id) (start end : ℕ) → rest ≡ drop start links → IsPartitionPoint (λ l. nat_le (standing dir l) 0 ≡ true) (λ l. nat_le (standing dir l) 0 ≡ false) links start → IsPartitionPoint (λ l. nat_le (standing dir l) 1 ≡ true) (λ l. nat_le (standing dir l) 1 ≡ false) rest end → (link : Link) → Contains (take end rest) link ↔ (Contains links link × (link.dir ≡ dir))
+pub links_between : (links rest : List Link) (dir : Id) (start end : ℕ) → rest ≡ drop start links →
+    IsPartitionPoint (λ l. nat_le (standing dir l) 0 ≡ true) (λ l. nat_le (standing dir l) 0 ≡ false) links start →
+    IsPartitionPoint (λ l. nat_le (standing dir l) 1 ≡ true) (λ l. nat_le (standing dir l) 1 ≡ false) rest end →
+    (link : Link) → Contains (take end rest) link ↔ (Contains links link × (link.dir ≡ dir))
 links_between links rest dir start end is_rest first second link =
     let between = Contains-between (standing dir) links rest start end is_rest first second link in (
       λ inside. ((between.0 inside).0, (at_dir dir link).0 (between.0 inside).1),

@@ -22,7 +22,8 @@ module _ {X : Type 0} (xs : List X) (index : ℕ) (d : X) (within : index < leng
       let pushed = subst (Contains (take index xs ++ get_or xs index d ∷ [])) (sym here) (Contains-push (take index xs) (get_or xs index d)) in
       subst (λ l. Contains l x) (sym (take_more xs index d within)) pushed
 
-  pub Contains-take_more : (x : X) → Contains (take (index + 1) xs) x ↔ (Contains (take index xs) x ⊎ (x ≡ get_or xs index d))
+  pub Contains-take_more : (x : X) →
+      Contains (take (index + 1) xs) x ↔ (Contains (take index xs) x ⊎ (x ≡ get_or xs index d))
   Contains-take_more x = (before_or_here x, taken x)
 
 -- a link of the list leads to the object
@@ -30,7 +31,9 @@ abbrev pub IsTarget : List Link → Id → Type 0
 IsTarget links object = (dir : Id) × Links links dir object
 
 module _ (links : List Link) (index : ℕ) (d : Link) (within : index < length links) where
-  pub IsTarget-take_more : (object : Id) → IsTarget (take (index + 1) links) object ↔ (IsTarget (take index links) object ⊎ (object ≡ (get_or links index d).target))
+  pub IsTarget-take_more : (object : Id) →
+      IsTarget (take (index + 1) links) object ↔
+      (IsTarget (take index links) object ⊎ (object ≡ (get_or links index d).target))
   IsTarget-take_more object = (
     λ is. elim ((Contains-take_more links index d within (record { dir = is.0; target = object })).0 is.1) [
       | inl before ↦ inl (is.0, before)

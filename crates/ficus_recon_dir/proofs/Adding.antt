@@ -1,89 +1,87 @@
--- What a list holds under each identifier once the table has settled one of them.
-use Rattle.std.proofs.Common.{◌≡◌, ◌≢◌, ◌⊎◌, ◌↔◌, ℕ, List, Option, Some, None, Contains, IfSome, sym, subst, ◌∙◌, ap, inl, inr, refl}
+-- What a list holds with one entry more.
+use Rattle.std.proofs.Common.{◌≡◌, ◌≢◌, ◌⊎◌, ◌↔◌, ℕ, ◌<◌, List, [], ◌∷◌, ◌++◌, length, get_or, Option, Some, None, Contains, Less, sym, subst, ◌∙◌, ap, inl, inr, refl, arith, ◌-◌}
+use Rattle.std.proofs.lemmas.Bool.{cases_lt}
+use Rattle.std.proofs.lemmas.List.{append-nil, length_push, get_or_append_left, get_or-append_right}
+use Rattle.std.proofs.lemmas.List.Elements.{Contains-append_left, Contains-push, Contains-push_cases, Contains-get_or}
 use Rattle.ficus_ids.specs.declared.id.Id.{Id}
-use Rattle.ficus_ids.specs.MarksLaws.{full_or_one_missing}
+use Rattle.ficus_ids.specs.Id.{id_cmp}
 use Rattle.ficus_ids.specs.RisingLaws.{one_held}
-use Rattle.ficus_entry.specs.Entry.{IsRising, HoldsUnder, PutsEntry}
+use Rattle.ficus_entry.specs.Entry.{IsRising, Holds, HoldsUnder}
 use Rattle.ficus_entry.specs.declared.entry.Entry.{Entry}
-use Rattle.ficus_entry.specs.declared.entry.State.{State}
-use Rattle.ficus_entry.specs.declared.entry.State.TheVariants.{Live, Dead}
-use Rattle.ficus_recon_dir.specs.Merge.{KeepsMine, Settles}
-use Rattle.ficus_recon_dir.specs.Table.{Merges, MergesEntry, state_of}
-
--- the entry, if there is one, has the identifier
-abbrev pub HasId : Id → Option Entry → Type 0
-HasId id entry = IfSome entry (λ e. e.id ≡ id)
+use Rattle.ficus_recon_dir.specs.Merge.{HasId, as_list}
 
 -- the new list holds the old entries, and this one, if there is one
 abbrev pub AddsIfAny : List Entry → List Entry → Option Entry → Type 0
 AddsIfAny old new more = (entry : Entry) → Contains new entry ↔ (Contains old entry ⊎ (more ≡ Some entry))
 
--- under the identifier stands this in the new list, and under all others what stood there
-pub record Settled (old new : List Entry) (id : Id) (after : Option Entry) : Type 0 where
-  pub under : (found : Option Entry) → HoldsUnder new id found → found ≡ after
-  pub others : (other : Id) → other ≢ id → (found : Option Entry) → HoldsUnder new other found → HoldsUnder old other found
-
 pub adds_nothing : (entries : List Entry) → AddsIfAny entries entries None
 adds_nothing entries entry = (inl, λ either. elim either [ inl inside ↦ inside | inr is ↦ cc ])
 
--- what the table makes of entries with an identifier has it too
-pub after_has_id : (r members : ℕ) (mine theirs after : Option Entry) (id : Id) → MergesEntry r members mine theirs after → HasId id mine → HasId id theirs → HasId id after
-after_has_id r members mine theirs None id merges has_mine has_theirs = tt
-after_has_id r members (Some mine) theirs (Some after) id merges has_mine has_theirs = ap (λ (e : Entry). e.id) merges.place ∙ has_mine
-after_has_id r members None (Some theirs) (Some after) id merges has_mine has_theirs = ap (λ (e : Entry). e.id) merges.place ∙ has_theirs
-after_has_id r members None None (Some after) id merges has_mine has_theirs = absurd merges.place
+-- the list with one entry more at its end, if any: it stands under the identifier, and under others what stood there
+pub record IsGrown (old : List Entry) (id : Id) (more : Option Entry) : Type 0 where
+  pub under : (found : Option Entry) → HoldsUnder (old ++ as_list more) id found → found ≡ more
+  pub others : (other : Id) → other ≢ id → (found : Option Entry) → HoldsUnder (old ++ as_list more) other found →
+      HoldsUnder old other found
+  pub rising : IsRising (old ++ as_list more)
 
-pub keeps_mine : (r members : ℕ) (mine theirs after : Option Entry) → MergesEntry r members mine theirs after → KeepsMine mine after
-keeps_mine r members (Some mine) theirs (Some after) merges = merges.place
-keeps_mine r members (Some mine) theirs None merges = tt
-keeps_mine r members None theirs (Some after) merges = tt
-keeps_mine r members None theirs None merges = tt
+pub rising_push : (xs : List Entry) (y : Entry) → IsRising xs →
+    ((x : Entry) → Contains xs x → id_cmp x.id y.id ≡ Less) → IsRising (xs ++ y ∷ [])
+rising_push xs y rising below = record {
+  each = λ i j d before within.
+      let front : i < length xs = omega (arith, length_push xs y) in
+      let at_i = get_or_append_left xs (y ∷ []) d i front in
+      elim (cases_lt j (length xs)) [
+        | inl inside ↦ rw (at_i, get_or_append_left xs (y ∷ []) d j inside) (rising.each i j d before inside)
+        | inr last ↦
+            let here : j ≡ length xs = omega (arith, length_push xs y) in
+            let at_j : get_or (xs ++ y ∷ []) j d ≡ y =
+            get_or-append_right xs (y ∷ []) (length xs) j d refl last ∙ ap (λ k. get_or (y ∷ []) k d) (past here) in
+            rw (at_i, at_j) (below (get_or xs i d) (Contains-get_or xs i d front))
+      ];
+}
+  where
+    past : {j n : ℕ} → j ≡ n → j - n ≡ 0
+    past is = omega (arith, is)
 
-not_nothing : (r members : ℕ) (mine : State) (theirs : Option State) → Merges r members (Some mine) theirs None → ⊥
-not_nothing r members Live None is = cc
-not_nothing r members Live (Some Live) is = cc
-not_nothing r members Live (Some (Dead one two)) is = is
-not_nothing r members (Dead one two) (Some Live) is = is
-not_nothing r members (Dead one two) (Some (Dead peers_one peers_two)) is = is
-not_nothing r members (Dead one two) None is =
-    elim (full_or_one_missing one members) [
-      | inl full ↦ is.0 full
-      | inr missing ↦ is.1 (λ full. cc (full missing.0 missing.1, missing.2))
-    ]
-
--- the table takes nothing away
-pub nothing_from_nothing : (r members : ℕ) (mine theirs : Option Entry) → MergesEntry r members mine theirs None → mine ≡ None
-nothing_from_nothing r members None theirs merges = refl
-nothing_from_nothing r members (Some mine) theirs merges = absurd (not_nothing r members mine.state (state_of theirs) merges.state)
-
-module _ (old new mine : List Entry) (id : Id) (before : (found : Option Entry) → HoldsUnder old id found → HoldsUnder mine id found) (rising_mine : IsRising mine) where
-  -- what stood there stays
-  stays : (at_r : Option Entry) → HoldsUnder mine id at_r → new ≡ old → Settled old new id at_r
-  stays at_r held same = record {
-    under = λ found is. one_held (λ e. e.id) mine id found at_r rising_mine (before found (subst (λ l. HoldsUnder l id found) same is)) held;
-    others = λ other differs found is. subst (λ l. HoldsUnder l other found) same is;
-  }
-
-  puts : (after : Entry) → IsRising new → after.id ≡ id → PutsEntry old new after → Settled old new id (Some after)
-  puts after rising has put = record {
-    under = λ found is. one_held (λ e. e.id) new id found (Some after) rising is ((put after).1 (inr refl), has);
-    others = from_put;
+module _ (old : List Entry) (id : Id) (rising : IsRising old)
+    (below : (x : Entry) → Contains old x → id_cmp x.id id ≡ Less) (free : Holds old id → ⊥) where
+  nothing_more : IsGrown old id None
+  nothing_more = record {
+    under = λ found held. not_held found (subst (λ l. HoldsUnder l id found) (append-nil old) held);
+    others = λ other differs found held. subst (λ l. HoldsUnder l other found) (append-nil old) held;
+    rising = subst IsRising (sym (append-nil old)) rising;
   }
     where
-      from_put : (other : Id) → other ≢ id → (found : Option Entry) → HoldsUnder new other found → HoldsUnder old other found
-      from_put other differs None held = λ was. held (record {
-        item = was.item;
-        inside = (put was.item).1 (inl (was.inside, λ same. differs (sym was.has_id ∙ same ∙ has)));
-        has_id = was.has_id;
-      })
-      from_put other differs (Some entry) held =
-          elim ((put entry).0 held.0) [
-            | inl kept ↦ (kept.0, held.1)
-            | inr is ↦ absurd (differs (sym held.1 ∙ ap (λ (e : Entry). e.id) is ∙ has))
+      not_held : (found : Option Entry) → HoldsUnder old id found → found ≡ None
+      not_held None held = refl
+      not_held (Some entry) held = absurd (free (record { item = entry; inside = held.0; has_id = held.1 }))
+
+  one_more : (entry : Entry) → entry.id ≡ id → IsGrown old id (Some entry)
+  one_more entry has = record {
+    under = λ found held. one_held (λ e. e.id) (old ++ entry ∷ []) id found (Some entry) rises held
+        (Contains-push old entry, has);
+    others = still;
+    rising = rises;
+  }
+    where
+      rises : IsRising (old ++ entry ∷ [])
+      rises = rising_push old entry rising (λ x inside. rw has (below x inside))
+
+      still : (other : Id) → other ≢ id → (found : Option Entry) → HoldsUnder (old ++ entry ∷ []) other found →
+          HoldsUnder old other found
+      still other differs None held =
+          λ was. held (record {
+            item = was.item;
+            inside =
+                Contains-append_left old (entry ∷ []) was.item was.inside;
+            has_id = was.has_id;
+          })
+      still other differs (Some one) held =
+          elim (Contains-push_cases old entry one held.0) [
+            | inl inside ↦ (inside, held.1)
+            | inr is ↦ absurd (differs (sym held.1 ∙ ap (λ (e : Entry). e.id) (sym is) ∙ has))
           ]
 
-  pub settled : (r members : ℕ) (at_r at_peer after : Option Entry) → MergesEntry r members at_r at_peer after → HoldsUnder mine id at_r → HasId id after → IsRising new → Settles old new at_r after → Settled old new id after
-  settled r members at_r at_peer None row held has rising same =
-      subst (Settled old new id) (nothing_from_nothing r members at_r at_peer row) (stays at_r held same)
-  settled r members at_r at_peer (Some after) row held has rising (inl stayed) = subst (Settled old new id) stayed.1 (stays at_r held stayed.0)
-  settled r members at_r at_peer (Some after) row held has rising (inr put) = puts after rising has put
+  pub grows : (more : Option Entry) → HasId id more → IsGrown old id more
+  grows None has = nothing_more
+  grows (Some entry) has = one_more entry has

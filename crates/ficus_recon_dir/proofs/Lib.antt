@@ -1,3 +1,5 @@
 mod Adding
 mod Steps
 mod Determined
+pub mod Replaced
+pub mod Rows

@@ -3,6 +3,8 @@
 
 mod laws;
 mod merge;
+mod rule;
+mod rules;
 mod table;
 
 pub use laws::one_merge;

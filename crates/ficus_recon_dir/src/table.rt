@@ -1,8 +1,9 @@
-ghost use Rattle.std.specs.Prelude.{◌≡◌, Some, IfOk};
-ghost use Rattle.std.specs.Option.{option_copied};
+ghost use Rattle.std.specs.Prelude.{◌≡◌, Some, Ok, IfOk, IsTrue};
+ghost use Rattle.std.specs.Option.{option_copied, option_or};
 ghost use Rattle.ficus_ids.specs.Marks.{has};
 ghost use Rattle.ficus_ids.specs.Members.{IsCount, IsMember};
-ghost use Rattle.ficus_recon_dir.specs.Table.{everyone as everyone_of, StandFor, IsDead, Merges, MergesEntry};
+ghost use Rattle.ficus_recon_dir.specs.Table.{everyone as everyone_of, StandFor, IsDead, Merges, MergesEntry, state_of};
+ghost use Rattle.ficus_recon_dir.specs.Merge.{Changes};
 
 use ficus_entry::State::{Dead, Live};
 use ficus_entry::{Entry, State};
@@ -41,17 +42,45 @@ impl Taker {
         ensures { IfOk result (MergesEntry self.number self.members
             (option_copied mine.entry) (option_copied theirs.entry)) }
     {
-        let my_state = mine.map(|entry| entry.state);
-        let their_state = theirs.map(|entry| entry.state);
-        let state = self.merge(my_state.as_ref(), their_state.as_ref());
-        match (mine.or(theirs), state) {
-            (Some(entry), Some(state)) => {
-                let mut merged = entry.copy()?;
-                merged.state = state;
-                Ok(Some(merged))
-            }
+        match (mine.or(theirs), self.state(mine, theirs)) {
+            (Some(entry), Some(state)) => Ok(Some(with_state(entry, state)?)),
             _ => Ok(None),
         }
+    }
+
+    /// The same, or nothing where it is what stands at the taker.
+    pub(crate) fn change(
+        self,
+        mine: Option<&Entry>,
+        theirs: Option<&Entry>,
+    ) -> Result<Option<Entry>, Memory>
+        ensures { IfOk result (Changes self.number self.members
+            (option_copied mine.entry) (option_copied theirs.entry)) }
+    {
+        match (mine.or(theirs), self.new_state(mine, theirs)) {
+            (Some(entry), Some(state)) => Ok(Some(with_state(entry, state)?)),
+            _ => Ok(None),
+        }
+    }
+
+    // The state that the table makes.
+    fn state(self, mine: Option<&Entry>, theirs: Option<&Entry>) -> Option<State>
+        ensures { Merges self.number self.members (state_of (option_copied mine.entry))
+            (state_of (option_copied theirs.entry)) result }
+    {
+        let my_state = mine.map(|entry| entry.state);
+        let their_state = theirs.map(|entry| entry.state);
+        self.merge(my_state.as_ref(), their_state.as_ref())
+    }
+
+    // The state that the table makes, or nothing where it is the taker's.
+    fn new_state(self, mine: Option<&Entry>, theirs: Option<&Entry>) -> Option<State>
+        ensures { Merges self.number self.members (state_of (option_copied mine.entry))
+            (state_of (option_copied theirs.entry))
+            (option_or result (state_of (option_copied mine.entry))) }
+    {
+        let state = self.state(mine, theirs);
+        if stands(mine, &state) { None } else { state }
     }
 
     // The merge table, a row an arm.
@@ -105,6 +134,31 @@ impl Taker {
             Dead { one, two }
         }
     }
+}
+
+// The entry, in this state.
+fn with_state(entry: &Entry, state: State) -> Result<Entry, Memory>
+    ensures { result ≡ Ok (record entry.now { state = state }) }
+{
+    let mut other = entry.copy()?;
+    other.state = state;
+    Ok(other)
+}
+
+// Whether this is the state of the entry.
+fn stands(entry: Option<&Entry>, state: &Option<State>) -> bool
+    ensures { IsTrue result → state_of (option_copied entry.entry) ≡ state.now }
+{
+    match (entry, state) {
+        (Some(entry), Some(state)) => is_same_state(&entry.state, state),
+        _ => false,
+    }
+}
+
+fn is_same_state(one: &State, other: &State) -> bool
+    ensures { IsTrue result → one.now ≡ other.now }
+{
+    one == other
 }
 
 // The set of all members.

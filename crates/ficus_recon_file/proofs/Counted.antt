@@ -132,8 +132,10 @@ all_counted from mine theirs old n count all grows = record {
 
 -- mine and then theirs
 pub both_counted : (mine theirs none : List Version) (count more : ℕ) → none ≡ [] →
-    ((old : List Version) → AreOrdered old → AreOfEither old mine theirs → HaveSameVectors mine mine theirs old none → Grows mine mine theirs old count) →
-    ((old : List Version) → AreOrdered old → AreOfEither old mine theirs → HaveSameVectors theirs mine theirs old mine → Grows theirs mine theirs old more) →
+    ((old : List Version) → AreOrdered old → AreOfEither old mine theirs → HaveSameVectors mine mine theirs old none →
+    Grows mine mine theirs old count) →
+    ((old : List Version) → AreOrdered old → AreOfEither old mine theirs → HaveSameVectors theirs mine theirs old mine →
+    Grows theirs mine theirs old more) →
     MakeSoMany mine theirs (count + more)
 both_counted mine theirs none count more empty grow_mine grow_theirs =
     let first = grow_mine [] (λ i j d before within. absurd (omega arith)) (λ v inside. absurd (not_inside_none v inside))

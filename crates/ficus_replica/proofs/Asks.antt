@@ -1,12 +1,11 @@
 -- `ask`: a replica that stands for a history asks, and stands for it with the ask.
-use Rattle.std.proofs.Common.{◌≡◌, ◌≢◌, ℕ, ◌+◌, ◌-◌, ◌^◌, ◌<◌, List, [], ◌∷◌, ◌++◌, length, Some, refl, sym, ap, subst, ◌∙◌, arith}
+use Rattle.std.proofs.Common.{◌≡◌, ◌≢◌, ℕ, ◌+◌, ◌-◌, ◌^◌, ◌<◌, List, [], ◌∷◌, ◌++◌, length, refl, sym, ap, subst, ◌∙◌, inr}
 use Rattle.ficus_ids.specs.Members.{IsMember}
 use Rattle.ficus_model.specs.declared.event.Event.{Event}
 use Rattle.ficus_model.specs.declared.event.Event.TheVariants.{Ask}
 use Rattle.ficus_model.specs.Events.{through}
 use Rattle.ficus_model.specs.Lawful.{Volume}
 use Rattle.ficus_codec.specs.Saved.{FitsImage}
-use Rattle.ficus_laws.proofs.OneMore.{same_quiet}
 use Rattle.ficus_laws.proofs.OpenAsk.{open_end}
 use Rattle.ficus_replica.specs.declared.replica.Replica.{Replica}
 use Rattle.ficus_replica.specs.Ask.{AskGives}
@@ -19,7 +18,7 @@ pub asks_stands : (volume : Volume) (H : List Event) (r to : ℕ) (old new : Rep
     AskGives old to new → StandsFor volume (H ++ Ask r to ∷ []) r new
 asks_stands volume H r to old new stands asks =
     subst (StandsFor volume (H ++ Ask r to ∷ []) r) (sym asks) (record {
-      saved = saved_again (Ask r to) (same_quiet H (Ask r to) r tt) refl stands.saved (ask_is_saved r to);
+      saved = saved_again (Ask r to) (inr tt) refl stands.saved (ask_is_saved r to);
       ask = (length H, open_end H r to, number);
     })
   where

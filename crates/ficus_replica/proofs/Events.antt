@@ -1,6 +1,6 @@
 -- A replica stands for a history from its start on, also after each event that leaves alone what it saves.
-use Rattle.std.proofs.Common.{◌≡◌, ◌≢◌, ℕ, ◌+◌, ◌≤◌, List, [], ◌∷◌, ◌++◌, Option, Some, None, cond, refl, sym, ap, ◌∙◌, subst, inl, inr, ◌⊎◌, arith}
-use Rattle.std.specs.Prelude.{Bool, false, All, map, count_by, sum_by}
+use Rattle.std.proofs.Common.{◌≡◌, ◌≢◌, ℕ, ◌+◌, ◌<◌, ◌≤◌, List, [], ◌∷◌, ◌++◌, Option, Some, None, cond, refl, sym, ap, ◌∙◌, subst, inl, inr, ◌⊎◌, arith}
+use Rattle.std.specs.Prelude.{All, map, sum_by}
 use Rattle.std.proofs.lemmas.List.Elements.{All-map, All-weaker}
 use Rattle.std.proofs.lemmas.List.Sums.{sum_by-le}
 use Rattle.std.proofs.lemmas.Option.{get_or_from_slice_get}
@@ -10,16 +10,14 @@ use Rattle.ficus_model.specs.declared.event.Event.TheVariants.{Update, Ask, Serv
 use Rattle.ficus_model.specs.Events.{IsAt, actor, is_update_of, count_of}
 use Rattle.ficus_model.specs.Lawful.{Volume, ClosesAsk}
 use Rattle.ficus_model.specs.Versions.{written_in, written_of}
-use Rattle.ficus_entry.specs.declared.entry.Entry.{Entry}
-use Rattle.ficus_entry.specs.declared.entry.State.{State}
-use Rattle.ficus_entry.specs.declared.entry.State.TheVariants.{Live, Dead}
+use Rattle.ficus_ids.specs.Members.{IsMember}
 use Rattle.ficus_codec.specs.declared.saved.Saved.{Saved}
 use Rattle.ficus_laws.proofs.Positions.{at_within}
 use Rattle.ficus_laws.proofs.Updates.{is_update_of_other}
-use Rattle.ficus_laws.proofs.OneMore.{same_of_other, same_quiet}
+use Rattle.ficus_held_files.specs.Tables.{AreHeldEntries, AreHeldFiles}
 use Rattle.ficus_replica.specs.declared.replica.Asked.{Asked}
 use Rattle.ficus_replica.specs.declared.replica.Replica.{Replica}
-use Rattle.ficus_replica.specs.SavedOf.{is_saved, generation_of, IsHeldAs, AreHeldBy, IsSavedOf, IsOpenAskOf, StandsFor, fresh_saved}
+use Rattle.ficus_replica.specs.SavedOf.{is_saved, generation_of, IsSavedOf, IsOpenAskOf, StandsFor, fresh_saved}
 use Rattle.ficus_replica.proofs.OpenAsks.{open_kept, open_none}
 use Rattle.ficus_replica.proofs.Saves.{saved_of_other, saved_kept, saved_once}
 
@@ -44,7 +42,7 @@ serve_stands : (volume : Volume) (H : List Event) (r : ℕ) (replica : Replica) 
 serve_stands volume H r replica (Serve by ask) stands is =
     let event = Serve by ask in
     record {
-      saved = saved_kept event (same_quiet H event r tt) refl stands.saved refl;
+      saved = saved_kept event (inr tt) refl stands.saved refl;
       ask = open_kept H r replica.ask event (λ closes. closes) stands.ask;
     }
 serve_stands volume H r replica (Update by op) stands is = absurd is
@@ -57,7 +55,7 @@ serve_stands volume H r replica (Restart by) stands is = absurd is
 pub quiet_stands : (volume : Volume) (H : List Event) (r : ℕ) (replica : Replica) (event : Event) →
     StandsFor volume H r replica → (actor event ≢ r) ⊎ IsServe event → StandsFor volume (H ++ event ∷ []) r replica
 quiet_stands volume H r replica event stands (inl other) = record {
-  saved = saved_kept event (same_of_other H event r other) (is_update_of_other r event other) stands.saved (saved_of_other r event other);
+  saved = saved_kept event (inl other) (is_update_of_other r event other) stands.saved (saved_of_other r event other);
   ask = open_kept H r replica.ask event (λ closes. other (closed_by_own r event closes)) stands.ask;
 }
 quiet_stands volume H r replica event stands (inr serve) = serve_stands volume H r replica event stands serve
@@ -68,7 +66,7 @@ pub restart_stands : (volume : Volume) (H : List Event) (r : ℕ) (saved : Saved
 restart_stands volume H r saved new was same none =
     let event = Restart r in
     record {
-      saved = rw same (saved_kept event (same_quiet H event r tt) refl was refl);
+      saved = rw same (saved_kept event (inr tt) refl was refl);
       ask = rw none (open_none H r event refl (λ to is. cc));
     }
 
@@ -114,14 +112,32 @@ module _ (H : List Event) (r : ℕ) (restarts : All IsRestart H) where
   written_fresh : written_of r H ≡ 0
   written_fresh = nothing_summed (written_in r) (λ by. refl)
 
-  none_held : (entry : Entry) (state : State) → IsHeldAs H r entry state → ⊥
-  none_held entry Live held = restart_at restarts held.entered.update.at
-  none_held entry (Dead one two) held = held
+  -- nothing is held
+  no_entries : (members : ℕ) → AreHeldEntries members H r []
+  no_entries members = record {
+    rising = record { each = λ i j d before within. absurd (omega arith) };
+    kept = record {
+      each = λ entry inside. absurd (not_inside_none entry inside);
+      absent = λ id none known. absurd (restart_at restarts known.entered.update.at);
+    };
+  }
+
+  no_files : (members : ℕ) → AreHeldFiles members H r []
+  no_files members = record {
+    rising = record { each = λ i j d before within. absurd (omega arith) };
+    ordered = λ file inside. absurd (not_inside_none file inside);
+    kept = record {
+      each = λ object inside. absurd (not_inside_none object inside);
+      absent = λ id kind made none. absurd (restart_at restarts made.update.at);
+    };
+  }
 
   -- a replica that has heard of nothing stands for each history in which replicas have started and done nothing else
-  pub fresh_stands : (volume : Volume) → StandsFor volume H r (record { saved = fresh_saved volume r; ask = None })
-  fresh_stands volume = record {
+  pub fresh_stands : (volume : Volume) → IsMember volume.members r →
+      StandsFor volume H r (record { saved = fresh_saved volume r; ask = None })
+  fresh_stands volume member = record {
     saved = record {
+      member = member;
       me = refl;
       members = refl;
       ids = refl;
@@ -129,11 +145,8 @@ module _ (H : List Event) (r : ℕ) (restarts : All IsRestart H) where
       next = ap (λ count. count + 1) (sym count_fresh);
       used = sym written_fresh;
       generation = sym generation_fresh;
-      entries = record {
-        rising = record { each = λ i j d before within. absurd (omega arith) };
-        each = λ entry. (λ inside. absurd (not_inside_none entry inside), λ held. absurd (none_held entry entry.state held));
-      };
-      directories = record { each = λ number op has. absurd (restart_at restarts has.update.at) };
+      entries = no_entries volume.members;
+      files = no_files volume.members;
     };
     ask = λ position to open_ask. restart_at restarts open_ask.ask;
   }
@@ -150,6 +163,7 @@ no_ask r (Some asked) waits = absurd (restart_at no_restarts waits.1.ask)
 pub restarted_stands : (volume : Volume) (H : List Event) (r : ℕ) (replica : Replica) → All IsRestart H →
     StandsFor volume [] r replica → StandsFor volume H r replica
 restarted_stands volume H r replica restarts stands =
-    let saved = saved_once stands.saved (fresh_stands [] r no_restarts volume).saved in
-    let fresh = fresh_stands H r restarts volume in
+    let member = stands.saved.member in
+    let saved = saved_once stands.saved (fresh_stands [] r no_restarts volume member).saved in
+    let fresh = fresh_stands H r restarts volume member in
     record { saved = rw saved fresh.saved; ask = rw (no_ask r replica.ask stands.ask) fresh.ask }

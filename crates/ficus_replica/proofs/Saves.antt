@@ -1,25 +1,25 @@
 -- What a replica saves, after one more event.
-use Rattle.std.proofs.Common.{◌≡◌, ◌≢◌, ◌↔◌, ℕ, ◌+◌, ◌<◌, ◌≤◌, List, [], ◌∷◌, ◌++◌, length, true, false, cond, refl, sym, ap, subst, ◌∙◌, arith, rules}
-use Rattle.std.specs.Prelude.{Contains, ◌==◌, if◌then◌else◌}
+use Rattle.std.proofs.Common.{◌≡◌, ◌≢◌, ◌⊎◌, ℕ, ◌+◌, List, [], ◌∷◌, ◌++◌, length, true, false, refl, sym, ap, ◌∙◌, arith, rules}
 use Rattle.std.proofs.lemmas.List.Sums.{sum_by_push}
-use Rattle.ficus_ids.specs.RisingLaws.{same_items}
+use Rattle.ficus_ids.specs.Members.{IsMember}
 use Rattle.ficus_model.specs.declared.event.Event.{Event}
 use Rattle.ficus_model.specs.declared.event.Event.TheVariants.{Update, Ask, Serve, Accept, Collect, Restart}
 use Rattle.ficus_model.specs.declared.event.Op.{Op}
 use Rattle.ficus_model.specs.Events.{actor, is_update_of, count_of}
-use Rattle.ficus_model.specs.Known.{Knows}
 use Rattle.ficus_model.specs.Lawful.{Volume}
 use Rattle.ficus_model.specs.Versions.{bytes_of, written_in, written_of}
 use Rattle.ficus_entry.specs.declared.entry.Entry.{Entry}
-use Rattle.ficus_entry.specs.declared.entry.State.{State}
-use Rattle.ficus_entry.specs.declared.entry.State.TheVariants.{Live, Dead}
+use Rattle.ficus_file.specs.declared.file.FileReplica.{FileReplica}
 use Rattle.ficus_codec.specs.declared.saved.Saved.{Saved}
-use Rattle.ficus_laws.specs.Updates.{SameUpdates}
 use Rattle.ficus_laws.proofs.Counts.{counted_one, counted_none}
-use Rattle.ficus_laws.proofs.Shown.{live_same, same_back}
 use Rattle.ficus_laws.proofs.Updates.{count_no_update}
-use Rattle.ficus_replica.specs.SavedOf.{is_saved, generation_of, IsHeldAs, AreHeldBy, MakesDirectories, IsSavedOf}
-use Rattle.ficus_replica.proofs.Directories.{directories_within}
+use Rattle.ficus_held_laws.specs.Entries.{IsIdle}
+use Rattle.ficus_held_laws.proofs.Leaving.{objects_kept}
+use Rattle.ficus_held_laws.proofs.Listing.{list_kept}
+use Rattle.ficus_held_files.specs.Tables.{AreHeldEntries, AreHeldFiles}
+use Rattle.ficus_held_files.proofs.Entries.{entries_once}
+use Rattle.ficus_held_files.proofs.Files.{files_once}
+use Rattle.ficus_replica.specs.SavedOf.{is_saved, generation_of, IsSavedOf}
 
 pub saved_of_other : (r : ℕ) (event : Event) → actor event ≢ r → is_saved r event ≡ false
 saved_of_other r (Update by op) n = grind arith
@@ -60,30 +60,15 @@ written_more r H op =
     let own : written_in r (Update r op) ≡ length (bytes_of op) = search rules in
     sum_by_push (written_in r) H (Update r op) ∙ ap (λ more. written_of r H + more) own
 
--- where the same updates are known, the same is held
-held_same : {H K : List Event} {r : ℕ} (entry : Entry) (state : State) → SameUpdates H (Knows H r) K (Knows K r) →
-    IsHeldAs H r entry state → IsHeldAs K r entry state
-held_same entry Live same held = live_same same held
-held_same entry (Dead one two) same held = held
+-- in each of these an event of another replica has come, or one that is no update, takes nothing and collects nothing
+module _ {members : ℕ} {H : List Event} {r : ℕ} (event : Event) (other : (actor event ≢ r) ⊎ IsIdle event) where
+  entries_kept : {entries : List Entry} → IsMember members r → AreHeldEntries members H r entries →
+      AreHeldEntries members (H ++ event ∷ []) r entries
+  entries_kept member held = record { rising = held.rising; kept = list_kept event member other held.kept }
 
-pub held_along : {H K : List Event} {r : ℕ} {entries : List Entry} → SameUpdates H (Knows H r) K (Knows K r) →
-    AreHeldBy H r entries → AreHeldBy K r entries
-held_along same held = record {
-  rising = held.rising;
-  each = λ entry. (
-    λ inside. held_same entry entry.state same ((held.each entry).0 inside),
-    λ now. (held.each entry).1 (held_same entry entry.state (same_back same) now),
-  );
-}
-
--- entries that are held are one list
-pub held_once : {H : List Event} {r : ℕ} {entries others : List Entry} → AreHeldBy H r entries → AreHeldBy H r others →
-    entries ≡ others
-held_once {entries = entries} {others = others} held held_too =
-    same_items (λ (e : Entry). e.id) entries others held.rising held_too.rising (λ entry. (
-      λ inside. (held_too.each entry).1 ((held.each entry).0 inside),
-      λ inside. (held.each entry).1 ((held_too.each entry).0 inside),
-    ))
+  files_kept : {files : List FileReplica} → AreHeldFiles members H r files →
+      AreHeldFiles members (H ++ event ∷ []) r files
+  files_kept held = record { rising = held.rising; ordered = held.ordered; kept = objects_kept H event r other held.kept }
 
 -- a history has one saved record
 pub saved_once : {volume : Volume} {H : List Event} {r : ℕ} {one other : Saved} → IsSavedOf volume H r one →
@@ -96,15 +81,24 @@ saved_once is is_too = λ i. record {
   next = (is.next ∙ sym is_too.next) i;
   used = (is.used ∙ sym is_too.used) i;
   generation = (is.generation ∙ sym is_too.generation) i;
-  entries = (held_once is.entries is_too.entries) i;
+  entries = (entries_once is.entries is_too.entries) i;
+  files = (files_once is.files is_too.files) i;
 }
 
 module _ {volume : Volume} {H K : List Event} {r : ℕ} {old : Saved} (is : IsSavedOf volume H r old) where
-  -- what is saved after more events, by its counts and its entries
-  pub saved_then : {next used generation : ℕ} {entries : List Entry} → next ≡ count_of r K + 1 → used ≡ written_of r K →
-      generation ≡ generation_of r K → AreHeldBy K r entries → MakesDirectories K (Knows K r) →
-      IsSavedOf volume K r (record old { next = next; used = used; generation = generation; entries = entries })
-  saved_then next used generation entries directories = record {
+  -- what is saved after more events, by its counts and its tables
+  pub saved_then : {next used generation : ℕ} {entries : List Entry} {files : List FileReplica} →
+      next ≡ count_of r K + 1 → used ≡ written_of r K → generation ≡ generation_of r K →
+      AreHeldEntries volume.members K r entries → AreHeldFiles volume.members K r files →
+      IsSavedOf volume K r (record old {
+        next = next;
+        used = used;
+        generation = generation;
+        entries = entries;
+        files = files;
+      })
+  saved_then next used generation entries files = record {
+    member = is.member;
     me = is.me;
     members = is.members;
     ids = is.ids;
@@ -113,20 +107,20 @@ module _ {volume : Volume} {H K : List Event} {r : ℕ} {old : Saved} (is : IsSa
     used = used;
     generation = generation;
     entries = entries;
-    directories = directories;
+    files = files;
   }
 
 module _ {volume : Volume} {H : List Event} {r : ℕ} {old : Saved} (event : Event)
-    (same : SameUpdates H (Knows H r) (H ++ event ∷ []) (Knows (H ++ event ∷ []) r))
-    (none : is_update_of r event ≡ false) (is : IsSavedOf volume H r old) where
-  -- an event that is no update of the replica's and brings it none: only the generation may change
+    (other : (actor event ≢ r) ⊎ IsIdle event) (none : is_update_of r event ≡ false)
+    (is : IsSavedOf volume H r old) where
+  -- an event that changes no tables: only the generation may change
   pub saved_quietly : (generation : ℕ) → generation ≡ generation_of r (H ++ event ∷ []) →
       IsSavedOf volume (H ++ event ∷ []) r (record old { generation = generation })
   saved_quietly generation counted =
       saved_then is
       (is.next ∙ ap (λ count. count + 1) (sym (count_no_update r H event none)))
       (is.used ∙ sym (written_kept r H event none))
-      counted (held_along same is.entries) (directories_within same.back is.directories)
+      counted (entries_kept event other is.member is.entries) (files_kept event other is.files)
 
   -- an event after which it doesn't save changes nothing
   pub saved_kept : is_saved r event ≡ false → IsSavedOf volume (H ++ event ∷ []) r old

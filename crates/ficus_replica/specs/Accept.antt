@@ -5,51 +5,67 @@ use Rattle.ficus_ids.specs.declared.refusal.Refusal.TheVariants.{Memory, Stale, 
 use Rattle.ficus_model.specs.declared.event.Event.{Event}
 use Rattle.ficus_model.specs.declared.event.Event.TheVariants.{Ask, Serve, Accept}
 use Rattle.ficus_model.specs.Events.{IsAt, through}
-use Rattle.ficus_model.specs.Known.{Knows}
 use Rattle.ficus_model.specs.Lawful.{Volume, MayCome}
 use Rattle.ficus_entry.specs.Entry.{IsRising}
 use Rattle.ficus_entry.specs.declared.entry.Entry.{Entry}
+use Rattle.ficus_file.specs.Files.{AreFiles}
+use Rattle.ficus_file.specs.declared.file.FileReplica.{FileReplica}
 use Rattle.ficus_recon_dir.specs.Merge.{MergesEntries}
+use Rattle.ficus_recon_file.specs.Merge.{Fit, AreMergedFiles}
 use Rattle.ficus_codec.specs.Saved.{HasOwnPast}
+use Rattle.ficus_codec.specs.Tables.{touched_by}
+use Rattle.ficus_held_files.specs.Tables.{AreHeldEntries, AreHeldFiles}
 use Rattle.ficus_replica.specs.declared.replica.Replica.{Replica}
-use Rattle.ficus_replica.specs.SavedOf.{AreHeldBy, MakesDirectories, StandsAfter, generation_of}
+use Rattle.ficus_replica.specs.SavedOf.{StandsAfter, generation_of}
 
 -- the open ask is of this peer and number
 abbrev pub IsOpen : Replica → ℕ → ℕ → Type 0
 IsOpen replica from number = replica.ask ≡ Some (record { to = from; number = number })
 
--- the tables hold no identifier of the replica's own that it hasn't issued
-abbrev pub FitsPast : Replica → List Entry → Type 0
-FitsPast replica entries = HasOwnPast replica.saved.me replica.saved.next entries
+-- the tables hold no identifier and no count of the replica's own that it hasn't issued, and their files and the
+-- replica's can be merged
+pub record MayTake (replica : Replica) (entries : List Entry) (files : List FileReplica) : Type 0 where
+  pub past : HasOwnPast replica.saved.me replica.saved.next entries files
+  pub fit : Fit replica.saved.files files
 
--- saved once more, with the merged entries and no open ask, and else as before
-pub record Accepted (old : Replica) (from number : ℕ) (entries : List Entry) (new : Replica) : Type 0 where
-  pub open_ask : IsOpen old from number
-  pub past : FitsPast old entries
-  pub merged : List Entry
+-- the entries merged, and the files of both by what the merged entries name or lie in
+pub record AreTablesMerged (old : Replica) (entries merged : List Entry) (files both : List FileReplica) : Type 0 where
   pub rising : IsRising merged
   pub merges : MergesEntries old.saved.me old.saved.members old.saved.entries entries merged
+  pub held : AreFiles both
+  pub merges_files : AreMergedFiles (touched_by merged) old.saved.files files both
+
+-- saved once more, with the merged tables and no open ask, and else as before
+pub record Accepted (old : Replica) (from number : ℕ) (entries : List Entry) (files : List FileReplica)
+    (new : Replica) : Type 0 where
+  pub open_ask : IsOpen old from number
+  pub fits : MayTake old entries files
+  pub merged : List Entry
+  pub both : List FileReplica
+  pub tables : AreTablesMerged old entries merged files both
   pub replica : new ≡ record {
-    saved = record old.saved { generation = old.saved.generation + 1; entries = merged };
+    saved = record old.saved { generation = old.saved.generation + 1; entries = merged; files = both };
     ask = None;
   }
 
 -- `stale` where no such ask is open; `badmessage` where the tables don't fit; else they are taken
-abbrev pub AcceptGives : Replica → ℕ → ℕ → List Entry → Result Replica Refusal → Type 0
-AcceptGives old from number entries (Ok new) = Accepted old from number entries new
-AcceptGives old from number entries (Err Stale) = IsOpen old from number → ⊥
-AcceptGives old from number entries (Err BadMessage) = IsOpen old from number × (FitsPast old entries → ⊥)
-AcceptGives old from number entries (Err Memory) = Unit {0}
-AcceptGives old from number entries (Err other) = ⊥
+abbrev pub AcceptGives : Replica → ℕ → ℕ → List Entry → List FileReplica → Result Replica Refusal → Type 0
+AcceptGives old from number entries files (Ok new) = Accepted old from number entries files new
+AcceptGives old from number entries files (Err Stale) = IsOpen old from number → ⊥
+AcceptGives old from number entries files (Err BadMessage) =
+    IsOpen old from number × (MayTake old entries files → ⊥)
+AcceptGives old from number entries files (Err Memory) = Unit {0}
+AcceptGives old from number entries files (Err other) = ⊥
 
 -- the tables are those that replica s served at a position, in answer to the ask of replica r with this number
-pub record IsServed (H : List Event) (r s number : ℕ) (tables : List Entry) (serve : ℕ) : Type 0 where
+pub record IsServed (volume : Volume) (H : List Event) (r s number : ℕ) (entries : List Entry)
+    (files : List FileReplica) (serve : ℕ) : Type 0 where
   pub ask : ℕ
   pub asked : IsAt H ask (Ask r s)
   pub served : IsAt H serve (Serve s ask)
   pub numbered : number ≡ generation_of r (through ask H)
-  pub entries : AreHeldBy (through serve H) s tables
-  pub directories : MakesDirectories (through serve H) (Knows (through serve H) s)
+  pub held : AreHeldEntries volume.members (through serve H) s entries
+  pub held_files : AreHeldFiles volume.members (through serve H) s files
 
 -- what was served is taken where the history allows it, and is stale where it doesn't
 abbrev pub AcceptStands : Volume → List Event → ℕ → ℕ → Result Replica Refusal → Type 0

@@ -1,40 +1,34 @@
 -- What the changes of a replica give, and what they are for the history.
-use Rattle.std.specs.Prelude.{◌≡◌, ℕ, List, ◌∷◌, [], ◌++◌, Result, Ok, Err}
-use Rattle.ficus_ids.specs.declared.kind.Kind.TheVariants.{Dir}
+use Rattle.std.specs.Prelude.{◌≡◌, ℕ, List, Result, Ok, Err}
 use Rattle.ficus_ids.specs.declared.refusal.Refusal.{Refusal}
 use Rattle.ficus_model.specs.declared.event.Event.{Event}
 use Rattle.ficus_model.specs.declared.event.Event.TheVariants.{Update}
 use Rattle.ficus_model.specs.declared.event.Op.{Op}
 use Rattle.ficus_model.specs.Lawful.{Volume}
+use Rattle.ficus_answers.specs.View.{tables_view}
+pub use Rattle.ficus_rules.specs.Change.{Change, ChangeRule, Make, Write, Settle, Resolve}
+use Rattle.ficus_rules.specs.Rule.{UnlessMemory}
+use Rattle.ficus_rules.specs.View.{history_view}
 use Rattle.ficus_replica.specs.declared.replica.Next.{Next}
 use Rattle.ficus_replica.specs.declared.replica.Replica.{Replica}
 use Rattle.ficus_replica.specs.Effect.{Applied}
-pub use Rattle.ficus_rules.specs.Change.{Change, ChangeRule, Make}
-use Rattle.ficus_rules.specs.Rule.{UnlessMemory}
 use Rattle.ficus_replica.specs.SavedOf.{StandsAfter}
-use Rattle.ficus_rules.specs.View.{history_view}
-use Rattle.ficus_replica.specs.View.{tables_view}
-
--- so far each change makes a directory
-abbrev pub IsOfDirectory : Change → Type 0
-IsOfDirectory (Make path kind) = kind ≡ Dir
 
 -- the operation is one to which a change comes, over what the replica holds
 pub record IsDecided (old : Replica) (op : Op) : Type 0 where
   pub change : Change
-  pub directory : IsOfDirectory change
-  pub answer : ChangeRule (tables_view old) change (Ok op)
+  pub answer : ChangeRule (tables_view old.saved) change (Ok op)
 
 -- the operation is the rule's, over what the replica holds; what is saved is what it makes of it, and no more
 pub record Changed (old : Replica) (change : Change) (next : Next) : Type 0 where
-  pub answer : ChangeRule (tables_view old) change (Ok next.op)
+  pub answer : ChangeRule (tables_view old.saved) change (Ok next.op)
   pub applied : Applied old.saved next.op next.replica.saved
   pub ask : next.replica.ask ≡ old.ask
 
 -- what a change gives, over what the replica holds
 abbrev pub ChangeGives : Replica → Change → Result Next Refusal → Type 0
 ChangeGives old change (Ok next) = Changed old change next
-ChangeGives old change (Err refusal) = UnlessMemory (ChangeRule (tables_view old) change) (Err refusal)
+ChangeGives old change (Err refusal) = UnlessMemory (ChangeRule (tables_view old.saved) change) (Err refusal)
 
 -- the operation is the rule's after the history; it may come, and the next replica stands for the history with it
 pub record ChangedAfter (volume : Volume) (H : List Event) (r : ℕ) (change : Change) (next : Next) : Type 0 where

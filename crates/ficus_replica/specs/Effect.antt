@@ -1,55 +1,76 @@
 -- What an operation makes of what a replica saves.
-use Rattle.std.specs.Prelude.{◌≡◌, ◌↔◌, ◌⊎◌, ℕ, ◌+◌, Bool, false, ◌==◌, List, length, Some, IfSome, Contains}
-use Rattle.ficus_ids.specs.Name.{IsName}
+use Rattle.std.specs.Prelude.{◌≡◌, ◌≢◌, ℕ, ◌+◌, ◌≤◌, List, length}
 use Rattle.ficus_ids.specs.declared.id.Id.{Id}
-use Rattle.ficus_model.specs.declared.event.Op.{Op}
-use Rattle.ficus_model.specs.Live.{Entry as ModelEntry, entered_by, removed_by}
-use Rattle.ficus_model.specs.Versions.{bytes_of}
+use Rattle.ficus_ids.specs.declared.id.TheConstants.{ATTIC}
+use Rattle.ficus_ids.specs.declared.kind.Kind.TheVariants.{Dir}
 use Rattle.ficus_entry.specs.Entry.{IsRising}
 use Rattle.ficus_entry.specs.declared.entry.Entry.{Entry}
-use Rattle.ficus_entry.specs.declared.entry.State.{State}
-use Rattle.ficus_entry.specs.declared.entry.State.TheVariants.{Live, Dead}
-use Rattle.ficus_recon_dir.specs.Table.{StandFor}
+use Rattle.ficus_file.specs.Files.{AreFiles, HoldsFile}
+use Rattle.ficus_file.specs.declared.file.FileReplica.{FileReplica}
+use Rattle.ficus_model.specs.declared.event.Op.{Op}
+use Rattle.ficus_model.specs.declared.event.Op.TheVariants.{Make, Link, Remove, Move, Write, Settle, Resolve, Adopt, Discard}
+use Rattle.ficus_model.specs.Versions.{bytes_of}
+use Rattle.ficus_codec.specs.Laws.{FitsReplica}
+use Rattle.ficus_codec.specs.Tables.{IsPlaceIn}
 use Rattle.ficus_codec.specs.declared.saved.Saved.{Saved}
-use Rattle.ficus_replica.specs.View.{held_live, without_state}
+use Rattle.ficus_codec.specs.declared.saved.TheConstants.{FILE_LIMIT}
+use Rattle.ficus_held_laws.specs.Entries.{AreEntriesStepped}
+use Rattle.ficus_held_laws.specs.Objects.{AreObjectsStepped}
+use Rattle.ficus_held_files.specs.Tables.{objects_of}
 
 -- the number of the replica's next update
 abbrev pub next_id : Saved → Id
 next_id saved = record { replica = saved.me; number = saved.next }
 
--- the name that the operation enters is one
-abbrev pub EntersName : Saved → Op → Type 0
-EntersName old op = IfSome (entered_by (next_id old) op) (λ entry. IsName entry.name)
+-- the entries and files are what the next update of the replica makes of those that it holds
+pub record AreStepped (old : Saved) (op : Op) (entries : List Entry) (files : List FileReplica) : Type 0 where
+  pub rising : IsRising entries
+  pub stepped : AreEntriesStepped old.me (next_id old) op old.entries entries
+  pub held : AreFiles files
+  pub stepped_files : AreObjectsStepped old.me (next_id old) op (objects_of old.files) (objects_of files)
 
--- the entry is held as live, or the operation enters it
-abbrev pub IsLiveOrEntered : Saved → Op → ModelEntry → Type 0
-IsLiveOrEntered old op entry = Contains old.entries (held_live entry) ⊎ (entered_by (next_id old) op ≡ Some entry)
+-- and they fit for one more update of the replica
+pub record IsStepped (old : Saved) (op : Op) (entries : List Entry) (files : List FileReplica) : Type 0 where
+  pub stepped : AreStepped old op entries files
+  pub fits : FitsReplica old.members old.me (old.next + 1) entries files
 
--- it is there, and the operation doesn't remove it
-pub record StaysLive (old : Saved) (op : Op) (entry : ModelEntry) : Type 0 where
-  pub present : IsLiveOrEntered old op entry
-  pub kept : Contains (removed_by (next_id old) op) entry.id → ⊥
-
--- it is there, and the operation removes it: this replica alone is known to know of it
-pub record BecomesDead (old : Saved) (op : Op) (entry : ModelEntry) (one two : ℕ) : Type 0 where
-  pub present : IsLiveOrEntered old op entry
-  pub removed : Contains (removed_by (next_id old) op) entry.id
-  pub known : StandFor one (λ replica. replica == old.me)
-  pub known_of_all : StandFor two (λ replica. false)
-
--- how an entry is held once the operation is done; what is dead stays as it is
-abbrev pub IsHeldAfter : Saved → Op → Entry → State → Type 0
-IsHeldAfter old op entry Live = StaysLive old op (without_state entry)
-IsHeldAfter old op entry (Dead one two) = Contains old.entries entry ⊎ BecomesDead old op (without_state entry) one two
-
--- the operation done: these entries, by identifier, one more update and one more save
+-- the operation done: these tables, one more update, so many bytes more, and one more save
 pub record Applied (old : Saved) (op : Op) (new : Saved) : Type 0 where
   pub entries : List Entry
-  pub rising : IsRising entries
-  pub each : (entry : Entry) → Contains entries entry ↔ IsHeldAfter old op entry entry.state
+  pub files : List FileReplica
+  pub stepped : AreStepped old op entries files
   pub saved : new ≡ record old {
     next = old.next + 1;
     used = old.used + length (bytes_of op);
     generation = old.generation + 1;
     entries = entries;
+    files = files;
   }
+
+-- a new entry may lie in the directory
+pub record MayMake (old : Saved) (dir : Id) : Type 0 where
+  pub place : IsPlaceIn old.files dir
+  pub no_attic : dir ≢ ATTIC
+
+-- the file is held, and so many bytes fit it and are left to the replica
+pub record MayWrite (old : Saved) (file : Id) (bytes : List ℕ) : Type 0 where
+  pub held : HoldsFile old.files file (λ held. held.kind ≢ Dir)
+  pub one_file : length bytes ≤ FILE_LIMIT
+  pub left : old.used + length bytes ≤ old.bytes
+
+-- what is done is possible in the replica's tables; so far an operation makes an object or writes
+abbrev pub IsPossible : Saved → Op → Type 0
+IsPossible old (Make dir name kind) = MayMake old dir
+IsPossible old (Write file bytes) = MayWrite old file bytes
+IsPossible old (Settle file bytes) = MayWrite old file bytes
+IsPossible old (Resolve file bytes) = MayWrite old file bytes
+IsPossible old (Link dir name target) = ⊥
+IsPossible old (Remove entries target) = ⊥
+IsPossible old (Move entries dir name target) = ⊥
+IsPossible old (Adopt file dir name) = ⊥
+IsPossible old (Discard file) = ⊥
+
+-- and an update is left for it
+pub record IsReady (old : Saved) (op : Op) : Type 0 where
+  pub left : old.next ≤ old.ids
+  pub possible : IsPossible old op

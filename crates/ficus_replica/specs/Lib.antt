@@ -1,7 +1,7 @@
-pub mod View
 pub mod Look
 pub mod SavedOf
 pub mod Effect
 pub mod Change
 pub mod Ask
 pub mod Accept
+pub mod Taken

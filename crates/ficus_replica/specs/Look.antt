@@ -3,16 +3,16 @@ use Rattle.std.specs.Prelude.{ℕ, List as ListOf, Result}
 use Rattle.ficus_ids.specs.declared.refusal.Refusal.{Refusal}
 use Rattle.ficus_model.specs.declared.event.Event.{Event}
 use Rattle.ficus_model.specs.Lawful.{Volume}
-pub use Rattle.ficus_rules.specs.Look.{Look, LookRule, List, Tree}
+pub use Rattle.ficus_rules.specs.Look.{Look, LookRule, List, Tree, Read, Versions}
 use Rattle.ficus_rules.specs.Rule.{UnlessMemory}
 use Rattle.ficus_rules.specs.Told.{Told}
-use Rattle.ficus_replica.specs.declared.replica.Replica.{Replica}
 use Rattle.ficus_rules.specs.View.{history_view}
-use Rattle.ficus_replica.specs.View.{tables_view}
+use Rattle.ficus_answers.specs.View.{tables_view}
+use Rattle.ficus_replica.specs.declared.replica.Replica.{Replica}
 
 -- what a look gives, over what the replica holds
 abbrev pub LookGives : Replica → Look → Result Told Refusal → Type 0
-LookGives replica look result = UnlessMemory (LookRule (tables_view replica) look) result
+LookGives replica look result = UnlessMemory (LookRule (tables_view replica.saved) look) result
 
 -- what a look at replica r gives after the history
 abbrev pub LookStands : Volume → ListOf Event → ℕ → Look → Result Told Refusal → Type 0

@@ -1,25 +1,15 @@
 -- What it means that a replica stands for a history.
-use Rattle.std.specs.Prelude.{◌≡◌, ◌↔◌, ℕ, ◌+◌, List, ◌∷◌, [], ◌++◌, Bool, false, ◌==◌, Option, Some, None, Contains, count_by}
-use Rattle.ficus_ids.specs.declared.id.Id.{Id}
-use Rattle.ficus_ids.specs.declared.kind.Kind.TheVariants.{Dir}
+use Rattle.std.specs.Prelude.{◌≡◌, ℕ, ◌+◌, List, ◌∷◌, [], ◌++◌, Bool, false, ◌==◌, Option, Some, None, count_by}
+use Rattle.ficus_ids.specs.Members.{IsMember}
 use Rattle.ficus_model.specs.declared.event.Event.{Event}
 use Rattle.ficus_model.specs.declared.event.Event.TheVariants.{Update, Ask, Serve, Accept, Collect, Restart}
-use Rattle.ficus_model.specs.declared.event.Op.{Op}
-use Rattle.ficus_model.specs.declared.event.Op.TheVariants.{Make, Link, Remove, Move, Write, Settle, Resolve, Adopt, Discard}
 use Rattle.ficus_model.specs.Events.{count_of, through}
-use Rattle.ficus_model.specs.Known.{Knows}
 use Rattle.ficus_model.specs.Lawful.{Volume, IsOpenAsk, MayCome}
-use Rattle.ficus_model.specs.Live.{IsLive}
 use Rattle.ficus_model.specs.Versions.{written_of}
-use Rattle.ficus_laws.specs.Updates.{HasUpdate}
-use Rattle.ficus_entry.specs.Entry.{IsRising}
-use Rattle.ficus_entry.specs.declared.entry.Entry.{Entry}
-use Rattle.ficus_entry.specs.declared.entry.State.{State}
-use Rattle.ficus_entry.specs.declared.entry.State.TheVariants.{Live, Dead}
 use Rattle.ficus_codec.specs.declared.saved.Saved.{Saved}
+use Rattle.ficus_held_files.specs.Tables.{AreHeldEntries, AreHeldFiles}
 use Rattle.ficus_replica.specs.declared.replica.Asked.{Asked}
 use Rattle.ficus_replica.specs.declared.replica.Replica.{Replica}
-use Rattle.ficus_replica.specs.View.{without_state}
 
 -- an event of the replica after which it saves
 abbrev pub is_saved : ℕ → Event → Bool
@@ -34,35 +24,9 @@ is_saved replica (Restart by) = false
 abbrev pub generation_of : ℕ → List Event → ℕ
 generation_of replica H = count_by (is_saved replica) H
 
--- The entry, as the replica holds it: a live one is alive in what it knows. No operation removes entries yet, so
--- none is held as removed.
-abbrev pub IsHeldAs : List Event → ℕ → Entry → State → Type 0
-IsHeldAs H replica entry Live = IsLive H (Knows H replica) (without_state entry)
-IsHeldAs H replica entry (Dead one two) = ⊥
-
--- the entries are those that the replica holds after the history, by identifier
-pub record AreHeldBy (H : List Event) (replica : ℕ) (entries : List Entry) : Type 0 where
-  pub rising : IsRising entries
-  pub each : (entry : Entry) → Contains entries entry ↔ IsHeldAs H replica entry entry.state
-
--- the operation makes a directory
-abbrev pub MakesDirectory : Op → Type 0
-MakesDirectory (Make dir name kind) = kind ≡ Dir
-MakesDirectory (Link dir name target) = ⊥
-MakesDirectory (Remove entries target) = ⊥
-MakesDirectory (Move entries dir name target) = ⊥
-MakesDirectory (Write file bytes) = ⊥
-MakesDirectory (Settle file bytes) = ⊥
-MakesDirectory (Resolve file bytes) = ⊥
-MakesDirectory (Adopt file dir name) = ⊥
-MakesDirectory (Discard file) = ⊥
-
--- each known update makes a directory: no command does anything else yet
-pub record MakesDirectories (H : List Event) (U : ℕ → Type 0) : Type 0 where
-  pub each : (number : Id) (op : Op) → HasUpdate H U number op → MakesDirectory op
-
--- what the replica saves after the history
+-- what the replica, a member, saves after the history
 pub record IsSavedOf (volume : Volume) (H : List Event) (replica : ℕ) (saved : Saved) : Type 0 where
+  pub member : IsMember volume.members replica
   pub me : saved.me ≡ replica
   pub members : saved.members ≡ volume.members
   pub ids : saved.ids ≡ volume.ids
@@ -70,8 +34,8 @@ pub record IsSavedOf (volume : Volume) (H : List Event) (replica : ℕ) (saved :
   pub next : saved.next ≡ count_of replica H + 1
   pub used : saved.used ≡ written_of replica H
   pub generation : saved.generation ≡ generation_of replica H
-  pub entries : AreHeldBy H replica saved.entries
-  pub directories : MakesDirectories H (Knows H replica)
+  pub entries : AreHeldEntries volume.members H replica saved.entries
+  pub files : AreHeldFiles volume.members H replica saved.files
 
 -- what a replica saves that has heard of nothing
 abbrev pub fresh_saved : Volume → ℕ → Saved
@@ -84,6 +48,7 @@ fresh_saved volume replica = record {
   used = 0;
   generation = 0;
   entries = [];
+  files = [];
 }
 
 -- the ask that the replica waits for an answer to

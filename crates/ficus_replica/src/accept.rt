@@ -1,60 +1,95 @@
 ghost use Rattle.std.specs.Prelude.{◌-◌, ◌^◌, ◌<◌, ℕ, List, IfOk, IsTrue, ◌↔◌};
 
+use crate::taken::taken;
 use crate::{Asked, Replica};
 use ficus_entry::{Entries, Entry};
+use ficus_file::{FileReplica, Files, Version};
 use ficus_ids::{Id, Memory, Refusal};
 use ficus_recon_dir::merge_entries;
+use ficus_recon_file::{merge_files, merge_fits};
+use ficus_vv::Vector;
 use std::alloc::Global;
 
 impl Replica {
-    ghost use Rattle.ficus_codec.specs.Saved.{FitsImage, IsEntryOfPast, IsOfPast};
+    ghost use Rattle.std.specs.Prelude.{All, Contains};
+    ghost use Rattle.ficus_file.specs.declared.version.Version.{Version as VersionValue};
+    ghost use Rattle.ficus_vv.specs.Vector.{count_of};
+    ghost use Rattle.ficus_codec.specs.Saved.{FitsImage, IsEntryOfPast, IsFileOfPast, IsOfPast};
     ghost use Rattle.ficus_codec.specs.Tables.{FitsTables};
     ghost use Rattle.ficus_model.specs.Lawful.{Volume, IsLawful};
     ghost use Rattle.ficus_model.specs.declared.event.Event.{Event};
-    ghost use Rattle.ficus_replica.specs.Accept.{AcceptGives, AcceptStands, FitsPast, IsServed};
+    ghost use Rattle.ficus_recon_file.specs.Merge.{Fit};
+    ghost use Rattle.ficus_replica.specs.Accept.{AcceptGives, AcceptStands, AreTablesMerged, IsServed, MayTake};
     ghost use Rattle.ficus_replica.specs.SavedOf.{StandsFor};
 
-    /// Takes the entries that a peer served in answer to an ask. Refused, in this order: `Stale` exactly where
-    /// the open ask isn't of this peer and number; `BadMessage` exactly where the entries hold an identifier
-    /// of this replica's own that it hasn't issued.
+    /// Takes the tables that a peer served in answer to an ask. Refused, in this order: `Stale` exactly where
+    /// the open ask isn't of this peer and number; `BadMessage` exactly where the tables hold an identifier or a count
+    /// of this replica's own that it hasn't issued, or the files can't be merged with its own.
     pub fn accept(
         &self,
         alloc: Global,
         from: u8,
         number: u64,
         entries: &Entries,
+        files: &Files,
     ) -> Result<Replica, Refusal>
         requires fits { FitsImage self.now.saved }
-        requires tables { FitsTables self.now.saved.members entries.now }
+        requires tables { FitsTables self.now.saved.members entries.now files.now }
         requires generation { self.now.saved.generation < 2 ^ 63 - 1 }
-        ensures gives { AcceptGives self.now from number entries.now result }
+        ensures gives { AcceptGives self.now from number entries.now files.now result }
         ensures fits { IfOk result (λ replica. FitsImage replica.saved) }
         ensures stands { (volume : Volume) (H : List Event) (serve : ℕ) → IsLawful volume H
             → StandsFor volume H self.now.saved.me self.now
-            → IsServed H self.now.saved.me from number entries.now serve
+            → IsServed volume H self.now.saved.me from number entries.now files.now serve
             → AcceptStands volume H self.now.saved.me serve result }
     {
         if self.ask != Some(Asked { to: from, number }) {
             return Err(Refusal::Stale);
         }
-        if !self.has_issued_all(entries)? {
+        if !self.fits(entries, files)? {
             return Err(Refusal::BadMessage);
         }
-        let merged = merge_entries(
-            &self.saved.entries,
-            entries,
-            self.saved.me,
-            self.saved.members,
-        )?;
+        let (merged, both) = self.merged(alloc, entries, files)?;
         Ok(Replica {
-            saved: self.saved_with(merged),
+            saved: self.saved_with(merged, both),
             ask: None,
         })
     }
 
+    // What its tables and these make together.
+    fn merged(
+        &self,
+        alloc: Global,
+        entries: &Entries,
+        files: &Files,
+    ) -> Result<(Entries, Files), Memory>
+        requires fits { FitsImage self.now.saved }
+        requires fit { Fit self.now.saved.files files.now }
+        ensures { IfOk result (λ tables. AreTablesMerged self.now entries.now tables.0 files.now tables.1) }
+    {
+        let saved = &self.saved;
+        let merged = merge_entries(&saved.entries, entries, saved.me, saved.members)?;
+        let taken = taken(alloc, &merged, &saved.files, files)?;
+        let both = merge_files(alloc, &saved.files, files, &taken)?;
+        Ok((merged, both))
+    }
+
+    // Whether the tables may be taken, where an answer is.
+    fn fits(&self, entries: &Entries, files: &Files) -> Result<bool, Memory>
+        requires { FitsImage self.now.saved }
+        ensures { IfOk result (λ fits. IsTrue fits ↔ MayTake self.now entries.now files.now) }
+    {
+        Ok(
+            self.has_issued_all(entries)?
+                && self.has_issued_files(files)
+                && merge_fits(&self.saved.files, files),
+        )
+    }
+
     // Whether it has issued each identifier of its own in the entries.
     fn has_issued_all(&self, entries: &Entries) -> Result<bool, Memory>
-        ensures { IfOk result (λ issued. IsTrue issued ↔ FitsPast self.now entries.now) }
+        ensures { IfOk result (λ issued. IsTrue issued ↔
+            All (IsEntryOfPast self.now.saved.me self.now.saved.next) entries.now) }
     {
         let in_order = entries.in_order()?;
         for index in 0..in_order.len() {
@@ -70,6 +105,51 @@ impl Replica {
         ensures { IsTrue result ↔ IsEntryOfPast self.now.saved.me self.now.saved.next entry.now }
     {
         self.has_issued(entry.id) && self.has_issued(entry.dir) && self.has_issued(entry.target)
+    }
+
+    // Whether it has issued each identifier and each count of its own in the files.
+    fn has_issued_files(&self, files: &Files) -> bool
+        requires { FitsImage self.now.saved }
+        ensures { IsTrue result ↔ All (IsFileOfPast self.now.saved.me self.now.saved.next) files.now }
+    {
+        for index in 0..files.len() {
+            if !self.has_issued_file(files.at(index)) {
+                return false;
+            }
+        }
+        true
+    }
+
+    // Whether it has issued the identifier of the file, if that is its own, and each count of its own in it.
+    fn has_issued_file(&self, file: &FileReplica) -> bool
+        requires { FitsImage self.now.saved }
+        ensures { IsTrue result ↔ IsFileOfPast self.now.saved.me self.now.saved.next file.now }
+    {
+        self.has_issued(file.id)
+            && self.has_counted_all(file.versions.items())
+            && self.has_counted(file.covered)
+    }
+
+    // Whether the versions count only updates that it has made.
+    fn has_counted_all(&self, versions: &[Version]) -> bool
+        requires { FitsImage self.now.saved }
+        ensures { IsTrue result ↔ ((version : VersionValue) → Contains versions.now version →
+            count_of version.vector self.now.saved.me < self.now.saved.next) }
+    {
+        for version in versions {
+            if !self.has_counted(version.vector) {
+                return false;
+            }
+        }
+        true
+    }
+
+    // Whether the vector counts only updates that it has made.
+    fn has_counted(&self, vector: Vector) -> bool
+        requires { FitsImage self.now.saved }
+        ensures { IsTrue result ↔ (count_of vector self.now.saved.me < self.now.saved.next) }
+    {
+        vector.count(self.saved.me) < self.saved.next
     }
 
     // Whether it has issued the identifier, or the identifier isn't its own.

@@ -22,7 +22,7 @@ impl Replica {
         ensures stands { (volume : Volume) (H : List Event) → StandsFor volume H self.now.saved.me self.now
             → IfOk result (StandsAfter volume H self.now.saved.me (Ask self.now.saved.me to)) }
     {
-        let saved = self.saved_with(self.saved.entries.copy()?);
+        let saved = self.saved_with(self.saved.entries.copy()?, self.saved.files.copy()?);
         let number = saved.generation;
         Ok(Replica {
             saved,

@@ -1,55 +1,48 @@
 ghost use Rattle.std.specs.Prelude.{◌≡◌, IfOk};
 ghost use Rattle.ficus_ids.specs.Name.{IsName};
-ghost use Rattle.ficus_replica.specs.View.{held_live};
+ghost use Rattle.ficus_answers.specs.View.{held_live};
 
 use crate::{Next, Replica};
 use ficus_codec::Saved;
-use ficus_entry::{Entry, State};
-use ficus_ids::{Id, Memory, Name, Refusal};
+use ficus_entry::{Entries, Entry, State};
+use ficus_file::{FileReplica, Files};
+use ficus_ids::{Id, Kind, Memory, Name, Refusal};
 use ficus_model::Op;
+use std::alloc::Global;
 
 impl Replica {
-    ghost use Rattle.std.specs.Prelude.{◌↔◌, ◌+◌, ◌-◌, ◌^◌, ◌<◌, IsTrue, Ok};
+    ghost use Rattle.std.specs.Prelude.{◌-◌, ◌^◌, ◌<◌, ◌≤◌};
+    ghost use Rattle.ficus_answers.specs.View.{tables_view};
     ghost use Rattle.ficus_codec.specs.Saved.{FitsImage};
+    ghost use Rattle.ficus_held_files.specs.Laws.{Overwrites};
+    ghost use Rattle.ficus_model.specs.declared.event.Op.{Op as Operation};
+    ghost use Rattle.ficus_model.specs.declared.event.Op.TheVariants.{Make as Makes};
     ghost use Rattle.ficus_replica.specs.Change.{Change, ChangeGives, ChangeRule, IsDecided};
-    ghost use Rattle.ficus_replica.specs.Effect.{Applied, EntersName, next_id};
-    ghost use Rattle.ficus_replica.specs.SavedOf.{MakesDirectory};
-    ghost use Rattle.ficus_replica.specs.View.{tables_view};
+    ghost use Rattle.ficus_replica.specs.Effect.{Applied, IsReady, IsStepped, MayWrite, next_id};
 
-    /// Whether it has made all the updates that it may make.
-    pub(crate) fn is_spent(&self) -> bool
-        ensures { IsTrue result ↔ (tables_view self.now).spent }
-    {
-        self.saved.next > self.saved.ids
-    }
-
-    /// What a change gives whose rule gives this operation. So far it makes a directory.
-    pub(crate) fn changed(&self, op: Op) -> Result<Next, Refusal>
+    /// What a change gives whose rule gives this operation.
+    pub(crate) fn changed(&self, alloc: Global, op: Op) -> Result<Next, Refusal>
         requires decided { IsDecided self.now op }
         requires fits { FitsImage self.now.saved }
         requires generation { self.now.saved.generation < 2 ^ 63 - 1 }
-        ensures gives { (change : Change) → ChangeRule (tables_view self.now) change (Ok op)
+        ensures gives { (change : Change) → ChangeRule (tables_view self.now.saved) change (Ok op)
             → ChangeGives self.now change result }
         ensures fits { IfOk result (λ next. FitsImage next.replica.saved) }
     {
-        Ok(self.applied(op)?)
+        Ok(self.applied(alloc, op)?)
     }
 
-    // The replica once the operation is done, and the operation. So far it makes a directory.
-    fn applied(&self, op: Op) -> Result<Next, Memory>
-        requires makes { MakesDirectory op }
+    // The replica once the operation is done, and the operation.
+    fn applied(&self, alloc: Global, op: Op) -> Result<Next, Memory>
+        requires ready { IsReady self.now.saved op }
         requires fits { FitsImage self.now.saved }
         requires generation { self.now.saved.generation < 2 ^ 63 - 1 }
         ensures applied { IfOk result (λ next. Applied self.now.saved op next.replica.saved) }
+        ensures fits { IfOk result (λ next. FitsImage next.replica.saved) }
         ensures op { IfOk result (λ next. next.op ≡ op) }
         ensures ask { IfOk result (λ next. next.replica.ask ≡ self.now.ask) }
-        ensures name { EntersName self.now.saved op }
     {
-        let mut entries = self.saved.entries.copy()?;
-        match &op {
-            Op::Make { dir, name, .. } => entries.insert(new_entry(self.next_id(), *dir, name)?)?,
-            _ => unreachable!(),
-        }
+        let (entries, files) = self.stepped(alloc, &op)?;
         Ok(Next {
             replica: Replica {
                 saved: Saved {
@@ -58,14 +51,65 @@ impl Replica {
                     ids: self.saved.ids,
                     bytes: self.saved.bytes,
                     next: self.saved.next + 1,
-                    used: self.saved.used,
+                    used: self.saved.used + written_by(&op) as u32,
                     generation: self.saved.generation + 1,
                     entries,
+                    files,
                 },
                 ask: self.ask,
             },
             op,
         })
+    }
+
+    // The tables once the operation is done. So far it makes an object or writes a file.
+    fn stepped(&self, alloc: Global, op: &Op) -> Result<(Entries, Files), Memory>
+        requires ready { IsReady self.now.saved op.now }
+        requires fits { FitsImage self.now.saved }
+        ensures { IfOk result (λ tables. IsStepped self.now.saved op.now tables.0 tables.1) }
+    {
+        match op {
+            Op::Make { dir, name, kind } => self.made(alloc, *dir, name, *kind),
+            Op::Write { file, bytes } | Op::Settle { file, bytes } | Op::Resolve { file, bytes } =>
+                self.written(alloc, *file, bytes.items()),
+            _ => unreachable!(),
+        }
+    }
+
+    // The tables with a new object and an entry for it.
+    fn made(
+        &self,
+        alloc: Global,
+        dir: Id,
+        name: &Name,
+        kind: Kind,
+    ) -> Result<(Entries, Files), Memory>
+        requires ready { IsReady self.now.saved (Makes dir name.now kind) }
+        requires fits { FitsImage self.now.saved }
+        ensures { IfOk result (λ tables. IsStepped self.now.saved (Makes dir name.now kind) tables.0 tables.1) }
+    {
+        let id = self.next_id();
+        let entry = new_entry(id, dir, name)?;
+        let mut entries = self.saved.entries.copy()?;
+        entries.insert(entry)?;
+        let mut files = self.saved.files.copy()?;
+        files.insert(FileReplica::made(alloc, id, kind, self.saved.me)?)?;
+        Ok((entries, files))
+    }
+
+    // The tables with one version of the file in place of all.
+    fn written(&self, alloc: Global, file: Id, bytes: &[u8]) -> Result<(Entries, Files), Memory>
+        requires left { self.now.saved.next ≤ self.now.saved.ids }
+        requires may { MayWrite self.now.saved file bytes.now }
+        requires fits { FitsImage self.now.saved }
+        ensures { (op : Operation) → Overwrites op file bytes.now
+            → IfOk result (λ tables. IsStepped self.now.saved op tables.0 tables.1) }
+    {
+        let bytes = bytes.to_vec(alloc)?;
+        let entries = self.saved.entries.copy()?;
+        let mut files = self.saved.files.copy()?;
+        files.advance(file, self.saved.me, bytes);
+        Ok((entries, files))
     }
 
     // The number of its next update.
@@ -76,6 +120,26 @@ impl Replica {
             replica: self.saved.me,
             number: self.saved.next,
         }
+    }
+}
+
+ghost use Rattle.std.specs.Prelude.{length as long};
+ghost use Rattle.ficus_model.specs.Versions.{bytes_of as bytes_written};
+
+// How many bytes the operation writes.
+fn written_by(op: &Op) -> usize
+    ensures { result ≡ long (bytes_written op.now) }
+{
+    match op {
+        Op::Write { bytes, .. } | Op::Settle { bytes, .. } | Op::Resolve { bytes, .. } => {
+            bytes.items().len()
+        }
+        Op::Make { .. }
+        | Op::Link { .. }
+        | Op::Remove { .. }
+        | Op::Move { .. }
+        | Op::Adopt { .. }
+        | Op::Discard { .. } => 0,
     }
 }
 

@@ -4,7 +4,7 @@ ghost use Rattle.ficus_codec.specs.declared.saved.Saved.{Saved};
 ghost use Rattle.ficus_ids.specs.declared.refusal.Refusal.{Refusal};
 ghost use Rattle.ficus_model.specs.Lawful.{Volume, IsLawful};
 ghost use Rattle.ficus_model.specs.declared.event.Event.{Event};
-ghost use Rattle.ficus_replica.specs.Change.{Change, ChangeGives, ChangeStands, IsOfDirectory};
+ghost use Rattle.ficus_replica.specs.Change.{Change, ChangeGives, ChangeStands};
 ghost use Rattle.ficus_replica.specs.Look.{Look, LookGives, LookStands};
 ghost use Rattle.ficus_replica.specs.SavedOf.{IsSavedOf, StandsFor};
 ghost use Rattle.ficus_replica.specs.declared.replica.Next.{Next};
@@ -17,17 +17,17 @@ pub fn one_saved()
         → IsSavedOf volume H replica one → IsSavedOf volume H replica other → one ≡ other }
 {}
 
-/// What a look gives over what the replica holds, it gives after every history for which the replica stands.
+/// What a look gives over what the replica holds, it gives after every lawful history for which the replica stands.
 pub fn looks_stand()
     ensures { (replica : Replica) (look : Look) (result : Result Told Refusal) → LookGives replica look result
-        → (volume : Volume) (H : List Event) → StandsFor volume H replica.saved.me replica
+        → (volume : Volume) (H : List Event) → IsLawful volume H → StandsFor volume H replica.saved.me replica
         → LookStands volume H replica.saved.me look result }
 {}
 
 /// What a change gives over what the replica holds, it gives after every lawful history for which the replica
 /// stands, and the next replica stands for the history with the update.
 pub fn changes_stand()
-    ensures { (replica : Replica) (change : Change) (result : Result Next Refusal) → IsOfDirectory change
+    ensures { (replica : Replica) (change : Change) (result : Result Next Refusal)
         → FitsImage replica.saved → ChangeGives replica change result
         → (volume : Volume) (H : List Event) → IsLawful volume H → StandsFor volume H replica.saved.me replica
         → ChangeStands volume H replica.saved.me change result }

@@ -3,14 +3,12 @@
 
 mod accept;
 mod ask;
+mod changes;
 mod effect;
 mod laws;
-mod lines;
-mod list;
-mod make;
+mod looks;
 mod replica;
-mod tree;
-mod walk;
+mod taken;
 
 pub use laws::{changes_stand, looks_stand, one_saved};
 pub use replica::{Asked, Next, Replica};

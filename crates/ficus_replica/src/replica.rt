@@ -2,6 +2,7 @@ ghost use Rattle.std.specs.Prelude.{◌≡◌, ◌+◌, ◌-◌, ◌^◌, ◌<�
 
 use ficus_codec::Saved;
 use ficus_entry::Entries;
+use ficus_file::Files;
 use ficus_ids::Members;
 use ficus_model::Op;
 use std::alloc::Global;
@@ -59,6 +60,7 @@ impl Replica {
             used: 0,
             generation: 0,
             entries: Entries::new(alloc),
+            files: Files::new(alloc),
         })
     }
 
@@ -71,10 +73,15 @@ impl Replica {
     {
         Replica { saved, ask: None }
     }
-    /// What is saved next, with these entries and no further update.
-    pub(crate) fn saved_with(&self, entries: Entries) -> Saved
+
+    /// What is saved next, with these tables and no further update.
+    pub(crate) fn saved_with(&self, entries: Entries, files: Files) -> Saved
         requires { self.now.saved.generation < 2 ^ 63 - 1 }
-        ensures { result ≡ record self.now.saved { generation = self.now.saved.generation + 1; entries = entries } }
+        ensures { result ≡ record self.now.saved {
+          generation = self.now.saved.generation + 1;
+          entries = entries;
+          files = files;
+        } }
     {
         Saved {
             me: self.saved.me,
@@ -85,6 +92,7 @@ impl Replica {
             used: self.saved.used,
             generation: self.saved.generation + 1,
             entries,
+            files,
         }
     }
 }

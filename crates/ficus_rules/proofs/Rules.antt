@@ -1,5 +1,5 @@
 -- A rule has one answer, and says the same over views that show the same: each way to put rules together keeps both.
-use Rattle.std.proofs.Common.{◌≡◌, ◌↔◌, ◌⊎◌, Result, Ok, Err, refl, sym, ap, subst, ◌∙◌, inl, inr}
+use Rattle.std.proofs.Common.{◌≡◌, ◌↔◌, Result, Ok, Err, sym, ap, subst, ◌∙◌, inl, inr}
 use Rattle.ficus_ids.specs.declared.refusal.Refusal.{Refusal}
 use Rattle.ficus_ids.specs.declared.refusal.Refusal.TheVariants.{Memory}
 use Rattle.ficus_rules.specs.Rule.{Then, RefusedOr, Unless, Where, Gives, Tells, UnlessMemory, Once, Along}

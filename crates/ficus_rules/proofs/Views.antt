@@ -1,18 +1,33 @@
 -- Views that show the same.
-use Rattle.std.proofs.Common.{◌≡◌, ◌↔◌, ℕ, List, inl, inr}
+use Rattle.std.proofs.Common.{◌↔◌, ℕ, List, refl, sym, inl, inr}
 use Rattle.ficus_ids.specs.declared.id.Id.{Id}
-use Rattle.ficus_ids.specs.declared.kind.Kind.{Kind}
 use Rattle.ficus_ids.specs.declared.kind.Kind.TheVariants.{Dir}
 use Rattle.ficus_laws.proofs.Shown.{reached_within}
 use Rattle.ficus_rules.specs.View.{View, SameShown, IsBoundIn, IsTakenIn, IsDirectoryIn, IsReachedIn}
 
+-- whatever is so is so, and where two things are so together, so they are the other way round
+itself : {A : Type 0} → A ↔ A
+itself = (λ is. is, λ is. is)
+
+turned : {A B : Type 0} → A ↔ B → B ↔ A
+turned either = (either.1, either.0)
+
 pub same_itself : (view : View) → SameShown view view
-same_itself view = record { live = λ entry. (λ live. live, λ live. live); kinds = λ object kind. (λ is. is, λ is. is) }
+same_itself view = record {
+  members = refl;
+  live = λ entry. itself;
+  kinds = λ object kind. itself;
+  conflicts = λ object. itself;
+  versions = λ object versions. itself;
+}
 
 pub same_back : {one other : View} → SameShown one other → SameShown other one
 same_back same = record {
-  live = λ entry. ((same.live entry).1, (same.live entry).0);
-  kinds = λ object kind. ((same.kinds object kind).1, (same.kinds object kind).0);
+  members = sym same.members;
+  live = λ entry. turned (same.live entry);
+  kinds = λ object kind. turned (same.kinds object kind);
+  conflicts = λ object. turned (same.conflicts object);
+  versions = λ object versions. turned (same.versions object versions);
 }
 
 module _ {one other : View} (same : SameShown one other) where
@@ -46,11 +61,3 @@ module _ {one other : View} (same : SameShown one other) where
     λ reached. reached_within (λ from to leads. (leads.0, bound_there same leads.1)) reached,
     λ reached. reached_within (λ from to leads. (leads.0, bound_there (same_back same) leads.1)) reached,
   )
-
--- each object is of one kind
-pub record HasOneKind (view : View) : Type 0 where
-  pub one : (object : Id) (kind other : Kind) → view.kinds object kind → view.kinds object other → kind ≡ other
-
--- whatever an entry leads to is a directory
-pub record HasDirectoriesOnly (view : View) : Type 0 where
-  pub kind : (dir target : Id) (name : List ℕ) → IsBoundIn view dir name target → view.kinds target Dir

@@ -1,11 +1,9 @@
 -- Walks: each has one answer, the same over views that show the same, and ends in what is shown.
-use Rattle.std.proofs.Common.{◌≡◌, ℕ, ◌+◌, ◌<◌, ◌≤◌, List, [], ◌∷◌, length, drop, get_or, Option, Some, None, Bool, not, Result, Ok, Err, refl, sym, ap, subst, ◌∙◌, inl, inr, ◌⊎◌, ◌↔◌}
-use Rattle.std.specs.Prelude.{IsTrue}
+use Rattle.std.proofs.Common.{◌≡◌, ℕ, List, [], ◌∷◌, Option, Some, None, Ok, sym, subst, inl, inr, ◌⊎◌}
 use Rattle.ficus_ids.specs.declared.id.Id.{Id}
 use Rattle.ficus_ids.specs.declared.id.TheConstants.{ROOT}
-use Rattle.ficus_ids.specs.declared.kind.Kind.TheVariants.{Dir}
-use Rattle.ficus_ids.specs.declared.refusal.Refusal.{Refusal}
-use Rattle.ficus_ids.specs.declared.refusal.Refusal.TheVariants.{NotDir}
+use Rattle.ficus_ids.specs.declared.refusal.Refusal.TheVariants.{NotDir, IsDir}
+use Rattle.ficus_model.specs.Live.{Entry as ModelEntry}
 use Rattle.ficus_model.specs.Reached.IsReached.{Base, Through}
 use Rattle.ficus_path.specs.declared.path.Base.{Base as PathBase}
 use Rattle.ficus_path.specs.declared.path.Base.TheVariants.{Root}
@@ -13,10 +11,10 @@ use Rattle.ficus_path.specs.declared.path.Part.{Part}
 use Rattle.ficus_path.specs.declared.path.Path.{Path}
 use Rattle.ficus_names.specs.Find.{FindAnswer}
 use Rattle.ficus_names.specs.FindLaws.{one_answer, FindAnswer-along}
-use Rattle.ficus_rules.specs.Rule.{Then, Where, Gives, Once, Along}
+use Rattle.ficus_rules.specs.Rule.{Once, Along}
 use Rattle.ficus_rules.specs.View.{View, SameShown, IsBoundIn, IsDirectoryIn, IsReachedIn}
-use Rattle.ficus_rules.specs.Walk.{BaseRule, PartsRule, WalkRule, DirectoryRule, ParentRule}
-use Rattle.ficus_rules.proofs.Rules.{then_once, where_once, gives_once, then_along, where_along, gives_along}
+use Rattle.ficus_rules.specs.Walk.{BaseRule, PartsRule, WalkRule, DirectoryRule, ParentRule, FileRule}
+use Rattle.ficus_rules.proofs.Rules.{then_once, unless_once, where_once, gives_once, then_along, unless_along, where_along, gives_along}
 use Rattle.ficus_rules.proofs.Views.{bound_same, directory_same}
 
 base_once : (view : View) (base : PathBase) → Once (BaseRule view base)
@@ -34,6 +32,9 @@ directory_once view base parts = then_once (walk_once view base parts) (λ objec
 
 pub parent_once : (view : View) (path : Path) → Once (ParentRule view path)
 parent_once view path = directory_once view path.base _
+
+pub file_once : (view : View) (path : Path) → Once (FileRule view path)
+file_once view path = then_once (walk_once view path.base path.parts) (λ object. unless_once _ _ (gives_once _))
 
 module _ {one other : View} (same : SameShown one other) where
   base_along : (base : PathBase) → Along (BaseRule one base) (BaseRule other base)
@@ -55,6 +56,9 @@ module _ {one other : View} (same : SameShown one other) where
 
   pub parent_along : (path : Path) → Along (ParentRule one path) (ParentRule other path)
   parent_along path = directory_along path.base _
+
+  pub file_along : (path : Path) → Along (FileRule one path) (FileRule other path)
+  file_along path = then_along (walk_along path.base path.parts) (λ object walked. unless_along IsDir (directory_same same object) (gives_along object))
 
 -- what is found under a name is bound to it
 pub found_bound : (binds : List ℕ → Id → Type 0) (name : List ℕ) (target : Option Id) (object : Id) →
@@ -91,3 +95,37 @@ module _ (view : View) where
 
   pub parent_walked : (path : Path) (dir : Id) → ParentRule view path (Ok dir) → IsWalkedTo dir
   parent_walked path dir walk = directory_walked path.base _ dir walk
+
+  -- a live entry leads to the object
+  pub record IsNamedIn (object : Id) : Type 0 where
+    pub entry : ModelEntry
+    pub live : view.live entry
+    pub leads : entry.target ≡ object
+
+  -- a walk ends where it begins, or at the target of a live entry
+  parts_named : (parts : List Part) (object target : Id) → PartsRule view parts object (Ok target) →
+      IsDirectoryIn view object ⊎ IsNamedIn object → IsDirectoryIn view target ⊎ IsNamedIn target
+  parts_named [] object target is ends = subst (λ end. IsDirectoryIn view end ⊎ IsNamedIn end) (sym is) ends
+  parts_named (part ∷ parts) object target (directory, (next, found, rest)) ends =
+      let bound = found_bound (IsBoundIn view object) part.name part.target next found in
+      parts_named parts next target rest (inr (record { entry = bound.entry; live = bound.live; leads = bound.leads }))
+
+  base_directory : (base : PathBase) (object : Id) → BaseRule view base (Ok object) → IsDirectoryIn view object
+  base_directory Root object is = inl is
+
+  -- a file that is walked to
+  pub record IsFileAt (file : Id) : Type 0 where
+    pub reached : IsReachedIn view file
+    pub no_directory : IsDirectoryIn view file → ⊥
+    pub named : IsNamedIn file
+
+  pub file_walked : (path : Path) (file : Id) → FileRule view path (Ok file) → IsFileAt file
+  file_walked path file (object, walk, (no_directory, is)) =
+      subst IsFileAt (sym is) (record {
+        reached = walk_reached path.base path.parts object walk;
+        no_directory = no_directory;
+        named = elim (parts_named path.parts walk.0 object walk.2 (inl (base_directory path.base walk.0 walk.1))) [
+          | inl directory ↦ absurd (no_directory directory)
+          | inr named ↦ named
+        ];
+      })

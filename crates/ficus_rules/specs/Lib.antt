@@ -1,10 +1,17 @@
 pub mod View
 pub mod Rule
 pub mod Walk
+pub mod Limits
 pub mod Lines
 pub mod Told
 pub mod Make
+pub mod Write
+pub mod Settle
+pub mod Resolve
 pub mod List
 pub mod Tree
+pub mod Read
+pub mod Versions
 pub mod Change
 pub mod Look
+pub mod Laws

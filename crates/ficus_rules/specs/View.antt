@@ -1,31 +1,45 @@
 -- What a replica shows, whether its tables say it or the history that it has heard of.
-use Rattle.std.specs.Prelude.{◌≡◌, ◌↔◌, ◌⊎◌, ℕ, ◌≤◌, List}
+use Rattle.std.specs.Prelude.{◌≡◌, ◌↔◌, ◌⊎◌, ℕ, ◌+◌, ◌<◌, ◌≤◌, List}
 use Rattle.ficus_ids.specs.declared.id.Id.{Id}
 use Rattle.ficus_ids.specs.declared.id.TheConstants.{ROOT}
 use Rattle.ficus_ids.specs.declared.kind.Kind.{Kind}
 use Rattle.ficus_ids.specs.declared.kind.Kind.TheVariants.{Dir}
+use Rattle.ficus_file.specs.declared.version.Version.{Version}
 use Rattle.ficus_model.specs.declared.event.Event.{Event}
 use Rattle.ficus_model.specs.Events.{count_of}
 use Rattle.ficus_model.specs.Known.{Knows}
 use Rattle.ficus_model.specs.Lawful.{Volume}
-use Rattle.ficus_model.specs.Live.{Entry as ModelEntry, IsLive, IsMade}
+use Rattle.ficus_model.specs.Live.{Entry as ModelEntry, IsLive, IsMade, HasName}
 use Rattle.ficus_model.specs.Reached.{IsReached}
+use Rattle.ficus_model.specs.Versions.{IsInConflict, written_of}
+use Rattle.ficus_file_laws.specs.Items.{AreVersionsOf}
 
--- the live entries; the objects, each with its kind; and whether all updates are made that may be made
+-- How many members there are; the live entries; of each object to which one leads its kind, whether it is in conflict,
+-- and its versions in the order of vectors, none of a directory; whether all updates are made that may be made; and
+-- whether so many bytes more are more than may be written.
 pub record View : Type 1 where
+  pub members : ℕ
   pub live : ModelEntry → Type 0
   pub kinds : Id → Kind → Type 0
+  pub conflicts : Id → Type 0
+  pub versions : Id → List Version → Type 0
   pub spent : Type 0
+  pub over_quota : ℕ → Type 0
 
 -- both show the same entries and the same objects
 pub record SameShown (one other : View) : Type 0 where
+  pub members : one.members ≡ other.members
   pub live : (entry : ModelEntry) → one.live entry ↔ other.live entry
   pub kinds : (object : Id) (kind : Kind) → one.kinds object kind ↔ other.kinds object kind
+  pub conflicts : (object : Id) → one.conflicts object ↔ other.conflicts object
+  pub versions : (object : Id) (versions : List Version) →
+      one.versions object versions ↔ other.versions object versions
 
--- both show the same, and of both all updates are made or of neither
+-- both show the same, and what is left to do is the same
 pub record SameView (one other : View) : Type 0 where
   pub shown : SameShown one other
   pub spent : one.spent ↔ other.spent
+  pub over_quota : (bytes : ℕ) → one.over_quota bytes ↔ other.over_quota bytes
 
 -- a live entry of the directory has the name and leads to the object
 pub record IsBoundIn (view : View) (dir : Id) (name : List ℕ) (target : Id) : Type 0 where
@@ -53,8 +67,14 @@ IsReachedIn view object = IsReached (LeadsWithin view) (λ base. base ≡ ROOT) 
 
 -- what the replica shows after the history, by what it has heard of
 abbrev pub history_view : Volume → List Event → ℕ → View
-history_view volume H replica = record {
-  live = IsLive H (Knows H replica);
-  kinds = IsMade H (Knows H replica);
-  spent = volume.ids ≤ count_of replica H;
-}
+history_view volume H replica =
+    let U = Knows H replica in
+    record {
+      members = volume.members;
+      live = IsLive H U;
+      kinds = λ object kind. HasName H U object × IsMade H U object kind;
+      conflicts = λ object. HasName H U object × IsInConflict H U object;
+      versions = λ object versions. HasName H U object × AreVersionsOf H U object versions;
+      spent = volume.ids ≤ count_of replica H;
+      over_quota = λ bytes. volume.bytes < written_of replica H + bytes;
+    }

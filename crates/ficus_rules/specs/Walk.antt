@@ -1,16 +1,16 @@
 -- Walks along paths, over what is shown.
-use Rattle.std.specs.Prelude.{◌≡◌, ℕ, ◌-◌, List, [], ◌∷◌, length, take, Option, Some, None, Result}
+use Rattle.std.specs.Prelude.{ℕ, ◌-◌, List, [], ◌∷◌, length, take, Option, Some, None, Result}
 use Rattle.std.specs.List.{last_or}
 use Rattle.ficus_ids.specs.declared.id.Id.{Id}
 use Rattle.ficus_ids.specs.declared.id.TheConstants.{ROOT}
 use Rattle.ficus_ids.specs.declared.refusal.Refusal.{Refusal}
-use Rattle.ficus_ids.specs.declared.refusal.Refusal.TheVariants.{NotDir}
+use Rattle.ficus_ids.specs.declared.refusal.Refusal.TheVariants.{NotDir, IsDir}
 use Rattle.ficus_path.specs.declared.path.Base.{Base}
 use Rattle.ficus_path.specs.declared.path.Base.TheVariants.{Root}
 use Rattle.ficus_path.specs.declared.path.Part.{Part}
 use Rattle.ficus_path.specs.declared.path.Path.{Path}
 use Rattle.ficus_names.specs.Find.{FindAnswer}
-use Rattle.ficus_rules.specs.Rule.{Then, Where, Gives}
+use Rattle.ficus_rules.specs.Rule.{Then, Unless, Where, Gives}
 use Rattle.ficus_rules.specs.View.{View, IsBoundIn, IsDirectoryIn}
 
 -- the object at which a walk begins
@@ -37,6 +37,12 @@ DirectoryRule view base parts =
 -- the directory of a new path: the walk without the last part
 abbrev pub ParentRule : View → Path → Result Id Refusal → Type 0
 ParentRule view path = DirectoryRule view path.base (take (length path.parts - 1) path.parts)
+
+-- the file at a path: the walk, where it doesn't lead to a directory
+abbrev pub FileRule : View → Path → Result Id Refusal → Type 0
+FileRule view path =
+    Then (WalkRule view path.base path.parts) (λ object.
+    Unless (IsDirectoryIn view object) IsDir (Gives object))
 
 -- the name of the part, where there is one
 abbrev pub name_of : Option Part → List ℕ

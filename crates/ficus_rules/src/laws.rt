@@ -4,6 +4,7 @@ ghost use Rattle.ficus_model.specs.Lawful.{Volume};
 ghost use Rattle.ficus_model.specs.declared.event.Event.{Event};
 ghost use Rattle.ficus_model.specs.declared.event.Op.{Op};
 ghost use Rattle.ficus_rules.specs.Change.{Change, ChangeRule};
+ghost use Rattle.ficus_rules.specs.Laws.{ResolversAgree, ResolversAgreeLater, ResolversEndConflict};
 ghost use Rattle.ficus_rules.specs.Look.{Look, LookRule};
 ghost use Rattle.ficus_rules.specs.Told.{Told};
 ghost use Rattle.ficus_rules.specs.View.{SameShown, SameView, history_view};
@@ -36,4 +37,13 @@ pub fn same_shown_same_look()
         → SameShown (history_view volume H replica) (history_view volume H other)
         → LookRule (history_view volume H replica) look answer
         → LookRule (history_view volume H other) look answer }
+{}
+
+/// Two replicas that know the same version events of a file resolve it alike, at one time or one after the other: to
+/// the same bytes, or both are declined. Where both have resolved it, the merge of what they then have of the file
+/// isn't in conflict.
+pub fn resolvers_agree()
+    ensures agree { ResolversAgree }
+    ensures later { ResolversAgreeLater }
+    ensures merged { ResolversEndConflict }
 {}

@@ -3,4 +3,6 @@
 
 mod laws;
 
-pub use laws::{one_change, one_look, same_shown_same_look, same_view_same_change};
+pub use laws::{
+    one_change, one_look, resolvers_agree, same_shown_same_look, same_view_same_change,
+};

@@ -1,35 +1,44 @@
 -- No two arguments are spelled by the same words.
-use Rattle.std.proofs.Common.{◌≡◌, ◌⊎◌, ℕ, List, [], ◌∷◌, ◌++◌, get_or, Option, None, Some, Result, Ok, Err, refl, inl, inr, sym, ◌∙◌, ap, arith, if◌then◌else◌, ◌==◌}
+use Rattle.std.proofs.Common.{◌≡◌, ◌≢◌, ◌⊎◌, ℕ, List, [], ◌∷◌, ◌++◌, get_or, Option, None, Some, Result, Ok, Err, refl, inl, inr, sym, ◌∙◌, ap, arith, if◌then◌else◌, ◌==◌}
 use Rattle.std.specs.Fmt.{decimal}
 use Rattle.std.specs.List.{join_with_byte}
 use Rattle.std.specs.Result.{IsErrOf}
 use Rattle.std.proofs.lemmas.Bool.{ne_eqb}
+use Rattle.ficus_ids.specs.Kind.{kind_word}
+use Rattle.ficus_ids.specs.declared.kind.Kind.{Kind}
+use Rattle.ficus_ids.specs.declared.kind.Kind.TheVariants.{Dir, Plain, Lines, Max, Keep}
 use Rattle.ficus_path.specs.declared.path.PathFault.{PathFault}
 use Rattle.ficus_path.specs.declared.path.PathFault.TheVariants as path_fault
+use Rattle.ficus_path.specs.declared.text.TextFault.{TextFault}
+use Rattle.ficus_path.specs.declared.text.TextFault.TheVariants as text_fault
 use Rattle.ficus_path.proofs.CutLaws.{IsFreeOf}
 use Rattle.ficus_path.proofs.PathLaws.{path_text_injective, path_text_visible}
 use Rattle.ficus_path.specs.declared.path.Part.{Part}
 use Rattle.ficus_path.specs.declared.path.Path.{Path}
 use Rattle.ficus_path.specs.Path.{IsPath}
 use Rattle.ficus_path.specs.Spelling.{path_text, parts_text}
+use Rattle.ficus_path.specs.Text.{quoted_text}
+use Rattle.ficus_path.proofs.TextLaws.{quoted_text_injective}
 use Rattle.ficus_script.specs.declared.arguments.Arguments.{Arguments}
-use Rattle.ficus_script.specs.declared.arguments.Arguments.TheVariants.{Nothing, OnePath, TwoReplicas}
-use Rattle.ficus_script.specs.Arguments.{AreArguments, Begins, IsReadingBehind, IsReadingWords, BeginsPath, argument_words, left_of}
+use Rattle.ficus_script.specs.declared.arguments.Arguments.TheVariants.{Nothing, OnePath, PathAndKind, PathAndText, TwoReplicas}
+use Rattle.ficus_script.specs.Arguments.{AreArguments, Begins, IsReadingBehind, IsReadingWords, BeginsPath, BeginsText, argument_words, left_of}
 use Rattle.ficus_script.specs.declared.line.LineFault.{LineFault}
 use Rattle.ficus_script.specs.declared.line.LineFault.TheVariants.{NotCommand, Memory as OutOfMemory}
-use Rattle.ficus_script.specs.Line.{fault_of}
+use Rattle.ficus_script.specs.Line.{fault_of, fault_of_text}
 use Rattle.ficus_script.proofs.Cuts.{join_first, one_first_word, spaced}
 use Rattle.ficus_script.proofs.Numbers.{IsFreeOf-replica, same_replica, first_digit}
 
--- The shapes have numbers, and the first word and what is left behind it tell the shape; 3 is none.
+-- The shapes have numbers, and the first word and what is left behind it tell the shape.
 abbrev shape_of : Arguments → ℕ
 shape_of Nothing = 0
 shape_of (OnePath path) = 1
 shape_of (TwoReplicas first second) = 2
+shape_of (PathAndText path text) = 3
+shape_of (PathAndKind path kind) = 4
 
 abbrev behind_path : Option (List ℕ) → ℕ
 behind_path None = 1
-behind_path (Some rest) = 3
+behind_path (Some last) = if get_or last 0 0 == 34 then 3 else 4
 
 abbrev shape_at : List ℕ → Option (List ℕ) → ℕ
 shape_at first rest = if get_or first 0 0 == 47 then behind_path rest else 2
@@ -42,16 +51,54 @@ path_begins (part ∷ parts) = refl
 path_shape : (first : List ℕ) (rest : Option (List ℕ)) → BeginsPath first → shape_at first rest ≡ behind_path rest
 path_shape first rest begins = ap (λ (byte : ℕ). if byte == 47 then behind_path rest else 2) begins
 
+path_words_shape : (path : Path) (first : List ℕ) (rest : Option (List ℕ)) → first ≡ path_text path →
+    shape_at first rest ≡ behind_path rest
+path_words_shape path first rest same =
+    path_shape first rest (ap (λ (word : List ℕ). get_or word 0 0) same ∙ path_begins path.parts)
+
 number_shape : (first : List ℕ) (rest : Option (List ℕ)) → (BeginsPath first → ⊥) → shape_at first rest ≡ 2
 number_shape first rest other = rw (ne_eqb (get_or first 0 0) 47 other) refl
+
+-- a text begins with a quotation mark, and the word of a kind doesn't
+text_shape : (last : List ℕ) → BeginsText last → behind_path (Some last) ≡ 3
+text_shape last begins = ap (λ (byte : ℕ). if byte == 34 then 3 else 4) begins
+
+kind_shape : (last : List ℕ) → (BeginsText last → ⊥) → behind_path (Some last) ≡ 4
+kind_shape last other = rw (ne_eqb (get_or last 0 0) 34 other) refl
+
+kind_word_shape : (kind : Kind) → behind_path (Some (kind_word kind)) ≡ 4
+kind_word_shape Dir = refl
+kind_word_shape Plain = refl
+kind_word_shape Lines = refl
+kind_word_shape Max = refl
+kind_word_shape Keep = refl
 
 shape_is : (arguments : Arguments) (first : List ℕ) (rest : Option (List ℕ)) → AreArguments arguments →
     Begins first rest (argument_words arguments) → shape_at first rest ≡ shape_of arguments
 shape_is Nothing first rest are words = absurd words
-shape_is (OnePath path) first rest are words =
-    path_shape first rest (ap (λ (word : List ℕ). get_or word 0 0) words.0 ∙ path_begins path.parts) ∙ ap behind_path words.1
+shape_is (OnePath path) first rest are words = path_words_shape path first rest words.0 ∙ ap behind_path words.1
+shape_is (PathAndText path text) first rest are words =
+    path_words_shape path first rest words.0 ∙ ap behind_path words.1
+shape_is (PathAndKind path kind) first rest are words =
+    path_words_shape path first rest words.0 ∙ ap behind_path words.1 ∙ kind_word_shape kind
 shape_is (TwoReplicas one other) first rest are words =
     number_shape first rest (λ slash. omega (arith, slash, ap (λ (word : List ℕ). get_or word 0 0) words.0, first_digit one are.0))
+
+-- the word of a kind tells the kind, by its first letter
+abbrev kind_at : List ℕ → Kind
+kind_at word =
+    if get_or word 0 0 == 100 then Dir else if get_or word 0 0 == 112 then Plain else
+    if get_or word 0 0 == 108 then Lines else if get_or word 0 0 == 109 then Max else Keep
+
+kind_found : (kind : Kind) → kind_at (kind_word kind) ≡ kind
+kind_found Dir = refl
+kind_found Plain = refl
+kind_found Lines = refl
+kind_found Max = refl
+kind_found Keep = refl
+
+kind_word_injective : (kind other : Kind) → kind_word kind ≡ kind_word other → kind ≡ other
+kind_word_injective kind other same = sym (kind_found kind) ∙ ap kind_at same ∙ kind_found other
 
 -- the words of one shape spell one list of arguments
 one_of_words : (arguments others : Arguments) (first : List ℕ) (rest : Option (List ℕ)) → AreArguments arguments →
@@ -60,6 +107,14 @@ one_of_words : (arguments others : Arguments) (first : List ℕ) (rest : Option 
 one_of_words Nothing Nothing first rest are also words same = refl
 one_of_words (OnePath path) (OnePath other) first rest are also words same =
     ap (λ (path : Path). OnePath path) (path_text_injective path other are also (sym words.0 ∙ same.0))
+one_of_words (PathAndText path text) (PathAndText other another) first rest are also words same =
+    let spelled : Some (quoted_text text) ≡ Some (quoted_text another) = sym words.1 ∙ same.1 in
+    ap (λ (path : Path). PathAndText path text) (path_text_injective path other are also (sym words.0 ∙ same.0))
+    ∙ ap (λ (text : List ℕ). PathAndText other text) (quoted_text_injective text another (cc))
+one_of_words (PathAndKind path kind) (PathAndKind other another) first rest are also words same =
+    let spelled : Some (kind_word kind) ≡ Some (kind_word another) = sym words.1 ∙ same.1 in
+    ap (λ (path : Path). PathAndKind path kind) (path_text_injective path other are.0 also.0 (sym words.0 ∙ same.0))
+    ∙ ap (λ (kind : Kind). PathAndKind other kind) (kind_word_injective kind another (cc))
 one_of_words (TwoReplicas one two) (TwoReplicas other another) first rest are also words same =
     let seconds : Some (decimal two) ≡ Some (decimal another) = sym words.1 ∙ same.1 in
     ap (λ (n : ℕ). TwoReplicas n two) (same_replica one other are.0 also.0 (sym words.0 ∙ same.0))
@@ -79,6 +134,8 @@ first_free : (arguments : Arguments) (first : List ℕ) (rest : Option (List ℕ
     Begins first rest (argument_words arguments) → IsFreeOf 32 first
 first_free Nothing first rest are words = absurd words
 first_free (OnePath path) first rest are words = rw words.0 (IsFreeOf-path path are)
+first_free (PathAndText path text) first rest are words = rw words.0 (IsFreeOf-path path are)
+first_free (PathAndKind path kind) first rest are words = rw words.0 (IsFreeOf-path path are.0)
 first_free (TwoReplicas one two) first rest are words = rw words.0 (IsFreeOf-replica one are.0)
 
 -- words that are joined again are the first one and what is left
@@ -139,19 +196,41 @@ pub no_path : (first : List ℕ) (rest : Option (List ℕ)) (fault : PathFault) 
     (IsErrOf {T = Path} (Err fault) path_fault.NotPath → (path : Path) → IsPath path → first ≡ path_text path → ⊥) →
     IsReadingWords first rest (Err (fault_of fault))
 no_path first rest path_fault.Memory begins none = tt
-no_path first rest path_fault.NotPath begins none = go rest
+no_path first rest path_fault.NotPath begins none = go
   where
-    go : (rest : Option (List ℕ)) (arguments : Arguments) → AreArguments arguments →
-        Begins first rest (argument_words arguments) → ⊥
-    go rest (OnePath path) are words = none refl path are words.0
-    go None arguments are words =
-        omega (arith, sym (path_shape first None begins) ∙ shape_is arguments first None are words)
-    go (Some behind) arguments are words =
-        omega (arith, sym (path_shape first (Some behind) begins) ∙ shape_is arguments first (Some behind) are words)
+    go : (arguments : Arguments) → AreArguments arguments → Begins first rest (argument_words arguments) → ⊥
+    go Nothing are words = absurd words
+    go (OnePath path) are words = none refl path are words.0
+    go (PathAndText path text) are words = none refl path are words.0
+    go (PathAndKind path kind) are words = none refl path are.0 words.0
+    go (TwoReplicas one two) are words =
+        omega (arith, begins, ap (λ (word : List ℕ). get_or word 0 0) words.0, first_digit one are.0)
 
--- nothing stands behind a path
-pub path_alone : (first behind : List ℕ) → BeginsPath first → (arguments : Arguments) → AreArguments arguments →
-    Begins first (Some behind) (argument_words arguments) → ⊥
-path_alone first behind begins (OnePath path) are words = cc (words.1)
-path_alone first behind begins arguments are words =
-    omega (arith, sym (path_shape first (Some behind) begins) ∙ shape_is arguments first (Some behind) are words)
+-- what stands behind a path tells the shape
+last_shape : (path : Path) (last : List ℕ) (arguments : Arguments) → AreArguments arguments →
+    Begins (path_text path) (Some last) (argument_words arguments) → shape_of arguments ≡ behind_path (Some last)
+last_shape path last arguments are words =
+    sym (shape_is arguments (path_text path) (Some last) are words)
+    ∙ path_words_shape path (path_text path) (Some last) refl
+
+-- what begins as a text and is none ends no arguments
+pub no_text : (path : Path) (last : List ℕ) (fault : TextFault) → BeginsText last →
+    (fault ≡ text_fault.NotText → (text : List ℕ) → last ≡ quoted_text text → ⊥) →
+    IsReadingWords (path_text path) (Some last) (Err (fault_of_text fault))
+no_text path last text_fault.Memory begins none = tt
+no_text path last text_fault.NotText begins none = go
+  where
+    go : (arguments : Arguments) → AreArguments arguments →
+        Begins (path_text path) (Some last) (argument_words arguments) → ⊥
+    go (PathAndText other text) are words =
+        none refl text (let spelled : Some last ≡ Some (quoted_text text) = words.1 in cc)
+    go arguments are words = omega (arith, last_shape path last arguments are words, text_shape last begins)
+
+-- what is no word of a kind, and doesn't begin as a text, ends no arguments
+pub no_kind : (path : Path) (last : List ℕ) → (BeginsText last → ⊥) →
+    ((kind : Kind) → kind ≢ Dir → last ≡ kind_word kind → ⊥) → (arguments : Arguments) → AreArguments arguments →
+    Begins (path_text path) (Some last) (argument_words arguments) → ⊥
+no_kind path last other none (PathAndKind another kind) are words =
+    none kind are.1 (let spelled : Some last ≡ Some (kind_word kind) = words.1 in cc)
+no_kind path last other none arguments are words =
+    omega (arith, last_shape path last arguments are words, kind_shape last other)

@@ -8,9 +8,9 @@ use Rattle.std.proofs.lemmas.Bool.Decides.{leb_tells}
 use Rattle.std.proofs.lemmas.List.Elements.{All-from_recursion}
 use Rattle.ficus_path.proofs.CutLaws.{IsFreeOf}
 use Rattle.ficus_script.specs.declared.arguments.Arguments.{Arguments}
-use Rattle.ficus_script.specs.declared.arguments.Arguments.TheVariants.{Nothing, OnePath, TwoReplicas}
+use Rattle.ficus_script.specs.declared.arguments.Arguments.TheVariants.{Nothing, OnePath, PathAndKind, PathAndText, TwoReplicas}
 use Rattle.ficus_script.specs.declared.command.Command.{Command}
-use Rattle.ficus_script.specs.declared.command.Command.TheVariants.{MkDir, Ls, Tree, Pull}
+use Rattle.ficus_script.specs.declared.command.Command.TheVariants.{MkDir, Create, Write, Settle, Resolve, Ls, Read, Versions, Tree, Pull}
 use Rattle.ficus_script.specs.declared.line.LineFault.{LineFault}
 use Rattle.ficus_script.specs.declared.line.LineFault.TheVariants.{NotCommand, Memory as OutOfMemory}
 use Rattle.ficus_script.specs.Arguments.{AreArguments, IsReplicaNumber, IsReadingBehind, argument_words, left_of}
@@ -23,11 +23,16 @@ use Rattle.ficus_script.proofs.Numbers.{IsFreeOf-replica, first_digit}
 -- the commands with these before and behind their verbs
 abbrev commands_with : Option ℕ → Arguments → List Command
 commands_with (Some by) Nothing = Tree by ∷ []
-commands_with (Some by) (OnePath path) = MkDir by path ∷ Ls by path ∷ []
+commands_with (Some by) (OnePath path) =
+    MkDir by path ∷ Resolve by path ∷ Ls by path ∷ Read by path ∷ Versions by path ∷ []
+commands_with (Some by) (PathAndKind path kind) = Create by path kind ∷ []
+commands_with (Some by) (PathAndText path text) = Write by path text ∷ Settle by path text ∷ []
 commands_with None (TwoReplicas by to) = Pull by to ∷ []
 commands_with (Some by) (TwoReplicas first second) = []
 commands_with None Nothing = []
 commands_with None (OnePath path) = []
+commands_with None (PathAndKind path kind) = []
+commands_with None (PathAndText path text) = []
 
 -- the verb of the command
 abbrev verb_of : Command → List ℕ
@@ -57,6 +62,13 @@ record IsListed (command : Command) : Type 0 where
 -- the rows of the table, one for each verb
 listed : (command : Command) → IsCommand command → IsListed command
 listed (MkDir by path) valid = record { number = valid.0; letters = refl; behind = valid.1; found = refl }
+listed (Create by path kind) valid =
+    record { number = valid.0; letters = refl; behind = (valid.1, valid.3); found = refl }
+listed (Write by path text) valid = record { number = valid.0; letters = refl; behind = valid.1; found = refl }
+listed (Settle by path text) valid = record { number = valid.0; letters = refl; behind = valid.1; found = refl }
+listed (Resolve by path) valid = record { number = valid.0; letters = refl; behind = valid.1; found = refl }
+listed (Read by path) valid = record { number = valid.0; letters = refl; behind = valid.1; found = refl }
+listed (Versions by path) valid = record { number = valid.0; letters = refl; behind = valid.1; found = refl }
 listed (Ls by path) valid = record { number = valid.0; letters = refl; behind = valid.1; found = refl }
 listed (Tree by) valid = record { number = valid; letters = refl; behind = tt; found = refl }
 listed (Pull by to) valid = record { number = tt; letters = refl; behind = valid; found = refl }

@@ -4,3 +4,4 @@ pub mod Cuts
 pub mod Numbers
 pub mod ScriptLaws
 pub mod Scripts
+pub mod VectorTexts

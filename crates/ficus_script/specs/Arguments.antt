@@ -1,12 +1,15 @@
 -- What stands behind the verb of a command.
-use Rattle.std.specs.Prelude.{◌≡◌, ℕ, ◌≤◌, List, [], ◌∷◌, slice_index, Option, Some, None, Result, Ok, Err}
+use Rattle.std.specs.Prelude.{◌≡◌, ◌≢◌, ℕ, ◌≤◌, List, [], ◌∷◌, slice_index, Option, Some, None, Result, Ok, Err}
 use Rattle.std.specs.Borrow.{Bor}
 use Rattle.std.specs.List.{join_with_byte}
 use Rattle.std.specs.Fmt.{decimal}
+use Rattle.ficus_ids.specs.Kind.{kind_word}
+use Rattle.ficus_ids.specs.declared.kind.Kind.TheVariants.{Dir}
 use Rattle.ficus_path.specs.Path.{IsPath}
 use Rattle.ficus_path.specs.Spelling.{path_text}
+use Rattle.ficus_path.specs.Text.{quoted_text}
 use Rattle.ficus_script.specs.declared.arguments.Arguments.{Arguments}
-use Rattle.ficus_script.specs.declared.arguments.Arguments.TheVariants.{Nothing, OnePath, TwoReplicas}
+use Rattle.ficus_script.specs.declared.arguments.Arguments.TheVariants.{Nothing, OnePath, PathAndKind, PathAndText, TwoReplicas}
 use Rattle.ficus_script.specs.declared.line.LineFault.{LineFault}
 use Rattle.ficus_script.specs.declared.line.LineFault.TheVariants.{NotCommand, Memory as OutOfMemory}
 
@@ -15,16 +18,20 @@ pub record IsReplicaNumber (replica : ℕ) : Type 0 where
   pub at_least : 1 ≤ replica
   pub at_most : replica ≤ 255
 
--- paths are paths, and the numbers of replicas are those
+-- paths are paths, kinds are those of files, and the numbers of replicas are those
 abbrev pub AreArguments : Arguments → Type 0
 AreArguments Nothing = Unit {0}
 AreArguments (OnePath path) = IsPath path
+AreArguments (PathAndKind path kind) = IsPath path × (kind ≢ Dir)
+AreArguments (PathAndText path text) = IsPath path
 AreArguments (TwoReplicas first second) = IsReplicaNumber first × IsReplicaNumber second
 
--- the words that spell them, in order
+-- the words that spell them, in order; a text is the last one, and spaces may stand in it
 abbrev pub argument_words : Arguments → List (List ℕ)
 argument_words Nothing = []
 argument_words (OnePath path) = path_text path ∷ []
+argument_words (PathAndKind path kind) = path_text path ∷ kind_word kind ∷ []
+argument_words (PathAndText path text) = path_text path ∷ quoted_text text ∷ []
 argument_words (TwoReplicas first second) = decimal first ∷ decimal second ∷ []
 
 -- what stands behind a word and a space, where these words follow it, or nothing
@@ -59,3 +66,7 @@ IsReadingWords first rest (Err OutOfMemory) = Unit {0}
 -- the word begins as the spelling of a path does, with a slash (47)
 abbrev pub BeginsPath : List ℕ → Type 0
 BeginsPath word = slice_index word 0 ≡ 47
+
+-- the word begins as the spelling of a text does, with a quotation mark (34)
+abbrev pub BeginsText : List ℕ → Type 0
+BeginsText word = slice_index word 0 ≡ 34

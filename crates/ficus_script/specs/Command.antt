@@ -1,18 +1,26 @@
 -- The commands of a script, and how each is spelled.
-use Rattle.std.specs.Prelude.{◌≡◌, ℕ, List, [], ◌∷◌, ◌++◌, Option, Some, None, codes}
+use Rattle.std.specs.Prelude.{◌≡◌, ◌≢◌, ℕ, List, [], ◌∷◌, ◌++◌, Option, Some, None, codes}
 use Rattle.std.specs.List.{join_with_byte}
 use Rattle.std.specs.Fmt.{decimal}
+use Rattle.ficus_ids.specs.declared.kind.Kind.TheVariants.{Dir}
 use Rattle.ficus_path.specs.Path.{IsPath, IsNew}
 use Rattle.ficus_script.specs.declared.arguments.Arguments.{Arguments}
-use Rattle.ficus_script.specs.declared.arguments.Arguments.TheVariants.{Nothing, OnePath, TwoReplicas}
+use Rattle.ficus_script.specs.declared.arguments.Arguments.TheVariants.{Nothing, OnePath, PathAndKind, PathAndText, TwoReplicas}
 use Rattle.ficus_script.specs.declared.command.Command.{Command}
-use Rattle.ficus_script.specs.declared.command.Command.TheVariants.{MkDir, Ls, Tree, Pull}
+use Rattle.ficus_script.specs.declared.command.Command.TheVariants.{MkDir, Create, Write, Settle, Resolve, Ls, Read, Versions, Tree, Pull}
 use Rattle.ficus_script.specs.Arguments.{IsReplicaNumber, argument_words}
 
--- the numbers are those of replicas, the paths are paths, and what is to be made has a new path
+-- the numbers are those of replicas, the paths are paths, what is to be made has a new path, and a file that is to be
+-- made has the kind of a file
 abbrev pub IsCommand : Command → Type 0
 IsCommand (MkDir by path) = IsReplicaNumber by × IsPath path × IsNew path
+IsCommand (Create by path kind) = IsReplicaNumber by × IsPath path × IsNew path × (kind ≢ Dir)
+IsCommand (Write by path text) = IsReplicaNumber by × IsPath path
+IsCommand (Settle by path text) = IsReplicaNumber by × IsPath path
+IsCommand (Resolve by path) = IsReplicaNumber by × IsPath path
 IsCommand (Ls by path) = IsReplicaNumber by × IsPath path
+IsCommand (Read by path) = IsReplicaNumber by × IsPath path
+IsCommand (Versions by path) = IsReplicaNumber by × IsPath path
 IsCommand (Tree by) = IsReplicaNumber by
 IsCommand (Pull by to) = IsReplicaNumber by × IsReplicaNumber to
 
@@ -33,7 +41,13 @@ of_none verb behind = record { by = None; verb = verb; behind = behind }
 -- the one table of verbs: each command's verb, and what stands before and behind it
 abbrev pub spelling_of : Command → Spelling
 spelling_of (MkDir by path) = of_replica by (codes "mkdir") (OnePath path)
+spelling_of (Create by path kind) = of_replica by (codes "create") (PathAndKind path kind)
+spelling_of (Write by path text) = of_replica by (codes "write") (PathAndText path text)
+spelling_of (Settle by path text) = of_replica by (codes "settle") (PathAndText path text)
+spelling_of (Resolve by path) = of_replica by (codes "resolve") (OnePath path)
 spelling_of (Ls by path) = of_replica by (codes "ls") (OnePath path)
+spelling_of (Read by path) = of_replica by (codes "read") (OnePath path)
+spelling_of (Versions by path) = of_replica by (codes "versions") (OnePath path)
 spelling_of (Tree by) = of_replica by (codes "tree") Nothing
 spelling_of (Pull by to) = of_none (codes "pull") (TwoReplicas by to)
 

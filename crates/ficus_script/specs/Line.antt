@@ -3,6 +3,8 @@ use Rattle.std.specs.Prelude.{◌≡◌, ℕ, List, [], ◌∷◌, ◌++◌, map
 use Rattle.std.specs.Fmt.{decimal}
 use Rattle.ficus_path.specs.declared.path.PathFault.{PathFault}
 use Rattle.ficus_path.specs.declared.path.PathFault.TheVariants as path_fault
+use Rattle.ficus_path.specs.declared.text.TextFault.{TextFault}
+use Rattle.ficus_path.specs.declared.text.TextFault.TheVariants as text_fault
 use Rattle.ficus_script.specs.declared.command.Command.{Command}
 use Rattle.ficus_script.specs.declared.line.LineFault.{LineFault}
 use Rattle.ficus_script.specs.declared.line.LineFault.TheVariants.{NotCommand, Memory}
@@ -15,6 +17,11 @@ use Rattle.ficus_script.specs.Script.{is_kept, IsCommandLine, IsScriptLine}
 abbrev pub fault_of : PathFault → LineFault
 fault_of path_fault.NotPath = NotCommand
 fault_of path_fault.Memory = Memory
+
+-- what a fault of a text in the line makes of the line
+abbrev pub fault_of_text : TextFault → LineFault
+fault_of_text text_fault.NotText = NotCommand
+fault_of_text text_fault.Memory = Memory
 
 -- what the line's fault makes of the script
 abbrev pub fault_at : LineFault → ℕ → ScriptFault

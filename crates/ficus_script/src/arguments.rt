@@ -1,11 +1,17 @@
-ghost use Rattle.std.specs.Prelude.{◌↔◌, IsTrue, ok_or};
-ghost use Rattle.ficus_script.specs.Arguments.{bytes_of, BeginsPath, IsReadingBehind, IsReadingWords};
+ghost use Rattle.std.specs.Prelude.{◌≡◌, ◌≢◌, ◌↔◌, IsTrue, Some, IfSome, IfNone, ok_or};
+ghost use Rattle.ficus_ids.specs.Kind.{kind_word};
+ghost use Rattle.ficus_ids.specs.declared.kind.Kind.{Kind};
+ghost use Rattle.ficus_ids.specs.declared.kind.Kind.TheVariants.{Dir};
+ghost use Rattle.ficus_path.specs.Path.{IsPath};
+ghost use Rattle.ficus_path.specs.Spelling.{path_text};
+ghost use Rattle.ficus_script.specs.Arguments.{bytes_of, BeginsPath, BeginsText, IsReadingBehind, IsReadingWords};
 ghost use Rattle.ficus_script.specs.declared.line.LineFault.TheVariants.{NotCommand};
 
 use crate::cut::cut_at;
 use crate::line::LineFault;
 use crate::replica::read_replica;
-use ficus_path::{Path, read_path};
+use ficus_ids::{Kind, Listed};
+use ficus_path::{Path, read_path, read_text};
 use std::alloc::Global;
 
 /// What stands behind the verb of a command, by its shape.
@@ -15,6 +21,10 @@ pub(crate) enum Arguments {
     Nothing,
     /// One path.
     OnePath(Path),
+    /// A path and the kind of a file.
+    PathAndKind(Path, Kind),
+    /// A path and a text. The text is all that stands behind the path and a space, to the end of the line.
+    PathAndText(Path, Listed<u8>),
     /// The numbers of two replicas.
     TwoReplicas(u8, u8),
 }
@@ -48,7 +58,44 @@ fn path_first(alloc: Global, first: &[u8], rest: Option<&[u8]>) -> Result<Argume
     let path = read_path(alloc, first)?;
     match rest {
         None => Ok(Arguments::OnePath(path)),
-        Some(_) => Err(LineFault::NotCommand),
+        Some(last) => path_and_last(alloc, path, last),
+    }
+}
+
+// The shapes of a path and something behind it.
+fn path_and_last(alloc: Global, path: Path, last: &[u8]) -> Result<Arguments, LineFault>
+    requires { IsPath path }
+    ensures { IsReadingWords (path_text path) (Some last.now) result }
+{
+    if begins_text(last) {
+        let text = read_text(alloc, last)?;
+        Ok(Arguments::PathAndText(path, Listed::of(text)))
+    } else {
+        let Some(kind) = read_kind(last) else {
+            return Err(LineFault::NotCommand);
+        };
+        Ok(Arguments::PathAndKind(path, kind))
+    }
+}
+
+fn begins_text(word: &[u8]) -> bool
+    ensures { IsTrue result ↔ BeginsText word.now }
+{
+    matches!(word, [b'"', ..])
+}
+
+// The kind of a file that the word spells, or `None` exactly where it spells none. That of directories isn't one.
+fn read_kind(word: &[u8]) -> Option<Kind>
+    ensures kind { IfSome result (λ kind. kind ≢ Dir) }
+    ensures found { IfSome result (λ kind. word.now ≡ kind_word kind) }
+    ensures none { IfNone result ((kind : Kind) → kind ≢ Dir → word.now ≡ kind_word kind → ⊥) }
+{
+    match word {
+        b"plain" => Some(Kind::Plain),
+        b"lines" => Some(Kind::Lines),
+        b"max" => Some(Kind::Max),
+        b"keep" => Some(Kind::Keep),
+        _ => None,
     }
 }
 

@@ -1,14 +1,14 @@
 ghost use Rattle.std.specs.Prelude.{◌≡◌, ℕ, List, Some, IfSome, IfNone};
 ghost use Rattle.ficus_script.specs.Arguments.{IsReplicaNumber};
 ghost use Rattle.ficus_script.specs.declared.line.LineFault.TheVariants.{Memory as OutOfMemory};
-ghost use Rattle.ficus_script.specs.Line.{fault_at, fault_of, led_by, IsReadingOf};
+ghost use Rattle.ficus_script.specs.Line.{fault_at, fault_of, fault_of_text, led_by, IsReadingOf};
 
 use crate::arguments::read_arguments;
 use crate::cut::cut_at;
 use crate::replica::read_replica;
 use crate::verbs::command_of;
 use crate::{Command, ScriptFault};
-use ficus_path::PathFault;
+use ficus_path::{PathFault, TextFault};
 use std::alloc::{AllocFailed, Global};
 
 /// Why a line gave no command.
@@ -27,6 +27,17 @@ impl From<PathFault> for LineFault {
         match fault {
             PathFault::NotPath => LineFault::NotCommand,
             PathFault::Memory => LineFault::Memory,
+        }
+    }
+}
+
+impl From<TextFault> for LineFault {
+    ghost from_gives = { λ text_fault fault. fault ≡ fault_of_text text_fault };
+
+    fn from(fault: TextFault) -> LineFault {
+        match fault {
+            TextFault::NotText => LineFault::NotCommand,
+            TextFault::Memory => LineFault::Memory,
         }
     }
 }

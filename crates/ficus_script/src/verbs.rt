@@ -1,11 +1,13 @@
-ghost use Rattle.std.specs.Prelude.{◌≡◌, Some, IfSome};
+ghost use Rattle.std.specs.Prelude.{◌≡◌, ◌≢◌, Some, IfSome};
+ghost use Rattle.ficus_ids.specs.declared.kind.Kind.TheVariants.{Dir};
 ghost use Rattle.ficus_path.specs.Path.{IsPath};
 ghost use Rattle.ficus_script.specs.Arguments.{AreArguments, IsReplicaNumber};
 ghost use Rattle.ficus_script.specs.Command.{Spelling, IsCommandOf, of_none, of_replica};
-ghost use Rattle.ficus_script.specs.declared.arguments.Arguments.TheVariants.{Nothing, OnePath, TwoReplicas};
+ghost use Rattle.ficus_script.specs.declared.arguments.Arguments.TheVariants.{Nothing, OnePath, PathAndKind, PathAndText, TwoReplicas};
 
 use crate::Command;
 use crate::arguments::Arguments;
+use ficus_ids::{Kind, Listed};
 use ficus_path::Path;
 
 /// The command that the verb makes of what stands before and behind it.
@@ -17,6 +19,8 @@ pub(crate) fn command_of(by: Option<u8>, verb: &[u8], behind: Arguments) -> Opti
     match (by, behind) {
         (Some(by), Arguments::Nothing) => with_nothing(by, verb),
         (Some(by), Arguments::OnePath(path)) => with_path(by, verb, path),
+        (Some(by), Arguments::PathAndKind(path, kind)) => with_kind(by, verb, path, kind),
+        (Some(by), Arguments::PathAndText(path, text)) => with_text(by, verb, path, text),
         (None, Arguments::TwoReplicas(first, second)) => with_replicas(verb, first, second),
         _ => None,
     }
@@ -39,7 +43,38 @@ fn with_path(by: u8, verb: &[u8], path: Path) -> Option<Command>
 {
     match verb {
         _ if verb == b"mkdir".as_slice() && path.is_new() => Some(Command::MkDir { by, path }),
+        _ if verb == b"resolve".as_slice() => Some(Command::Resolve { by, path }),
         _ if verb == b"ls".as_slice() => Some(Command::Ls { by, path }),
+        _ if verb == b"read".as_slice() => Some(Command::Read { by, path }),
+        _ if verb == b"versions".as_slice() => Some(Command::Versions { by, path }),
+        _ => None,
+    }
+}
+
+fn with_kind(by: u8, verb: &[u8], path: Path, kind: Kind) -> Option<Command>
+    requires replica { IsReplicaNumber by }
+    requires path { IsPath path }
+    requires kind { kind ≢ Dir }
+    ensures { IsCommandOf (of_replica by verb.now (PathAndKind path kind)) result }
+{
+    match verb {
+        _ if verb == b"create".as_slice() && path.is_new() => Some(Command::Create {
+            by,
+            path,
+            kind,
+        }),
+        _ => None,
+    }
+}
+
+fn with_text(by: u8, verb: &[u8], path: Path, text: Listed<u8>) -> Option<Command>
+    requires replica { IsReplicaNumber by }
+    requires path { IsPath path }
+    ensures { IsCommandOf (of_replica by verb.now (PathAndText path text)) result }
+{
+    match verb {
+        _ if verb == b"write".as_slice() => Some(Command::Write { by, path, text }),
+        _ if verb == b"settle".as_slice() => Some(Command::Settle { by, path, text }),
         _ => None,
     }
 }

@@ -1,9 +1,14 @@
-ghost use Rattle.std.specs.Prelude.{◌≡◌, ◌++◌, IfOk, OnOk};
+ghost use Rattle.std.specs.Prelude.{◌≡◌, [], ◌∷◌, ◌++◌, codes, IfOk, OnOk};
+ghost use Rattle.ficus_path.specs.Text.{quoted_text};
 ghost use Rattle.ficus_script.specs.Answer.{answer_text_of, count_line, counted_lines, name_line, tree_line};
+ghost use Rattle.ficus_script.specs.Answer.{vector_text, version_line};
 
 use crate::Answer;
-use ficus_ids::Memory;
+use ficus_file::Version;
+use ficus_ids::{Members, Memory};
 use ficus_names::{Line, shown_text};
+use ficus_path::append_text;
+use ficus_vv::Vector;
 use std::alloc::Global;
 
 /// The text of the answer. Each of its lines ends with byte 10.
@@ -13,13 +18,24 @@ pub fn answer_text(alloc: Global, answer: &Answer) -> Result<Vec<u8>, Memory>
     match answer {
         Answer::Done => Ok(Vec::from_slice(alloc, b"ok\n")?),
         Answer::Made(id) => Ok(format!(in alloc; "ok {id}\n")?.into_bytes()),
+        Answer::Text(text) => text_text(alloc, text.items()),
         Answer::Names(lines) => names_text(alloc, lines.items()),
         Answer::Tree(lines) => tree_text(alloc, lines.items()),
+        Answer::Versions { members, list } => versions_text(alloc, *members, list.items()),
         Answer::Refused(refusal) => {
             let word = refusal.word();
             Ok(format!(in alloc; "no {word}\n")?.into_bytes())
         }
     }
+}
+
+fn text_text(alloc: Global, text: &[u8]) -> Result<Vec<u8>, Memory>
+    ensures { IfOk result (λ answer. answer.items ≡ codes "ok " ++ quoted_text text.now ++ 10 ∷ []) }
+{
+    let mut answer = Vec::from_slice(alloc, b"ok ")?;
+    append_text(&mut answer, text)?;
+    answer.push(b'\n')?;
+    Ok(answer)
 }
 
 fn names_text(alloc: Global, lines: &[Line]) -> Result<Vec<u8>, Memory>
@@ -38,6 +54,16 @@ fn tree_text(alloc: Global, lines: &[Line]) -> Result<Vec<u8>, Memory>
     let mut text = count_text(alloc, lines.len())?;
     for line in lines {
         append_tree_line(alloc, &mut text, line)?;
+    }
+    Ok(text)
+}
+
+fn versions_text(alloc: Global, members: Members, list: &[Version]) -> Result<Vec<u8>, Memory>
+    ensures { IfOk result (λ text. text.items ≡ counted_lines (version_line members) list.now) }
+{
+    let mut text = count_text(alloc, list.len())?;
+    for version in list {
+        append_version_line(alloc, &mut text, members, version)?;
     }
     Ok(text)
 }
@@ -64,5 +90,38 @@ fn append_name_line(alloc: Global, text: &mut Vec<u8>, line: &Line) -> Result<()
     let kind = line.kind.word();
     let conflict = if line.conflict { " conflict" } else { "" };
     text.extend_from_slice(format!(in alloc; " {target} {kind}{conflict}\n")?.as_bytes())?;
+    Ok(())
+}
+
+fn append_version_line(
+    alloc: Global,
+    text: &mut Vec<u8>,
+    members: Members,
+    version: &Version,
+) -> Result<(), Memory>
+    ensures { OnOk result (text.new.items ≡ text.old.items ++ version_line members version.now) }
+{
+    append_vector(alloc, text, members, version.vector)?;
+    text.push(b' ')?;
+    append_text(text, version.bytes.items())?;
+    text.push(b'\n')?;
+    Ok(())
+}
+
+fn append_vector(
+    alloc: Global,
+    text: &mut Vec<u8>,
+    members: Members,
+    vector: Vector,
+) -> Result<(), Memory>
+    ensures { OnOk result (text.new.items ≡ text.old.items ++ vector_text members vector) }
+{
+    let first = vector.count(1);
+    text.extend_from_slice(format!(in alloc; "[{first}")?.as_bytes())?;
+    for index in 1..members.count() {
+        let count = vector.count(index + 1);
+        text.extend_from_slice(format!(in alloc; ",{count}")?.as_bytes())?;
+    }
+    text.push(b']')?;
     Ok(())
 }

@@ -1,7 +1,9 @@
-use ficus_ids::{Id, Kind, Listed, Name, Refusal};
+use ficus_file::Version;
+use ficus_ids::{Id, Kind, Listed, Members, Name, Refusal};
 use ficus_names::{Line, ShownName};
-use ficus_path::write_path;
+use ficus_path::{Path, append_text, write_path};
 use ficus_script::{Answer, Command, ScriptFault, answer_text, read_script};
+use ficus_vv::Vector;
 use std::alloc::Global;
 use std::test::Fail;
 
@@ -20,6 +22,22 @@ fn scripts_give_their_commands(rt: HostRuntime) -> Result<(), Fail> {
         ("1 mkdir /a#1.1/b", "1 makes /a#1.1/b; "),
         ("1 ls /", "1 lists /; "),
         ("1 ls /a#2.1\n", "1 lists /a#2.1; "),
+        (
+            "1 create /a#1.1/b plain",
+            "1 makes the plain file /a#1.1/b; ",
+        ),
+        ("1 create /a lines\n", "1 makes the lines file /a; "),
+        ("1 create /a max", "1 makes the max file /a; "),
+        ("1 create /plain keep", "1 makes the keep file /plain; "),
+        ("1 write / \"\"", "1 writes \"\" in /; "),
+        (
+            "1 write /a \" two  words, \\\"#\\\" and /\\n\\x00\"\n",
+            "1 writes \" two  words, \\\"#\\\" and /\\n\\x00\" in /a; ",
+        ),
+        ("1 settle /a \"ab\"", "1 settles \"ab\" in /a; "),
+        ("1 resolve /a#2.1", "1 resolves /a#2.1; "),
+        ("1 read /a", "1 reads /a; "),
+        ("1 versions /\n", "1 lists the versions of /; "),
         ("1 tree", "1 walks; "),
         ("pull 1 2\n", "1 takes from 2; "),
         (
@@ -44,18 +62,80 @@ fn all_described(alloc: Global, script: &str) -> Result<Vec<u8>, Fail> {
 }
 
 fn described(alloc: Global, command: &Command) -> Result<Vec<u8>, Fail> {
-    let (start, path) = match command {
-        Command::MkDir { by, path } => (format!(in alloc; "{by} makes ")?, Some(path)),
-        Command::Ls { by, path } => (format!(in alloc; "{by} lists ")?, Some(path)),
-        Command::Tree { by } => (format!(in alloc; "{by} walks")?, None),
-        Command::Pull { by, to } => (format!(in alloc; "{by} takes from {to}")?, None),
-    };
-    let mut text = start.into_bytes();
-    if let Some(path) = path {
-        text.extend_from_slice(&write_path(alloc, path)?)?;
+    match command {
+        Command::MkDir { by, path } => with_path(alloc, format!(in alloc; "{by} makes ")?, path),
+        Command::Create { by, path, kind } => {
+            let kind = kind.word();
+            with_path(
+                alloc,
+                format!(in alloc; "{by} makes the {kind} file ")?,
+                path,
+            )
+        }
+        Command::Write { by, path, text } => {
+            with_text(
+                alloc,
+                format!(in alloc; "{by} writes ")?,
+                text.items(),
+                path,
+            )
+        }
+        Command::Settle { by, path, text } => {
+            with_text(
+                alloc,
+                format!(in alloc; "{by} settles ")?,
+                text.items(),
+                path,
+            )
+        }
+        Command::Resolve { by, path } => with_path(
+            alloc,
+            format!(in alloc; "{by} resolves ")?,
+            path,
+        ),
+        Command::Ls { by, path } => with_path(alloc, format!(in alloc; "{by} lists ")?, path),
+        Command::Read { by, path } => with_path(alloc, format!(in alloc; "{by} reads ")?, path),
+        Command::Versions { by, path } => {
+            with_path(
+                alloc,
+                format!(in alloc; "{by} lists the versions of ")?,
+                path,
+            )
+        }
+        Command::Tree { by } => Ok(format!(in alloc; "{by} walks; ")?.into_bytes()),
+        Command::Pull { by, to } => Ok(format!(in alloc; "{by} takes from {to}; ")?.into_bytes()),
     }
-    text.extend_from_slice(b"; ")?;
-    Ok(text)
+}
+
+fn with_path(alloc: Global, start: String, path: &Path) -> Result<Vec<u8>, Fail> {
+    let mut description = start.into_bytes();
+    description.extend_from_slice(&write_path(alloc, path)?)?;
+    description.extend_from_slice(b"; ")?;
+    Ok(description)
+}
+
+fn with_text(alloc: Global, start: String, text: &[u8], path: &Path) -> Result<Vec<u8>, Fail> {
+    let mut description = start.into_bytes();
+    append_text(&mut description, text)?;
+    description.extend_from_slice(b" in ")?;
+    description.extend_from_slice(&write_path(alloc, path)?)?;
+    description.extend_from_slice(b"; ")?;
+    Ok(description)
+}
+
+// The greatest text that a file may have and one byte more is a command all the same.
+#[test]
+fn a_text_may_be_longer_than_a_file(rt: HostRuntime) -> Result<(), Fail> {
+    let long = vec![in rt.alloc(); b'n'; 16_385]?;
+    let mut script = Vec::from_slice(rt.alloc(), b"1 write /a ")?;
+    append_text(&mut script, &long)?;
+    let commands = read_script(rt.alloc(), &script)?;
+    let lengths = match commands.as_slice() {
+        [Command::Write { text, .. }] => Some(text.items().len()),
+        _ => None,
+    };
+    assert_eq!(rt; lengths, Some(16_385));
+    Ok(())
 }
 
 #[test]
@@ -77,6 +157,25 @@ fn the_first_bad_line_is_named(rt: HostRuntime) -> Result<(), Fail> {
         "1 mkdir /",
         "1 mkdir /a#1.1",
         "1 ls /a#9.1",
+        "1 create / plain",
+        "1 create /a#1.1 plain",
+        "1 create /a",
+        "1 create /a dir",
+        "1 create /a Plain",
+        "1 create /a \"plain\"",
+        "1 mkdir /a plain",
+        "1 write /a",
+        "1 write /a text",
+        "1 write /a \"",
+        "1 write /a \"text",
+        "1 write /a \"text\" ",
+        "1 write /a \"te\"xt\"",
+        "1 write /a \"\\x20\"",
+        "1 write /a  \"text\"",
+        "1 write /a \"text\" \"text\"",
+        "1 write \"text\" /a",
+        "1 read /a \"text\"",
+        "write 1 /a \"text\"",
         "1 MKDIR /a",
         "1 frob /a",
         "pull 1",
@@ -151,4 +250,34 @@ fn line(dir: (u8, u32), name: &[u8], target: (u8, u32), suffixed: bool) -> Resul
 
 fn id((replica, number): (u8, u32)) -> Id {
     Id { replica, number }
+}
+
+#[test]
+fn answers_on_files_have_their_texts(rt: HostRuntime) -> Result<(), Fail> {
+    let alloc = rt.alloc();
+    let text = Vec::from_slice(alloc, b"a \"b\"\n")?;
+    let answer = Answer::Text(Listed::of(text));
+    assert_eq!(rt;
+        answer_text(alloc, &answer)?.as_slice(),
+        b"ok \"a \\\"b\\\"\\n\"\n".as_slice()
+    );
+    let mut list = Vec::new(alloc);
+    list.push(version(alloc, [1, 1, 0, 0, 0, 0, 0, 0], b"b")?)?;
+    list.push(version(alloc, [20, 0, 0, 0, 0, 0, 0, 0], b"")?)?;
+    let answer = Answer::Versions {
+        members: Members::new(2).ok_or("members")?,
+        list: Listed::of(list),
+    };
+    assert_eq!(rt;
+        answer_text(alloc, &answer)?.as_slice(),
+        b"ok 2\n[1,1] \"b\"\n[20,0] \"\"\n".as_slice()
+    );
+    Ok(())
+}
+
+fn version(alloc: Global, counts: [u32; 8], bytes: &[u8]) -> Result<Version, Fail> {
+    Ok(Version {
+        vector: Vector::from_counts(counts),
+        bytes: Listed::of(Vec::from_slice(alloc, bytes)?),
+    })
 }

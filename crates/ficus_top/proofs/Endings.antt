@@ -10,7 +10,7 @@ use Rattle.ficus_top.specs.declared.fault.Fault.{Fault}
 use Rattle.ficus_top.specs.declared.fault.Fault.TheVariants.{Usage, Reading, Answering}
 use Rattle.ficus_top.specs.declared.fault.ReadingFault.TheVariants.{BadLine, Memory, Source, TooLong}
 use Rattle.ficus_top.specs.declared.fault.AnsweringFault.TheVariants.{Memory as NoMemory, Sink}
-use Rattle.ficus_top.specs.Ending.{Takes}
+use Rattle.ficus_top.specs.Ending.{TakesAsEnded}
 use Rattle.ficus_top.specs.Headline.{IsRead, IsReadCode, IsBadLineCode, script_limit}
 use Rattle.ficus_top.specs.Outside.{GivesCount}
 use Rattle.ficus_top.specs.Status.{code_of, line_of}
@@ -36,7 +36,7 @@ usage_of_code (Err (Answering NoMemory)) code = cc
 usage_of_code (Err (Answering Sink)) code = cc
 
 -- where the code is that of a script that was read, the source had no more bytes than a script may have
-pub within_code : {Done : Type 0} (script left : List ℕ) (ended : Result Done Fault) → Takes script left ended
+pub within_code : {Done : Type 0} (script left : List ℕ) (ended : Result Done Fault) → TakesAsEnded script left ended
     → IsReadCode (code_of ended) → length script ≤ script_limit
 within_code script left (Ok done) takes code = takes.all.within
 within_code script left (Err Usage) takes code = elim code
@@ -56,7 +56,7 @@ within_code script left (Err (Answering Sink)) takes code = takes.all.within
 -- memory was refused
 pub too_long_code : {Done : Type 0} (words : List (List ℕ)) (members : ℕ) (script left : List ℕ) (before after : ℕ)
     (ended : Result Done Fault) → AreWords words members → (IsErrOf ended Usage → AreNoWords words)
-    → Takes script left ended → (IsErrOf ended (Reading Source) → Rose before after) → (Rose before after → ⊥)
+    → TakesAsEnded script left ended → (IsErrOf ended (Reading Source) → Rose before after) → (Rose before after → ⊥)
     → script_limit < length script → (code_of ended ≡ 8) ⊎ (code_of ended ≡ 3)
 too_long_code words members script left before after (Ok done) are usage takes fault no_fault longer = absurd
     (omega (arith, takes.all.within))
@@ -82,8 +82,8 @@ module _ (words : List (List ℕ)) (script left : List ℕ) (before after : ℕ)
   not_too_long gives = omega (arith, read.within)
 
   pub bad_line_code : {Done : Type 0} (ended : Result Done Fault) (line : ℕ) → (IsErrOf ended Usage → AreNoWords words)
-      → Takes script left ended → (IsErrOf ended (Reading Source) → Rose before after) → IsFirstBadLine script line
-      → IsBadLineCode line (code_of ended) (line_of ended)
+      → TakesAsEnded script left ended → (IsErrOf ended (Reading Source) → Rose before after)
+      → IsFirstBadLine script line → IsBadLineCode line (code_of ended) (line_of ended)
   bad_line_code (Ok done) line usage takes fault first = absurd
       (no_bad_line script takes.commands line takes.read first)
   bad_line_code (Err Usage) line usage takes fault first = absurd (usage refl members read.words_are)
@@ -97,7 +97,7 @@ module _ (words : List (List ℕ)) (script left : List ℕ) (before after : ℕ)
       absurd (no_bad_line script takes.commands line takes.read first)
 
   pub complete_code : {Done : Type 0} (ended : Result Done Fault) (commands : List Command) (sink_before sink_after : ℕ)
-      → (IsErrOf ended Usage → AreNoWords words) → Takes script left ended
+      → (IsErrOf ended Usage → AreNoWords words) → TakesAsEnded script left ended
       → (IsErrOf ended (Reading Source) → Rose before after)
       → (IsErrOf ended (Answering Sink) → Rose sink_before sink_after) → IsScript script commands
       → (Rose sink_before sink_after → ⊥) → (code_of ended ≡ 0) ⊎ (code_of ended ≡ 3)

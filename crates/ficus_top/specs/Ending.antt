@@ -13,11 +13,11 @@ pub record TakesScript (old new : List ℕ) : Type 0 where
   pub read : IsScript old commands
 
 -- what a run took from a source that tells
-abbrev pub Takes : {Done : Type 0} → List ℕ → List ℕ → Result Done Fault → Type 0
-Takes old new (Ok done) = TakesScript old new
-Takes old new (Err Usage) = new ≡ old
-Takes old new (Err (Reading fault)) = TakesUntil old new fault
-Takes old new (Err (Answering fault)) = TakesScript old new
+abbrev pub TakesAsEnded : {Done : Type 0} → List ℕ → List ℕ → Result Done Fault → Type 0
+TakesAsEnded old new (Ok done) = TakesScript old new
+TakesAsEnded old new (Err Usage) = new ≡ old
+TakesAsEnded old new (Err (Reading fault)) = TakesUntil old new fault
+TakesAsEnded old new (Err (Answering fault)) = TakesScript old new
 
 -- the fault came after the script was read
 abbrev pub IsAnswering : Fault → Type 0

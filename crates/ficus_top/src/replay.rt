@@ -6,7 +6,7 @@ ghost use Rattle.ficus_script.specs.Command.{IsCommand};
 ghost use Rattle.ficus_script.specs.Script.{IsScript, IsFirstBadLine};
 ghost use Rattle.ficus_script.specs.declared.answer.Answer.{Answer as AnswerValue};
 ghost use Rattle.ficus_script.specs.declared.command.Command.{Command as CommandValue};
-ghost use Rattle.ficus_top.specs.Ending.{Takes, IsAnswering, IsIdle};
+ghost use Rattle.ficus_top.specs.Ending.{TakesAsEnded, IsAnswering, IsIdle};
 ghost use Rattle.ficus_top.specs.Headline.{Answers, AnswersFront, Replay, IsCode, IsIdleCode, IsReadCode, IsRead, IsBadLineCode, script_limit};
 ghost use Rattle.ficus_top.specs.Outside.{GivesCount};
 ghost use Rattle.ficus_top.specs.Serving.{Serves, ServesFront};
@@ -103,7 +103,7 @@ fn run<S: Source, K: Sink>(
 ) -> Result<(), Fault>
     ensures usage { IsErrOf result Fault.Usage ↔ AreNoWords (texts words.now.items) }
     ensures unasked { IsErrOf result Fault.Usage → input.new ≡ input.old }
-    ensures takes { S.tells → Takes (S.left input.old) (S.left input.new) result }
+    ensures takes { S.tells → TakesAsEnded (S.left input.old) (S.left input.new) result }
     ensures answers { S.tells → OnOk result ((members : ℕ) → AreWords (texts words.now.items) members
         → Answers K.tells members (S.left input.old) (K.written output.old) (K.written output.new)) }
     ensures prefix { S.tells → IfErr result (λ fault. IsAnswering fault

@@ -143,7 +143,7 @@ fn scripts_are_answered(rt: HostRuntime) -> Result<(), Fail> {
 }
 
 // Words and scripts that are refused, with the code and the line that it names.
-const REFUSED: [(&str, &str, u8, u32); 17] = [
+const REFUSED: [(&str, &str, u8, u32); 22] = [
     ("", "1 mkdir /a\n", 1, 0),
     ("ficus", "1 mkdir /a\n", 1, 0),
     ("ficus run", "1 mkdir /a\n", 1, 0),
@@ -165,6 +165,12 @@ const REFUSED: [(&str, &str, u8, u32); 17] = [
         2,
         4,
     ),
+    // No kind of a file, no text, and another spelling of a byte.
+    (TWO_MEMBERS, "1 create /f frob\n", 2, 1),
+    (TWO_MEMBERS, "1 create /f dir\n", 2, 1),
+    (TWO_MEMBERS, "1 create /f max\n1 write /f\n", 2, 2),
+    (TWO_MEMBERS, "1 create /f max\n1 write /f 12\n", 2, 2),
+    (TWO_MEMBERS, "1 create /f max\n1 write /f \"\\x31\"\n", 2, 2),
     // A name of 65 bytes.
     (
         TWO_MEMBERS,

@@ -82,7 +82,8 @@ module _ (H : List Event) (replica : ℕ) (op : Op) where
   version_after {file} {position} v = go (update_cases (Update replica op) v.update)
     where
       go : IsUpdate H position v.number v.op ⊎
-          ((position ≡ length H) × (Update replica op ≡ Update v.number.replica v.op) × (v.number ≡ next_number v.number.replica H)) →
+          ((position ≡ length H) × (Update replica op ≡ Update v.number.replica v.op) ×
+          (v.number ≡ next_number v.number.replica H)) →
           IsVersion H file position ⊎ ((position ≡ length H) × (version_of (next_number replica H) op ≡ Some file))
       go (inl was) = inl (record { number = v.number; op = v.op; update = was; versions = v.versions })
       go (inr (end, is, next)) =

@@ -33,7 +33,8 @@ pub has_cover : {H : List Event} {U : ℕ → Type 0} {file : Id} {replica posit
 has_cover c = record { cover = c.cover; covering = c.covering; known = c.known; past = c.past }
 
 pub is_covered : {H : List Event} {U : ℕ → Type 0} {file : Id} {replica position : ℕ} →
-    IsVersion H file position → IsOf H position replica → HasCover H U file position → IsCovered H U file replica position
+    IsVersion H file position → IsOf H position replica → HasCover H U file position →
+    IsCovered H U file replica position
 is_covered v o c = record { version = v; own = o; cover = c.cover; covering = c.covering; known = c.known; past = c.past }
 
 -- what a covered version has seen is covered
@@ -189,7 +190,8 @@ module _ (H : List Event) (replica : ℕ) (op : Op) where
   covering_after {file} {position} c = go (update_cases (Update replica op) c.update)
     where
       go : IsUpdate H position c.number c.op ⊎
-          ((position ≡ length H) × (Update replica op ≡ Update c.number.replica c.op) × (c.number ≡ next_number c.number.replica H)) →
+          ((position ≡ length H) × (Update replica op ≡ Update c.number.replica c.op) ×
+          (c.number ≡ next_number c.number.replica H)) →
           IsCovering H file position ⊎ ((position ≡ length H) × (covered_by op ≡ Some file))
       go (inl was) = inl (record { number = c.number; op = c.op; update = was; covers = c.covers })
       go (inr (end, is, next)) = let done : op ≡ c.op = cc in inr (end, ap covered_by done ∙ c.covers)

@@ -59,7 +59,8 @@ agree_are_shown {H = H} {K = K} {file = file} {versions = versions} g below a = 
 
 -- of each replica at most one version of a file is shown
 pub shown_once : {H : List Event} {U : ℕ → Type 0} {file : Id} {position other replica : ℕ} →
-    IsShown H U file position → IsShown H U file other → IsOf H position replica → IsOf H other replica → position ≡ other
+    IsShown H U file position → IsShown H U file other →
+    IsOf H position replica → IsOf H other replica → position ≡ other
 shown_once {H} {U} {file} {position} {other} {replica} s t o p = go (cases_order position other)
   where
     later : {late early : ℕ} → IsShown H U file late → IsShown H U file early → IsOf H late replica →
@@ -135,7 +136,8 @@ module _ {H : List Event} {U V : ℕ → Type 0} {file : Id} where
       where
         latest : {W : ℕ → Type 0} {position : ℕ} {item : Item} → IsShown H W file position →
             IsItemOf H file position item →
-            IsKept volume.members versions others item → (late : ℕ) → IsShownInEither H U H V file late → HasInPast H late position → ⊥
+            IsKept volume.members versions others item →
+            (late : ℕ) → IsShownInEither H U H V file late → HasInPast H late position → ⊥
         latest s i k late (inl t) p = let w = a.all late t in k.latest w.item (inl w.inside) ((under s t i w.is).1 p)
         latest s i k late (inr t) p = let w = b.all late t in k.latest w.item (inr w.inside) ((under s t i w.is).1 p)
 

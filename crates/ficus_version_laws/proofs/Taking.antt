@@ -37,7 +37,8 @@ pub update_before_accept : {position : ℕ} {number : Id} {op : Op} (H : List Ev
 update_before_accept {position} {number} {op} H replica served u = go (update_cases (Accept replica served) u)
   where
     go : IsUpdate H position number op ⊎
-        ((position ≡ length H) × (Accept replica served ≡ Update number.replica op) × (number ≡ next_number number.replica H)) →
+        ((position ≡ length H) × (Accept replica served ≡ Update number.replica op) ×
+        (number ≡ next_number number.replica H)) →
         position < length H
     go (inl was) = update_within was
     go (inr (end, is, next)) = cc

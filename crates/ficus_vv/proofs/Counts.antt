@@ -49,7 +49,8 @@ join_from cs xs ys long others greater = λ i. record {
 pub join_step : (cs xs ys : List ℕ) (i x : ℕ) → i < length cs → x ≡ max (get_or cs i 0) (get_or ys i 0) →
     ((k : ℕ) → k < i → get_or cs k 0 ≡ max (get_or xs k 0) (get_or ys k 0)) →
     ((k : ℕ) → i ≤ k → get_or cs k 0 ≡ get_or xs k 0) →
-    ((k : ℕ) → k < i + 1 → get_or (set cs i x) k 0 ≡ max (get_or xs k 0) (get_or ys k 0)) × ((k : ℕ) → i + 1 ≤ k → get_or (set cs i x) k 0 ≡ get_or xs k 0)
+    ((k : ℕ) → k < i + 1 → get_or (set cs i x) k 0 ≡ max (get_or xs k 0) (get_or ys k 0)) ×
+    ((k : ℕ) → i + 1 ≤ k → get_or (set cs i x) k 0 ≡ get_or xs k 0)
 join_step cs xs ys i x within is before behind =
     ((λ k below. go k below (cases_eq k i)), (λ k above. get_or-set_other cs i k x 0 (λ f. omega arith) ∙ behind k (omega arith)))
   where

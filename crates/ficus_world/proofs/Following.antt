@@ -15,11 +15,10 @@ use Rattle.ficus_replica.specs.declared.replica.Replica.{Replica}
 use Rattle.ficus_replica.specs.Accept.{AcceptGives, AcceptStands, IsServed}
 use Rattle.ficus_replica.specs.Ask.{AskGives}
 use Rattle.ficus_rules.specs.Change.{Change}
-use Rattle.ficus_replica.specs.Change.{ChangedAfter, IsOfDirectory}
+use Rattle.ficus_replica.specs.Change.{ChangedAfter}
 use Rattle.ficus_rules.specs.Look.{Look}
 use Rattle.ficus_replica.specs.SavedOf.{StandsFor, generation_of}
 use Rattle.ficus_script.specs.declared.command.Command.{Command}
-use Rattle.ficus_script.specs.declared.command.Command.TheVariants.{MkDir, Ls, Tree, Pull}
 use Rattle.ficus_script.specs.declared.answer.Answer.{Answer}
 use Rattle.ficus_world.specs.declared.member.Member.{Member}
 use Rattle.ficus_world.specs.Actions.{unchanged, happened, AtMember, Updates}
@@ -40,24 +39,12 @@ use Rattle.ficus_world.specs.World.{Whole, IsNumbered, WorldStandsFor}
 use Rattle.ficus_replica.proofs.Accepts.{accept_gives_stands}
 use Rattle.ficus_replica.proofs.Asks.{asks_stands}
 use Rattle.ficus_rules.proofs.Changes.{change_along}
-use Rattle.ficus_replica.proofs.Changes.{changed_after}
+use Rattle.ficus_replica.proofs.Changing.{changed_after}
 use Rattle.ficus_replica.proofs.OpenAsks.{through_end, through_more}
 use Rattle.ficus_replica.proofs.Pulls.{standing_serves}
 use Rattle.ficus_replica.proofs.Views.{stands_same}
 use Rattle.ficus_world.proofs.Agreement.{look_answer_along}
 use Rattle.ficus_world.proofs.Standing.{member_of, member_from, replica_stands, raise, raised_length, advanced_stands, served_stands}
-
--- so far each change makes a directory
-abbrev IsOfDirectories : Sort → Type 0
-IsOfDirectories (Changes by change) = IsOfDirectory change
-IsOfDirectories (Looks by look) = Unit {0}
-IsOfDirectories (Pulls by to) = Unit {0}
-
-of_directories : (command : Command) → IsOfDirectories (sort_of command)
-of_directories (MkDir by path) = refl
-of_directories (Ls by path) = tt
-of_directories (Tree by) = tt
-of_directories (Pull by to) = tt
 
 -- the model does so too, and the world stands for what that leaves
 record FollowsBySort (volume : Volume) (W : ModelWorld) (sort : Sort) (result : Result Answer Refusal) (new : Whole) :
@@ -80,22 +67,22 @@ module _ (volume : Volume) (W : ModelWorld) (old : Whole) (stands : WorldStandsF
       subst (λ n. Updates by op W (Ok (answer_to (record { replica = by; number = n }) op)) (happened W (Update by op)))
       (sym (replica_stands volume W old stands by member is).saved.next) Added
 
-  follow_change : (by : ℕ) (change : Change) (result : Result Answer Refusal) (new : Whole) → IsOfDirectory change
+  follow_change : (by : ℕ) (change : Change) (result : Result Answer Refusal) (new : Whole)
       → MovesBySort (Changes by change) old result new → FollowsBySort volume W (Changes by change) result new
-  follow_change by change result new dir (Ends (FindsNone none)) =
+  follow_change by change result new (Ends (FindsNone none)) =
       record { effect = unchanged W; does = Ends (at_none by none); stands = stands }
-  follow_change by change result new dir (Goes (Finds {member = member} is) (Ends {refusal = refusal} (Says refused))) =
-      let same = stands_same (replica_stands volume W old stands by member is) in
+  follow_change by change result new (Goes (Finds {member = member} is) (Ends {refusal = refusal} (Says refused))) =
+      let same = stands_same stands.lawful (replica_stands volume W old stands by member is).saved in
       record {
         effect = unchanged W;
         does = Goes (at_member by member is) (Ends (Says (change_along same change (Err refusal) refused)));
         stands = stands;
       }
-  follow_change by change result new dir
+  follow_change by change result new
       (Goes (Finds {member = member} is) (Goes {a = op} (Says decided) (Keeps {new = next} applied ask))) =
       let now : ChangedAfter volume W.events by change (record { replica = next; op = op }) =
-      changed_after stands.lawful (member_of volume W old stands by is.member)
-      (replica_stands volume W old stands by member is) change dir (record { replica = next; op = op })
+      changed_after stands.lawful stands.count.at_least
+      (replica_stands volume W old stands by member is) change (record { replica = next; op = op })
       (record { answer = decided; applied = applied; ask = ask }) in
       record {
         effect = happened W (Update by op);
@@ -110,7 +97,7 @@ module _ (volume : Volume) (W : ModelWorld) (old : Whole) (stands : WorldStandsF
   follow_look by look result new (Ends (FindsNone none)) =
       record { effect = unchanged W; does = Ends (at_none by none); stands = stands }
   follow_look by look result new (Goes (Finds {member = member} is) (Says answer)) =
-      let same = stands_same (replica_stands volume W old stands by member is) in
+      let same = stands_same stands.lawful (replica_stands volume W old stands by member is).saved in
       record {
         effect = unchanged W;
         does = Goes (at_member by member is) (Says (look_answer_along same.shown look result answer));
@@ -172,7 +159,8 @@ module _ (volume : Volume) (W : ModelWorld) (old : Whole) (stands : WorldStandsF
           (serve_may_come W.events by to volume (may_ask peers).other)
 
       serves : (peer : Member) → IsNumbered asked_world.members to peer
-          → IsServed (answered W.events by to) by to waiting.saved.generation peer.replica.saved.entries serve
+          → IsServed volume (answered W.events by to) by to waiting.saved.generation peer.replica.saved.entries
+          peer.replica.saved.files serve
       serves peer peer_is =
           standing_serves volume (answered W.events by to) by to waiting.saved.generation serve (length W.events)
           peer.replica
@@ -197,11 +185,13 @@ module _ (volume : Volume) (W : ModelWorld) (old : Whole) (stands : WorldStandsF
 
       takes : (peer holder : Member) (result : Result Replica Refusal) → IsNumbered asked_world.members to peer
           → IsNumbered answered_world.members by holder
-          → AcceptGives holder.replica to waiting.saved.generation peer.replica.saved.entries result
+          → AcceptGives holder.replica to waiting.saved.generation peer.replica.saved.entries
+          peer.replica.saved.files result
           → AcceptStands volume (answered W.events by to) by serve result
       takes peer holder result peer_is holder_is gives =
           accept_gives_stands volume (answered W.events by to) by to waiting.saved.generation
-          peer.replica.saved.entries serve holder.replica result answered_stand.lawful
+          peer.replica.saved.entries peer.replica.saved.files serve holder.replica result stands.count.at_most
+          answered_stand.lawful
           (replica_stands volume answered_model answered_world answered_stand by holder holder_is) (serves peer peer_is)
           gives
 
@@ -218,6 +208,7 @@ module _ (volume : Volume) (W : ModelWorld) (old : Whole) (stands : WorldStandsF
         position = length asked_world.events;
         number = waiting.saved.generation;
         entries = peer.replica.saved.entries;
+        files = peer.replica.saved.files;
       }
 
       -- the stored position of the Serve is raised to that in the history
@@ -255,17 +246,17 @@ module _ (volume : Volume) (W : ModelWorld) (old : Whole) (stands : WorldStandsF
         (Goes (Sends {was = was} {asked = waiting} peers is asks) (Goes (Hands {peer = peer} peer_is) taking)) =
         follow_taking was waiting peers is asks peer result new peer_is taking
 
-  follow_sort : (sort : Sort) (result : Result Answer Refusal) (new : Whole) → IsOfDirectories sort
+  follow_sort : (sort : Sort) (result : Result Answer Refusal) (new : Whole)
       → MovesBySort sort old result new → FollowsBySort volume W sort result new
-  follow_sort (Changes by change) result new dir moves = follow_change by change result new dir moves
-  follow_sort (Looks by look) result new dir moves = follow_look by look result new moves
-  follow_sort (Pulls by to) result new dir moves = follow_pull by to result new moves
+  follow_sort (Changes by change) result new moves = follow_change by change result new moves
+  follow_sort (Looks by look) result new moves = follow_look by look result new moves
+  follow_sort (Pulls by to) result new moves = follow_pull by to result new moves
 
   -- whatever a command does to the world, it does to what the world stands for
   pub follow : (command : Command) (answer : Answer) (new : Whole) → Moves old command answer new
       → Follows volume W command answer new
   follow command answer new moves =
-      let follows = follow_sort (sort_of command) moves.result new (of_directories command) moves.does in
+      let follows = follow_sort (sort_of command) moves.result new moves.does in
       record {
         outcome = follows.effect.outcome;
         after = follows.effect.after;

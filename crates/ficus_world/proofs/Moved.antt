@@ -1,5 +1,5 @@
 -- What the code of each sort of command does moves the world as its sort says.
-use Rattle.std.proofs.Common.{◌≡◌, ◌≢◌, ◌↔◌, ℕ, Bool, true, false, length, Result, Ok, Err, refl, sym, subst}
+use Rattle.std.proofs.Common.{◌≡◌, ◌≢◌, ◌↔◌, ℕ, Bool, true, false, length, Result, Ok, Err, refl, sym, subst, inl}
 use Rattle.std.specs.Prelude.{IsTrue, IfOk}
 use Rattle.std.proofs.lemmas.Result.{IfOk-weaker}
 use Rattle.ficus_ids.specs.Members.{IsMember}
@@ -10,8 +10,10 @@ use Rattle.ficus_model.specs.declared.event.Event.TheVariants.{Update}
 use Rattle.ficus_replica.specs.declared.replica.Next.{Next}
 use Rattle.ficus_model.specs.declared.event.Op.{Op}
 use Rattle.ficus_rules.specs.Change.{ChangeRule}
+use Rattle.ficus_rules.specs.Look.{Look, LookRule}
 use Rattle.ficus_rules.specs.Rule.{UnlessMemory}
-use Rattle.ficus_replica.specs.View.{tables_view}
+use Rattle.ficus_rules.specs.View.{View}
+use Rattle.ficus_answers.specs.View.{tables_view}
 use Rattle.ficus_script.specs.declared.answer.Answer.{Answer}
 use Rattle.ficus_script.specs.declared.command.Command.{Command}
 use Rattle.ficus_world.specs.declared.member.Member.{Member}
@@ -34,6 +36,12 @@ refused_along : {A B : Type 0} (rule : Result A Refusal → Type 0) (other : Res
     → UnlessMemory other (Err refusal)
 refused_along rule other Memory there is = tt
 refused_along rule other refusal there is = there is
+
+-- the refusal of a look is what it is answered
+pub look_refused : (view : View) (look : Look) (refusal : Refusal) → UnlessMemory (LookRule view look) (Err refusal)
+    → UnlessMemory (LookAnswer view look) (Err refusal)
+look_refused view look refusal gives =
+    refused_along (LookRule view look) (LookAnswer view look) refusal (λ refused. inl refused) gives
 
 module _ (old : Whole) (by : ℕ) where
   pub no_change : (sort : Sort) → IsChangeBy by sort → (IsMember (length old.members) by → ⊥)
@@ -74,7 +82,7 @@ module _ (old : Whole) (by : ℕ) where
         → GivesChange member.replica sort (Err refusal)
         → UnlessMemory (λ answer. MovesBySort sort old answer old) (Err refusal)
     change_refused (Changes r change) refusal same gives =
-        refused_along (ChangeRule (tables_view member.replica) change)
+        refused_along (ChangeRule (tables_view member.replica.saved) change)
         (λ answer. MovesBySort (Changes r change) old answer old) refusal
         (λ refused. Goes (Finds (finds same)) (Ends (Says refused))) gives
     change_refused (Looks r look) refusal not gives = absurd not
@@ -85,7 +93,7 @@ module _ (old : Whole) (by : ℕ) where
     look_moves (Changes r change) answer not gives = absurd not
     look_moves (Looks r look) (Ok answer) same gives = Goes (Finds (finds same)) (Says gives)
     look_moves (Looks r look) (Err refusal) same gives =
-        refused_along (LookAnswer (tables_view member.replica) look)
+        refused_along (LookAnswer (tables_view member.replica.saved) look)
         (λ answer. MovesBySort (Looks r look) old answer old) refusal
         (λ refused. Goes (Finds (finds same)) (Says refused)) gives
     look_moves (Pulls r to) answer not gives = absurd not

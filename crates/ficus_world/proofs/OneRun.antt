@@ -14,7 +14,8 @@ use Rattle.ficus_world.specs.Run.{Does, Step, Run}
 use Rattle.ficus_world.specs.Run.Run.{End, Then}
 use Rattle.ficus_world.specs.Sort.{Sort, Changes, Looks, Pulls, sort_of, answer_of, LookAnswer, answer_as}
 use Rattle.ficus_rules.proofs.Changes.{change_once}
-use Rattle.ficus_rules.proofs.Looks.{look_once, history_kinds}
+use Rattle.ficus_rules.proofs.Looks.{look_once}
+use Rattle.ficus_rules.proofs.Sound.{history_sound}
 use Rattle.ficus_rules.proofs.Rules.{then_once, where_once, gives_once}
 use Rattle.ficus_world.proofs.Sequences.{IsSure, OnceByOutcome, sequence_sure, sequence_once, by_rule_sure, by_rule_once, adds_sure, adds_once}
 
@@ -22,7 +23,7 @@ use Rattle.ficus_world.proofs.Sequences.{IsSure, OnceByOutcome, sequence_sure, s
 pub look_answer_once : (volume : Volume) (H : List Event) (r : ℕ) (look : Look)
     → Once (LookAnswer (history_view volume H r) look)
 look_answer_once volume H r look =
-    then_once (look_once (history_view volume H r) (history_kinds volume H r) look)
+    then_once (look_once (history_view volume H r) (history_sound volume H r) look)
     (λ told. gives_once (answer_of told))
 
 module _ (good : ModelWorld → Type 0) (refusal : Refusal) where
@@ -44,7 +45,7 @@ does_once : (volume : Volume) (sort : Sort) → OnceByOutcome (Does volume sort)
 does_once volume (Changes by change) =
     sequence_once _ _ (wants_sure _ _) (wants_once _ _)
     (λ member. sequence_once _ _ (by_rule_sure _)
-    (by_rule_once _ (λ old. change_once (history_view volume old.events by) change)) (λ op. adds_once _ _))
+    (by_rule_once _ (λ old. change_once (history_view volume old.events by) (history_sound volume old.events by) change)) (λ op. adds_once _ _))
 does_once volume (Looks by look) =
     sequence_once _ _ (wants_sure _ _) (wants_once _ _)
     (λ member. by_rule_once _ (λ old. look_answer_once volume old.events by look))

@@ -54,7 +54,8 @@ module _ (old : Whole) (by to : ℕ) (was peer : Member) (waiting : Replica) (pe
   served_is = append_assoc old.events (Ask by to ∷ []) (Serve to (length old.events) ∷ [])
 
   pub pull_moves : (next : Replica)
-      → AcceptGives waiting to waiting.saved.generation peer.replica.saved.entries (Ok next)
+      → AcceptGives waiting to waiting.saved.generation peer.replica.saved.entries peer.replica.saved.files
+      (Ok next)
       → MovesBySort (Pulls by to) old (Ok Done) (world_with old by next (with_accepted old by to))
   pull_moves next gives =
       subst (λ new. MovesBySort (Pulls by to) old (Ok Done) new)
@@ -70,7 +71,8 @@ module _ (old : Whole) (by to : ℕ) (was peer : Member) (waiting : Replica) (pe
           ap₂ (λ (front : List Event) (n : ℕ). front ++ Accept by n ∷ []) served_is (length_push old.events (Ask by to))
 
   pub pull_refused : (refusal : Refusal) → refusal ≢ Memory
-      → AcceptGives waiting to waiting.saved.generation peer.replica.saved.entries (Err refusal)
+      → AcceptGives waiting to waiting.saved.generation peer.replica.saved.entries peer.replica.saved.files
+      (Err refusal)
       → MovesBySort (Pulls by to) old (Err refusal) (world_with old by waiting (with_served old by to))
   pull_refused refusal no_memory gives =
       subst (λ events. MovesBySort (Pulls by to) old (Err refusal) (world_with old by waiting events)) served_is

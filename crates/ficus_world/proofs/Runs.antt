@@ -27,7 +27,7 @@ use Rattle.ficus_world.specs.Sequence.Sequence.{Ends, Goes}
 use Rattle.ficus_world.specs.Sequence.ByRule.{Says}
 use Rattle.ficus_world.specs.Sort.{Sort, Changes, Looks, Pulls, sort_of}
 use Rattle.ficus_world.specs.Start.{default_volume, restarts}
-use Rattle.ficus_replica.proofs.Changes.{change_may}
+use Rattle.ficus_replica.proofs.Changing.{change_may}
 
 module _ (volume : Volume) where
   -- where an event may come, the history with it is lawful
@@ -44,7 +44,7 @@ module _ (volume : Volume) where
   does_lawful (Changes by change) W result left lawful (Ends (Says none)) = lawful
   does_lawful (Changes by change) W result left lawful (Goes (Says member) (Ends (Says refused))) = lawful
   does_lawful (Changes by change) W result left lawful (Goes (Says member) (Goes {a = op} (Says decided) Added)) =
-      let may = change_may volume W.events by change op decided in
+      let may = change_may volume W.events by lawful change op decided in
       lawful_more volume W.events (Update by op) lawful
       (record { member = member.0; left = may.left; bytes = may.bytes; allowed = may.allowed })
   does_lawful (Looks by look) W result left lawful (Ends (Says none)) = lawful

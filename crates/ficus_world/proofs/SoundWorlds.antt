@@ -9,6 +9,7 @@ use Rattle.ficus_codec.specs.declared.saved.Saved.{Saved}
 use Rattle.ficus_replica.specs.declared.replica.Next.{Next}
 use Rattle.ficus_replica.specs.declared.replica.Replica.{Replica}
 use Rattle.ficus_entry.specs.declared.entry.Entry.{Entry}
+use Rattle.ficus_file.specs.declared.file.FileReplica.{FileReplica}
 use Rattle.ficus_replica.specs.Accept.{Accepted}
 use Rattle.ficus_replica.specs.Ask.{AskGives}
 use Rattle.ficus_world.specs.declared.member.Member.{Member}
@@ -72,9 +73,10 @@ asked_sound sound asks fits = record {
   generation = omega (arith, ap (λ (x : Replica). x.saved.generation) asks, sound.generation);
 }
 
-pub accepted_sound : {count events r from number : ℕ} {entries : List Entry} {old new : Replica}
-    → IsSound count events r old → Accepted old from number entries new → FitsImage new.saved
-    → IsSound count (events + 1) r new
+pub accepted_sound : {count events r from number : ℕ} {entries : List Entry} {files : List FileReplica}
+    {old new : Replica} →
+    IsSound count events r old → Accepted old from number entries files new → FitsImage new.saved →
+    IsSound count (events + 1) r new
 accepted_sound sound accepted fits =
     let is = accepted.replica in
     record {

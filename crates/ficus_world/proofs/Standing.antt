@@ -59,6 +59,7 @@ module _ (volume : Volume) (W : ModelWorld) (old : Whole) (stands : WorldStandsF
         → WorldStandsFor volume ((happened W event).after)
         (record { members = members; events = old.events ++ stored ∷ [] })
     next_stands members count each = record {
+      count = stands.count;
       members = count ∙ stands.members;
       standings = stands.standings;
       lawful = lawful_more volume W.events event stands.lawful may;

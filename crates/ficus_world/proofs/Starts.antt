@@ -84,9 +84,10 @@ restarts_raised [] = refl
 restarts_raised (r ∷ members) = ap (λ (rest : List Event). Restart r ∷ rest) (restarts_raised members)
 
 -- a fresh world stands for the one that has the restarts alone
-pub fresh_world_stands : (count : ℕ) (world : Whole) → world.events ≡ restarts count
+pub fresh_world_stands : (count : ℕ) (world : Whole) → IsCount count → world.events ≡ restarts count
     → AreFresh (default_volume count) count world.members → WorldStandsFor (default_volume count) (start count) world
-fresh_world_stands count world events fresh = record {
+fresh_world_stands count world counted events fresh = record {
+  count = counted;
   members = fresh.counted;
   standings = length-replicate count _;
   lawful = start_lawful count;

@@ -77,5 +77,5 @@ abbrev pub Serves : ℕ → ℕ → ModelAction ℕ
 Serves to ask = Adds next_position (Serve to ask)
 
 -- what was served at this position is taken, where it answers the open ask
-abbrev pub Takes : Volume → ℕ → ℕ → ModelAction Answer
-Takes volume by serve = AddsWhereMayCome volume (λ W. Done) (Accept by serve) Stale
+abbrev pub TakesAnswer : Volume → ℕ → ℕ → ModelAction Answer
+TakesAnswer volume by serve = AddsWhereMayCome volume (λ W. Done) (Accept by serve) Stale

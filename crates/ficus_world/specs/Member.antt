@@ -5,7 +5,7 @@ use Rattle.ficus_replica.specs.declared.replica.Next.{Next}
 use Rattle.ficus_replica.specs.declared.replica.Replica.{Replica}
 use Rattle.ficus_replica.specs.Change.{ChangeGives}
 use Rattle.ficus_rules.specs.Rule.{UnlessMemory}
-use Rattle.ficus_replica.specs.View.{tables_view}
+use Rattle.ficus_answers.specs.View.{tables_view}
 use Rattle.ficus_script.specs.declared.answer.Answer.{Answer}
 use Rattle.ficus_world.specs.Sort.{Sort, Changes, Looks, Pulls, LookAnswer}
 
@@ -30,5 +30,5 @@ GivesChange replica (Pulls by to) next = ⊥
 -- what a look is answered
 abbrev pub GivesLook : Replica → Sort → Result Answer Refusal → Type 0
 GivesLook replica (Changes by change) answer = ⊥
-GivesLook replica (Looks by look) answer = UnlessMemory (LookAnswer (tables_view replica) look) answer
+GivesLook replica (Looks by look) answer = UnlessMemory (LookAnswer (tables_view replica.saved) look) answer
 GivesLook replica (Pulls by to) answer = ⊥

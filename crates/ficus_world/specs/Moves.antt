@@ -8,13 +8,14 @@ use Rattle.ficus_model.specs.declared.event.Event.{Event}
 use Rattle.ficus_model.specs.declared.event.Event.TheVariants.{Update, Ask, Serve, Accept}
 use Rattle.ficus_model.specs.declared.event.Op.{Op}
 use Rattle.ficus_entry.specs.declared.entry.Entry.{Entry}
+use Rattle.ficus_file.specs.declared.file.FileReplica.{FileReplica}
 use Rattle.ficus_replica.specs.declared.replica.Replica.{Replica}
 use Rattle.ficus_replica.specs.Accept.{AcceptGives}
 use Rattle.ficus_replica.specs.Ask.{AskGives}
 use Rattle.ficus_rules.specs.Change.{Change, ChangeRule}
 use Rattle.ficus_replica.specs.Effect.{Applied}
 use Rattle.ficus_rules.specs.Look.{Look}
-use Rattle.ficus_replica.specs.View.{tables_view}
+use Rattle.ficus_answers.specs.View.{tables_view}
 use Rattle.ficus_script.specs.declared.command.Command.{Command}
 use Rattle.ficus_script.specs.declared.answer.Answer.{Answer}
 use Rattle.ficus_script.specs.declared.answer.Answer.TheVariants.{Done}
@@ -45,7 +46,7 @@ pub data FindsMember (by : ℕ) (old : Whole) : Result Member Refusal → Whole 
 
 -- the change is the operation that its rule gives, by what the member holds
 abbrev pub TablesDecide : Member → Change → WholeAction Op
-TablesDecide member change = ByRule itself (λ world. ChangeRule (tables_view member.replica) change)
+TablesDecide member change = ByRule itself (λ world. ChangeRule (tables_view member.replica.saved) change)
 
 -- the number of the member's next update
 abbrev pub next_number_of : ℕ → Member → Id
@@ -59,7 +60,7 @@ pub data KeepsUpdate (by : ℕ) (was : Member) (op : Op) (old : Whole) :
 
 -- the look is answered as its rule says, by what the member holds
 abbrev pub TablesShow : Member → Look → WholeAction Answer
-TablesShow member look = ByRule itself (λ world. LookAnswer (tables_view member.replica) look)
+TablesShow member look = ByRule itself (λ world. LookAnswer (tables_view member.replica.saved) look)
 
 -- two different members
 pub record ArePeers (members r s : ℕ) : Type 0 where
@@ -77,6 +78,7 @@ pub record Served : Type 0 where
   pub position : ℕ
   pub number : ℕ
   pub entries : List Entry
+  pub files : List FileReplica
 
 -- one of two different members asks the other
 pub data KeepsAsk (by to : ℕ) (old : Whole) : Result Sent Refusal → Whole → Type 0 where
@@ -90,16 +92,21 @@ pub data KeepsAsk (by to : ℕ) (old : Whole) : Result Sent Refusal → Whole �
 pub data HandsOver (to : ℕ) (ask : Sent) (old : Whole) : Result Served Refusal → Whole → Type 0 where
   Hands : {peer : Member} → IsNumbered old.members to peer
       → HandsOver to ask old
-      (Ok (record { position = length old.events; number = ask.number; entries = peer.replica.saved.entries }))
+      (Ok (record {
+        position = length old.events;
+        number = ask.number;
+        entries = peer.replica.saved.entries;
+        files = peer.replica.saved.files;
+      }))
       (record old { events = old.events ++ Serve to ask.position ∷ [] })
 
 -- the member takes what was served, or refuses it
 pub data TakesServed (by to : ℕ) (served : Served) (old : Whole) : Result Answer Refusal → Whole → Type 0 where
   Accepts : {was : Member} {new : Replica} → IsNumbered old.members by was
-      → AcceptGives was.replica to served.number served.entries (Ok new)
+      → AcceptGives was.replica to served.number served.entries served.files (Ok new)
       → TakesServed by to served old (Ok Done) (advanced old by was new (Accept by served.position))
   Refuses : {was : Member} {refusal : Refusal} → IsNumbered old.members by was → refusal ≢ Memory
-      → AcceptGives was.replica to served.number served.entries (Err refusal)
+      → AcceptGives was.replica to served.number served.entries served.files (Err refusal)
       → TakesServed by to served old (Err refusal) old
 
 -- what commands of each sort do to a world, action by action

@@ -4,7 +4,7 @@ use Rattle.ficus_ids.specs.declared.refusal.Refusal.{Refusal}
 use Rattle.ficus_model.specs.Lawful.{Volume}
 use Rattle.ficus_script.specs.declared.command.Command.{Command}
 use Rattle.ficus_script.specs.declared.answer.Answer.{Answer}
-use Rattle.ficus_world.specs.Actions.{ModelAction, after, AtMember, Decides, Updates, Sees, Asks, Serves, Takes}
+use Rattle.ficus_world.specs.Actions.{ModelAction, after, AtMember, Decides, Updates, Sees, Asks, Serves, TakesAnswer}
 use Rattle.ficus_world.specs.ModelWorld.{ModelWorld, Outcome}
 use Rattle.ficus_world.specs.Sequence.{Sequence}
 use Rattle.ficus_world.specs.Sort.{Sort, Changes, Looks, Pulls, sort_of, answer_as}
@@ -15,7 +15,7 @@ Does volume (Changes by change) =
     Sequence after (AtMember volume by) (λ member. Sequence after (Decides volume by change) (Updates by))
 Does volume (Looks by look) = Sequence after (AtMember volume by) (λ member. Sees volume by look)
 Does volume (Pulls by to) =
-    Sequence after (Asks volume by to) (λ ask. Sequence after (Serves to ask) (Takes volume by))
+    Sequence after (Asks volume by to) (λ ask. Sequence after (Serves to ask) (TakesAnswer volume by))
 
 -- one command: what the outside does, its answer, and the world after it
 pub record Step (volume : Volume) (old : ModelWorld) (command : Command) (outcome : Outcome) (answer : Answer)

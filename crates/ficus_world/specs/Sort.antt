@@ -5,8 +5,8 @@ use Rattle.ficus_ids.specs.declared.kind.Kind.TheVariants.{Dir}
 use Rattle.ficus_ids.specs.declared.refusal.Refusal.{Refusal}
 use Rattle.ficus_model.specs.declared.event.Op.{Op}
 use Rattle.ficus_model.specs.declared.event.Op.TheVariants as op
-use Rattle.ficus_rules.specs.Change.{Change, Make}
-use Rattle.ficus_rules.specs.Look.{Look, List, Tree, LookRule}
+use Rattle.ficus_rules.specs.Change.{Change, Make, Write, Settle, Resolve}
+use Rattle.ficus_rules.specs.Look.{Look, List, Tree, Read, Versions, LookRule}
 use Rattle.ficus_rules.specs.Rule.{Then, Gives}
 use Rattle.ficus_rules.specs.Told.{Told}
 use Rattle.ficus_rules.specs.Told as told
@@ -25,7 +25,13 @@ pub data Sort : Type 0 where
 -- what each command asks for
 abbrev pub sort_of : Command → Sort
 sort_of (command.MkDir by path) = Changes by (Make path Dir)
+sort_of (command.Create by path kind) = Changes by (Make path kind)
+sort_of (command.Write by path text) = Changes by (Write path text)
+sort_of (command.Settle by path text) = Changes by (Settle path text)
+sort_of (command.Resolve by path) = Changes by (Resolve path)
 sort_of (command.Ls by path) = Looks by (List path)
+sort_of (command.Read by path) = Looks by (Read path)
+sort_of (command.Versions by path) = Looks by (Versions path)
 sort_of (command.Tree by) = Looks by Tree
 sort_of (command.Pull by to) = Pulls by to
 
@@ -45,6 +51,8 @@ answer_to number (op.Discard file) = answer.Done
 abbrev pub answer_of : Told → Answer
 answer_of (told.Names lines) = answer.Names lines
 answer_of (told.Tree lines) = answer.Tree lines
+answer_of (told.Text bytes) = answer.Text bytes
+answer_of (told.Versions members list) = answer.Versions members list
 
 -- what a look at what is shown is answered, or why it is refused
 abbrev pub LookAnswer : View → Look → Result Answer Refusal → Type 0

@@ -55,8 +55,9 @@ abbrev pub MemberStandsFor : Volume → List Event → ℕ → Member → Standi
 MemberStandsFor volume H r member Up = StandsFor volume H r member.replica
 
 -- The world stands for one of the model: what happened there is lawful, and ends with the stored events; there are as
--- many members, and each stands as the model says.
+-- many members, 2 to 8, and each stands as the model says.
 pub record WorldStandsFor (volume : Volume) (W : ModelWorld) (world : Whole) : Type 0 where
+  pub count : IsCount volume.members
   pub members : length world.members ≡ volume.members
   pub standings : length W.standings ≡ volume.members
   pub lawful : IsLawful volume W.events

@@ -20,7 +20,7 @@ impl Member {
     ghost use Rattle.ficus_world.specs.Sort.{sort_of};
 
     /// What the change makes of the replica for which the command asks.
-    pub(crate) fn change(&self, by: u8, command: &Command) -> Result<Next, Refusal>
+    pub(crate) fn change(&self, alloc: Global, by: u8, command: &Command) -> Result<Next, Refusal>
         requires command { IsCommand command.now }
         requires change { IsChangeBy by (sort_of command.now) }
         requires fits { FitsImage self.now.replica.saved }
@@ -29,7 +29,11 @@ impl Member {
         ensures fits { IfOk result (λ next. FitsImage next.replica.saved) }
     {
         match command {
-            Command::MkDir { path, .. } => self.replica.make(path, Kind::Dir),
+            Command::MkDir { path, .. } => self.replica.make(alloc, path, Kind::Dir),
+            Command::Create { path, kind, .. } => self.replica.make(alloc, path, *kind),
+            Command::Write { path, text, .. } => self.replica.write(alloc, path, text.items()),
+            Command::Settle { path, text, .. } => self.replica.settle(alloc, path, text.items()),
+            Command::Resolve { path, .. } => self.replica.resolve(alloc, path),
             _ => unreachable!(),
         }
     }
@@ -37,6 +41,7 @@ impl Member {
     /// The answer to the look for which the command asks.
     pub(crate) fn look(&self, alloc: Global, by: u8, command: &Command) -> Result<Answer, Refusal>
         requires look { IsLookBy by (sort_of command.now) }
+        requires fits { FitsImage self.now.replica.saved }
         ensures gives { GivesLook self.now.replica (sort_of command.now) result }
     {
         match command {
@@ -47,6 +52,18 @@ impl Member {
             Command::Tree { .. } => {
                 let lines = self.replica.tree(alloc)?;
                 Ok(Answer::Tree(Listed::of(lines)))
+            }
+            Command::Read { path, .. } => {
+                let bytes = self.replica.read(alloc, path)?;
+                Ok(Answer::Text(Listed::of(bytes)))
+            }
+            Command::Versions { path, .. } => {
+                let list = self.replica.versions(alloc, path)?;
+                let members = self.replica.saved.members;
+                Ok(Answer::Versions {
+                    members,
+                    list: Listed::of(list),
+                })
             }
             _ => unreachable!(),
         }

@@ -47,14 +47,21 @@ impl World {
         ensures memory { IsErrOf result OutOfMemory → self.new ≡ self.old }
     {
         match command {
-            Command::MkDir { by, .. } => self.change(*by, command),
-            Command::Ls { by, .. } | Command::Tree { by } => self.look(alloc, *by, command),
+            Command::MkDir { by, .. }
+            | Command::Create { by, .. }
+            | Command::Write { by, .. }
+            | Command::Settle { by, .. }
+            | Command::Resolve { by, .. } => self.change(alloc, *by, command),
+            Command::Ls { by, .. }
+            | Command::Tree { by }
+            | Command::Read { by, .. }
+            | Command::Versions { by, .. } => self.look(alloc, *by, command),
             Command::Pull { by, to } => self.pull(alloc, *by, *to),
         }
     }
 
     // All memory is taken before anything changes.
-    fn change(&mut self, by: u8, command: &Command) -> Result<Answer, Refusal>
+    fn change(&mut self, alloc: Global, by: u8, command: &Command) -> Result<Answer, Refusal>
         requires command { IsCommand command.now }
         requires change { IsChangeBy by (sort_of command.now) }
         requires room { length self.old.events < event_limit }
@@ -67,7 +74,7 @@ impl World {
         }
         let member = self.member(by);
         let number = member.replica.saved.next;
-        let next = member.change(by, command)?;
+        let next = member.change(alloc, by, command)?;
         self.history.reserve(1)?;
         let answer = answer(
             Id {
@@ -110,8 +117,14 @@ impl World {
         }
         self.history.reserve(3)?;
         let asked = self.member(by).replica.ask(to)?;
-        let served = &self.member(to).replica.saved.entries;
-        let accepted = match asked.accept(alloc, to, asked.saved.generation, served) {
+        let served = &self.member(to).replica.saved;
+        let accepted = match asked.accept(
+            alloc,
+            to,
+            asked.saved.generation,
+            &served.entries,
+            &served.files,
+        ) {
             Ok(accepted) => accepted,
             Err(Refusal::Memory) => return Err(Refusal::Memory),
             Err(refusal) => {

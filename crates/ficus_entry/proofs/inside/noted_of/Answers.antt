@@ -4,41 +4,50 @@ use Rattle.std.proofs.lemmas.Bool.{false≢true}
 use Rattle.std.proofs.lemmas.Grind.{common_steps}
 use Rattle.std.proofs.lemmas.List.Elements.{Contains-append_left, Contains-push, Contains-push_cases}
 use Rattle.ficus_entry.specs.Inside.{LiesInside}
-use Rattle.ficus_entry.proofs.Within.{one_within}
+use Rattle.ficus_index.specs.PlaceLaws.{one_within}
 use Rattle.ficus_entry.proofs.inside.noted_of.Goals as goal
 use Rattle.ficus_entry.proofs.inside.noted_of.Goals.{then-lies_inside+in_ok-push, else-lies_inside}
 
-pub loop-index-preserved : goal.loop-index-preserved
-loop-index-preserved c =
-    let links = c.args.links.now in
+pub loop-position-preserved : goal.loop-position-preserved
+loop-position-preserved c =
+    let links = c.args.index.now in
     let start = c.args.span.start in
-    let n = c.loop-index.index in
-    let link = c.at.result.now in
-    let ids = c.loop-index.ids.items in
+    let n = c.loop-position.position in
+    let here = c.id_at-id.result in
+    let ids = c.loop-position.ids.items in
     elim c.if-lies_inside.branch [
       | then-lies_inside+in_ok-push w ↦
-          let pushed : c.if-lies_inside.ids.items ≡ ids ++ link.id ∷ [] = grind (arith, common_steps) in
+          let pushed : c.if-lies_inside.ids.items ≡ ids ++ here ∷ [] = grind (arith, common_steps) in
           rw pushed (record {
-            sound = λ id inside. elim (Contains-push_cases ids link.id id inside) [
-              | inl old ↦ c.loop-index.invariant.sound id old
+            sound = λ id inside. elim (Contains-push_cases ids here id inside) [
+              | inl old ↦ c.loop-position.invariant.sound id old
               | inr is ↦ subst (LiesInside c.args.entries.now c.args.dir) is (w.if-lies_inside.ensures.0 refl)
             ];
-            complete = λ id lies linked. elim (one_within links start n link id c.at.ensures linked) [
-              | inl earlier ↦ Contains-append_left ids (link.id ∷ []) id (c.loop-index.invariant.complete id lies earlier)
-              | inr same ↦ subst (Contains (ids ++ link.id ∷ [])) (sym same) (Contains-push ids link.id)
+            complete = λ id lies linked. elim (one_within links start n here id c.id_at-id.ensures linked) [
+              | inl earlier ↦ Contains-append_left ids (here ∷ []) id
+                  (c.loop-position.invariant.complete id lies earlier)
+              | inr same ↦ subst (Contains (ids ++ here ∷ [])) (sym same) (Contains-push ids here)
             ];
           })
       | else-lies_inside w ↦
           let same : c.if-lies_inside.ids.items ≡ ids = grind (arith, common_steps) in
           rw same (record {
-            sound = c.loop-index.invariant.sound;
-            complete = λ id lies linked. elim (one_within links start n link id c.at.ensures linked) [
-              | inl earlier ↦ c.loop-index.invariant.complete id lies earlier
-              | inr is ↦ absurd (false≢true (w.if-lies_inside.ensures.1 (subst (LiesInside c.args.entries.now c.args.dir) is lies)))
+            sound = c.loop-position.invariant.sound;
+            complete = λ id lies linked. elim (one_within links start n here id c.id_at-id.ensures linked) [
+              | inl earlier ↦ c.loop-position.invariant.complete id lies earlier
+              | inr is ↦ absurd (false≢true
+                  (w.if-lies_inside.ensures.1 (subst (LiesInside c.args.entries.now c.args.dir) is lies)))
             ];
           })
     ]
 
 pub returns-clause-complete : goal.returns-clause-complete
 returns-clause-complete c = λ id lies linked.
-    c.loop-index.invariant.complete id lies (record { index = linked.index; from = linked.from; to = omega (arith, linked.to, c.loop-index-test.false); at = linked.at })
+    c.loop-position.invariant.complete id lies
+    (record {
+      position = linked.position;
+      from = linked.from;
+      to =
+          omega (arith, linked.to, c.loop-position-test.false);
+      at = linked.at;
+    })

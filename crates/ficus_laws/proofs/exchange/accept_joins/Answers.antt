@@ -17,7 +17,9 @@ returns-clause-known c = λ H replica served server position by_server below. (
 )
 
 pub returns-clause-live : goal.returns-clause-live
-returns-clause-live c = λ H replica served server entry by_server. (accept_live H replica served server by_server, live_accept H replica served server by_server)
+returns-clause-live c = λ H replica served server entry by_server.
+    (accept_live H replica served server by_server, live_accept H replica served server by_server)
 
 pub returns-clause-made : goal.returns-clause-made
-returns-clause-made c = λ H replica served server object kind by_server. (accept_made H replica served server by_server, made_accept H replica served server by_server)
+returns-clause-made c = λ H replica served server object kind by_server.
+    (accept_made H replica served server by_server, made_accept H replica served server by_server)

@@ -16,8 +16,10 @@ loop-id-preserved c =
     elim c.match-live_in.branch [
       | in-Some+in_ok-copy+in_ok-push w ↦
           let entry = w.in-Some.entry.now in
-          let pushed : c.match-live_in.bindings.items ≡ c.loop-id.bindings.items ++ record { name = entry.name; target = entry.target } ∷ [] = grind (arith, common_steps) in
-          rw (pushed, more) (among_push c.args.entries.now c.args.dir c.loop-id.bindings.items (take n ids) id c.loop-id.invariant entry c.live_in.ensures.rising w.in-Some.ensures.some)
+          let pushed : c.match-live_in.bindings.items ≡ c.loop-id.bindings.items ++
+          record { name = entry.name; target = entry.target } ∷ [] = grind (arith, common_steps) in
+          rw (pushed, more) (among_push c.args.entries.now c.args.dir c.loop-id.bindings.items
+          (take n ids) id c.loop-id.invariant entry c.live_in.ensures.rising w.in-Some.ensures.some)
       | in_default w ↦
           let same : c.match-live_in.bindings.items ≡ c.loop-id.bindings.items = grind (arith, common_steps) in
           rw (same, more) (among_stay c.args.entries.now c.args.dir c.loop-id.bindings.items (take n ids) id c.loop-id.invariant w.in_default.ensures.none)
@@ -27,4 +29,5 @@ pub returns : goal.returns
 returns c =
     let ids = c.deref-id-items.result.now in
     let whole : take c.loop-id.id-index ids ≡ ids = grind (arith, common_steps) in
-    among_all c.args.entries.now c.args.dir c.loop-id.bindings.items ids (rw c.deref-id-items.ensures.value c.in_ok-ids.ensures.live) (rw whole at c.loop-id.invariant)
+    among_all c.args.entries.now c.args.dir c.loop-id.bindings.items ids
+    (rw c.deref-id-items.ensures.value c.in_ok-ids.ensures.live) (rw whole at c.loop-id.invariant)

@@ -13,8 +13,11 @@ loop-index-preserved c =
     let binding = c.index-bindings-index.result in
     let item : ShownName = record { name = binding.name; target = binding.target; suffixed = c.is_shared.result } in
     let pushed : c.push.new.self.items ≡ c.loop-index.names.items ++ item ∷ [] = grind (arith, common_steps) in
-    let at : slice_get c.args.bindings.now c.loop-index.index ≡ Some binding = slice_get_read c.args.bindings.now _ c.loop-index.index binding refl (omega arith) c.index-bindings-index.is in
-    let several = MatchOption-at_some ⊤ (λ b. IsTrue c.is_shared.result ↔ HasOther (Binds c.args.bindings.now) b.name b.target) binding at c.is_shared.ensures in
+    let at : slice_get c.args.bindings.now c.loop-index.index ≡ Some binding =
+    slice_get_read c.args.bindings.now _ c.loop-index.index binding refl (omega arith) c.index-bindings-index.is in
+    let several = MatchOption-at_some ⊤
+    (λ b. IsTrue c.is_shared.result ↔ HasOther (Binds c.args.bindings.now) b.name b.target)
+    binding at c.is_shared.ensures in
     rw pushed (listed_more c.args.bindings.now c.loop-index.index c.loop-index.names.items item at several c.loop-index.invariant)
 
 pub returns : goal.returns

@@ -9,8 +9,13 @@ use Rattle.ficus_names.proofs.listing.shown.Goals as goal
 
 pub returns : goal.returns
 returns c =
-    let bound : (name : List ℕ) (target : Id) → Binds c.sorted-bindings.result.items name target ↔ BindsIn c.args.entries.now c.args.dir name target = λ name target. (
-      λ kept. (c.in_ok-bindings_in.ensures name target).0 ((c.sorted-bindings.ensures.same (record { name = name; target = target })).0 kept),
-      λ is. (c.sorted-bindings.ensures.same (record { name = name; target = target })).1 ((c.in_ok-bindings_in.ensures name target).1 is),
+    let bound : (name : List ℕ) (target : Id) → Binds c.sorted-bindings.result.items name target ↔
+    BindsIn c.args.entries.now c.args.dir name target = λ name target. (
+      λ kept. (c.in_ok-bindings_in.ensures name target).0
+          ((c.sorted-bindings.ensures.same (record { name = name; target = target })).0 kept),
+      λ is. (c.sorted-bindings.ensures.same (record { name = name; target = target })).1
+          ((c.in_ok-bindings_in.ensures name target).1 is),
     ) in
-    IfOk-weaker c.listed.result (λ names. IsListing (Binds c.deref.result.now) names.items) (λ names. IsListing (BindsIn c.args.entries.now c.args.dir) names.items) (λ names listing. IsListing-along (rw c.deref.ensures.value bound) listing) c.listed.ensures
+    IfOk-weaker c.listed.result (λ names. IsListing (Binds c.deref.result.now) names.items)
+    (λ names. IsListing (BindsIn c.args.entries.now c.args.dir) names.items)
+    (λ names listing. IsListing-along (rw c.deref.ensures.value bound) listing) c.listed.ensures

@@ -26,8 +26,15 @@ returns-in_err-read_number-2-clause-none c = rw c.from_residual-in_err-read_numb
 
 pub returns-clause-none : goal.returns-clause-none
 returns-clause-none c =
-    IfNone-weaker c.issued.result _ _ (λ (none : (id : Id) → IsIssued id → id.replica ≡ c.in_ok-read_number.field-0 → id.number ≡ c.in_ok-read_number-2.field-0 → ⊥) id issued e.
-    let cut = id_text_cut _ _ id issued c.cut_before.ensures.front c.cut_before.ensures.rest (sym c.cut_before.ensures.whole ∙ e) in
-    let replica : decimal id.replica ≡ decimal c.in_ok-read_number.field-0 = sym cut.0 ∙ c.in_ok-read_number.ensures.found in
-    let number : decimal id.number ≡ decimal c.in_ok-read_number-2.field-0 = cc (c.in_ok-number.ensures.cases.0, cut.1, c.in_ok-read_number-2.ensures.found) in
-    none id issued (decimal_injective _ _ (omega (arith, issued.to_last)) (omega arith) replica) (decimal_injective _ _ (omega (arith, issued.fits)) (omega arith) number)) c.issued.ensures.none
+    IfNone-weaker c.issued.result _ _
+    (λ (none : (id : Id) → IsIssued id → id.replica ≡ c.in_ok-read_number.field-0 →
+    id.number ≡ c.in_ok-read_number-2.field-0 → ⊥) id issued e.
+    let cut = id_text_cut _ _ id issued c.cut_before.ensures.front c.cut_before.ensures.rest
+    (sym c.cut_before.ensures.whole ∙ e) in
+    let replica : decimal id.replica ≡ decimal c.in_ok-read_number.field-0 =
+    sym cut.0 ∙ c.in_ok-read_number.ensures.found in
+    let number : decimal id.number ≡ decimal c.in_ok-read_number-2.field-0 =
+    cc (c.in_ok-number.ensures.cases.0, cut.1, c.in_ok-read_number-2.ensures.found) in
+    none id issued (decimal_injective _ _ (omega (arith, issued.to_last)) (omega arith) replica)
+    (decimal_injective _ _ (omega (arith, issued.fits)) (omega arith) number))
+    c.issued.ensures.none

@@ -17,4 +17,7 @@ returns-in_default-read_component-clause-not_path c = λ fault parts fits all e.
 
 pub loop-rest-preserved : goal.loop-rest-preserved
 loop-rest-preserved c =
-    rw c.in_ok-push.ensures.items (IsReadTo-more c.args.text.now _ _ c.loop-rest.parts.items c.loop-rest.rest.now c.in-Some.part c.loop-rest.invariant c.in-len1-up.len_at_least (search rules) c.cut_before.ensures.whole c.cut_before.ensures.rest c.in-Some.ensures.part c.in-Some.ensures.found)
+    rw c.in_ok-push.ensures.items
+    (IsReadTo-more c.args.text.now _ _ c.loop-rest.parts.items c.loop-rest.rest.now c.in-Some.part
+    c.loop-rest.invariant c.in-len1-up.len_at_least (search rules) c.cut_before.ensures.whole
+    c.cut_before.ensures.rest c.in-Some.ensures.part c.in-Some.ensures.found)

@@ -12,11 +12,15 @@ loop-index-preserved c =
     let at = rw c.in_ok-in_order.ensures at c.at-entry.ensures in
     elim c.if-is_live.branch [
       | then-is_live+in_ok-push w ↦
-          let pushed : c.if-is_live.links.items ≡ c.loop-index.links.items ++ record { dir = c.at-entry.result.now.dir; target = c.at-entry.result.now.target } ∷ [] = grind (arith, common_steps) in
-          rw pushed (links_push c.args.entries.now c.loop-index.index c.at-entry.result.now at c.loop-index.links.items (w.if-is_live.ensures.0 refl) c.loop-index.invariant)
+          let pushed : c.if-is_live.links.items ≡ c.loop-index.links.items ++
+          record { dir = c.at-entry.result.now.dir; target = c.at-entry.result.now.target } ∷ [] =
+          grind (arith, common_steps) in
+          rw pushed (links_push c.args.entries.now c.loop-index.index c.at-entry.result.now at c.loop-index.links.items
+          (w.if-is_live.ensures.0 refl) c.loop-index.invariant)
       | else-is_live w ↦
           let same : c.if-is_live.links.items ≡ c.loop-index.links.items = grind (arith, common_steps) in
-          rw same (links_stay c.args.entries.now c.loop-index.index c.at-entry.result.now at c.loop-index.links.items (λ live. false≢true (w.if-is_live.ensures.1 live)) c.loop-index.invariant)
+          rw same (links_stay c.args.entries.now c.loop-index.index c.at-entry.result.now at c.loop-index.links.items
+          (λ live. false≢true (w.if-is_live.ensures.1 live)) c.loop-index.invariant)
     ]
 
 pub returns-clause-links : goal.returns-clause-links

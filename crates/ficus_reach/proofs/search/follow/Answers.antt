@@ -18,7 +18,10 @@ loop-next-preserved c =
     let within : c.loop-next.next < length order = grind (arith, common_steps) in
     let dir = c.index-dir.result.now in
     let here : dir ≡ get_or order c.loop-next.next dir = c.index-dir.ensures in
-    following_more c.args.links.now c.links_from.result.now c.args.found.now.order.items c.loop-next.found.set c.add_targets.new.self.set order c.add_targets.new.self.order.items c.loop-next.next dir within here c.links_from.ensures c.in_ok-add_targets.ensures.gains c.in_ok-add_targets.ensures.tracked c.loop-next.invariant
+    following_more c.args.links.now c.links_from.result.now c.args.found.now.order.items c.loop-next.found.set
+    c.add_targets.new.self.set order c.add_targets.new.self.order.items c.loop-next.next dir within here
+    c.links_from.ensures c.in_ok-add_targets.ensures.gains c.in_ok-add_targets.ensures.tracked
+    c.loop-next.invariant
 
 pub returns-clause-reached : goal.returns-clause-reached
 returns-clause-reached c =

@@ -1,6 +1,7 @@
 use Rattle.ficus_rules.specs.View.{history_view}
 use Rattle.ficus_rules.proofs.Changes.{change_once}
+use Rattle.ficus_rules.proofs.Sound.{history_sound}
 use Rattle.ficus_rules.proofs.laws.one_change.Goals as goal
 
 pub returns : goal.returns
-returns c = λ volume H replica change. change_once (history_view volume H replica) change
+returns c = λ volume H replica change. change_once (history_view volume H replica) (history_sound volume H replica) change

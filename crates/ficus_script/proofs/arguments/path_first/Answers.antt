@@ -1,5 +1,5 @@
 use Rattle.std.proofs.lemmas.Result.{err_from_is_err_and}
-use Rattle.ficus_script.proofs.ArgumentLaws.{no_path, path_alone}
+use Rattle.ficus_script.proofs.ArgumentLaws.{no_path}
 use Rattle.ficus_script.proofs.arguments.path_first.Goals as goal
 
 pub returns-in_err-path : goal.returns-in_err-path
@@ -8,4 +8,4 @@ returns-in_err-path c =
     rw (fault.1, fault.2) (no_path c.args.first.now _ _ c.requires c.in_err-path.ensures.not_path)
 
 pub returns-in-Some : goal.returns-in-Some
-returns-in-Some c = rw c.in-Some.is (path_alone c.args.first.now _ c.requires)
+returns-in-Some c = rw (c.in-Some.is, c.in_ok-path.ensures.spelling) c.path_and_last.ensures

@@ -8,5 +8,8 @@ returns-in-Some c =
     let found = c.in-Some.ensures.found in
     let entry : Entry = c.in-Some.entry.now in (
       λ is. record { entry = entry; inside = found.0; has_id = found.1; live = c.is_live.ensures.0 is },
-      λ holds. c.is_live.ensures.1 (ap (λ (e : Entry). e.state) (one_item (λ e. e.id) c.args.self.now entry holds.entry c.get.ensures.rising found.0 holds.inside (found.1 ∙ sym holds.has_id)) ∙ holds.live),
+      λ holds. c.is_live.ensures.1
+          (ap (λ (e : Entry). e.state)
+          (one_item (λ e. e.id) c.args.self.now entry holds.entry c.get.ensures.rising found.0 holds.inside
+          (found.1 ∙ sym holds.has_id)) ∙ holds.live),
     )

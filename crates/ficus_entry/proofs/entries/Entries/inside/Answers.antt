@@ -25,8 +25,13 @@ once c = dedup_is _ _ _ c.dedup.ensures.filtered ∙ ap (λ same. dedup same c.s
 pub returns-clause-entries : goal.returns-clause-entries
 returns-clause-entries c =
     let noted = c.in_ok-ids.ids.items in
-    let kept = same_items id_cmp_total id_cmp-Equal noted c.sort_unstable.new.self.items c.sort_unstable.ensures.permutation in
-    rw (once c) (λ id. (λ inside. (c.in_ok-ids.ensures id).0 ((kept id).0 inside), λ lies. (kept id).1 ((c.in_ok-ids.ensures id).1 lies)))
+    let kept = same_items id_cmp_total id_cmp-Equal noted c.sort_unstable.new.self.items
+    c.sort_unstable.ensures.permutation in
+    rw (once c) (λ id. (
+      λ inside. (c.in_ok-ids.ensures id).0 ((kept id).0 inside),
+      λ lies. (kept id).1
+          ((c.in_ok-ids.ensures id).1 lies),
+    ))
 
 pub returns-clause-rising : goal.returns-clause-rising
 unfolding id_cmp

@@ -4,7 +4,8 @@ use Rattle.std.proofs.lemmas.Result.{IfOk-weaker}
 use Rattle.ficus_entry.specs.Changes.{overlaid}
 use Rattle.ficus_entry.proofs.Killed.{later_view}
 use Rattle.ficus_entry.proofs.Later.{live_stays}
-use Rattle.ficus_entry.proofs.Within.{held_where_not_missing, linked_within, between_ranks, rank_live, digest_small}
+use Rattle.ficus_entry.proofs.Within.{held_where_not_missing, entry_within, between_ranks, rank_live}
+use Rattle.ficus_index.specs.PlaceLaws.{digest_small}
 use Rattle.ficus_entry.proofs.entries.Entries.noted_live_inside.Goals as goal
 
 pub returns-clause-live : goal.returns-clause-live
@@ -19,6 +20,8 @@ returns-clause-live c =
     let ranked = rank_live entry live in
     let small = digest_small entry.name in
     let between = between_ranks c.args.dir 0 4294967296 entry in_dir (omega arith) (omega (arith, ranked, small)) in
-    held_where_not_missing ids.items entry.id (λ missing. linked_within table.list table.links _ _ span.result.start span.result.end
+    held_where_not_missing ids.items entry.id
+    (λ missing. entry_within table.list table.index _ _ span.result.start span.result.end
     entry table.noted span.ensures old between
-    (λ within. missing (complete entry.id (record { entry = entry; inside = inside; in_dir = in_dir; has_id = refl }) within)))) c.noted_of.ensures.complete
+    (λ within. missing (complete entry.id (record { entry = entry; inside = inside; in_dir = in_dir; has_id = refl })
+    within)))) c.noted_of.ensures.complete

@@ -12,16 +12,20 @@ put-requires c =
     let changes = c.deref-change-items.result.now in
     let base = c.in_ok-table.table.list in
     let item : Changed = c.change-item.result in
-    let removals : All (IsRemoval base) changes = rw (c.in_ok-table.ensures, c.deref-change-items.ensures.value) c.self.invariant.removals in
+    let removals : All (IsRemoval base) changes =
+    rw (c.in_ok-table.ensures, c.deref-change-items.ensures.value) c.self.invariant.removals in
     let copied : c.in_ok-copy.field-0 ≡ item.entry = cc c.in_ok-copy.ensures in
-    rw (c.loop-change.invariant, copied) (found_so_far changes base c.loop-change.change-index item c.loop-change-test.true removals (sym c.change-item.is))
+    rw (c.loop-change.invariant, copied)
+    (found_so_far changes base c.loop-change.change-index item c.loop-change-test.true removals
+    (sym c.change-item.is))
 
 pub loop-change-preserved : goal.loop-change-preserved
 loop-change-preserved c =
     let item : Changed = c.change-item.result in
     let copied : c.in_ok-copy.field-0 ≡ item.entry = cc c.in_ok-copy.ensures in
     let is : item ≡ get_or c.deref-change-items.result.now c.loop-change.change-index item = c.change-item.is in
-    let step = overlaid_step c.deref-change-items.result.now c.in_ok-table.table.list c.loop-change.change-index item c.loop-change-test.true in
+    let step = overlaid_step c.deref-change-items.result.now c.in_ok-table.table.list c.loop-change.change-index item
+    c.loop-change-test.true in
     rw (c.in_ok-table-2.ensures, step, ← is, copied, c.loop-change.invariant)
 
 pub returns-clause-same : goal.returns-clause-same
@@ -31,7 +35,9 @@ returns-clause-same c =
     rw (c.loop-change.invariant, all, c.in_ok-table.ensures, c.deref-change-items.ensures.value) c.self.view_is
 
 pub returns-in_err-table-clause-rising : goal.returns-in_err-table-clause-rising
-returns-in_err-table-clause-rising c = rw (← c.self.view_is) (rising_view c.self.inside.changed.items c.self.inside.table.list _ _ c.self.invariant)
+returns-in_err-table-clause-rising c =
+    rw (← c.self.view_is) (rising_view c.self.inside.changed.items c.self.inside.table.list _ _ c.self.invariant)
 
 pub returns-in_err-table-2-clause-rising : goal.returns-in_err-table-2-clause-rising
-returns-in_err-table-2-clause-rising c = rw (← c.self.view_is) (rising_view c.self.inside.changed.items c.self.inside.table.list _ _ c.self.invariant)
+returns-in_err-table-2-clause-rising c =
+    rw (← c.self.view_is) (rising_view c.self.inside.changed.items c.self.inside.table.list _ _ c.self.invariant)

@@ -11,6 +11,7 @@ returns-clause-adds c =
     let place = c.place-place.result in
     let whole : c.in_ok-table.table.list ≡ c.args.self.now = c.in_ok-table.ensures.same in
     IfOk-weaker c.insert.result _ _
-    (λ table is other. let all : table.list ≡ insert c.args.self.now place c.args.entry = is ∙ ap (λ (l : List Entry). insert l place c.args.entry) whole in
+    (λ table is other. let all : table.list ≡ insert c.args.self.now place c.args.entry =
+    is ∙ ap (λ (l : List Entry). insert l place c.args.entry) whole in
     rw all (Contains-insert c.args.self.now place c.args.entry other))
     c.insert.ensures

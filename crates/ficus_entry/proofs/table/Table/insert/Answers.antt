@@ -6,7 +6,9 @@ pub invariant_of-result : goal.invariant_of-result
 invariant_of-result c =
     let table = c.args.self.now in
     record {
-      rising = rw c.in_ok-list.ensures (IsRisingBy-insert (λ entry. entry.id) table.list c.args.entry c.args.index table.rising c.requires);
-      ordered = c.in_ok-links.ensures.ordered;
-      noted = rw c.in_ok-list.ensures (insert_noted table.list table.links c.in_ok-links.links c.args.index c.args.entry table.noted (λ other. rw c.of.ensures at (c.in_ok-links.ensures.noted other).1));
+      rising = rw c.in_ok-list.ensures
+          (IsRisingBy-insert (λ entry. entry.id) table.list c.args.entry c.args.index table.rising c.requires);
+      noted = rw c.in_ok-list.ensures
+          (insert_noted table.list table.index c.in_ok-noted.noted c.args.index c.args.entry table.noted
+          (λ other. rw c.link.ensures at (c.in_ok-noted.ensures other).1));
     }

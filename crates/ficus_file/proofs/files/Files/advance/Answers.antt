@@ -23,7 +23,8 @@ put-requires c =
     let within : c.in-Ok.index < length c.self.inside.list = rw (length_overlaid c.self.inside.changes.items c.self.inside.list) at found.0 in
     record { room = λ free. room_for c.self.inside.changes.items c.self.inside.list _ _ c.in-Ok.index c.self.invariant within free }
 
-found_at : (c : After-put) → IsFoundAt id_of (overlaid c.self.inside.changes.items c.self.inside.list) c.args.id c.in-Ok.index
+found_at : (c : After-put) →
+    IsFoundAt id_of (overlaid c.self.inside.changes.items c.self.inside.list) c.args.id c.in-Ok.index
 found_at c = rw c.self.view_is c.in-Ok.ensures.found
 
 new_change : After-put → Change
@@ -38,7 +39,8 @@ becomes c =
     rw (c.self.view_is, at) c.advanced-file.ensures.advanced
 
 fits : (c : After-put) → IsHeldFile
-    (advanced c.args.by c.args.bytes.items (get_or (overlaid c.self.inside.changes.items c.self.inside.list) c.in-Ok.index any_file))
+    (advanced c.args.by c.args.bytes.items
+    (get_or (overlaid c.self.inside.changes.items c.self.inside.list) c.in-Ok.index any_file))
 fits c =
     let at : get_or c.args.self.now c.in-Ok.index any_file ≡ c.at.result.now = get_or_from_slice_get c.args.self.now c.in-Ok.index c.at.result.now any_file
     c.at.ensures in

@@ -19,7 +19,8 @@ cover_at-requires c =
     let within : c.in-Ok.index < length c.self.inside.list = rw (length_overlaid c.self.inside.changes.items c.self.inside.list) at found.0 in
     record { room = λ free. room_for c.self.inside.changes.items c.self.inside.list _ _ c.in-Ok.index c.self.invariant within free }
 
-found_at : (c : After-cover_at) → IsFoundAt id_of (overlaid c.self.inside.changes.items c.self.inside.list) c.args.id c.in-Ok.index
+found_at : (c : After-cover_at) →
+    IsFoundAt id_of (overlaid c.self.inside.changes.items c.self.inside.list) c.args.id c.in-Ok.index
 found_at c = rw c.self.view_is c.in-Ok.ensures.found
 
 new_change : After-cover_at → Change
@@ -37,7 +38,8 @@ becomes c =
     let within : c.in-Ok.index < length c.self.inside.list = rw (length_overlaid c.self.inside.changes.items c.self.inside.list) at found.0 in
     covered_at_is c.self.inside.changes.items c.self.inside.list c.in-Ok.index within
 
-fits : (c : After-cover_at) → IsHeldFile (covered_file (get_or (overlaid c.self.inside.changes.items c.self.inside.list) c.in-Ok.index any_file))
+fits : (c : After-cover_at) →
+    IsHeldFile (covered_file (get_or (overlaid c.self.inside.changes.items c.self.inside.list) c.in-Ok.index any_file))
 fits c = covered_held (get_or (overlaid c.self.inside.changes.items c.self.inside.list) c.in-Ok.index any_file)
     (c.self.invariant.each c.in-Ok.index any_file (found_at c).0)
 

@@ -12,9 +12,12 @@ loop-index-preserved c =
       | then-is_live+in_ok-copy+in_ok-add w ↦
           let name : w.in_ok-copy.field-0 ≡ c.at-entry.result.now.name = cc w.in_ok-copy.ensures in
           let here = rw name at w.in_ok-add.ensures.here in
-          rw w.directories-is (directories_push c.args.entries.now c.loop-index.index c.at-entry.result.now at c.loop-index.directories w.add.new.self (w.if-is_live.ensures.0 refl) here w.in_ok-add.ensures.others c.loop-index.invariant)
+          rw w.directories-is (directories_push c.args.entries.now c.loop-index.index c.at-entry.result.now at
+          c.loop-index.directories w.add.new.self (w.if-is_live.ensures.0 refl) here
+          w.in_ok-add.ensures.others c.loop-index.invariant)
       | else-is_live w ↦
-          rw w.directories-is (directories_stay c.args.entries.now c.loop-index.index c.at-entry.result.now at c.loop-index.directories (λ live. false≢true (w.if-is_live.ensures.1 live)) c.loop-index.invariant)
+          rw w.directories-is (directories_stay c.args.entries.now c.loop-index.index c.at-entry.result.now at
+          c.loop-index.directories (λ live. false≢true (w.if-is_live.ensures.1 live)) c.loop-index.invariant)
     ]
 
 pub returns : goal.returns

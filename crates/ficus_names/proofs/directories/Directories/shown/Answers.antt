@@ -12,7 +12,11 @@ use Rattle.ficus_names.proofs.directories.Directories.shown.Goals as goal
 pub returns : goal.returns
 returns c =
     let own = bindings_of c.args.self.now c.args.dir in
-    let same : (name : List ℕ) (target : Id) → Binds c.sorted-bindings.result.items name target ↔ Binds own name target = λ name target.
+    let same : (name : List ℕ) (target : Id) →
+    Binds c.sorted-bindings.result.items name target ↔ Binds own name target = λ name target.
     let binding : Binding = record { name = name; target = target } in
-    subst (λ items. Contains c.sorted-bindings.result.items binding ↔ Contains items binding) c.in_ok-bindings_in.ensures (c.sorted-bindings.ensures.same binding) in
-    IfOk-weaker c.listed.result (λ names. IsListing (Binds c.deref.result.now) names.items) (λ names. IsListing (Binds own) names.items) (λ names listing. IsListing-along (rw c.deref.ensures.value same) listing) c.listed.ensures
+    subst (λ items. Contains c.sorted-bindings.result.items binding ↔ Contains items binding)
+    c.in_ok-bindings_in.ensures (c.sorted-bindings.ensures.same binding) in
+    IfOk-weaker c.listed.result (λ names. IsListing (Binds c.deref.result.now) names.items)
+    (λ names. IsListing (Binds own) names.items)
+    (λ names listing. IsListing-along (rw c.deref.ensures.value same) listing) c.listed.ensures

@@ -3,5 +3,6 @@ use Rattle.std.proofs.lemmas.Result.{IfOk-weaker}
 use Rattle.ficus_persistent.proofs.Around.{insert_in_right}
 use Rattle.ficus_persistent.proofs.list.PersistentList.+insert.Goals as goal
 
-pub returns-in_ok-copy-in-Fork-2 : goal.returns-in_ok-copy-in-Fork-2
-returns-in_ok-copy-in-Fork-2 g t c = IfOk-weaker c.balanced-else-index-before.result _ _ (λ tree is. grind (arith, insert_in_right)) c.balanced-else-index-before.ensures
+pub returns-in_ok-right-in-Fork : goal.returns-in_ok-right-in-Fork
+returns-in_ok-right-in-Fork g t c =
+    IfOk-weaker c.with_right.result _ _ (λ tree is. grind (arith, insert_in_right)) c.with_right.ensures

@@ -1,22 +1,38 @@
-use Rattle.std.proofs.Common.{◌≡◌, ◌∷◌, ◌++◌, sym, ◌∙◌, arith}
+use Rattle.std.proofs.Common.{◌≡◌, ◌∷◌, ◌++◌, true, false, arith}
 use Rattle.ficus_persistent.proofs.Sides.{long, right_parted, cut_left, cut_right}
 use Rattle.ficus_persistent.proofs.list.PersistentList.+partition_point.Goals as goal
 
 pub partition_point-requires : goal.partition_point-requires
 partition_point-requires g t c κs within =
     let b = c.as_ref-branch.result.now in
-    let e : c.args.self.now ≡ b.left ++ b.item ∷ b.right = grind arith in
-    (grind (arith, e, long b.left b.item b.right), (within.0, (within.1, right_parted b.left b.item b.right (g.C.Cut.is_before c.args.cut.now) (rw e at c.requires))))
+    let e : c.args.self.now ≡ b.left ++ b.item ∷ b.right = grind arith in (
+      grind (arith, e, long b.left b.item b.right),
+      (
+        within.0,
+        (
+          within.1,
+          right_parted b.left b.item b.right (g.C.Cut.is_before c.args.cut.now)
+              (rw e at c.requires),
+        ),
+      ),
+    )
 
 pub returns-then-is_before-clause-point : goal.returns-then-is_before-clause-point
 returns-then-is_before-clause-point g t c =
     let b = c.as_ref-branch.result.now in
     let e : c.args.self.now ≡ b.left ++ b.item ∷ b.right = grind arith in
-    rw (e, c.len.ensures) (cut_right b.left b.item b.right (g.C.Cut.is_before c.args.cut.now) (rw e at c.requires) c.partition_point.result (sym c.is_before-in-Fork.ensures ∙ c.if-is_before.true) c.partition_point.ensures.point)
+    let passes : g.C.Cut.is_before c.args.cut.now b.item ≡ true =
+    cc (c.is_before-in-Fork.ensures, c.if-is_before.true) in
+    rw (e, c.len.ensures)
+    (cut_right b.left b.item b.right (g.C.Cut.is_before c.args.cut.now)
+    (rw e at c.requires) c.partition_point.result passes c.partition_point.ensures.point)
 
 pub returns-else-is_before-clause-point : goal.returns-else-is_before-clause-point
 returns-else-is_before-clause-point g t c =
     let b = c.as_ref-branch.result.now in
     let e : c.args.self.now ≡ b.left ++ b.item ∷ b.right = grind arith in
     let i = c.partition_point-else-is_before in
-    rw e (cut_left b.left b.item b.right (g.C.Cut.is_before c.args.cut.now) (rw e at c.requires) i.result i.ensures.within (sym c.is_before-in-Fork.ensures ∙ c.if-is_before.false) i.ensures.point)
+    let fails : g.C.Cut.is_before c.args.cut.now b.item ≡ false =
+    cc (c.is_before-in-Fork.ensures, c.if-is_before.false) in
+    rw e (cut_left b.left b.item b.right (g.C.Cut.is_before c.args.cut.now)
+    (rw e at c.requires) i.result i.ensures.within fails i.ensures.point)

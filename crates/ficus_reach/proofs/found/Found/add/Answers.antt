@@ -11,7 +11,8 @@ unfolding id_cmp
 returns-in_ok-push-clause-tracked c =
     let pushed : c.push.new.self.items ≡ c.args.self.now.order.items ++ c.args.object ∷ [] = grind (arith, common_steps) in
     let longer : btree_set_len c.insert.new.self ≡ btree_set_len c.args.self.now.set + 1 = grind (arith, common_steps) in
-    rw pushed (tracked_push c.args.self.now.set c.insert.new.self c.args.self.now.order.items c.args.object c.in_ok-insert.ensures.updates.0 c.in_ok-insert.ensures.ordered longer c.requires)
+    rw pushed (tracked_push c.args.self.now.set c.insert.new.self c.args.self.now.order.items c.args.object
+    c.in_ok-insert.ensures.updates.0 c.in_ok-insert.ensures.ordered longer c.requires)
 
 pub returns-in_ok-push-clause-gains : goal.returns-in_ok-push-clause-gains
 returns-in_ok-push-clause-gains c =

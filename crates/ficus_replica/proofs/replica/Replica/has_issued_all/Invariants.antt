@@ -1,6 +1,7 @@
 use Rattle.std.proofs.Common.{take}
-use Rattle.ficus_replica.specs.Accept.{FitsPast}
+use Rattle.std.specs.Prelude.{All}
+use Rattle.ficus_codec.specs.Saved.{IsEntryOfPast}
 use Rattle.ficus_replica.proofs.replica.Replica.has_issued_all.Given as goal
 
 abbrev pub invariant-loop-index : goal.invariant-loop-index
-invariant-loop-index l = FitsPast l.self (take l.index l.entries)
+invariant-loop-index l = All (IsEntryOfPast l.self.saved.me l.self.saved.next) (take l.index l.entries)

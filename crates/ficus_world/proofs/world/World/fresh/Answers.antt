@@ -8,4 +8,4 @@ invariant_of-result c =
 
 pub returns-clause-stands : goal.returns-clause-stands
 returns-clause-stands c =
-    fresh_world_stands c.args.members _ c.in_ok-fresh_history.ensures c.in_ok-fresh_members.ensures.fresh
+    fresh_world_stands c.args.members _ c.fresh_members.ensures.count c.in_ok-fresh_history.ensures c.in_ok-fresh_members.ensures.fresh

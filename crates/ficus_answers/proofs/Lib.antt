@@ -1,0 +1,5 @@
+pub mod Tables
+pub mod Refusals
+pub mod WalkSteps
+pub mod Adding
+pub mod Trees

@@ -1,0 +1,93 @@
+-- What tables that fit show: by their entries, and of each object by its file.
+use Rattle.std.proofs.Common.{◌≡◌, ◌↔◌, ℕ, List, refl, sym, ap, subst, ◌∙◌}
+use Rattle.std.specs.Prelude.{All, Contains}
+use Rattle.std.proofs.lemmas.List.Elements.{All-contains}
+use Rattle.ficus_ids.specs.RisingLaws.{one_item}
+use Rattle.ficus_ids.specs.declared.id.Id.{Id}
+use Rattle.ficus_model.specs.Live.{Entry as ModelEntry}
+use Rattle.ficus_entry.specs.declared.entry.Entry.{Entry}
+use Rattle.ficus_entry.specs.declared.entry.State.{State}
+use Rattle.ficus_entry.specs.declared.entry.State.TheVariants.{Live}
+use Rattle.ficus_file.specs.Files.{id_of, Holds}
+use Rattle.ficus_file.specs.declared.file.FileReplica.{FileReplica}
+use Rattle.ficus_names.specs.Binds.{BindsIn}
+use Rattle.ficus_names.specs.Listing.{IsListing}
+use Rattle.ficus_names.specs.declared.listing.ShownName.{ShownName}
+use Rattle.ficus_codec.specs.Saved.{FitsImage}
+use Rattle.ficus_codec.specs.Tables.{FitsFile, HasObjectsIn}
+use Rattle.ficus_codec.specs.declared.saved.Saved.{Saved}
+use Rattle.ficus_rules.specs.View.{IsBoundIn}
+use Rattle.ficus_answers.specs.View.{HasObject, IsNamedBy, held_live, tables_view}
+
+-- an entry, without its state
+abbrev pub without_state : Entry → ModelEntry
+without_state entry = record { id = entry.id; dir = entry.dir; name = entry.name; target = entry.target }
+
+-- a live entry is what tables hold of it
+pub held_as_live : (entry : Entry) → entry.state ≡ Live → entry ≡ held_live (without_state entry)
+held_as_live entry live = ap (λ (state : State). record entry { state = state }) live
+
+module _ (saved : Saved) where
+  pub tables_bound : (dir : Id) (name : List ℕ) (target : Id) →
+      BindsIn saved.entries dir name target ↔ IsBoundIn (tables_view saved) dir name target
+  tables_bound dir name target = (
+    λ binds. record {
+      entry = without_state binds.entry;
+      live = subst (Contains saved.entries) (held_as_live binds.entry binds.live) binds.inside;
+      in_dir = binds.in_dir;
+      named = binds.named;
+      leads = binds.leads;
+    },
+    λ bound. record {
+      entry = held_live bound.entry;
+      inside = bound.live;
+      live = refl;
+      in_dir = bound.in_dir;
+      named = bound.named;
+      leads = bound.leads;
+    },
+  )
+
+  -- what is bound is named
+  pub bound_named : {dir object : Id} {name : List ℕ} → IsBoundIn (tables_view saved) dir name object →
+      IsNamedBy saved.entries object
+  bound_named bound = record { entry = bound.entry; inside = bound.live; leads = bound.leads }
+
+  -- so is what a directory shows
+  pub shown_named : {dir : Id} {names : List ShownName} → IsListing (IsBoundIn (tables_view saved) dir) names →
+      All (λ shown. IsNamedBy saved.entries shown.target) names
+  shown_named listing place default within = bound_named (listing.shown place default within).bound
+
+module _ {saved : Saved} (fits : FitsImage saved) where
+  -- what is named is among the files
+  pub named_held : {object : Id} → IsNamedBy saved.entries object → Holds saved.files object
+  named_held named =
+      let objects = All-contains (HasObjectsIn saved.files) saved.entries (held_live named.entry) fits.tables.objects
+      named.inside in
+      subst (Holds saved.files) named.leads objects.target
+
+  module _ {object : Id} {file : FileReplica} (has : HasObject saved object (λ held. held ≡ file)) where
+    -- a file is one with what the tables hold under its identifier
+    file_of_object : (held : FileReplica) → Contains saved.files held → held.id ≡ object → held ≡ file
+    file_of_object held inside has_id =
+        one_item id_of saved.files held has.file fits.tables.rising_files inside has.inside (has_id ∙ sym has.has_id)
+        ∙ has.so
+
+    -- what is so of the file is so of the object
+    pub so_of_file : (is : FileReplica → Type 0) → is file ↔ HasObject saved object is
+    so_of_file is = (
+      λ so. record {
+        named = has.named;
+        file = has.file;
+        inside = has.inside;
+        has_id = has.has_id;
+        so = subst is (sym has.so) so;
+      },
+      λ object_has. subst is (file_of_object object_has.file object_has.inside object_has.has_id) object_has.so,
+    )
+
+    -- the file is one that fits
+    pub file_fits : FitsFile saved.members file
+    file_fits =
+        subst (FitsFile saved.members) has.so
+        (All-contains (FitsFile saved.members) saved.files has.file fits.tables.each_file has.inside)

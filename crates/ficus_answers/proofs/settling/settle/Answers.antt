@@ -1,0 +1,23 @@
+use Rattle.std.proofs.Common.{length, Err, refl, inl, inr}
+use Rattle.std.proofs.lemmas.Result.{err_from_is_err_and}
+use Rattle.ficus_model.specs.declared.event.Op.TheVariants.{Settle}
+use Rattle.ficus_rules.specs.Limits.{LimitsRule}
+use Rattle.ficus_rules.specs.Rule.{Gives}
+use Rattle.ficus_answers.specs.View.{tables_view}
+use Rattle.ficus_answers.proofs.Refusals.{isnt, at_file_in_conflict, over_limits}
+use Rattle.ficus_answers.proofs.settling.settle.Goals as goal
+
+pub returns-then-not-is_conflict : goal.returns-then-not-is_conflict
+returns-then-not-is_conflict c =
+    inr (c.in_ok-file.file.now.id, c.in_ok-file.ensures.rule, inl (isnt c.if-not-is_conflict.ensures, refl))
+
+pub returns-in_err-within_limits : goal.returns-in_err-within_limits
+returns-in_err-within_limits c =
+    let view = tables_view c.args.saved.now in
+    let bytes = c.args.bytes.now in
+    let p = err_from_is_err_and c.from_residual-in_err-within_limits.result
+    c.from_residual-in_err-within_limits.ensures.1 in
+    rw (p.1, p.2)
+    (at_file_in_conflict view c.args.path.now (λ file. LimitsRule view (length bytes) (Gives (Settle file bytes)))
+    c.in_ok-file.file.now.id c.in_ok-file.ensures.rule (c.if-not-is_conflict.ensures.0 refl) (Err _)
+    (over_limits view (length bytes) (Settle c.in_ok-file.file.now.id bytes) _ c.in_err-within_limits.ensures))

@@ -1,0 +1,40 @@
+ghost use Rattle.std.specs.Prelude.{◌↔◌, IsTrue};
+ghost use Rattle.ficus_codec.specs.Saved.{FitsImage};
+ghost use Rattle.ficus_rules.specs.Limits.{LimitsRule};
+ghost use Rattle.ficus_rules.specs.Rule.{Gives};
+ghost use Rattle.ficus_answers.specs.View.{tables_view};
+
+use ficus_codec::{FILE_LIMIT, Saved};
+use ficus_ids::Refusal;
+
+/// Whether the replica has made all the updates that it may make.
+pub(crate) fn is_spent(saved: &Saved) -> bool
+    ensures { IsTrue result ↔ (tables_view saved.now).spent }
+{
+    saved.next > saved.ids
+}
+
+// Whether so many bytes more are more than the replica may write.
+fn is_over_quota(saved: &Saved, bytes: usize) -> bool
+    requires { FitsImage saved.now }
+    ensures { IsTrue result ↔ (tables_view saved.now).over_quota bytes }
+{
+    bytes > (saved.bytes - saved.used) as usize
+}
+
+/// Whether so many bytes may be written by one more update.
+pub(crate) fn within_limits(saved: &Saved, bytes: usize) -> Result<(), Refusal>
+    requires { FitsImage saved.now }
+    ensures { LimitsRule (tables_view saved.now) bytes (Gives tt) result }
+{
+    if bytes > FILE_LIMIT {
+        return Err(Refusal::TooLong);
+    }
+    if is_spent(saved) {
+        return Err(Refusal::Spent);
+    }
+    if is_over_quota(saved, bytes) {
+        return Err(Refusal::Quota);
+    }
+    Ok(())
+}

@@ -1,0 +1,30 @@
+ghost use Rattle.ficus_codec.specs.Saved.{FitsImage};
+ghost use Rattle.ficus_path.specs.Path.{IsNew};
+ghost use Rattle.ficus_rules.specs.Make.{MakeRule};
+ghost use Rattle.ficus_rules.specs.Rule.{UnlessMemory};
+ghost use Rattle.ficus_answers.specs.View.{tables_view};
+
+use crate::limits::is_spent;
+use crate::walk::{is_taken, last_name, parent_of};
+use ficus_codec::Saved;
+use ficus_ids::{Kind, Refusal};
+use ficus_model::Op;
+use ficus_path::Path;
+
+/// The making of an object at a new path. Refused, in this order: as the walk to the parent is; `Exists` exactly
+/// where a live entry of the parent has the name; `Spent` exactly where the replica has made all its updates.
+pub fn make(saved: &Saved, path: &Path, kind: Kind) -> Result<Op, Refusal>
+    requires fits { FitsImage saved.now }
+    requires new { IsNew path.now }
+    ensures { UnlessMemory (MakeRule (tables_view saved.now) path.now kind) result }
+{
+    let dir = parent_of(saved, path)?;
+    if is_taken(saved, dir, path) {
+        return Err(Refusal::Exists);
+    }
+    if is_spent(saved) {
+        return Err(Refusal::Spent);
+    }
+    let name = last_name(path).copy()?;
+    Ok(Op::Make { dir, name, kind })
+}

@@ -1,0 +1,146 @@
+ghost use Rattle.std.specs.Prelude.{◌≡◌, ◌↔◌, IsTrue, IfOk, Some, None};
+ghost use Rattle.std.specs.List.{last_or};
+ghost use Rattle.ficus_codec.specs.Saved.{FitsImage};
+ghost use Rattle.ficus_path.specs.Path.{IsEntry, IsNew};
+ghost use Rattle.ficus_names.specs.Find.{FindAnswer};
+ghost use Rattle.ficus_rules.specs.Rule.{Where};
+ghost use Rattle.ficus_rules.specs.View.{IsBoundIn, IsDirectoryIn, IsTakenIn};
+ghost use Rattle.ficus_rules.specs.Walk.{BaseRule, WalkRule, DirectoryRule, ParentRule, FileRule, last_name};
+ghost use Rattle.ficus_answers.specs.Files.{id_found, IsFileIn};
+ghost use Rattle.ficus_answers.specs.View.{tables_view, HasObject, IsNamedBy, IsRootOrNamed};
+
+use ficus_codec::Saved;
+use ficus_file::FileReplica;
+use ficus_ids::{Id, Kind, Name, ROOT, Refusal};
+use ficus_names::find;
+use ficus_path::{Base, Part, Path};
+
+// The object to which the parts lead from the base, or the refusal that comes first.
+fn walk(saved: &Saved, base: Base, parts: &[Part]) -> Result<Id, Refusal>
+    requires { FitsImage saved.now }
+    ensures rule { WalkRule (tables_view saved.now) base parts.now result }
+    ensures shown { IfOk result (IsRootOrNamed saved.now.entries) }
+{
+    let mut object = begin(saved, base)?;
+    for part in parts {
+        object = go_on(saved, object, part)?;
+    }
+    Ok(object)
+}
+
+// The object at which a walk begins.
+fn begin(saved: &Saved, base: Base) -> Result<Id, Refusal>
+    ensures rule { BaseRule (tables_view saved.now) base result }
+    ensures shown { IfOk result (IsRootOrNamed saved.now.entries) }
+{
+    match base {
+        Base::Root => Ok(ROOT),
+    }
+}
+
+// The object to which a part leads.
+fn go_on(saved: &Saved, object: Id, part: &Part) -> Result<Id, Refusal>
+    requires fits { FitsImage saved.now }
+    requires shown { IsRootOrNamed saved.now.entries object }
+    ensures rule { let view = tables_view saved.now in
+        Where (IsDirectoryIn view object) Refusal.NotDir
+        (FindAnswer (IsBoundIn view object) part.now.name part.now.target) result }
+    ensures shown { IfOk result (IsRootOrNamed saved.now.entries) }
+{
+    if !is_directory(saved, object) {
+        return Err(Refusal::NotDir);
+    }
+    find(&saved.entries, object, part)
+}
+
+// Whether the object is a directory.
+fn is_directory(saved: &Saved, object: Id) -> bool
+    requires fits { FitsImage saved.now }
+    requires shown { IsRootOrNamed saved.now.entries object }
+    ensures { IsTrue result ↔ IsDirectoryIn (tables_view saved.now) object }
+{
+    object == ROOT || named(saved, object).kind == Kind::Dir
+}
+
+/// The file or directory to which a live entry leads.
+pub(crate) fn named(saved: &Saved, object: Id) -> &FileReplica
+    requires fits { FitsImage saved.now }
+    requires named { IsNamedBy saved.now.entries object }
+    ensures { HasObject saved.now object (λ file. file ≡ result.now) }
+{
+    let Some(file) = saved.files.get(object) else {
+        unreachable!()
+    };
+    file
+}
+
+// The directory to which the parts lead.
+fn directory_of(saved: &Saved, base: Base, parts: &[Part]) -> Result<Id, Refusal>
+    requires { FitsImage saved.now }
+    ensures { DirectoryRule (tables_view saved.now) base parts.now result }
+{
+    let object = walk(saved, base, parts)?;
+    if !is_directory(saved, object) {
+        return Err(Refusal::NotDir);
+    }
+    Ok(object)
+}
+
+/// The directory at a path.
+pub(crate) fn directory_at(saved: &Saved, path: &Path) -> Result<Id, Refusal>
+    requires { FitsImage saved.now }
+    ensures { DirectoryRule (tables_view saved.now) path.now.base path.now.parts result }
+{
+    directory_of(saved, path.base, path.parts.items())
+}
+
+/// The directory in which the last part of a path is looked up.
+pub(crate) fn parent_of(saved: &Saved, path: &Path) -> Result<Id, Refusal>
+    requires fits { FitsImage saved.now }
+    requires entry { IsEntry path.now }
+    ensures { ParentRule (tables_view saved.now) path.now result }
+{
+    let parts = path.parts.items();
+    directory_of(saved, path.base, &parts[..parts.len() - 1])
+}
+
+/// The file at a path.
+pub(crate) fn file_at<'a>(saved: &'a Saved, path: &Path) -> Result<&'a FileReplica, Refusal>
+    requires { FitsImage saved.now }
+    ensures rule { FileRule (tables_view saved.now) path.now (id_found result) }
+    ensures file { IfOk result (λ file. IsFileIn saved.now file.now) }
+{
+    let object = walk(saved, path.base, path.parts.items())?;
+    if is_directory(saved, object) {
+        return Err(Refusal::IsDir);
+    }
+    Ok(named(saved, object))
+}
+
+/// Whether a live entry of the directory has the name of a new path.
+pub(crate) fn is_taken(saved: &Saved, dir: Id, path: &Path) -> bool
+    requires { IsNew path.now }
+    ensures { IsTrue result ↔ IsTakenIn (tables_view saved.now) dir (last_name path.now) }
+{
+    match find(&saved.entries, dir, last_part(path)) {
+        Ok(_) => true,
+        Err(refusal) => refusal != Refusal::NoEntry,
+    }
+}
+
+/// The name of the last part of a path that names an entry.
+pub(crate) fn last_name(path: &Path) -> &Name
+    requires { IsEntry path.now }
+    ensures { result.now ≡ last_name path.now }
+{
+    &last_part(path).name
+}
+
+// The last part of a path that names an entry.
+fn last_part(path: &Path) -> &Part
+    requires { IsEntry path.now }
+    ensures { last_or None path.now.parts ≡ Some result.now }
+{
+    let parts = path.parts.items();
+    &parts[parts.len() - 1]
+}

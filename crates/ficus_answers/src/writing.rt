@@ -1,0 +1,33 @@
+ghost use Rattle.ficus_codec.specs.Saved.{FitsImage};
+ghost use Rattle.ficus_rules.specs.Rule.{UnlessMemory};
+ghost use Rattle.ficus_rules.specs.Write.{WriteRule};
+ghost use Rattle.ficus_answers.specs.View.{tables_view};
+
+use crate::conflict::is_conflict;
+use crate::limits::within_limits;
+use crate::walk::file_at;
+use ficus_codec::Saved;
+use ficus_ids::{Listed, Refusal};
+use ficus_model::Op;
+use ficus_path::Path;
+use std::alloc::Global;
+
+/// The writing of bytes to the file at a path. Refused, in this order: as the walk is; `IsDir` exactly where the object
+/// is a directory; `Conflict` exactly where the file is in conflict; `TooLong` exactly where there are more than 16,384
+/// bytes; `Spent` exactly where the replica has made all its updates; `Quota` exactly where the bytes are more than it
+/// may still write.
+pub fn write(alloc: Global, saved: &Saved, path: &Path, bytes: &[u8]) -> Result<Op, Refusal>
+    requires { FitsImage saved.now }
+    ensures { UnlessMemory (WriteRule (tables_view saved.now) path.now bytes.now) result }
+{
+    let file = file_at(saved, path)?;
+    if is_conflict(saved, file) {
+        return Err(Refusal::Conflict);
+    }
+    within_limits(saved, bytes.len())?;
+    let bytes = Listed::of(bytes.to_vec(alloc)?);
+    Ok(Op::Write {
+        file: file.id,
+        bytes,
+    })
+}

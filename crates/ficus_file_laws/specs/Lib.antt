@@ -1,0 +1,3 @@
+pub mod Items
+pub mod Pasts
+pub mod Laws

@@ -1,0 +1,57 @@
+ghost use Rattle.std.specs.Prelude.{◌≡◌, Ok, nat_lt};
+ghost use Rattle.ficus_index.specs.Place.{order_of};
+
+use ficus_ids::{Id, Memory};
+use ficus_persistent::{Cut, Item};
+
+/// Where an identifier is noted: by directory, and there by rank.
+#[derive(Clone, Copy)]
+pub struct Place {
+    pub dir: Id,
+    pub rank: u64,
+}
+
+/// That an identifier is noted at a place.
+#[derive(Clone, Copy)]
+pub struct Link {
+    pub place: Place,
+    pub id: Id,
+}
+
+impl Place {
+    /// The place as a number: by replica, then by number, then by rank.
+    pub(crate) fn order(self) -> u128
+        ensures { result ≡ order_of self }
+    {
+        let dir = u128::from(self.dir.replica) * (1 << 32) + u128::from(self.dir.number);
+        dir * (1 << 64) + u128::from(self.rank)
+    }
+
+    pub(crate) fn is_before(self, other: Place) -> bool
+        ensures { result ≡ nat_lt (order_of self) (order_of other) }
+    {
+        self.order() < other.order()
+    }
+}
+
+impl Item for Link {
+    fn copied(&self) -> Result<Link, Memory>
+        ensures { result ≡ Ok self.now }
+    {
+        Ok(*self)
+    }
+}
+
+/// The cut in front of a place.
+#[derive(Clone, Copy)]
+pub(crate) struct Before {
+    pub(crate) place: Place,
+}
+
+impl Cut<Link> for Before {
+    ghost is_before = { λ cut link. nat_lt (order_of link.place) (order_of cut.place) };
+
+    fn is_before(&self, link: &Link) -> bool {
+        link.place.is_before(self.place)
+    }
+}

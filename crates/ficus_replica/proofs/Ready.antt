@@ -1,0 +1,104 @@
+-- What a rule gives over the tables is ready to be done there.
+use Rattle.std.proofs.Common.{◌≡◌, ◌≢◌, ◌<◌, ℕ, List, length, Ok, sym, ap, subst, inl, inr, arith}
+use Rattle.std.specs.Prelude.{Contains}
+use Rattle.std.proofs.lemmas.List.Elements.{All-contains}
+use Rattle.ficus_ids.specs.declared.id.Id.{Id}
+use Rattle.ficus_ids.specs.declared.id.TheConstants.{ROOT, ATTIC}
+use Rattle.ficus_ids.specs.declared.kind.Kind.{Kind}
+use Rattle.ficus_ids.specs.declared.kind.Kind.TheVariants.{Dir}
+use Rattle.ficus_entry.specs.declared.entry.Entry.{Entry}
+use Rattle.ficus_file.specs.Files.{Holds, HoldsFile}
+use Rattle.ficus_model.specs.declared.event.Op.{Op}
+use Rattle.ficus_model.specs.Lawful.{most_file_bytes}
+use Rattle.ficus_model.specs.Reached.IsReached.{Base, Through}
+use Rattle.ficus_path.specs.declared.path.Path.{Path}
+use Rattle.ficus_codec.specs.Saved.{FitsImage}
+use Rattle.ficus_codec.specs.Tables.{FitsFile, HasObjectsIn}
+use Rattle.ficus_codec.specs.declared.saved.Saved.{Saved}
+use Rattle.ficus_rules.specs.Make.{MakeRule}
+use Rattle.ficus_rules.specs.Resolve.{ResolveRule}
+use Rattle.ficus_rules.specs.Settle.{SettleRule}
+use Rattle.ficus_rules.specs.View.{IsReachedIn}
+use Rattle.ficus_rules.specs.Write.{WriteRule}
+use Rattle.ficus_rules.proofs.Walks.{IsFileAt, file_walked, parent_walked}
+use Rattle.ficus_answers.specs.View.{held_live, tables_view}
+use Rattle.ficus_replica.specs.Change.{Change, ChangeRule, Make, Write, Settle, Resolve}
+use Rattle.ficus_replica.specs.Effect.{IsReady, MayMake, MayWrite}
+
+module _ {saved : Saved} (fits : FitsImage saved) where
+  held_target : (entry : Entry) → Contains saved.entries entry → Holds saved.files entry.target
+  held_target entry inside = (All-contains (HasObjectsIn saved.files) saved.entries entry fits.tables.objects inside).target
+
+  no_attic : {id : Id} → Holds saved.files id → id ≢ ATTIC
+  no_attic {id} held is =
+      let file = All-contains (FitsFile saved.members) saved.files held.item fits.tables.each_file held.inside in
+      let zero : held.item.id.replica ≡ 0 = ap (λ (i : Id). i.replica) (subst (λ i. held.item.id ≡ i) is held.has_id) in
+      omega (arith, file.id.replica.at_least, zero)
+
+  -- where an entry may be made
+  reached_place : {dir : Id} → IsReachedIn (tables_view saved) dir → MayMake saved dir
+  reached_place (Base root) = record {
+    place = inr (inl root);
+    no_attic = λ attic. let number : ROOT ≡ ATTIC = subst (λ id. id ≡ ATTIC) root attic in
+        let zero : 0 ≡ 1 = ap (λ (id : Id). id.number) number in omega arith;
+  }
+  reached_place (Through reached (name, bound)) =
+      let held = subst (Holds saved.files) bound.leads (held_target (held_live bound.entry) bound.live) in
+      record { place = inl held; no_attic = no_attic held }
+
+  -- the file that a walk leads to
+  file_held : {file : Id} → IsFileAt (tables_view saved) file → HoldsFile saved.files file (λ held. held.kind ≢ Dir)
+  file_held {file} found =
+      let named = found.named in
+      let held = subst (Holds saved.files) named.leads (held_target (held_live named.entry) named.live) in
+      record {
+        file = held.item;
+        inside = held.inside;
+        has_id = held.has_id;
+        fit = λ dir. found.no_directory (inr (record {
+          named = record { entry = named.entry; inside = named.live; leads = named.leads };
+          file = held.item;
+          inside = held.inside;
+          has_id = held.has_id;
+          so = dir;
+        }));
+      }
+
+  may_write : {file : Id} (bytes : List ℕ) → IsFileAt (tables_view saved) file →
+      (most_file_bytes < length bytes → ⊥) → ((tables_view saved).over_quota (length bytes) → ⊥) →
+      MayWrite saved file bytes
+  may_write bytes found short within =
+      record { held = file_held found; one_file = omega arith; left = omega arith }
+
+  make_ready : (path : Path) (kind : Kind) (op : Op) → MakeRule (tables_view saved) path kind (Ok op) → IsReady saved op
+  make_ready path kind op (dir, walk, (free, (left, is))) = subst (IsReady saved) (sym is) (record {
+    left = omega arith;
+    possible = reached_place (parent_walked (tables_view saved) path dir walk).reached;
+  })
+
+  write_ready : (path : Path) (bytes : List ℕ) (op : Op) → WriteRule (tables_view saved) path bytes (Ok op) →
+      IsReady saved op
+  write_ready path bytes op (file, walk, (settled, (short, (left, (within, is))))) = subst (IsReady saved) (sym is) (record {
+    left = omega arith;
+    possible = may_write bytes (file_walked (tables_view saved) path file walk) short within;
+  })
+
+  settle_ready : (path : Path) (bytes : List ℕ) (op : Op) → SettleRule (tables_view saved) path bytes (Ok op) →
+      IsReady saved op
+  settle_ready path bytes op (file, walk, (conflict, (short, (left, (within, is))))) = subst (IsReady saved) (sym is) (record {
+    left = omega arith;
+    possible = may_write bytes (file_walked (tables_view saved) path file walk) short within;
+  })
+
+  resolve_ready : (path : Path) (op : Op) → ResolveRule (tables_view saved) path (Ok op) → IsReady saved op
+  resolve_ready path op (file, walk, (conflict, (bytes, resolved, (short, (left, (within, is)))))) =
+      subst (IsReady saved) (sym is) (record {
+        left = omega arith;
+        possible = may_write bytes (file_walked (tables_view saved) path file walk) short within;
+      })
+
+  pub change_ready : (change : Change) (op : Op) → ChangeRule (tables_view saved) change (Ok op) → IsReady saved op
+  change_ready (Make path kind) op rule = make_ready path kind op rule
+  change_ready (Write path bytes) op rule = write_ready path bytes op rule
+  change_ready (Settle path bytes) op rule = settle_ready path bytes op rule
+  change_ready (Resolve path) op rule = resolve_ready path op rule

@@ -1,0 +1,14 @@
+use Rattle.std.proofs.Common.{inl, inr}
+use Rattle.ficus_held_files.specs.Laws.{Overwrites}
+use Rattle.ficus_held_files.specs.Laws.Overwrites.{Writes, Settles, Resolves}
+use Rattle.ficus_replica.proofs.replica.Replica.stepped.Goals as goal
+
+pub returns-in-Write : goal.returns-in-Write
+returns-in-Write c =
+    let overwrites : Overwrites c.args.op.now c.in-Write.file c.in-Write.bytes =
+    elim c.in-Write.is [
+      | inl is ↦ rw is Writes
+      | inr (inl is) ↦ rw is Settles
+      | inr (inr is) ↦ rw is Resolves
+    ] in
+    c.written.ensures c.args.op.now (rw c.items.ensures overwrites)

@@ -1,0 +1,20 @@
+-- What a replica may still write: the rule keeps that there is one answer, and that it is the same over views that show
+-- the same.
+use Rattle.std.proofs.Common.{ℕ, Result}
+use Rattle.ficus_ids.specs.declared.refusal.Refusal.{Refusal}
+use Rattle.ficus_ids.specs.declared.refusal.Refusal.TheVariants.{TooLong, Spent, Quota}
+use Rattle.ficus_rules.specs.Limits.{LimitsRule}
+use Rattle.ficus_rules.specs.Rule.{Once, Along}
+use Rattle.ficus_rules.specs.View.{View, SameView}
+use Rattle.ficus_rules.proofs.Rules.{unless_once, unless_along}
+
+pub limits_once : {B : Type 0} (view : View) (bytes : ℕ) {rest : Result B Refusal → Type 0} → Once rest →
+    Once (LimitsRule view bytes rest)
+limits_once view bytes once = unless_once _ _ (unless_once _ _ (unless_once _ _ once))
+
+pub limits_along : {B : Type 0} {one other : View} → SameView one other → (bytes : ℕ)
+    {rest more : Result B Refusal → Type 0} → Along rest more →
+    Along (LimitsRule one bytes rest) (LimitsRule other bytes more)
+limits_along same bytes next =
+    unless_along TooLong (λ long. long, λ long. long)
+    (unless_along Spent same.spent (unless_along Quota (same.over_quota bytes) next))
