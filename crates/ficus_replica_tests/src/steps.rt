@@ -1,8 +1,8 @@
-ghost use Rattle.std.specs.Prelude.{◌-◌, ◌^◌, ◌<◌, ◌≤◌, IfOk, OnOk};
+ghost use Rattle.std.specs.Prelude.{◌-◌, ◌^◌, ◌<◌, IfOk, OnOk};
 ghost use Rattle.ficus_codec.specs.Saved.{FitsImage};
-ghost use Rattle.ficus_codec.specs.declared.saved.TheConstants.{UPDATE_LIMIT, BYTE_LIMIT};
 ghost use Rattle.ficus_path.specs.Path.{IsNew};
 
+use ficus_codec::{BYTE_LIMIT, UPDATE_LIMIT};
 use ficus_ids::{Kind, Members, Refusal};
 use ficus_path::{Path, read_path};
 use ficus_replica::Replica;
@@ -11,20 +11,17 @@ use std::test::Fail;
 
 /// Replica 1 of two, which may make so many updates and write so many bytes, and has heard of nothing.
 pub(crate) fn fresh(alloc: Global, ids: u32, bytes: u32) -> Result<Replica, Fail>
-    requires ids_at_least { 1 ≤ ids }
-    requires ids_at_most { ids ≤ UPDATE_LIMIT }
-    requires bytes { bytes ≤ BYTE_LIMIT }
     ensures { IfOk result (λ replica. FitsImage replica.saved) }
 {
+    if !(1..=UPDATE_LIMIT).contains(&ids) || bytes > BYTE_LIMIT {
+        return Err("no replica has such limits".into());
+    }
     let members = Members::new(2).ok_or("two members")?;
     Ok(Replica::fresh(alloc, 1, members, ids, bytes))
 }
 
 /// Such a replica once it has made the object `/f`.
 pub(crate) fn made(alloc: Global, ids: u32, bytes: u32, kind: Kind) -> Result<Replica, Fail>
-    requires ids_at_least { 1 ≤ ids }
-    requires ids_at_most { ids ≤ UPDATE_LIMIT }
-    requires bytes { bytes ≤ BYTE_LIMIT }
     ensures { IfOk result (λ replica. FitsImage replica.saved) }
 {
     let fresh = fresh(alloc, ids, bytes)?;
@@ -46,18 +43,13 @@ pub(crate) fn why_not_made(alloc: Global, replica: &Replica) -> Result<Option<Re
 
 /// Such a replica once it has made the file `/f` and written so many bytes to it.
 pub(crate) fn written(alloc: Global, ids: u32, bytes: u32, length: usize) -> Result<Replica, Fail>
-    requires ids_at_least { 1 ≤ ids }
-    requires ids_at_most { ids ≤ UPDATE_LIMIT }
-    requires bytes { bytes ≤ BYTE_LIMIT }
     ensures { IfOk result (λ replica. FitsImage replica.saved) }
 {
+    let content = vec![in alloc; b'n'; length]?;
+    let path = read_path(alloc, b"/f")?;
     let file = made(alloc, ids, bytes, Kind::Plain)?;
     may_save(&file)?;
-    let bytes = vec![in alloc; b'n'; length]?;
-    Ok(
-        file.write(alloc, &read_path(alloc, b"/f")?, &bytes)?
-            .replica,
-    )
+    Ok(file.write(alloc, &path, &content)?.replica)
 }
 
 /// Why the replica can't write so many bytes to the file `/f`, where it can't.
@@ -77,28 +69,51 @@ pub(crate) fn why_not_written(
     )
 }
 
-/// Why the replica doesn't take what another one holds as the answer of this number, once it has asked replica 2.
+/// Why a replica that has made nothing and asks replica 2 doesn't take what another one holds as the answer of
+/// this number.
 pub(crate) fn why_not_taken(
     alloc: Global,
-    replica: &Replica,
     number: u64,
     other: &Replica,
 ) -> Result<Option<Refusal>, Fail>
-    requires fits { FitsImage replica.now.saved }
+    requires { FitsImage other.now.saved }
+{
+    let asking = asking(&fresh(alloc, 1, 0)?)?;
+    why_not_accepted(alloc, &asking, number, other)
+}
+
+// The same of a replica that asks.
+fn why_not_accepted(
+    alloc: Global,
+    asking: &Replica,
+    number: u64,
+    other: &Replica,
+) -> Result<Option<Refusal>, Fail>
+    requires asking { FitsImage asking.now.saved }
     requires other { FitsImage other.now.saved }
 {
-    let saved = &replica.saved;
-    if saved.me == 2 || !saved.members.has(2) || saved.members != other.saved.members {
+    may_save(asking)?;
+    let theirs = &other.saved;
+    if asking.saved.members != theirs.members {
+        return Err("the other is of another volume".into());
+    }
+    Ok(
+        asking
+            .accept(alloc, 2, number, &theirs.entries, &theirs.files)
+            .err(),
+    )
+}
+
+// The replica once it has asked replica 2.
+fn asking(replica: &Replica) -> Result<Replica, Fail>
+    requires { FitsImage replica.now.saved }
+    ensures { IfOk result (λ asking. FitsImage asking.saved) }
+{
+    if replica.saved.me == 2 || !replica.saved.members.has(2) {
         return Err("there is no other replica 2".into());
     }
     may_save(replica)?;
-    let asked = replica.ask(2)?;
-    may_save(&asked)?;
-    Ok(
-        asked
-            .accept(alloc, 2, number, &other.saved.entries, &other.saved.files)
-            .err(),
-    )
+    Ok(replica.ask(2)?)
 }
 
 fn may_save(replica: &Replica) -> Result<(), Fail>
