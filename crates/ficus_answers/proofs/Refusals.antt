@@ -1,5 +1,5 @@
 -- Rules, step by step: what refuses a step refuses the whole, and where it lets pass, the answer is that of the rest.
-use Rattle.std.proofs.Common.{◌≡◌, ℕ, Result, Ok, Err, ◌↔◌, false, inl, inr}
+use Rattle.std.proofs.Common.{◌≡◌, ℕ, List, length, Result, Ok, Err, ◌↔◌, false, inl, inr, sym, subst}
 use Rattle.std.specs.Prelude.{IsTrue}
 use Rattle.std.proofs.lemmas.Bool.{false≢true}
 use Rattle.ficus_ids.specs.declared.id.Id.{Id}
@@ -11,7 +11,9 @@ use Rattle.ficus_rules.specs.Limits.{LimitsRule}
 use Rattle.ficus_rules.specs.Rule.{Then, RefusedOr, Unless, Where, Gives, UnlessMemory, Along}
 use Rattle.ficus_rules.specs.View.{View}
 use Rattle.ficus_rules.specs.Walk.{FileRule}
-use Rattle.ficus_rules.proofs.Rules.{then_goes, memory_along, or_memory}
+use Rattle.ficus_rules.specs.Resolved.{ResolvedRule}
+use Rattle.ficus_rules.proofs.Rules.{then_goes, memory_along, or_memory, refusal_along}
+use Rattle.ficus_answers.specs.Files.{ResolvedWithin}
 
 -- what the test denies isn't so
 pub isnt : {P : Type 0} → IsTrue false ↔ P → P → ⊥
@@ -69,3 +71,26 @@ module _ (view : View) (bytes : ℕ) (op : Op) where
       LimitsRule view bytes (Gives {B = Unit {0}} tt) (Ok nothing) → given ≡ op →
       LimitsRule view bytes (Gives op) (Ok given)
   within_limits nothing given (short, (left, (room, is))) same = (short, (left, (room, same)))
+
+-- where the resolver is refused, what stands on its text is
+pub not_resolved : (view : View) (file : Id) (op : List ℕ → Op) (refusal : Refusal) →
+    UnlessMemory (ResolvedWithin view file) (Err refusal) →
+    UnlessMemory (Then (ResolvedRule view file) (λ bytes. LimitsRule view (length bytes) (Gives (op bytes)))) (Err refusal)
+not_resolved view file op refusal =
+    refusal_along (ResolvedWithin view file)
+    (Then (ResolvedRule view file) (λ bytes. LimitsRule view (length bytes) (Gives (op bytes)))) refusal
+    (λ refused. elim refused [
+      | inl declined ↦ inl declined
+      | inr (bytes, comes, within) ↦ elim within [
+        | inl long ↦ inr (bytes, comes, inl long)
+        | inr (short, none) ↦ absurd none
+      ]
+    ])
+
+-- the rest at the text that it makes
+pub at_resolved : {B : Type 0} (view : View) (file : Id) (rest : List ℕ → Result B Refusal → Type 0) (bytes : List ℕ) →
+    ResolvedWithin view file (Ok bytes) →
+    Along (UnlessMemory (rest bytes)) (UnlessMemory (Then (ResolvedRule view file) rest))
+at_resolved view file rest bytes (made, comes, (short, is)) =
+    memory_along (λ answer so. then_goes (ResolvedRule view file) rest bytes answer
+    (subst (λ text. ResolvedRule view file (Ok text)) (sym is) comes) so)

@@ -1,14 +1,16 @@
 -- What looking for a file, and resolving one, comes to.
-use Rattle.std.specs.Prelude.{◌≡◌, ◌≢◌, ℕ, map, Some, None, Result, Ok, Err, Vec}
+use Rattle.std.specs.Prelude.{◌≡◌, ◌≢◌, ℕ, ◌<◌, List, length, Result, Ok, Err}
 use Rattle.std.specs.Borrow.{Bor}
-use Rattle.std.specs.declared.alloc.Global.{Global}
 use Rattle.ficus_ids.specs.declared.id.Id.{Id}
 use Rattle.ficus_ids.specs.declared.kind.Kind.TheVariants.{Dir}
 use Rattle.ficus_ids.specs.declared.refusal.Refusal.{Refusal}
-use Rattle.ficus_ids.specs.declared.refusal.Refusal.TheVariants.{Memory, Declined, TooLong}
+use Rattle.ficus_ids.specs.declared.refusal.Refusal.TheVariants.{TooLong}
 use Rattle.ficus_file.specs.declared.file.FileReplica.{FileReplica}
 use Rattle.ficus_codec.specs.declared.saved.Saved.{Saved}
-use Rattle.ficus_resolve.specs.Resolver.{IsResolution, IsTooLong}
+use Rattle.ficus_model.specs.Lawful.{most_file_bytes}
+use Rattle.ficus_rules.specs.Resolved.{ResolvedRule}
+use Rattle.ficus_rules.specs.Rule.{Then, Unless, Gives}
+use Rattle.ficus_rules.specs.View.{View}
 use Rattle.ficus_answers.specs.View.{HasObject}
 
 -- the identifier of the file that was found
@@ -21,10 +23,9 @@ pub record IsFileIn (saved : Saved) (file : FileReplica) : Type 0 where
   pub object : HasObject saved file.id (λ held. held ≡ file)
   pub is_file : file.kind ≢ Dir
 
--- what the resolver of the file's kind makes of its contents, or why nothing
-abbrev pub IsResolvedTo : FileReplica → Result (Vec ℕ Global) Refusal → Type 0
-IsResolvedTo file (Ok text) = IsResolution file.kind (map (λ version. version.bytes) file.versions) (Some text.items)
-IsResolvedTo file (Err Declined) = IsResolution file.kind (map (λ version. version.bytes) file.versions) None
-IsResolvedTo file (Err TooLong) = IsTooLong file.kind (map (λ version. version.bytes) file.versions)
-IsResolvedTo file (Err Memory) = Unit {0}
-IsResolvedTo file (Err other) = ⊥
+-- what the resolver makes of the file; `declined` where it declines, `toolong` where that is more than a file may have
+abbrev pub ResolvedWithin : View → Id → Result (List ℕ) Refusal → Type 0
+ResolvedWithin view file =
+    Then (ResolvedRule view file) (λ bytes.
+    Unless (most_file_bytes < length bytes) TooLong (
+    Gives bytes))

@@ -1,26 +1,27 @@
 ghost use Rattle.std.specs.Prelude.{◌≡◌, IfOk};
 ghost use Rattle.ficus_codec.specs.Saved.{FitsImage};
 ghost use Rattle.ficus_rules.specs.Rule.{UnlessMemory};
-ghost use Rattle.ficus_rules.specs.Told.{answer_told, told_versions};
 ghost use Rattle.ficus_rules.specs.Versions.{VersionsRule};
 ghost use Rattle.ficus_answers.specs.View.{tables_view};
 
 use crate::walk::file_at;
 use ficus_codec::Saved;
+use ficus_commands::Told;
 use ficus_file::Version;
-use ficus_ids::{Memory, Refusal};
+use ficus_ids::{Listed, Memory, Refusal};
 use ficus_path::Path;
 use std::alloc::Global;
 
-/// The versions of the file at a path, in the order of vectors. Refused, in this order: as the walk is; `IsDir` exactly
-/// where the object is a directory.
-pub fn versions(alloc: Global, saved: &Saved, path: &Path) -> Result<Vec<Version>, Refusal>
+/// The versions of the file at a path, in the order of vectors.
+pub(crate) fn versions(alloc: Global, saved: &Saved, path: &Path) -> Result<Told, Refusal>
     requires { FitsImage saved.now }
-    ensures { UnlessMemory (VersionsRule (tables_view saved.now) path.now)
-        (answer_told (told_versions saved.now.members) result) }
+    ensures { UnlessMemory (VersionsRule (tables_view saved.now) path.now) result }
 {
     let file = file_at(saved, path)?;
-    Ok(copies(alloc, file.versions.items())?)
+    Ok(Told::Versions {
+        members: saved.members,
+        list: Listed::of(copies(alloc, file.versions.items())?),
+    })
 }
 
 // The versions once more.

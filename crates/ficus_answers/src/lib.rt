@@ -2,23 +2,21 @@
 #![tactic(auto)]
 
 mod all_versions;
+mod changes;
 mod conflict;
 mod limits;
 mod lines;
 mod listing;
+mod looks;
 mod making;
 mod reading;
+mod resolved;
 mod resolving;
 mod settling;
+mod text;
 mod walk;
 mod whole_tree;
 mod writing;
 
-pub use all_versions::versions;
-pub use listing::list;
-pub use making::make;
-pub use reading::read;
-pub use resolving::resolve;
-pub use settling::settle;
-pub use whole_tree::tree;
-pub use writing::write;
+pub use changes::change;
+pub use looks::look;

@@ -11,9 +11,8 @@ use ficus_ids::{Kind, Refusal};
 use ficus_model::Op;
 use ficus_path::Path;
 
-/// The making of an object at a new path. Refused, in this order: as the walk to the parent is; `Exists` exactly
-/// where a live entry of the parent has the name; `Spent` exactly where the replica has made all its updates.
-pub fn make(saved: &Saved, path: &Path, kind: Kind) -> Result<Op, Refusal>
+/// The making of an object at a new path.
+pub(crate) fn make(saved: &Saved, path: &Path, kind: Kind) -> Result<Op, Refusal>
     requires fits { FitsImage saved.now }
     requires new { IsNew path.now }
     ensures { UnlessMemory (MakeRule (tables_view saved.now) path.now kind) result }

@@ -12,9 +12,8 @@ use ficus_model::Op;
 use ficus_path::Path;
 use std::alloc::Global;
 
-/// The end of the conflict of the file at a path, by these bytes. Refused as `write` is, but with `NoConflict` exactly
-/// where the file isn't in conflict in place of `Conflict`.
-pub fn settle(alloc: Global, saved: &Saved, path: &Path, bytes: &[u8]) -> Result<Op, Refusal>
+/// The end of the conflict of the file at a path, by these bytes.
+pub(crate) fn settle(alloc: Global, saved: &Saved, path: &Path, bytes: &[u8]) -> Result<Op, Refusal>
     requires { FitsImage saved.now }
     ensures { UnlessMemory (SettleRule (tables_view saved.now) path.now bytes.now) result }
 {

@@ -1,20 +1,20 @@
 ghost use Rattle.std.specs.Prelude.{Ok, IfOk};
 ghost use Rattle.ficus_codec.specs.Saved.{FitsImage};
-ghost use Rattle.ficus_rules.specs.Told.{told_tree};
 ghost use Rattle.ficus_rules.specs.Tree.{TreeRule};
 ghost use Rattle.ficus_answers.specs.View.{tables_view};
 
 use crate::lines::add_lines;
 use ficus_codec::Saved;
-use ficus_ids::{Memory, ROOT};
-use ficus_names::{Directories, Line};
+use ficus_commands::Told;
+use ficus_ids::{Listed, Memory, ROOT};
+use ficus_names::Directories;
 use ficus_reach::reached;
 use std::alloc::Global;
 
 /// The shown names of every directory that is reached from the root, by directory, then as in `list`.
-pub fn tree(alloc: Global, saved: &Saved) -> Result<Vec<Line>, Memory>
+pub(crate) fn tree(alloc: Global, saved: &Saved) -> Result<Told, Memory>
     requires { FitsImage saved.now }
-    ensures { IfOk result (λ lines. TreeRule (tables_view saved.now) (Ok (told_tree lines))) }
+    ensures { IfOk result (λ told. TreeRule (tables_view saved.now) (Ok told)) }
 {
     let entries = &saved.entries;
     let directories = Directories::new(alloc, entries)?;
@@ -23,5 +23,5 @@ pub fn tree(alloc: Global, saved: &Saved) -> Result<Vec<Line>, Memory>
     for dir in &reached {
         add_lines(saved, &mut lines, *dir, directories.shown(alloc, *dir)?)?;
     }
-    Ok(lines)
+    Ok(Told::Tree(Listed::of(lines)))
 }

@@ -12,11 +12,8 @@ use ficus_model::Op;
 use ficus_path::Path;
 use std::alloc::Global;
 
-/// The writing of bytes to the file at a path. Refused, in this order: as the walk is; `IsDir` exactly where the object
-/// is a directory; `Conflict` exactly where the file is in conflict; `TooLong` exactly where there are more than 16,384
-/// bytes; `Spent` exactly where the replica has made all its updates; `Quota` exactly where the bytes are more than it
-/// may still write.
-pub fn write(alloc: Global, saved: &Saved, path: &Path, bytes: &[u8]) -> Result<Op, Refusal>
+/// The writing of bytes to the file at a path.
+pub(crate) fn write(alloc: Global, saved: &Saved, path: &Path, bytes: &[u8]) -> Result<Op, Refusal>
     requires { FitsImage saved.now }
     ensures { UnlessMemory (WriteRule (tables_view saved.now) path.now bytes.now) result }
 {

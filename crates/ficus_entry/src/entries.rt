@@ -170,7 +170,7 @@ impl Entries {
     }
 
     /// From where these have their memory.
-    pub fn allocator(&self) -> Global {
+    pub(crate) fn allocator(&self) -> Global {
         *self.changed.allocator()
     }
 
@@ -182,7 +182,7 @@ impl Entries {
         let alloc = self.allocator();
         let mut table = self.table.copy()?;
         for change in &self.changed {
-            table = table.put(alloc, change.index, change.entry.copy()?)?;
+            table = table.changed(alloc, change)?;
         }
         Ok(table)
     }
@@ -193,12 +193,21 @@ impl Entries {
         ensures kept { OnErr result (self.new ≡ self.old) }
         ensures rising { IsRising self.new }
     {
-        if table.list.len() <= self.changed.capacity() {
-            self.changed.clear();
-            self.table = table;
-            return Ok(());
+        if table.list.len() > self.changed.capacity() {
+            return self.hold_afresh(table);
         }
-        // Made afresh, since room that grew would be copied, and so take memory although nothing is in it.
+        self.changed.clear();
+        self.table = table;
+        Ok(())
+    }
+
+    // The same, with room that is made for it. Room that grew would be copied, and so take memory although nothing is
+    // in it.
+    fn hold_afresh(&mut self, table: Table) -> Result<(), Memory>
+        ensures held { OnOk result (self.new ≡ table.list) }
+        ensures kept { OnErr result (self.new ≡ self.old) }
+        ensures rising { IsRising self.new }
+    {
         let changed = room_for(self.allocator(), table.list.len())?;
         self.changed = changed;
         self.table = table;
@@ -210,12 +219,8 @@ impl Entries {
         ensures puts { IfOk result (λ table. PutsEntry self.now table.list entry) }
         ensures rising { IsRising self.now }
     {
-        let alloc = self.allocator();
         let table = self.whole()?;
-        match table.search(entry.id) {
-            Ok(index) => table.put(alloc, index, entry),
-            Err(index) => table.insert(alloc, index, entry),
-        }
+        table.putting(self.allocator(), entry)
     }
 
     // The entries and one more, whose identifier no entry has.

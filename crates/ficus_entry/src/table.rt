@@ -1,9 +1,10 @@
 ghost use Rattle.std.specs.Prelude.{◌≡◌, [], Ok, IfOk, IfErr, slice_set};
 ghost use Rattle.std.specs.List.{insert};
-ghost use Rattle.ficus_entry.specs.Entry.{IsRising, IsFoundAt, IsPlace};
+ghost use Rattle.ficus_entry.specs.Entry.{IsRising, IsFoundAt, IsPlace, PutsEntry};
 ghost use Rattle.ficus_entry.specs.Place.{AreNoted};
 
 use crate::Entry;
+use crate::entries::Changed;
 use crate::link::links;
 use ficus_ids::{Id, Memory};
 use ficus_index::Index;
@@ -105,9 +106,36 @@ impl Table {
         requires { IsFoundAt self.now.list entry.id index }
         ensures { IfOk result (λ table. table.list ≡ slice_set self.now.list index entry) }
     {
-        let others = self.index.without(alloc, self.list.at(index).link())?;
-        let noted = others.with(alloc, entry.link())?;
+        let noted = self.renoted(alloc, index, &entry)?;
         let list = self.list.put(alloc, index, entry)?;
         Ok(Table { list, index: noted })
+    }
+
+    // The index with the link of this entry in place of that of the one at the index.
+    fn renoted(&self, alloc: Global, index: usize, entry: &Entry) -> Result<Index, Memory>
+        requires { IsFoundAt self.now.list entry.now.id index }
+        ensures { IfOk result (λ noted. AreNoted (slice_set self.now.list index entry.now) noted) }
+    {
+        let others = self.index.without(alloc, self.list.at(index).link())?;
+        others.with(alloc, entry.link())
+    }
+
+    /// With a changed entry in its place.
+    pub(crate) fn changed(&self, alloc: Global, change: &Changed) -> Result<Table, Memory>
+        requires { IsFoundAt self.now.list change.now.entry.id change.now.index }
+        ensures { IfOk result (λ table. table.list ≡ slice_set self.now.list change.now.index change.now.entry) }
+    {
+        let entry = change.entry.copy()?;
+        self.put(alloc, change.index, entry)
+    }
+
+    /// With this entry in place of the one with its identifier, or as one more where none has it.
+    pub(crate) fn putting(&self, alloc: Global, entry: Entry) -> Result<Table, Memory>
+        ensures { IfOk result (λ table. PutsEntry self.now.list table.list entry) }
+    {
+        match self.search(entry.id) {
+            Ok(index) => self.put(alloc, index, entry),
+            Err(index) => self.insert(alloc, index, entry),
+        }
     }
 }

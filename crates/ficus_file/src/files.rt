@@ -22,8 +22,8 @@ const ROOM: usize = 4096;
 /// earlier call reserved, until the next copy or insert.
 #[derive(Drop)]
 pub struct Files {
-    list: PersistentList<Held>,
-    changes: Vec<Change>,
+    pub(crate) list: PersistentList<Held>,
+    pub(crate) changes: Vec<Change>,
 }
 
 impl Model for Files {
@@ -144,8 +144,8 @@ impl Files {
         cover_at(&mut self.changes, index);
     }
 
-    // From where these have their memory.
-    fn allocator(&self) -> Global {
+    /// From where these have their memory.
+    pub(crate) fn allocator(&self) -> Global {
         *self.changes.allocator()
     }
 
@@ -232,8 +232,11 @@ impl Files {
     }
 }
 
-// What the file of a list has become by a change.
-fn changed_file<'a>(list: &'a PersistentList<Held>, change: &'a Change) -> &'a FileReplica
+/// What the file of a list has become by a change.
+pub(crate) fn changed_file<'a>(
+    list: &'a PersistentList<Held>,
+    change: &'a Change,
+) -> &'a FileReplica
     requires { change.now.index < length list.now }
     ensures { result.now ≡ file_of change.now list.now }
 {

@@ -5,11 +5,13 @@ mod change;
 mod file;
 mod files;
 mod held;
+mod in_order;
 mod search;
 mod version;
 mod versions;
 
 pub use file::FileReplica;
 pub use files::Files;
+pub use in_order::FilesInOrder;
 pub use version::Version;
 pub use versions::Versions;

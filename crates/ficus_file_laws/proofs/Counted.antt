@@ -1,7 +1,8 @@
 -- The counts of vectors that are bumped and joined.
-use Rattle.std.proofs.Common.{◌≡◌, ℕ, zero, suc, ◌+◌, ◌≤◌, ◌==◌, max, if◌then◌else◌, List, [], ◌∷◌, arith, ap, ◌∙◌, refl}
+use Rattle.std.proofs.Common.{◌≡◌, ◌≢◌, ℕ, ◌+◌, ◌≤◌, ◌==◌, max, Bool, true, false, if◌then◌else◌, List, [], ◌∷◌, inl, inr, arith, ap, ◌∙◌, refl}
+use Rattle.std.proofs.lemmas.Bool.{cases_eq, eqb-true}
 use Rattle.ficus_vv.specs.Vector.{Counts, count_of, bump, join as join_counts}
-use Rattle.ficus_vv.specs.VectorLaws.{count_of-join, count_of-none}
+use Rattle.ficus_vv.specs.VectorLaws.{bump_other, count_of-bump, count_of-join, count_of-none}
 use Rattle.ficus_file.specs.declared.version.Version.{Version}
 use Rattle.ficus_file.specs.File.{over_all}
 use Rattle.ficus_file.specs.Version.{join_all}
@@ -29,19 +30,17 @@ joined_all (version ∷ versions) replica =
     ∙ ap (max (count_of version.vector replica)) (joined_all versions replica)
 
 -- the counts with one more for a replica
-count_of-bump : (by : ℕ) (vector : Counts) (replica : ℕ) → 1 ≤ by → by ≤ 8 →
+bumped_counts : (by : ℕ) (vector : Counts) (replica : ℕ) → 1 ≤ by → by ≤ 8 →
     count_of (bump by vector) replica ≡ items.bump by (count_of vector) replica
-unfolding bump
-count_of-bump by vector zero from to = grind arith
-count_of-bump by vector (suc zero) from to = refl
-count_of-bump by vector (suc (suc zero)) from to = refl
-count_of-bump by vector (suc (suc (suc zero))) from to = refl
-count_of-bump by vector (suc (suc (suc (suc zero)))) from to = refl
-count_of-bump by vector (suc (suc (suc (suc (suc zero))))) from to = refl
-count_of-bump by vector (suc (suc (suc (suc (suc (suc zero)))))) from to = refl
-count_of-bump by vector (suc (suc (suc (suc (suc (suc (suc zero))))))) from to = refl
-count_of-bump by vector (suc (suc (suc (suc (suc (suc (suc (suc zero)))))))) from to = refl
-count_of-bump by vector (suc (suc (suc (suc (suc (suc (suc (suc (suc replica))))))))) from to = grind arith
+bumped_counts by vector replica from to = elim (cases_eq replica by) [
+  | inl is ↦ count_of-bump by vector replica (omega (arith, is)) (omega (arith, is))
+  | inr other ↦ bump_other by vector replica other ∙ by_answer (replica == by) refl other
+]
+  where
+    by_answer : (answer : Bool) → (replica == by) ≡ answer → replica ≢ by →
+        count_of vector replica ≡ (if answer then count_of vector replica + 1 else count_of vector replica)
+    by_answer true is other = absurd (other (eqb-true replica by is))
+    by_answer false is other = refl
 
 -- the version that a write leaves, in the terms of both
 pub written_counts : (by : ℕ) (bytes : List ℕ) (versions : List Version) → 1 ≤ by → by ≤ 8 →
@@ -50,6 +49,6 @@ written_counts by bytes versions from to =
     let vector = same_counts
     (count_of (bump by (join_all versions))) (items.bump by (listed.join_all (items_of versions)))
     (λ replica.
-    count_of-bump by (join_all versions) replica from to
+    bumped_counts by (join_all versions) replica from to
     ∙ ap (λ count. if replica == by then count + 1 else count) (joined_all versions replica)) in
     λ i. record { vector = vector i; bytes = bytes } ∷ []

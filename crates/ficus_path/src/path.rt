@@ -11,7 +11,7 @@ use std::fmt;
 pub const PART_LIMIT: usize = 32;
 
 /// Where a path begins.
-#[derive(Clone, Copy, Debug, PartialEq, Eq, Hash)]
+#[derive(Clone, Copy, Debug)]
 pub enum Base {
     /// At the root of the volume.
     Root,
@@ -33,7 +33,7 @@ pub struct Path {
 }
 
 /// Why bytes gave no path.
-#[derive(Clone, Copy, Debug, PartialEq, Eq, Hash)]
+#[derive(Clone, Copy, Debug, PartialEq, Eq)]
 pub enum PathFault {
     /// The bytes spell no path.
     NotPath,

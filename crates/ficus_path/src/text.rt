@@ -11,7 +11,7 @@ use std::error::Error;
 use std::fmt;
 
 /// Why bytes gave no text.
-#[derive(Clone, Copy, Debug, PartialEq, Eq, Hash)]
+#[derive(Clone, Copy, Debug, PartialEq, Eq)]
 pub enum TextFault {
     /// The bytes spell no text.
     NotText,

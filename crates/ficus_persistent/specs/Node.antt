@@ -1,7 +1,6 @@
 -- What a node stands for.
-use Rattle.std.specs.Prelude.{◌≡◌, List, [], ◌∷◌, ◌++◌, length, Option, Some, None}
+use Rattle.std.specs.Prelude.{◌≡◌, List, [], ◌∷◌, ◌++◌, length}
 use Rattle.ficus_persistent.specs.declared.list.Node.{Node}
-use Rattle.ficus_persistent.specs.declared.list.Sides.{Sides}
 use Rattle.ficus_persistent.specs.declared.list.Node.TheVariants.{Empty, One, Fork}
 
 -- the items in order
@@ -15,8 +14,3 @@ abbrev pub HasCount : {T : Type 0} → Node T → Type 0
 HasCount Empty = Unit {0}
 HasCount (One item) = Unit {0}
 HasCount (Fork branch) = branch.value.count ≡ length (branch.value.left ++ branch.value.item ∷ branch.value.right)
-
--- an item of the list with what stands on its two sides, or nothing where the list is empty
-abbrev pub AreSides : {T : Type 0} → List T → Option (Sides T) → Type 0
-AreSides list None = list ≡ []
-AreSides list (Some sides) = list ≡ sides.left ++ sides.item ∷ sides.right

@@ -1,9 +1,8 @@
-ghost use Rattle.std.specs.Prelude.{◌≡◌, ◌<◌, ◌≤◌, [], ◌∷◌, ◌++◌, length, true, false, map};
-ghost use Rattle.std.specs.Prelude.{slice_get, slice_set, Some, IfOk, OnOk, Bool, IsTrue, ◌↔◌};
+ghost use Rattle.std.specs.Prelude.{◌≡◌, ◌<◌, ◌≤◌, ◌+◌, [], ◌∷◌, ◌++◌, length, true, false, map};
+ghost use Rattle.std.specs.Prelude.{slice_get, slice_set, Some, IfOk, IfSome, OnOk, Bool, IsTrue, ◌↔◌};
 ghost use Rattle.std.specs.List.{insert, remove};
 ghost use Rattle.std.specs.List.Sorted.{IsPartitionedBy};
 ghost use Rattle.ficus_persistent.specs.Cut.{IsCutAt};
-ghost use Rattle.ficus_persistent.specs.Node.{AreSides};
 
 use ficus_ids::Memory;
 use std::alloc::Global;
@@ -50,21 +49,6 @@ struct Branch<T> {
     right: PersistentList<T>,
     count: u32,
     height: u8,
-}
-
-// An item with what stands on its two sides.
-#[derive(Drop)]
-struct Sides<T> {
-    left: PersistentList<T>,
-    item: T,
-    right: PersistentList<T>,
-}
-
-// The last item and those in front of it.
-#[derive(Drop)]
-struct Parted<T> {
-    front: PersistentList<T>,
-    last: T,
 }
 
 impl<T> Model for PersistentList<T> {
@@ -212,17 +196,12 @@ impl<T: Item> PersistentList<T> {
         ensures { IfOk result (λ list. list ≡ insert self.now index item) }
     {
         match &self.node {
-            Node::Empty => PersistentList::join(
-                alloc,
-                PersistentList::new(),
-                item,
-                PersistentList::new(),
-            ),
+            Node::Empty => PersistentList::single(alloc, item),
             Node::One(_) => {
                 if index == 0 {
-                    PersistentList::join(alloc, PersistentList::new(), item, self.copy()?)
+                    self.prepend(alloc, item)
                 } else {
-                    PersistentList::join(alloc, self.copy()?, item, PersistentList::new())
+                    self.append(alloc, item)
                 }
             }
             Node::Fork(branch) => {
@@ -247,7 +226,7 @@ impl<T: Item> PersistentList<T> {
             Node::Empty => Ok(PersistentList::new()),
             Node::One(_) => {
                 if index == 0 {
-                    PersistentList::join(alloc, PersistentList::new(), item, PersistentList::new())
+                    PersistentList::single(alloc, item)
                 } else {
                     self.copy()
                 }
@@ -285,8 +264,11 @@ impl<T: Item> PersistentList<T> {
                 } else if index > before {
                     let right = branch.right.remove(alloc, index - before - 1)?;
                     branch.with_right(alloc, right)
+                } else if branch.right.is_empty() {
+                    branch.left.copy()
                 } else {
-                    branch.left.joined(alloc, &branch.right)
+                    let behind = branch.right.remove(alloc, 0)?;
+                    branch.with_first_behind(alloc, behind)
                 }
             }
         }
@@ -302,48 +284,33 @@ impl<T: Item> PersistentList<T> {
         let middle = left_of(items.len());
         let left = PersistentList::of(alloc, &items[..middle])?;
         let right = PersistentList::of(alloc, &items[middle + 1..])?;
-        PersistentList::join(alloc, left, items[middle].copied()?, right)
+        PersistentList::join_copied(alloc, left, &items[middle], right)
     }
 
-    // The list and then the other.
-    fn joined(&self, alloc: Global, other: &PersistentList<T>) -> Result<PersistentList<T>, Memory>
-        ensures { IfOk result (λ list. list ≡ self.now ++ other.now) }
+    // One item.
+    fn single(alloc: Global, item: T) -> Result<PersistentList<T>, Memory>
+        ensures { IfOk result (λ list. list ≡ item ∷ []) }
     {
-        if self.is_empty() {
-            return other.copy();
-        }
-        let parted = self.parted(alloc)?;
-        let right = other.copy()?;
-        PersistentList::balanced(alloc, parted.front, parted.last, right)
+        let item = Rc::new(alloc, item)?;
+        Ok(PersistentList {
+            node: Node::One(item),
+        })
     }
 
-    // The list but for its last item, and this item.
-    fn parted(&self, alloc: Global) -> Result<Parted<T>, Memory>
-        requires { 0 < length self.now }
-        ensures { IfOk result (λ parted. self.now ≡ parted.front ++ parted.last ∷ []) }
+    // The list with one more item in front.
+    fn prepend(&self, alloc: Global, item: T) -> Result<PersistentList<T>, Memory>
+        ensures { IfOk result (λ list. list ≡ item ∷ self.now) }
     {
-        match &self.node {
-            Node::Empty => unreachable!(),
-            Node::One(item) => {
-                let last = item.as_ref().copied()?;
-                Ok(Parted {
-                    front: PersistentList::new(),
-                    last,
-                })
-            }
-            Node::Fork(branch) => {
-                let branch = branch.as_ref();
-                if branch.right.is_empty() {
-                    return branch.parted();
-                }
-                let parted = branch.right.parted(alloc)?;
-                let front = branch.with_right(alloc, parted.front)?;
-                Ok(Parted {
-                    front,
-                    last: parted.last,
-                })
-            }
-        }
+        let right = self.copy()?;
+        PersistentList::join(alloc, PersistentList::new(), item, right)
+    }
+
+    // The list with one more item behind.
+    fn append(&self, alloc: Global, item: T) -> Result<PersistentList<T>, Memory>
+        ensures { IfOk result (λ list. list ≡ self.now ++ item ∷ []) }
+    {
+        let left = self.copy()?;
+        PersistentList::join(alloc, left, item, PersistentList::new())
     }
 
     // One node above two lists.
@@ -356,17 +323,11 @@ impl<T: Item> PersistentList<T> {
         ensures { IfOk result (λ list. list ≡ left ++ item ∷ right) }
     {
         if left.is_empty() && right.is_empty() {
-            let item = Rc::new(alloc, item)?;
-            return Ok(PersistentList {
-                node: Node::One(item),
-            });
+            return PersistentList::single(alloc, item);
         }
-        let Ok(count) = u32::try_from(left.len().saturating_add(right.len()).saturating_add(1))
-        else {
-            return Err(Memory);
-        };
-        let height = left.height().max(right.height()).saturating_add(1);
-        let branch = Rc::new(
+        let count = PersistentList::count_above(&left, &right)?;
+        let height = PersistentList::height_above(&left, &right);
+        PersistentList::fork(
             alloc,
             Branch {
                 left,
@@ -375,124 +336,87 @@ impl<T: Item> PersistentList<T> {
                 count,
                 height,
             },
-        )?;
+        )
+    }
+
+    // The same, with a copy of the item.
+    fn join_copied(
+        alloc: Global,
+        left: PersistentList<T>,
+        item: &T,
+        right: PersistentList<T>,
+    ) -> Result<PersistentList<T>, Memory>
+        ensures { IfOk result (λ list. list ≡ left ++ item.now ∷ right) }
+    {
+        let item = item.copied()?;
+        PersistentList::join(alloc, left, item, right)
+    }
+
+    // The same, with copies of all three.
+    fn join_shared(
+        alloc: Global,
+        left: &PersistentList<T>,
+        item: &T,
+        right: &PersistentList<T>,
+    ) -> Result<PersistentList<T>, Memory>
+        ensures { IfOk result (λ list. list ≡ left.now ++ item.now ∷ right.now) }
+    {
+        let left = left.copy()?;
+        let right = right.copy()?;
+        PersistentList::join_copied(alloc, left, item, right)
+    }
+
+    // The list of a branch.
+    fn fork(alloc: Global, branch: Branch<T>) -> Result<PersistentList<T>, Memory>
+        requires { branch.count ≡ length (branch.left ++ branch.item ∷ branch.right) }
+        ensures { IfOk result (λ list. list ≡ branch.left ++ branch.item ∷ branch.right) }
+    {
+        let branch = Rc::new(alloc, branch)?;
         Ok(PersistentList {
             node: Node::Fork(branch),
         })
     }
 
-    // The same as `join`, by a rotation where one side is more than one higher.
+    // How many items a node above two lists has below it, itself among them.
+    fn count_above(left: &PersistentList<T>, right: &PersistentList<T>) -> Result<u32, Memory>
+        ensures { IfOk result (λ count. count ≡ length left.now + 1 + length right.now) }
+    {
+        let count = left.len().saturating_add(right.len()).saturating_add(1);
+        u32::try_from(count).or(Err(Memory))
+    }
+
+    // The height of a node above two lists.
+    fn height_above(left: &PersistentList<T>, right: &PersistentList<T>) -> u8 {
+        left.height().max(right.height()).saturating_add(1)
+    }
+
+    // The same as `join_copied`, by a rotation where one side is more than one higher.
     fn balanced(
         alloc: Global,
         left: PersistentList<T>,
-        item: T,
+        item: &T,
         right: PersistentList<T>,
     ) -> Result<PersistentList<T>, Memory>
-        ensures { IfOk result (λ list. list ≡ left ++ item ∷ right) }
+        ensures { IfOk result (λ list. list ≡ left ++ item.now ∷ right) }
     {
-        let (on_left, on_right) = (left.height(), right.height());
-        if on_left > on_right.saturating_add(1) {
-            PersistentList::lean_left(alloc, &left, item, right)
-        } else if on_right > on_left.saturating_add(1) {
-            PersistentList::lean_right(alloc, left, item, &right)
+        if let Some(outer) = left.too_high_beside(&right) {
+            outer.lean_left(alloc, item, &right)
+        } else if let Some(outer) = right.too_high_beside(&left) {
+            outer.lean_right(alloc, &left, item)
         } else {
-            PersistentList::join(alloc, left, item, right)
+            PersistentList::join_copied(alloc, left, item, right)
         }
     }
 
-    // The same as `join`, where the left side is too high.
-    fn lean_left(
-        alloc: Global,
-        left: &PersistentList<T>,
-        item: T,
-        right: PersistentList<T>,
-    ) -> Result<PersistentList<T>, Memory>
-        ensures { IfOk result (λ list. list ≡ left.now ++ item ∷ right) }
-    {
-        let Some(outer) = left.opened()? else {
-            return PersistentList::join(alloc, left.copy()?, item, right);
-        };
-        if outer.left.height() >= outer.right.height() {
-            let below = PersistentList::join(alloc, outer.right, item, right)?;
-            return PersistentList::join(alloc, outer.left, outer.item, below);
-        }
-        PersistentList::turn_left(alloc, outer, item, right)
-    }
-
-    // The same as `join`, where the right side is too high.
-    fn lean_right(
-        alloc: Global,
-        left: PersistentList<T>,
-        item: T,
-        right: &PersistentList<T>,
-    ) -> Result<PersistentList<T>, Memory>
-        ensures { IfOk result (λ list. list ≡ left ++ item ∷ right.now) }
-    {
-        let Some(outer) = right.opened()? else {
-            return PersistentList::join(alloc, left, item, right.copy()?);
-        };
-        if outer.right.height() >= outer.left.height() {
-            let below = PersistentList::join(alloc, left, item, outer.left)?;
-            return PersistentList::join(alloc, below, outer.item, outer.right);
-        }
-        PersistentList::turn_right(alloc, left, item, outer)
-    }
-
-    // The same as `join`, where the right side of the left one is what is too high.
-    fn turn_left(
-        alloc: Global,
-        left: Sides<T>,
-        item: T,
-        right: PersistentList<T>,
-    ) -> Result<PersistentList<T>, Memory>
-        ensures { IfOk result (λ list. list ≡ (left.left ++ left.item ∷ left.right) ++ item ∷ right) }
-    {
-        let Some(inner) = left.right.opened()? else {
-            let first = PersistentList::join(alloc, left.left, left.item, left.right)?;
-            return PersistentList::join(alloc, first, item, right);
-        };
-        let first = PersistentList::join(alloc, left.left, left.item, inner.left)?;
-        let second = PersistentList::join(alloc, inner.right, item, right)?;
-        PersistentList::join(alloc, first, inner.item, second)
-    }
-
-    // The same as `join`, where the left side of the right one is what is too high.
-    fn turn_right(
-        alloc: Global,
-        left: PersistentList<T>,
-        item: T,
-        right: Sides<T>,
-    ) -> Result<PersistentList<T>, Memory>
-        ensures { IfOk result (λ list. list ≡ left ++ item ∷ right.left ++ right.item ∷ right.right) }
-    {
-        let Some(inner) = right.left.opened()? else {
-            let second = PersistentList::join(alloc, right.left, right.item, right.right)?;
-            return PersistentList::join(alloc, left, item, second);
-        };
-        let first = PersistentList::join(alloc, left, item, inner.left)?;
-        let second = PersistentList::join(alloc, inner.right, right.item, right.right)?;
-        PersistentList::join(alloc, first, inner.item, second)
-    }
-
-    // The item at the top, with what stands on its two sides, or `None` exactly where the list is empty.
-    fn opened(&self) -> Result<Option<Sides<T>>, Memory>
-        ensures { IfOk result (AreSides self.now) }
+    // The branch at the top, where it is more than one higher than the other list.
+    fn too_high_beside(&self, other: &PersistentList<T>) -> Option<&Branch<T>>
+        ensures { IfSome result (λ outer. self.now ≡ outer.now.left ++ outer.now.item ∷ outer.now.right) }
     {
         match &self.node {
-            Node::Empty => Ok(None),
-            Node::One(item) => Ok(Some(Sides {
-                left: PersistentList::new(),
-                item: item.as_ref().copied()?,
-                right: PersistentList::new(),
-            })),
-            Node::Fork(branch) => {
-                let branch = branch.as_ref();
-                Ok(Some(Sides {
-                    left: branch.left.copy()?,
-                    item: branch.item.copied()?,
-                    right: branch.right.copy()?,
-                }))
+            Node::Fork(branch) if branch.height > other.height().saturating_add(1) => {
+                Some(branch.as_ref())
             }
+            _ => None,
         }
     }
 }
@@ -502,9 +426,8 @@ impl<T: Item> Branch<T> {
     fn with_left(&self, alloc: Global, left: PersistentList<T>) -> Result<PersistentList<T>, Memory>
         ensures { IfOk result (λ list. list ≡ left ++ self.now.item ∷ self.now.right) }
     {
-        let item = self.item.copied()?;
         let right = self.right.copy()?;
-        PersistentList::balanced(alloc, left, item, right)
+        PersistentList::balanced(alloc, left, &self.item, right)
     }
 
     // With another right side.
@@ -516,8 +439,7 @@ impl<T: Item> Branch<T> {
         ensures { IfOk result (λ list. list ≡ self.now.left ++ self.now.item ∷ right) }
     {
         let left = self.left.copy()?;
-        let item = self.item.copied()?;
-        PersistentList::balanced(alloc, left, item, right)
+        PersistentList::balanced(alloc, left, &self.item, right)
     }
 
     // With another item between the same sides.
@@ -529,13 +451,162 @@ impl<T: Item> Branch<T> {
         PersistentList::join(alloc, left, item, right)
     }
 
-    // The left side and the item.
-    fn parted(&self) -> Result<Parted<T>, Memory>
-        ensures { IfOk result (λ parted. (parted.front ≡ self.now.left) × (parted.last ≡ self.now.item)) }
+    // The left side, and then the first item of the right one above those behind it.
+    fn with_first_behind(
+        &self,
+        alloc: Global,
+        behind: PersistentList<T>,
+    ) -> Result<PersistentList<T>, Memory>
+        requires some { 0 < length self.now.right }
+        requires first { behind ≡ remove self.now.right 0 }
+        ensures { IfOk result (λ list. list ≡ self.now.left ++ self.now.right) }
     {
-        let front = self.left.copy()?;
-        let last = self.item.copied()?;
-        Ok(Parted { front, last })
+        let left = self.left.copy()?;
+        PersistentList::balanced(alloc, left, self.right.at(0), behind)
+    }
+
+    // The branch, which is too high, and behind it an item and a list.
+    fn lean_left(
+        &self,
+        alloc: Global,
+        item: &T,
+        right: &PersistentList<T>,
+    ) -> Result<PersistentList<T>, Memory>
+        ensures { IfOk result (λ list. list
+            ≡ (self.now.left ++ self.now.item ∷ self.now.right) ++ item.now ∷ right.now) }
+    {
+        if self.left.height() >= self.right.height() {
+            self.rotate_right(alloc, item, right)
+        } else {
+            self.turn_right(alloc, item, right)
+        }
+    }
+
+    // A list and an item, and behind them the branch, which is too high.
+    fn lean_right(
+        &self,
+        alloc: Global,
+        left: &PersistentList<T>,
+        item: &T,
+    ) -> Result<PersistentList<T>, Memory>
+        ensures { IfOk result (λ list. list
+            ≡ left.now ++ item.now ∷ (self.now.left ++ self.now.item ∷ self.now.right)) }
+    {
+        if self.right.height() >= self.left.height() {
+            self.rotate_left(alloc, left, item)
+        } else {
+            self.turn_left(alloc, left, item)
+        }
+    }
+
+    // The branch, and behind it an item and a list, under the branch's item.
+    fn rotate_right(
+        &self,
+        alloc: Global,
+        item: &T,
+        right: &PersistentList<T>,
+    ) -> Result<PersistentList<T>, Memory>
+        ensures { IfOk result (λ list. list
+            ≡ (self.now.left ++ self.now.item ∷ self.now.right) ++ item.now ∷ right.now) }
+    {
+        let below = PersistentList::join_shared(alloc, &self.right, item, right)?;
+        PersistentList::join_shared(alloc, &self.left, &self.item, &below)
+    }
+
+    // A list and an item, and behind them the branch, under the branch's item.
+    fn rotate_left(
+        &self,
+        alloc: Global,
+        left: &PersistentList<T>,
+        item: &T,
+    ) -> Result<PersistentList<T>, Memory>
+        ensures { IfOk result (λ list. list
+            ≡ left.now ++ item.now ∷ (self.now.left ++ self.now.item ∷ self.now.right)) }
+    {
+        let below = PersistentList::join_shared(alloc, left, item, &self.left)?;
+        PersistentList::join_shared(alloc, &below, &self.item, &self.right)
+    }
+
+    // The same as `rotate_right`, under the item at the top of the right side, which is what is too high.
+    fn turn_right(
+        &self,
+        alloc: Global,
+        item: &T,
+        right: &PersistentList<T>,
+    ) -> Result<PersistentList<T>, Memory>
+        ensures { IfOk result (λ list. list
+            ≡ (self.now.left ++ self.now.item ∷ self.now.right) ++ item.now ∷ right.now) }
+    {
+        match &self.right.node {
+            Node::Empty => self.rotate_right(alloc, item, right),
+            Node::One(top) => {
+                let none = PersistentList::new();
+                self.turn_right_at(alloc, &none, top.as_ref(), &none, item, right)
+            }
+            Node::Fork(inner) => {
+                let inner = inner.as_ref();
+                self.turn_right_at(alloc, &inner.left, &inner.item, &inner.right, item, right)
+            }
+        }
+    }
+
+    // The same, where the right side is an item between two lists.
+    fn turn_right_at(
+        &self,
+        alloc: Global,
+        before: &PersistentList<T>,
+        top: &T,
+        behind: &PersistentList<T>,
+        item: &T,
+        right: &PersistentList<T>,
+    ) -> Result<PersistentList<T>, Memory>
+        ensures { IfOk result (λ list. list
+            ≡ (self.now.left ++ self.now.item ∷ (before.now ++ top.now ∷ behind.now)) ++ item.now ∷ right.now) }
+    {
+        let first = PersistentList::join_shared(alloc, &self.left, &self.item, before)?;
+        let last = PersistentList::join_shared(alloc, behind, item, right)?;
+        PersistentList::join_copied(alloc, first, top, last)
+    }
+
+    // The same as `rotate_left`, under the item at the top of the left side, which is what is too high.
+    fn turn_left(
+        &self,
+        alloc: Global,
+        left: &PersistentList<T>,
+        item: &T,
+    ) -> Result<PersistentList<T>, Memory>
+        ensures { IfOk result (λ list. list
+            ≡ left.now ++ item.now ∷ (self.now.left ++ self.now.item ∷ self.now.right)) }
+    {
+        match &self.left.node {
+            Node::Empty => self.rotate_left(alloc, left, item),
+            Node::One(top) => {
+                let none = PersistentList::new();
+                self.turn_left_at(alloc, left, item, &none, top.as_ref(), &none)
+            }
+            Node::Fork(inner) => {
+                let inner = inner.as_ref();
+                self.turn_left_at(alloc, left, item, &inner.left, &inner.item, &inner.right)
+            }
+        }
+    }
+
+    // The same, where the left side is an item between two lists.
+    fn turn_left_at(
+        &self,
+        alloc: Global,
+        left: &PersistentList<T>,
+        item: &T,
+        before: &PersistentList<T>,
+        top: &T,
+        behind: &PersistentList<T>,
+    ) -> Result<PersistentList<T>, Memory>
+        ensures { IfOk result (λ list. list
+            ≡ left.now ++ item.now ∷ ((before.now ++ top.now ∷ behind.now) ++ self.now.item ∷ self.now.right)) }
+    {
+        let first = PersistentList::join_shared(alloc, left, item, before)?;
+        let last = PersistentList::join_shared(alloc, behind, &self.item, &self.right)?;
+        PersistentList::join_copied(alloc, first, top, last)
     }
 }
 

@@ -43,6 +43,22 @@ rising_push xs y rising below = record {
     past : {j n : ℕ} → j ≡ n → j - n ≡ 0
     past is = omega (arith, is)
 
+-- one entry more changes nothing under another identifier
+pub before_push : (old : List Entry) (entry : Entry) (id : Id) → id ≢ entry.id → (found : Option Entry) →
+    HoldsUnder (old ++ entry ∷ []) id found → HoldsUnder old id found
+before_push old entry id differs None held =
+    λ was. held (record {
+      item = was.item;
+      inside =
+          Contains-append_left old (entry ∷ []) was.item was.inside;
+      has_id = was.has_id;
+    })
+before_push old entry id differs (Some one) held =
+    elim (Contains-push_cases old entry one held.0) [
+      | inl inside ↦ (inside, held.1)
+      | inr is ↦ absurd (differs (sym held.1 ∙ ap (λ (e : Entry). e.id) (sym is)))
+    ]
+
 module _ (old : List Entry) (id : Id) (rising : IsRising old)
     (below : (x : Entry) → Contains old x → id_cmp x.id id ≡ Less) (free : Holds old id → ⊥) where
   nothing_more : IsGrown old id None
@@ -60,27 +76,12 @@ module _ (old : List Entry) (id : Id) (rising : IsRising old)
   one_more entry has = record {
     under = λ found held. one_held (λ e. e.id) (old ++ entry ∷ []) id found (Some entry) rises held
         (Contains-push old entry, has);
-    others = still;
+    others = λ other differs found held. before_push old entry other (λ is. differs (is ∙ has)) found held;
     rising = rises;
   }
     where
       rises : IsRising (old ++ entry ∷ [])
       rises = rising_push old entry rising (λ x inside. rw has (below x inside))
-
-      still : (other : Id) → other ≢ id → (found : Option Entry) → HoldsUnder (old ++ entry ∷ []) other found →
-          HoldsUnder old other found
-      still other differs None held =
-          λ was. held (record {
-            item = was.item;
-            inside =
-                Contains-append_left old (entry ∷ []) was.item was.inside;
-            has_id = was.has_id;
-          })
-      still other differs (Some one) held =
-          elim (Contains-push_cases old entry one held.0) [
-            | inl inside ↦ (inside, held.1)
-            | inr is ↦ absurd (differs (sym held.1 ∙ ap (λ (e : Entry). e.id) (sym is) ∙ has))
-          ]
 
   pub grows : (more : Option Entry) → HasId id more → IsGrown old id more
   grows None has = nothing_more

@@ -2,7 +2,7 @@
 use Rattle.std.proofs.Common.{◌≡◌, ◌≢◌, ℕ, ◌+◌, ◌<◌, List, [], ◌∷◌, ◌++◌, length, take, get_or, Option, Some, None, sym, ◌∙◌, ap, inl, inr, refl, arith}
 use Rattle.std.specs.Option.{option_or}
 use Rattle.std.proofs.lemmas.List.{take_more}
-use Rattle.std.proofs.lemmas.List.Elements.{Contains-push, Contains-push_cases, Contains-append_left}
+use Rattle.std.proofs.lemmas.List.Elements.{Contains-push}
 use Rattle.std.proofs.Common.{length-take, get_or-take}
 use Rattle.ficus_ids.specs.declared.id.Id.{Id}
 use Rattle.ficus_ids.specs.IdLaws.{same_id_or_not}
@@ -12,6 +12,7 @@ use Rattle.ficus_entry.specs.Entry.{IsRising, HoldsUnder, PutsEntry}
 use Rattle.ficus_entry.specs.declared.entry.Entry.{Entry}
 use Rattle.ficus_recon_dir.specs.Merge.{MergesEntries, IsMadeBy, Changes, Replaces}
 use Rattle.ficus_recon_dir.specs.Table.{MergesEntry}
+use Rattle.ficus_recon_dir.proofs.Adding.{before_push}
 
 -- all are replaced by the first changes, and the identifiers rise
 pub record AreReplaced (old changes new : List Entry) : Type 0 where
@@ -48,21 +49,6 @@ module _ (old done : List Entry) (change : Entry) (rising : IsRising (done ++ ch
         | inr is ↦ absurd (differs (sym held.1 ∙ ap (λ (e : Entry). e.id) is))
       ]
 
-  earlier : (id : Id) → id ≢ change.id → (found : Option Entry) → HoldsUnder (done ++ change ∷ []) id found →
-      HoldsUnder done id found
-  earlier id differs None held =
-      λ was. held (record {
-        item = was.item;
-        inside =
-            Contains-append_left done (change ∷ []) was.item was.inside;
-        has_id = was.has_id;
-      })
-  earlier id differs (Some entry) held =
-      elim (Contains-push_cases done change entry held.0) [
-        | inl inside ↦ (inside, held.1)
-        | inr is ↦ absurd (differs (sym held.1 ∙ ap (λ (e : Entry). e.id) (sym is)))
-      ]
-
   pub replaced_more : AreReplaced old (done ++ change ∷ []) new
   replaced_more = record {
     so_far = record {
@@ -74,7 +60,7 @@ module _ (old done : List Entry) (change : Entry) (rising : IsRising (done ++ ch
             let is_change : is ≡ Some change =
             one_held (λ e. e.id) new id is (Some change) rises held_is ((puts change).1 (inr refl), sym same) in
             rw found_is is_change
-        | inr differs ↦ so_far.so_far.each id was found is held_was (earlier id differs found held_change)
+        | inr differs ↦ so_far.so_far.each id was found is held_was (before_push done change id differs found held_change)
             (still id differs is held_is)
       ];
     };

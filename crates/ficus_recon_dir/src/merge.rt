@@ -8,10 +8,12 @@ use crate::rules::{Change, Whole};
 use crate::table::Taker;
 use ficus_entry::{Entries, Entry};
 use ficus_ids::{Members, Memory};
+use std::alloc::Global;
 
 /// What replica `me` holds after it has taken a peer's entries: the merge table, entry by entry. `me` is a
 /// member. Where little changes, all else is shared with what it held.
 pub fn merge_entries(
+    alloc: Global,
     mine: &Entries,
     theirs: &Entries,
     me: u8,
@@ -21,7 +23,6 @@ pub fn merge_entries(
     ensures merged { IfOk result (MergesEntries me members mine.now theirs.now) }
     ensures rising { IfOk result IsRising }
 {
-    let alloc = mine.allocator();
     let my_entries = mine.in_order()?;
     let their_entries = theirs.in_order()?;
     let rule = Change {

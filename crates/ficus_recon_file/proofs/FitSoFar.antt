@@ -1,12 +1,11 @@
 -- One file after the other fits.
 use Rattle.std.proofs.Common.{◌≡◌, inl, inr, ℕ, ◌+◌, List, [], ◌∷◌, ◌++◌, slice_get, take, Contains, Some, sym, ap, ◌∙◌, subst}
-use Rattle.std.proofs.lemmas.List.{take_more}
 use Rattle.std.proofs.lemmas.List.Elements.{Contains-append_cases}
-use Rattle.std.proofs.lemmas.Option.{slice_get_within, get_or_from_slice_get}
 use Rattle.ficus_ids.specs.ListLaws.{here_or_there, not_inside_none}
 use Rattle.ficus_file.specs.declared.file.FileReplica.{FileReplica}
 use Rattle.ficus_file.specs.Files.{IsRising}
 use Rattle.ficus_recon_file.specs.Merge.{CanMerge, Fit}
+use Rattle.ficus_recon_file.proofs.Walk.{take_next}
 
 pub fits_more : (mine theirs : List FileReplica) (i : ℕ) (their : FileReplica) → slice_get theirs i ≡ Some their →
     IsRising mine → Fit mine (take i theirs) →
@@ -23,5 +22,4 @@ fits_more mine theirs i their at rising before now = record {
 }
   where
     next : take (i + 1) theirs ≡ take i theirs ++ their ∷ []
-    next = take_more theirs i their (slice_get_within theirs i their at) ∙
-        ap (λ x. take i theirs ++ x ∷ []) (get_or_from_slice_get theirs i their their at)
+    next = take_next theirs i their at

@@ -1,4 +1,5 @@
 pub mod Among
+pub mod Beside
 pub mod Counted
 pub mod Current
 pub mod Determined

@@ -19,6 +19,12 @@ pub contains_at : (files : List FileReplica) (i : ℕ) (file : FileReplica) → 
     Contains files file
 contains_at files i file at = (i, slice_get_within files i file at, get_or_from_slice_get files i file file at)
 
+-- the items in front of the next place
+pub take_next : {X : Type 0} (xs : List X) (k : ℕ) (x : X) → slice_get xs k ≡ Some x →
+    take (k + 1) xs ≡ take k xs ++ x ∷ []
+take_next xs k x at =
+    take_more xs k x (slice_get_within xs k x at) ∙ ap (λ last. take k xs ++ last ∷ []) (get_or_from_slice_get xs k x x at)
+
 inside_whole : {X : Type 0} (xs : List X) (k : ℕ) (x : X) → Contains (take k xs) x → Contains xs x
 inside_whole xs k x inside = subst (λ l. Contains l x) (take-append-drop k xs) (Contains-append_left (take k xs) (drop k xs) x inside)
 
@@ -44,7 +50,7 @@ module _ (held : List Id) (mine theirs : List FileReplica) (k : ℕ) (their : Fi
   is_at = get_or_from_slice_get theirs k their their at
 
   next : take (k + 1) theirs ≡ take k theirs ++ their ∷ []
-  next = take_more theirs k their within ∙ ap (λ x. take k theirs ++ x ∷ []) is_at
+  next = take_next theirs k their at
 
   pub inside : Contains theirs their
   inside = (k, within, is_at)

@@ -6,8 +6,9 @@ ghost use Rattle.ficus_recon_file.specs.Merge.{AgreeOnBytes, CanMerge, Fit};
 ghost use Rattle.ficus_recon_file.specs.Versions.{HasVector, IsLatest, AreOrdered, AreOfEither, HaveOneText};
 ghost use Rattle.ficus_recon_file.specs.Counts.{HaveSameVectors, Grows, MakeSoMany};
 
+use crate::SideBySide;
 use crate::versions::{has_vector, is_latest};
-use ficus_file::{FileReplica, Files, Version};
+use ficus_file::{FileReplica, Version};
 use ficus_ids::Kind;
 use ficus_vv::{Standing, Vector};
 
@@ -107,13 +108,13 @@ fn can_merge(mine: &FileReplica, theirs: &FileReplica) -> bool
 
 /// Whether two lists of files can be merged: no object is in both with different kinds, no file of both has one
 /// vector with different bytes in the two, and no file of both would keep more than 8 versions. Takes no memory.
-pub fn merge_fits(mine: &Files, theirs: &Files) -> bool
-    ensures { IsTrue result ↔ Fit mine.now theirs.now }
+pub fn merge_fits(sides: &SideBySide<'_>) -> bool
+    ensures { IsTrue result ↔ Fit sides.now.mine sides.now.theirs }
 {
-    for index in 0..theirs.len() {
-        let their = theirs.at(index);
-        if let Some(file) = mine.get(their.id) {
-            if !can_merge(file, their) {
+    for index in 0..sides.len() {
+        let pair = sides.at(index);
+        if let Some(file) = pair.mine {
+            if !can_merge(file, pair.theirs) {
                 return false;
             }
         }

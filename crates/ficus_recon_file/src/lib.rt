@@ -4,8 +4,12 @@
 mod fits;
 mod laws;
 mod merge;
+mod pair;
+mod sides;
 mod versions;
 
 pub use fits::merge_fits;
 pub use laws::one_merge;
 pub use merge::merge_files;
+pub use pair::Pair;
+pub use sides::SideBySide;

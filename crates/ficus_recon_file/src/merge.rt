@@ -3,6 +3,7 @@ ghost use Rattle.ficus_ids.specs.Rising.{IsRisingBy};
 ghost use Rattle.ficus_file.specs.Files.{AreFiles, IsHeldFile, id_of, Puts};
 ghost use Rattle.ficus_recon_file.specs.Merge.{CanMerge, Fit, IsMergedFile, AreMergedFiles};
 
+use crate::SideBySide;
 use crate::versions::{is_whole, merged_versions};
 use ficus_file::{FileReplica, Files};
 use ficus_ids::{Id, Memory};
@@ -50,29 +51,24 @@ fn is_among(ids: &[Id], id: Id) -> bool
 /// What the files of two replicas make together. Every file of mine stays. A file of both has exactly the versions
 /// that no version of either is over, and the join of the covers. A file of theirs alone is taken exactly where its
 /// identifier is in `held`, the rising list of those that entries held afterwards name or lie in.
-pub fn merge_files(
-    alloc: Global,
-    mine: &Files,
-    theirs: &Files,
-    held: &[Id],
-) -> Result<Files, Memory>
-    requires fit { Fit mine.now theirs.now }
+pub fn merge_files(alloc: Global, sides: &SideBySide<'_>, held: &[Id]) -> Result<Files, Memory>
+    requires fit { Fit sides.now.mine sides.now.theirs }
     requires rising { IsRisingBy (λ id. id) held.now }
-    ensures merged { IfOk result (AreMergedFiles held.now mine.now theirs.now) }
+    ensures merged { IfOk result (AreMergedFiles held.now sides.now.mine sides.now.theirs) }
     ensures files { IfOk result AreFiles }
 {
-    let mut both = mine.copy()?;
-    for index in 0..theirs.len() {
-        let their = theirs.at(index);
-        match mine.get(their.id) {
+    let mut both = sides.mine().copy()?;
+    for index in 0..sides.len() {
+        let pair = sides.at(index);
+        match pair.mine {
             Some(file) => {
-                if !adds_nothing(file, their) {
-                    both.put(merged_file(alloc, file, their)?)?;
+                if !adds_nothing(file, pair.theirs) {
+                    both.put(merged_file(alloc, file, pair.theirs)?)?;
                 }
             }
             None => {
-                if is_among(held, their.id) {
-                    both.put(their.copy(alloc)?)?;
+                if is_among(held, pair.theirs.id) {
+                    both.put(pair.theirs.copy(alloc)?)?;
                 }
             }
         }

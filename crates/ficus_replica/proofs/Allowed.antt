@@ -1,5 +1,5 @@
 -- What the history shows of a place or a file, and what it allows there.
-use Rattle.std.proofs.Common.{◌≡◌, ◌<◌, ℕ, List, length, subst, inl, inr, arith}
+use Rattle.std.proofs.Common.{◌<◌, ℕ, List, length, subst, inl, inr, arith}
 use Rattle.ficus_ids.specs.declared.id.Id.{Id}
 use Rattle.ficus_ids.specs.declared.kind.Kind.{Kind}
 use Rattle.ficus_model.specs.declared.event.Event.{Event}

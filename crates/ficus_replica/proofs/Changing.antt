@@ -1,28 +1,33 @@
 -- What a change gives over the tables it gives over the history.
-use Rattle.std.proofs.Common.{◌≡◌, ℕ, ◌≤◌, List, Result, Ok, Err, sym, subst, arith}
+use Rattle.std.proofs.Common.{◌≡◌, ℕ, ◌≤◌, List, length, Result, Ok, Err, sym, subst, arith}
 use Rattle.ficus_ids.specs.Members.{IsCount}
+use Rattle.ficus_ids.specs.declared.id.Id.{Id}
 use Rattle.ficus_ids.specs.declared.kind.Kind.{Kind}
+use Rattle.ficus_ids.specs.declared.kind.Kind.TheVariants.{Dir}
 use Rattle.ficus_ids.specs.declared.refusal.Refusal.{Refusal}
 use Rattle.ficus_model.specs.declared.event.Event.{Event}
 use Rattle.ficus_model.specs.declared.event.Event.TheVariants.{Update}
 use Rattle.ficus_model.specs.declared.event.Op.{Op}
-use Rattle.ficus_model.specs.Lawful.{Volume, IsLawful, MayCome}
+use Rattle.ficus_model.specs.Known.{Knows}
+use Rattle.ficus_model.specs.Lawful.{Volume, IsLawful, MayCome, IsAllowed, MaySettle, HasBytesLeft, FitsBytes}
 use Rattle.ficus_path.specs.declared.path.Path.{Path}
 use Rattle.ficus_codec.specs.Saved.{FitsImage}
 use Rattle.ficus_laws.proofs.Lawful.{lawful_more}
+use Rattle.ficus_commands.specs.declared.change.Change.{Change}
+use Rattle.ficus_commands.specs.declared.change.Change.TheVariants.{MkDir, Create, Write, Settle, Resolve}
+use Rattle.ficus_rules.specs.Change.{ChangeRule}
+use Rattle.ficus_rules.specs.Limits.{LimitsRule}
 use Rattle.ficus_rules.specs.Make.{MakeRule}
-use Rattle.ficus_rules.specs.Resolve.{ResolveRule}
-use Rattle.ficus_rules.specs.Settle.{SettleRule}
+use Rattle.ficus_rules.specs.Rule.{Gives}
 use Rattle.ficus_rules.specs.View.{history_view}
-use Rattle.ficus_rules.specs.Walk.{last_name}
-use Rattle.ficus_rules.specs.Write.{WriteRule}
+use Rattle.ficus_rules.specs.Walk.{FileRule, last_name}
 pub use Rattle.ficus_rules.proofs.Changes.{change_once, change_along}
 use Rattle.ficus_rules.proofs.Rules.{memory_along}
-use Rattle.ficus_rules.proofs.Walks.{file_walked, parent_walked}
+use Rattle.ficus_rules.proofs.Walks.{IsFileAt, file_walked, parent_walked}
 use Rattle.ficus_answers.specs.View.{tables_view}
 use Rattle.ficus_replica.specs.declared.replica.Next.{Next}
 use Rattle.ficus_replica.specs.declared.replica.Replica.{Replica}
-use Rattle.ficus_replica.specs.Change.{Change, ChangeRule, Changed, ChangeGives, ChangedAfter, ChangeStands, Make, Write, Settle, Resolve}
+use Rattle.ficus_replica.specs.Change.{Changed, ChangeGives, ChangedAfter, ChangeStands}
 use Rattle.ficus_replica.specs.Effect.{Applied}
 use Rattle.ficus_replica.specs.SavedOf.{StandsFor}
 use Rattle.ficus_replica.proofs.Allowed.{MayBeDone, new_place, file_in_reach, file_named, bytes_left}
@@ -40,48 +45,38 @@ module _ (volume : Volume) (H : List Event) (r : ℕ) (lawful : IsLawful volume 
     allowed = new_place volume H r dir (last_name path) (parent_walked (history_view volume H r) path dir walk) free;
   })
 
-  write_may : (path : Path) (bytes : List ℕ) (op : Op) → WriteRule (history_view volume H r) path bytes (Ok op) →
-      MayBeDone volume H r op
-  write_may path bytes op (file, walk, (settled, (short, (left, (within, is))))) =
-      let found = file_walked (history_view volume H r) path file walk in
+  -- the file at a path is written within the limits, where that is allowed
+  within_may : (path : Path) {file : Id} {bytes : List ℕ} {op given : Op} →
+      (FitsBytes volume H r bytes → HasBytesLeft volume H r op) →
+      (IsFileAt (history_view volume H r) file → IsAllowed H (Knows H r) op) →
+      FileRule (history_view volume H r) path (Ok file) →
+      LimitsRule (history_view volume H r) (length bytes) (Gives op) (Ok given) → MayBeDone volume H r given
+  within_may path {file} {bytes} writes allowed walk (short, (left, (within, is))) =
       subst (MayBeDone volume H r) (sym is) (record {
         left = omega arith;
-        bytes = bytes_left volume H r bytes short within;
-        allowed = record {
-          in_reach = file_in_reach volume H r lawful file found;
-          settled = λ conflict. settled (file_named volume H r found, conflict);
-        };
+        bytes = writes (bytes_left volume H r bytes short within);
+        allowed = allowed (file_walked (history_view volume H r) path file walk);
       })
 
-  settle_may : (path : Path) (bytes : List ℕ) (op : Op) → SettleRule (history_view volume H r) path bytes (Ok op) →
-      MayBeDone volume H r op
-  settle_may path bytes op (file, walk, (conflict, (short, (left, (within, is))))) =
-      subst (MayBeDone volume H r) (sym is) (record {
-        left = omega arith;
-        bytes = bytes_left volume H r bytes short within;
-        allowed = record {
-          in_reach = file_in_reach volume H r lawful file (file_walked (history_view volume H r) path file walk);
-          conflict = conflict.1;
-        };
-      })
-
-  resolve_may : (path : Path) (op : Op) → ResolveRule (history_view volume H r) path (Ok op) → MayBeDone volume H r op
-  resolve_may path op (file, walk, (conflict, (bytes, resolved, (short, (left, (within, is)))))) =
-      subst (MayBeDone volume H r) (sym is) (record {
-        left = omega arith;
-        bytes = bytes_left volume H r bytes short within;
-        allowed = record {
-          in_reach = file_in_reach volume H r lawful file (file_walked (history_view volume H r) path file walk);
-          conflict = conflict.1;
-        };
-      })
+  -- a conflict may be ended
+  may_settle : {file : Id} → (history_view volume H r).conflicts file → IsFileAt (history_view volume H r) file →
+      MaySettle H (Knows H r) file
+  may_settle {file} conflict found =
+      record { in_reach = file_in_reach volume H r lawful file found; conflict = conflict.1 }
 
   pub change_may : (change : Change) (op : Op) → ChangeRule (history_view volume H r) change (Ok op) →
       MayBeDone volume H r op
-  change_may (Make path kind) op rule = make_may path kind op rule
-  change_may (Write path bytes) op rule = write_may path bytes op rule
-  change_may (Settle path bytes) op rule = settle_may path bytes op rule
-  change_may (Resolve path) op rule = resolve_may path op rule
+  change_may (MkDir path) op rule = make_may path Dir op rule
+  change_may (Create path kind) op rule = make_may path kind op rule
+  change_may (Write path text) op (file, walk, (settled, limits)) =
+      within_may path (λ fits. fits) (λ found. record {
+        in_reach = file_in_reach volume H r lawful file found;
+        settled = λ conflict. settled (file_named volume H r found, conflict);
+      }) walk limits
+  change_may (Settle path text) op (file, walk, (conflict, limits)) =
+      within_may path (λ fits. fits) (may_settle conflict) walk limits
+  change_may (Resolve path) op (file, walk, (conflict, (text, resolved, limits))) =
+      within_may path (λ fits. fits) (may_settle conflict) walk limits
 
 -- In each of these a replica stands for a lawful history.
 module _ {volume : Volume} {H : List Event} {r : ℕ} {old : Replica} (lawful : IsLawful volume H)

@@ -15,15 +15,17 @@ use Rattle.ficus_path.specs.declared.path.Path.{Path}
 use Rattle.ficus_codec.specs.Saved.{FitsImage}
 use Rattle.ficus_codec.specs.Tables.{FitsFile, HasObjectsIn}
 use Rattle.ficus_codec.specs.declared.saved.Saved.{Saved}
+use Rattle.ficus_commands.specs.declared.change.Change.{Change}
+use Rattle.ficus_commands.specs.declared.change.Change.TheVariants.{MkDir, Create, Write, Settle, Resolve}
 use Rattle.ficus_rules.specs.Make.{MakeRule}
-use Rattle.ficus_rules.specs.Resolve.{ResolveRule}
-use Rattle.ficus_rules.specs.Settle.{SettleRule}
+use Rattle.ficus_rules.specs.Change.{ChangeRule}
+use Rattle.ficus_rules.specs.Limits.{LimitsRule}
+use Rattle.ficus_rules.specs.Rule.{Gives}
 use Rattle.ficus_rules.specs.View.{IsReachedIn}
-use Rattle.ficus_rules.specs.Write.{WriteRule}
+use Rattle.ficus_rules.specs.Walk.{FileRule}
 use Rattle.ficus_rules.proofs.Walks.{IsFileAt, file_walked, parent_walked}
 use Rattle.ficus_answers.specs.View.{held_live, tables_view}
-use Rattle.ficus_replica.specs.Change.{Change, ChangeRule, Make, Write, Settle, Resolve}
-use Rattle.ficus_replica.specs.Effect.{IsReady, MayMake, MayWrite}
+use Rattle.ficus_replica.specs.Effect.{IsPossible, IsReady, MayMake, MayWrite}
 
 module _ {saved : Saved} (fits : FitsImage saved) where
   held_target : (entry : Entry) → Contains saved.entries entry → Holds saved.files entry.target
@@ -70,35 +72,25 @@ module _ {saved : Saved} (fits : FitsImage saved) where
   may_write bytes found short within =
       record { held = file_held found; one_file = omega arith; left = omega arith }
 
+  -- the file at a path is written within the limits
+  within_ready : (path : Path) {file : Id} {bytes : List ℕ} {op given : Op} →
+      (MayWrite saved file bytes → IsPossible saved op) → FileRule (tables_view saved) path (Ok file) →
+      LimitsRule (tables_view saved) (length bytes) (Gives op) (Ok given) → IsReady saved given
+  within_ready path {file} {bytes} writes walk (short, (left, (within, is))) = subst (IsReady saved) (sym is) (record {
+    left = omega arith;
+    possible = writes (may_write bytes (file_walked (tables_view saved) path file walk) short within);
+  })
+
   make_ready : (path : Path) (kind : Kind) (op : Op) → MakeRule (tables_view saved) path kind (Ok op) → IsReady saved op
   make_ready path kind op (dir, walk, (free, (left, is))) = subst (IsReady saved) (sym is) (record {
     left = omega arith;
     possible = reached_place (parent_walked (tables_view saved) path dir walk).reached;
   })
 
-  write_ready : (path : Path) (bytes : List ℕ) (op : Op) → WriteRule (tables_view saved) path bytes (Ok op) →
-      IsReady saved op
-  write_ready path bytes op (file, walk, (settled, (short, (left, (within, is))))) = subst (IsReady saved) (sym is) (record {
-    left = omega arith;
-    possible = may_write bytes (file_walked (tables_view saved) path file walk) short within;
-  })
-
-  settle_ready : (path : Path) (bytes : List ℕ) (op : Op) → SettleRule (tables_view saved) path bytes (Ok op) →
-      IsReady saved op
-  settle_ready path bytes op (file, walk, (conflict, (short, (left, (within, is))))) = subst (IsReady saved) (sym is) (record {
-    left = omega arith;
-    possible = may_write bytes (file_walked (tables_view saved) path file walk) short within;
-  })
-
-  resolve_ready : (path : Path) (op : Op) → ResolveRule (tables_view saved) path (Ok op) → IsReady saved op
-  resolve_ready path op (file, walk, (conflict, (bytes, resolved, (short, (left, (within, is)))))) =
-      subst (IsReady saved) (sym is) (record {
-        left = omega arith;
-        possible = may_write bytes (file_walked (tables_view saved) path file walk) short within;
-      })
-
   pub change_ready : (change : Change) (op : Op) → ChangeRule (tables_view saved) change (Ok op) → IsReady saved op
-  change_ready (Make path kind) op rule = make_ready path kind op rule
-  change_ready (Write path bytes) op rule = write_ready path bytes op rule
-  change_ready (Settle path bytes) op rule = settle_ready path bytes op rule
-  change_ready (Resolve path) op rule = resolve_ready path op rule
+  change_ready (MkDir path) op rule = make_ready path Dir op rule
+  change_ready (Create path kind) op rule = make_ready path kind op rule
+  change_ready (Write path text) op (file, walk, (settled, limits)) = within_ready path (λ may. may) walk limits
+  change_ready (Settle path text) op (file, walk, (conflict, limits)) = within_ready path (λ may. may) walk limits
+  change_ready (Resolve path) op (file, walk, (conflict, (text, resolved, limits))) =
+      within_ready path (λ may. may) walk limits

@@ -1,9 +1,7 @@
 -- The tables that the code makes are what the operation makes of the replica's, and fit.
-use Rattle.std.proofs.Common.{◌≡◌, ℕ, ◌+◌, ◌≤◌, List, [], ◌∷◌, ◌++◌, slice_get, take, Some, Result, Ok, Err, refl, sym, ap, subst, ◌∙◌, arith}
+use Rattle.std.proofs.Common.{◌≡◌, ℕ, ◌+◌, ◌≤◌, List, slice_get, take, Some, Result, Ok, Err, refl, sym, ap, subst, arith}
 use Rattle.std.specs.Prelude.{All}
-use Rattle.std.proofs.lemmas.List.{take_more}
 use Rattle.std.proofs.lemmas.List.Elements.{All-contains, All-push}
-use Rattle.std.proofs.lemmas.Option.{slice_get_within, get_or_from_slice_get}
 use Rattle.ficus_ids.specs.ListLaws.{not_inside_none}
 use Rattle.ficus_ids.specs.Name.{IsName}
 use Rattle.ficus_ids.specs.declared.id.Id.{Id}
@@ -18,6 +16,7 @@ use Rattle.ficus_file.specs.declared.file.FileReplica.{FileReplica}
 use Rattle.ficus_model.specs.declared.event.Op.{Op}
 use Rattle.ficus_model.specs.declared.event.Op.TheVariants.{Make, Link, Remove, Move, Write, Settle, Resolve, Adopt, Discard}
 use Rattle.ficus_model.specs.Live.{entry_of}
+use Rattle.ficus_recon_file.proofs.Walk.{take_next}
 use Rattle.ficus_codec.specs.Saved.{FitsImage, IsFileOfPast}
 use Rattle.ficus_codec.specs.Tables.{FitsFile}
 use Rattle.ficus_codec.specs.declared.saved.Saved.{Saved}
@@ -35,10 +34,7 @@ use Rattle.ficus_replica.proofs.Tables.{tables_of, entered_none, entered_one}
 pub all_more : {X : Type 0} (P : X → Type 0) (xs : List X) (index : ℕ) (x : X) → slice_get xs index ≡ Some x →
     All P (take index xs) → P x → All P (take (index + 1) xs)
 all_more P xs index x at before is =
-    let next : take (index + 1) xs ≡ take index xs ++ x ∷ [] =
-    take_more xs index x (slice_get_within xs index x at)
-    ∙ ap (λ last. take index xs ++ last ∷ []) (get_or_from_slice_get xs index x x at) in
-    subst (All P) (sym next) (All-push P (take index xs) x before is)
+    subst (All P) (sym (take_next xs index x at)) (All-push P (take index xs) x before is)
 
 -- what writes enters no entry and removes none
 enters_nothing : (by : ℕ) (number : Id) (entries : List Entry) (op : Op) (file : Id) (bytes : List ℕ) →

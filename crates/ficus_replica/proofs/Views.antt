@@ -1,5 +1,5 @@
 -- What a replica's tables show is what the history shows for which it stands.
-use Rattle.std.proofs.Common.{◌≡◌, ◌↔◌, ℕ, List, refl, subst, arith}
+use Rattle.std.proofs.Common.{◌↔◌, ℕ, List, refl, subst, arith}
 use Rattle.std.specs.Prelude.{Contains}
 use Rattle.ficus_ids.specs.declared.id.Id.{Id}
 use Rattle.ficus_ids.specs.declared.kind.Kind.{Kind}

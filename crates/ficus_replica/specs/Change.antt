@@ -3,21 +3,16 @@ use Rattle.std.specs.Prelude.{◌≡◌, ℕ, List, Result, Ok, Err}
 use Rattle.ficus_ids.specs.declared.refusal.Refusal.{Refusal}
 use Rattle.ficus_model.specs.declared.event.Event.{Event}
 use Rattle.ficus_model.specs.declared.event.Event.TheVariants.{Update}
-use Rattle.ficus_model.specs.declared.event.Op.{Op}
 use Rattle.ficus_model.specs.Lawful.{Volume}
 use Rattle.ficus_answers.specs.View.{tables_view}
-pub use Rattle.ficus_rules.specs.Change.{Change, ChangeRule, Make, Write, Settle, Resolve}
+use Rattle.ficus_commands.specs.declared.change.Change.{Change}
+use Rattle.ficus_rules.specs.Change.{ChangeRule}
 use Rattle.ficus_rules.specs.Rule.{UnlessMemory}
 use Rattle.ficus_rules.specs.View.{history_view}
 use Rattle.ficus_replica.specs.declared.replica.Next.{Next}
 use Rattle.ficus_replica.specs.declared.replica.Replica.{Replica}
 use Rattle.ficus_replica.specs.Effect.{Applied}
 use Rattle.ficus_replica.specs.SavedOf.{StandsAfter}
-
--- the operation is one to which a change comes, over what the replica holds
-pub record IsDecided (old : Replica) (op : Op) : Type 0 where
-  pub change : Change
-  pub answer : ChangeRule (tables_view old.saved) change (Ok op)
 
 -- the operation is the rule's, over what the replica holds; what is saved is what it makes of it, and no more
 pub record Changed (old : Replica) (change : Change) (next : Next) : Type 0 where

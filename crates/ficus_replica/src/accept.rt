@@ -1,4 +1,4 @@
-ghost use Rattle.std.specs.Prelude.{◌-◌, ◌^◌, ◌<◌, ℕ, List, IfOk, IsTrue, ◌↔◌};
+ghost use Rattle.std.specs.Prelude.{◌≡◌, ◌-◌, ◌^◌, ◌<◌, ℕ, List, IfOk, IsTrue, ◌↔◌};
 
 use crate::taken::taken;
 use crate::{Asked, Replica};
@@ -6,7 +6,7 @@ use ficus_entry::{Entries, Entry};
 use ficus_file::{FileReplica, Files, Version};
 use ficus_ids::{Id, Memory, Refusal};
 use ficus_recon_dir::merge_entries;
-use ficus_recon_file::{merge_files, merge_fits};
+use ficus_recon_file::{SideBySide, merge_files, merge_fits};
 use ficus_vv::Vector;
 use std::alloc::Global;
 
@@ -46,10 +46,11 @@ impl Replica {
         if self.ask != Some(Asked { to: from, number }) {
             return Err(Refusal::Stale);
         }
-        if !self.fits(entries, files)? {
+        let sides = SideBySide::of(alloc, &self.saved.files, files)?;
+        if !self.fits(entries, &sides)? {
             return Err(Refusal::BadMessage);
         }
-        let (merged, both) = self.merged(alloc, entries, files)?;
+        let (merged, both) = self.merged(alloc, entries, &sides)?;
         Ok(Replica {
             saved: self.saved_with(merged, both),
             ask: None,
@@ -61,29 +62,27 @@ impl Replica {
         &self,
         alloc: Global,
         entries: &Entries,
-        files: &Files,
+        sides: &SideBySide<'_>,
     ) -> Result<(Entries, Files), Memory>
         requires fits { FitsImage self.now.saved }
-        requires fit { Fit self.now.saved.files files.now }
-        ensures { IfOk result (λ tables. AreTablesMerged self.now entries.now tables.0 files.now tables.1) }
+        requires mine { sides.now.mine ≡ self.now.saved.files }
+        requires fit { Fit self.now.saved.files sides.now.theirs }
+        ensures { IfOk result (λ tables. AreTablesMerged self.now entries.now tables.0 sides.now.theirs tables.1) }
     {
         let saved = &self.saved;
-        let merged = merge_entries(&saved.entries, entries, saved.me, saved.members)?;
-        let taken = taken(alloc, &merged, &saved.files, files)?;
-        let both = merge_files(alloc, &saved.files, files, &taken)?;
+        let merged = merge_entries(alloc, &saved.entries, entries, saved.me, saved.members)?;
+        let taken = taken(alloc, &merged, sides)?;
+        let both = merge_files(alloc, sides, &taken)?;
         Ok((merged, both))
     }
 
     // Whether the tables may be taken, where an answer is.
-    fn fits(&self, entries: &Entries, files: &Files) -> Result<bool, Memory>
-        requires { FitsImage self.now.saved }
-        ensures { IfOk result (λ fits. IsTrue fits ↔ MayTake self.now entries.now files.now) }
+    fn fits(&self, entries: &Entries, sides: &SideBySide<'_>) -> Result<bool, Memory>
+        requires fits { FitsImage self.now.saved }
+        requires mine { sides.now.mine ≡ self.now.saved.files }
+        ensures { IfOk result (λ fits. IsTrue fits ↔ MayTake self.now entries.now sides.now.theirs) }
     {
-        Ok(
-            self.has_issued_all(entries)?
-                && self.has_issued_files(files)
-                && merge_fits(&self.saved.files, files),
-        )
+        Ok(self.has_issued_all(entries)? && self.has_issued_files(sides) && merge_fits(sides))
     }
 
     // Whether it has issued each identifier of its own in the entries.
@@ -107,13 +106,13 @@ impl Replica {
         self.has_issued(entry.id) && self.has_issued(entry.dir) && self.has_issued(entry.target)
     }
 
-    // Whether it has issued each identifier and each count of its own in the files.
-    fn has_issued_files(&self, files: &Files) -> bool
+    // Whether it has issued each identifier and each count of its own in the files of theirs.
+    fn has_issued_files(&self, sides: &SideBySide<'_>) -> bool
         requires { FitsImage self.now.saved }
-        ensures { IsTrue result ↔ All (IsFileOfPast self.now.saved.me self.now.saved.next) files.now }
+        ensures { IsTrue result ↔ All (IsFileOfPast self.now.saved.me self.now.saved.next) sides.now.theirs }
     {
-        for index in 0..files.len() {
-            if !self.has_issued_file(files.at(index)) {
+        for index in 0..sides.len() {
+            if !self.has_issued_file(sides.at(index).theirs) {
                 return false;
             }
         }

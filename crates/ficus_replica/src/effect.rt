@@ -6,7 +6,7 @@ use crate::{Next, Replica};
 use ficus_codec::Saved;
 use ficus_entry::{Entries, Entry, State};
 use ficus_file::{FileReplica, Files};
-use ficus_ids::{Id, Kind, Memory, Name, Refusal};
+use ficus_ids::{Id, Kind, Memory, Name};
 use ficus_model::Op;
 use std::alloc::Global;
 
@@ -17,23 +17,10 @@ impl Replica {
     ghost use Rattle.ficus_held_files.specs.Laws.{Overwrites};
     ghost use Rattle.ficus_model.specs.declared.event.Op.{Op as Operation};
     ghost use Rattle.ficus_model.specs.declared.event.Op.TheVariants.{Make as Makes};
-    ghost use Rattle.ficus_replica.specs.Change.{Change, ChangeGives, ChangeRule, IsDecided};
     ghost use Rattle.ficus_replica.specs.Effect.{Applied, IsReady, IsStepped, MayWrite, next_id};
 
-    /// What a change gives whose rule gives this operation.
-    pub(crate) fn changed(&self, alloc: Global, op: Op) -> Result<Next, Refusal>
-        requires decided { IsDecided self.now op }
-        requires fits { FitsImage self.now.saved }
-        requires generation { self.now.saved.generation < 2 ^ 63 - 1 }
-        ensures gives { (change : Change) → ChangeRule (tables_view self.now.saved) change (Ok op)
-            → ChangeGives self.now change result }
-        ensures fits { IfOk result (λ next. FitsImage next.replica.saved) }
-    {
-        Ok(self.applied(alloc, op)?)
-    }
-
-    // The replica once the operation is done, and the operation.
-    fn applied(&self, alloc: Global, op: Op) -> Result<Next, Memory>
+    /// The replica once the operation is done, and the operation.
+    pub(crate) fn applied(&self, alloc: Global, op: Op) -> Result<Next, Memory>
         requires ready { IsReady self.now.saved op }
         requires fits { FitsImage self.now.saved }
         requires generation { self.now.saved.generation < 2 ^ 63 - 1 }

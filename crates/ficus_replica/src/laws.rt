@@ -1,15 +1,17 @@
 ghost use Rattle.std.specs.Prelude.{◌≡◌, ℕ, List, Result};
 ghost use Rattle.ficus_codec.specs.Saved.{FitsImage};
 ghost use Rattle.ficus_codec.specs.declared.saved.Saved.{Saved};
+ghost use Rattle.ficus_commands.specs.declared.change.Change.{Change};
+ghost use Rattle.ficus_commands.specs.declared.look.Look.{Look};
+ghost use Rattle.ficus_commands.specs.declared.told.Told.{Told};
 ghost use Rattle.ficus_ids.specs.declared.refusal.Refusal.{Refusal};
 ghost use Rattle.ficus_model.specs.Lawful.{Volume, IsLawful};
 ghost use Rattle.ficus_model.specs.declared.event.Event.{Event};
-ghost use Rattle.ficus_replica.specs.Change.{Change, ChangeGives, ChangeStands};
-ghost use Rattle.ficus_replica.specs.Look.{Look, LookGives, LookStands};
+ghost use Rattle.ficus_replica.specs.Change.{ChangeGives, ChangeStands};
+ghost use Rattle.ficus_replica.specs.Look.{LookGives, LookStands};
 ghost use Rattle.ficus_replica.specs.SavedOf.{IsSavedOf, StandsFor};
 ghost use Rattle.ficus_replica.specs.declared.replica.Next.{Next};
 ghost use Rattle.ficus_replica.specs.declared.replica.Replica.{Replica};
-ghost use Rattle.ficus_rules.specs.Told.{Told};
 
 /// A history has one saved record for a replica.
 pub fn one_saved()

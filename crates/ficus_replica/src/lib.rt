@@ -3,10 +3,9 @@
 
 mod accept;
 mod ask;
-mod changes;
+mod commands;
 mod effect;
 mod laws;
-mod looks;
 mod replica;
 mod taken;
 

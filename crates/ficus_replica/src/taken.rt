@@ -1,75 +1,88 @@
-ghost use Rattle.std.specs.Prelude.{◌↔◌, Contains, IfOk, IsTrue};
+ghost use Rattle.std.specs.Prelude.{◌≡◌, ◌↔◌, ◌∷◌, ◌++◌, [], length, List, Contains, IfOk};
 ghost use Rattle.ficus_ids.specs.Rising.{IsRisingBy};
 ghost use Rattle.ficus_ids.specs.declared.id.Id.{Id as IdValue};
 ghost use Rattle.ficus_codec.specs.Tables.{touched_by};
-ghost use Rattle.ficus_file.specs.Files.{Holds};
-ghost use Rattle.ficus_replica.specs.Taken.{IsTakenFrom, Touches};
+ghost use Rattle.ficus_replica.specs.Taken.{IsAlone, IsTakenFrom, HasMark, AreMarked};
 
-use ficus_entry::{Entries, Entry};
-use ficus_file::Files;
+use ficus_entry::Entries;
 use ficus_ids::{Id, Memory};
+use ficus_recon_file::SideBySide;
 use std::alloc::Global;
 
 /// The identifiers of the files of theirs alone that an entry names or lies in, rising.
 pub(crate) fn taken(
     alloc: Global,
     entries: &Entries,
-    mine: &Files,
-    theirs: &Files,
+    sides: &SideBySide<'_>,
 ) -> Result<Vec<Id>, Memory>
     ensures rising { IfOk result (λ ids. IsRisingBy (λ id. id) ids.items) }
     ensures taken { IfOk result (λ ids. (id : IdValue) → Contains ids.items id ↔
-        IsTakenFrom entries.now mine.now theirs.now id) }
+        IsTakenFrom entries.now sides.now.mine sides.now.theirs id) }
+{
+    let alone = theirs_alone(alloc, sides)?;
+    // Spares the walk along the entries, where nothing is new.
+    if alone.is_empty() {
+        return Ok(alone);
+    }
+    let marks = touched(alloc, entries, &alone)?;
+    marked(alloc, &alone, &marks)
+}
+
+// The identifiers of the files of theirs alone, rising.
+fn theirs_alone(alloc: Global, sides: &SideBySide<'_>) -> Result<Vec<Id>, Memory>
+    ensures rising { IfOk result (λ ids. IsRisingBy (λ id. id) ids.items) }
+    ensures alone { IfOk result (λ ids. (id : IdValue) → Contains ids.items id ↔
+        IsAlone sides.now.mine sides.now.theirs id) }
 {
     let mut ids = Vec::new(alloc);
-    for index in 0..theirs.len() {
-        let id = theirs.at(index).id;
-        if is_new(entries, mine, id)? {
-            ids.push(id)?;
+    for index in 0..sides.len() {
+        let pair = sides.at(index);
+        if pair.mine.is_none() {
+            ids.push(pair.theirs.id)?;
         }
     }
     Ok(ids)
 }
 
-// Whether the object isn't among mine, and an entry names it or lies in it.
-fn is_new(entries: &Entries, mine: &Files, object: Id) -> Result<bool, Memory>
-    ensures { IfOk result (λ new. IsTrue new ↔
-        ((Holds mine.now object → ⊥) × Contains (touched_by entries.now) object)) }
-{
-    if mine.get(object).is_some() {
-        return Ok(false);
-    }
-    is_touched(entries, object)
-}
-
-// Whether an entry names the object or lies in it. Mostly the entry of its making is there and tells.
-fn is_touched(entries: &Entries, object: Id) -> Result<bool, Memory>
-    ensures { IfOk result (λ touched. IsTrue touched ↔ Contains (touched_by entries.now) object) }
-{
-    if let Some(entry) = entries.get(object) {
-        if touches(entry, object) {
-            return Ok(true);
-        }
-    }
-    is_touched_in_order(entries, object)
-}
-
-// The same by a look at each entry.
-fn is_touched_in_order(entries: &Entries, object: Id) -> Result<bool, Memory>
-    ensures { IfOk result (λ touched. IsTrue touched ↔ Contains (touched_by entries.now) object) }
+// Of each of the identifiers, whether an entry names it or lies in it.
+fn touched(alloc: Global, entries: &Entries, ids: &[Id]) -> Result<Vec<bool>, Memory>
+    requires { IsRisingBy (λ id. id) ids.now }
+    ensures { IfOk result (λ marks. AreMarked (touched_by entries.now) ids.now marks.items) }
 {
     let in_order = entries.in_order()?;
+    let mut marks = vec![in alloc; false; ids.len()]?;
     for index in 0..in_order.len() {
-        if touches(in_order.at(index), object) {
-            return Ok(true);
-        }
+        let entry = in_order.at(index);
+        mark(&mut marks, ids, entry.target);
+        mark(&mut marks, ids, entry.dir);
     }
-    Ok(false)
+    Ok(marks)
 }
 
-// Whether the entry names the object or lies in it.
-fn touches(entry: &Entry, object: Id) -> bool
-    ensures { IsTrue result ↔ Touches entry.now object }
+// Marks the identifier, if it is one of these.
+fn mark(marks: &mut Vec<bool>, ids: &[Id], id: Id)
+    requires rising { IsRisingBy (λ other. other) ids.now }
+    requires lengths { length marks.old.items ≡ length ids.now }
+    ensures { (others : List IdValue) → AreMarked others ids.now marks.old.items →
+        AreMarked (others ++ id ∷ []) ids.now marks.new.items }
 {
-    entry.target == object || entry.dir == object
+    if let Ok(index) = ids.binary_search(&id) {
+        marks[index] = true;
+    }
+}
+
+// Those of the identifiers that have a mark.
+fn marked(alloc: Global, ids: &[Id], marks: &[bool]) -> Result<Vec<Id>, Memory>
+    requires rising { IsRisingBy (λ id. id) ids.now }
+    requires lengths { length marks.now ≡ length ids.now }
+    ensures rising { IfOk result (λ kept. IsRisingBy (λ id. id) kept.items) }
+    ensures marked { IfOk result (λ kept. (id : IdValue) → Contains kept.items id ↔ HasMark ids.now marks.now id) }
+{
+    let mut kept = Vec::new(alloc);
+    for index in 0..ids.len() {
+        if marks[index] {
+            kept.push(ids[index])?;
+        }
+    }
+    Ok(kept)
 }

@@ -1,9 +1,11 @@
 ghost use Rattle.std.specs.Prelude.{◌-◌, ◌^◌, ◌<◌, IfOk, OnOk};
 ghost use Rattle.ficus_codec.specs.Saved.{FitsImage};
+ghost use Rattle.ficus_commands.specs.Change.{HasNewPath};
 ghost use Rattle.ficus_path.specs.Path.{IsNew};
 
 use ficus_codec::{BYTE_LIMIT, UPDATE_LIMIT};
-use ficus_ids::{Kind, Members, Refusal};
+use ficus_commands::Change;
+use ficus_ids::{Kind, Listed, Members, Refusal};
 use ficus_path::{Path, read_path};
 use ficus_replica::Replica;
 use std::alloc::Global;
@@ -25,48 +27,82 @@ pub(crate) fn made(alloc: Global, ids: u32, bytes: u32, kind: Kind) -> Result<Re
     ensures { IfOk result (λ replica. FitsImage replica.saved) }
 {
     let fresh = fresh(alloc, ids, bytes)?;
-    may_save(&fresh)?;
-    Ok(fresh.make(alloc, &new_path(alloc, b"/f")?, kind)?.replica)
-}
-
-/// Why the replica can't make the directory `/d`, where it can't.
-pub(crate) fn why_not_made(alloc: Global, replica: &Replica) -> Result<Option<Refusal>, Fail>
-    requires { FitsImage replica.now.saved }
-{
-    may_save(replica)?;
-    Ok(
-        replica
-            .make(alloc, &new_path(alloc, b"/d")?, Kind::Dir)
-            .err(),
-    )
+    changed(alloc, &fresh, Make::File(kind))
 }
 
 /// Such a replica once it has made the file `/f` and written so many bytes to it.
 pub(crate) fn written(alloc: Global, ids: u32, bytes: u32, length: usize) -> Result<Replica, Fail>
     ensures { IfOk result (λ replica. FitsImage replica.saved) }
 {
-    let content = vec![in alloc; b'n'; length]?;
-    let path = read_path(alloc, b"/f")?;
     let file = made(alloc, ids, bytes, Kind::Plain)?;
-    may_save(&file)?;
-    Ok(file.write(alloc, &path, &content)?.replica)
+    changed(alloc, &file, Make::Text(length))
 }
 
-/// Why the replica can't write so many bytes to the file `/f`, where it can't.
-pub(crate) fn why_not_written(
+/// What a test has a replica make.
+#[derive(Clone, Copy, Debug)]
+pub(crate) enum Make {
+    /// The directory `/d`.
+    Directory,
+    /// The file `/f` of a kind.
+    File(Kind),
+    /// A write of so many bytes to the file `/f`.
+    Text(usize),
+}
+
+// The replica once it has made this.
+fn changed(alloc: Global, replica: &Replica, make: Make) -> Result<Replica, Fail>
+    requires { FitsImage replica.now.saved }
+    ensures { IfOk result (λ changed. FitsImage changed.saved) }
+{
+    let change = change(alloc, make)?;
+    changed_by(alloc, replica, &change)
+}
+
+fn changed_by(alloc: Global, replica: &Replica, change: &Change) -> Result<Replica, Fail>
+    requires new { HasNewPath change.now }
+    requires fits { FitsImage replica.now.saved }
+    ensures { IfOk result (λ changed. FitsImage changed.saved) }
+{
+    may_save(replica)?;
+    let next = replica.change(alloc, change)?;
+    Ok(next.replica)
+}
+
+/// Why the replica can't make this, where it can't.
+pub(crate) fn why_not_changed(
     alloc: Global,
     replica: &Replica,
-    length: usize,
+    make: Make,
 ) -> Result<Option<Refusal>, Fail>
     requires { FitsImage replica.now.saved }
 {
+    let change = change(alloc, make)?;
     may_save(replica)?;
-    let bytes = vec![in alloc; b'n'; length]?;
-    Ok(
-        replica
-            .write(alloc, &read_path(alloc, b"/f")?, &bytes)
-            .err(),
-    )
+    Ok(replica.change(alloc, &change).err())
+}
+
+fn change(alloc: Global, make: Make) -> Result<Change, Fail>
+    ensures { IfOk result HasNewPath }
+{
+    match make {
+        Make::Directory => {
+            let path = new_path(alloc, b"/d")?;
+            Ok(Change::MkDir { path })
+        }
+        Make::File(kind) => {
+            let path = new_path(alloc, b"/f")?;
+            Ok(Change::Create { path, kind })
+        }
+        Make::Text(length) => write_of(alloc, length),
+    }
+}
+
+fn write_of(alloc: Global, length: usize) -> Result<Change, Fail>
+    ensures { IfOk result HasNewPath }
+{
+    let path = read_path(alloc, b"/f")?;
+    let text = Listed::of(vec![in alloc; b'n'; length]?);
+    Ok(Change::Write { path, text })
 }
 
 /// Why a replica that has made nothing and asks replica 2 doesn't take what another one holds as the answer of
@@ -78,7 +114,7 @@ pub(crate) fn why_not_taken(
 ) -> Result<Option<Refusal>, Fail>
     requires { FitsImage other.now.saved }
 {
-    let asking = asking(&fresh(alloc, 1, 0)?)?;
+    let asking = fresh_asking(alloc)?;
     why_not_accepted(alloc, &asking, number, other)
 }
 
@@ -102,6 +138,14 @@ fn why_not_accepted(
             .accept(alloc, 2, number, &theirs.entries, &theirs.files)
             .err(),
     )
+}
+
+// A replica that has made nothing, once it has asked replica 2.
+fn fresh_asking(alloc: Global) -> Result<Replica, Fail>
+    ensures { IfOk result (λ asking. FitsImage asking.saved) }
+{
+    let fresh = fresh(alloc, 1, 0)?;
+    asking(&fresh)
 }
 
 // The replica once it has asked replica 2.

@@ -1,47 +1,34 @@
 ghost use Rattle.std.specs.Prelude.{IfOk};
 ghost use Rattle.ficus_codec.specs.Saved.{FitsImage};
 
-use crate::steps::{fresh, made, why_not_made, why_not_taken, why_not_written, written};
+use crate::steps::{Make, fresh, made, why_not_changed, why_not_taken, written};
 use ficus_ids::{Kind, Refusal};
 use ficus_replica::Replica;
 use std::alloc::Global;
 use std::test::Fail;
 
-// What a replica does after it has written to a file.
-#[derive(Clone, Copy, Debug)]
-enum Then {
-    MakesDirectory,
-    Writes(usize),
-}
-
 // A replica that may make so many updates and write so many bytes makes a file, writes so many bytes to it, and does
 // one thing more: why this is refused, where it is.
-const UPDATES: [(u32, u32, usize, Then, Option<Refusal>); 11] = [
-    (3, 5, 5, Then::Writes(0), None),
-    (3, 5, 2, Then::Writes(3), None),
-    (3, 5, 5, Then::Writes(1), Some(Refusal::Quota)),
-    (3, 5, 2, Then::Writes(4), Some(Refusal::Quota)),
-    (3, 16_384, 0, Then::Writes(16_384), None),
-    (3, 16_384, 1, Then::Writes(16_384), Some(Refusal::Quota)),
-    (
-        3,
-        4_194_304,
-        0,
-        Then::Writes(16_385),
-        Some(Refusal::TooLong),
-    ),
-    (3, 5, 5, Then::MakesDirectory, None),
-    (2, 5, 5, Then::MakesDirectory, Some(Refusal::Spent)),
+const UPDATES: &[(u32, u32, usize, Make, Option<Refusal>)] = &[
+    (3, 5, 5, Make::Text(0), None),
+    (3, 5, 2, Make::Text(3), None),
+    (3, 5, 5, Make::Text(1), Some(Refusal::Quota)),
+    (3, 5, 2, Make::Text(4), Some(Refusal::Quota)),
+    (3, 16_384, 0, Make::Text(16_384), None),
+    (3, 16_384, 1, Make::Text(16_384), Some(Refusal::Quota)),
+    (3, 4_194_304, 0, Make::Text(16_385), Some(Refusal::TooLong)),
+    (3, 5, 5, Make::Directory, None),
+    (2, 5, 5, Make::Directory, Some(Refusal::Spent)),
     // Of several refusals the first comes.
-    (2, 5, 5, Then::Writes(1), Some(Refusal::Spent)),
-    (2, 5, 5, Then::Writes(16_385), Some(Refusal::TooLong)),
+    (2, 5, 5, Make::Text(1), Some(Refusal::Spent)),
+    (2, 5, 5, Make::Text(16_385), Some(Refusal::TooLong)),
 ];
 
 #[test]
 fn updates_beyond_the_limits_are_refused(rt: HostRuntime) -> Result<(), Fail> {
-    for (ids, bytes, first, then, refusal) in UPDATES {
+    for &(ids, bytes, first, then, refusal) in UPDATES {
         let found = last_refusal(rt.alloc(), ids, bytes, first, then)?;
-        assert_eq!(rt; found, refusal, "{ids} {bytes} {first} {then:?}");
+        assert!(rt; found == refusal, "{ids} {bytes} {first} {then:?}");
     }
     Ok(())
 }
@@ -51,18 +38,15 @@ fn last_refusal(
     ids: u32,
     bytes: u32,
     first: usize,
-    then: Then,
+    then: Make,
 ) -> Result<Option<Refusal>, Fail> {
     let replica = written(alloc, ids, bytes, first)?;
-    match then {
-        Then::MakesDirectory => why_not_made(alloc, &replica),
-        Then::Writes(length) => why_not_written(alloc, &replica, length),
-    }
+    why_not_changed(alloc, &replica, then)
 }
 
 // A replica that has made nothing asks, and is answered with this number and what a replica 1 holds that has made an
 // object of the kind, or nothing: why the answer isn't taken, where it isn't.
-const ANSWERS: [(u64, Option<Kind>, Option<Refusal>); 3] = [
+const ANSWERS: &[(u64, Option<Kind>, Option<Refusal>)] = &[
     (1, None, None),
     (2, None, Some(Refusal::Stale)),
     (1, Some(Kind::Plain), Some(Refusal::BadMessage)),
@@ -70,12 +54,20 @@ const ANSWERS: [(u64, Option<Kind>, Option<Refusal>); 3] = [
 
 #[test]
 fn an_answer_is_taken_only_where_it_is_asked_for_and_fits(rt: HostRuntime) -> Result<(), Fail> {
-    for (number, kind, refusal) in ANSWERS {
-        let other = replica_with(rt.alloc(), kind)?;
-        let found = why_not_taken(rt.alloc(), number, &other)?;
-        assert_eq!(rt; found, refusal, "{number} {kind:?}");
+    for &(number, kind, refusal) in ANSWERS {
+        let found = why_not_answered(rt.alloc(), number, kind)?;
+        assert!(rt; found == refusal, "{number} {kind:?}");
     }
     Ok(())
+}
+
+fn why_not_answered(
+    alloc: Global,
+    number: u64,
+    kind: Option<Kind>,
+) -> Result<Option<Refusal>, Fail> {
+    let other = replica_with(alloc, kind)?;
+    why_not_taken(alloc, number, &other)
 }
 
 fn replica_with(alloc: Global, kind: Option<Kind>) -> Result<Replica, Fail>

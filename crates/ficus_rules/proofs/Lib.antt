@@ -7,6 +7,8 @@ pub mod Listings
 pub mod Lists
 pub mod Trees
 pub mod Texts
+pub mod Resolved
+pub mod Reading
 pub mod VersionLists
 pub mod Makes
 pub mod Writes

@@ -2,7 +2,7 @@
 use Rattle.ficus_path.specs.declared.path.Path.{Path}
 use Rattle.ficus_rules.specs.List.{ListRule}
 use Rattle.ficus_rules.specs.Rule.{Once, Along}
-use Rattle.ficus_rules.specs.Told.{Names}
+use Rattle.ficus_commands.specs.declared.told.Told.TheVariants.{Names}
 use Rattle.ficus_rules.specs.View.{View, SameShown}
 use Rattle.ficus_rules.proofs.Listings.{lines_once, lines_along}
 use Rattle.ficus_rules.proofs.Rules.{then_once, tells_once, then_along, tells_along}

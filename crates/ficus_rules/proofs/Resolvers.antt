@@ -13,9 +13,9 @@ use Rattle.ficus_laws.proofs.Positions.{AgreeBelow}
 use Rattle.ficus_laws.proofs.Updates.{agree_update}
 use Rattle.ficus_file_laws.proofs.Resolving.{one_list_of_same}
 use Rattle.ficus_rules.specs.Laws.{KnowSameVersions}
-use Rattle.ficus_rules.specs.Resolve.{ResolvedRule}
+use Rattle.ficus_rules.specs.Resolved.{ResolvedRule}
 use Rattle.ficus_rules.specs.View.{history_view}
-use Rattle.ficus_rules.proofs.Resolves.{resolved_alike}
+use Rattle.ficus_rules.proofs.Resolved.{resolved_alike}
 
 -- an object is of the same kind in a longer history
 one_kind_later : {H K : List Event} {replica other : ℕ} {object : Id} {kind again : Kind} →

@@ -109,3 +109,10 @@ pub or_memory : {A : Type 0} (rule : Result A Refusal → Type 0) (answer : Resu
 or_memory rule (Ok a) is = is
 or_memory rule (Err Memory) is = tt
 or_memory rule (Err refusal) is = is
+
+-- a refusal other than want of memory is one of the other rule too
+pub refusal_along : {A B : Type 0} (rule : Result A Refusal → Type 0) (other : Result B Refusal → Type 0)
+    (refusal : Refusal) → (rule (Err refusal) → other (Err refusal)) → UnlessMemory rule (Err refusal) →
+    UnlessMemory other (Err refusal)
+refusal_along rule other Memory there is = tt
+refusal_along rule other refusal there is = there is

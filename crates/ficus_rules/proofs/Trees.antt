@@ -1,6 +1,6 @@
 -- `tree`: its answer is one, and the same over views that show the same.
 use Rattle.ficus_rules.specs.Rule.{Once, Along}
-use Rattle.ficus_rules.specs.Told.{Tree}
+use Rattle.ficus_commands.specs.declared.told.Told.TheVariants.{Tree}
 use Rattle.ficus_rules.specs.Tree.{TreeRule}
 use Rattle.ficus_rules.specs.View.{View, SameShown}
 use Rattle.ficus_rules.proofs.Listings.{lines_along, lines_once}

@@ -2,7 +2,7 @@
 use Rattle.std.proofs.Common.{subst}
 use Rattle.ficus_path.specs.declared.path.Path.{Path}
 use Rattle.ficus_rules.specs.Rule.{Tells, Once, Along}
-use Rattle.ficus_rules.specs.Told.{Versions}
+use Rattle.ficus_commands.specs.declared.told.Told.TheVariants.{Versions}
 use Rattle.ficus_rules.specs.Versions.{VersionsRule}
 use Rattle.ficus_rules.specs.View.{View, SameShown}
 use Rattle.ficus_rules.proofs.Rules.{then_once, tells_once, then_along, tells_along}

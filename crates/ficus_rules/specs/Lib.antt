@@ -3,7 +3,8 @@ pub mod Rule
 pub mod Walk
 pub mod Limits
 pub mod Lines
-pub mod Told
+pub mod Text
+pub mod Resolved
 pub mod Make
 pub mod Write
 pub mod Settle

@@ -3,7 +3,8 @@ use Rattle.std.specs.Prelude.{Result}
 use Rattle.ficus_ids.specs.declared.refusal.Refusal.{Refusal}
 use Rattle.ficus_path.specs.declared.path.Path.{Path}
 use Rattle.ficus_rules.specs.Rule.{Then, Tells}
-use Rattle.ficus_rules.specs.Told.{Told, Versions}
+use Rattle.ficus_commands.specs.declared.told.Told.{Told}
+use Rattle.ficus_commands.specs.declared.told.Told.TheVariants.{Versions}
 use Rattle.ficus_rules.specs.View.{View}
 use Rattle.ficus_rules.specs.Walk.{FileRule}
 

@@ -1,12 +1,14 @@
 ghost use Rattle.std.specs.Prelude.{◌≡◌, ℕ, List, Result};
+ghost use Rattle.ficus_commands.specs.declared.change.Change.{Change};
+ghost use Rattle.ficus_commands.specs.declared.look.Look.{Look};
+ghost use Rattle.ficus_commands.specs.declared.told.Told.{Told};
 ghost use Rattle.ficus_ids.specs.declared.refusal.Refusal.{Refusal};
 ghost use Rattle.ficus_model.specs.Lawful.{Volume};
 ghost use Rattle.ficus_model.specs.declared.event.Event.{Event};
 ghost use Rattle.ficus_model.specs.declared.event.Op.{Op};
-ghost use Rattle.ficus_rules.specs.Change.{Change, ChangeRule};
+ghost use Rattle.ficus_rules.specs.Change.{ChangeRule};
 ghost use Rattle.ficus_rules.specs.Laws.{ResolversAgree, ResolversAgreeLater, ResolversEndConflict};
-ghost use Rattle.ficus_rules.specs.Look.{Look, LookRule};
-ghost use Rattle.ficus_rules.specs.Told.{Told};
+ghost use Rattle.ficus_rules.specs.Look.{LookRule};
 ghost use Rattle.ficus_rules.specs.View.{SameShown, SameView, history_view};
 
 /// After a history, a change has one answer.

@@ -1,5 +1,5 @@
 -- Each command is read off the table of verbs from its spelling, and no two commands share one.
-use Rattle.std.proofs.Common.{◌≡◌, ◌≢◌, ℕ, Bool, true, false, if◌then◌else◌, List, [], ◌∷◌, ◌++◌, get_or, Option, None, Some, Err, IfSome, IfNone, refl, sym, ◌∙◌, ap, inl, inr, arith}
+use Rattle.std.proofs.Common.{◌≡◌, ◌≢◌, ℕ, Bool, true, false, if◌then◌else◌, List, [], ◌∷◌, ◌++◌, get_or, Option, None, Some, Err, IfNone, refl, sym, ◌∙◌, ap, inl, inr, arith}
 use Rattle.std.specs.Prelude.{nat_le, Ok, ok_or}
 use Rattle.std.specs.Fmt.{decimal}
 use Rattle.std.specs.List.{AllByRecursion, join_with_byte}
@@ -7,13 +7,15 @@ use Rattle.std.specs.Str.{bytes_eq}
 use Rattle.std.proofs.lemmas.Bool.Decides.{leb_tells}
 use Rattle.std.proofs.lemmas.List.Elements.{All-from_recursion}
 use Rattle.ficus_path.proofs.CutLaws.{IsFreeOf}
+use Rattle.ficus_commands.specs.declared.change.Change.TheVariants.{MkDir, Create, Write, Settle, Resolve}
+use Rattle.ficus_commands.specs.declared.look.Look.TheVariants.{Ls, Read, Versions, Tree}
 use Rattle.ficus_script.specs.declared.arguments.Arguments.{Arguments}
 use Rattle.ficus_script.specs.declared.arguments.Arguments.TheVariants.{Nothing, OnePath, PathAndKind, PathAndText, TwoReplicas}
 use Rattle.ficus_script.specs.declared.command.Command.{Command}
-use Rattle.ficus_script.specs.declared.command.Command.TheVariants.{MkDir, Create, Write, Settle, Resolve, Ls, Read, Versions, Tree, Pull}
+use Rattle.ficus_script.specs.declared.command.Command.TheVariants as command
 use Rattle.ficus_script.specs.declared.line.LineFault.{LineFault}
 use Rattle.ficus_script.specs.declared.line.LineFault.TheVariants.{NotCommand, Memory as OutOfMemory}
-use Rattle.ficus_script.specs.Arguments.{AreArguments, IsReplicaNumber, IsReadingBehind, argument_words, left_of}
+use Rattle.ficus_script.specs.Arguments.{IsReplicaNumber, IsReadingBehind, argument_words, left_of}
 use Rattle.ficus_script.specs.Command.{IsCommand, IsCommandOf, Spelling, spelling_of, replica_words, spelling_text, command_text}
 use Rattle.ficus_script.specs.Line.{IsReadingOf, led_by}
 use Rattle.ficus_script.proofs.ArgumentLaws.{one_arguments}
@@ -22,12 +24,14 @@ use Rattle.ficus_script.proofs.Numbers.{IsFreeOf-replica, first_digit}
 
 -- the commands with these before and behind their verbs
 abbrev commands_with : Option ℕ → Arguments → List Command
-commands_with (Some by) Nothing = Tree by ∷ []
+commands_with (Some by) Nothing = command.Look by Tree ∷ []
 commands_with (Some by) (OnePath path) =
-    MkDir by path ∷ Resolve by path ∷ Ls by path ∷ Read by path ∷ Versions by path ∷ []
-commands_with (Some by) (PathAndKind path kind) = Create by path kind ∷ []
-commands_with (Some by) (PathAndText path text) = Write by path text ∷ Settle by path text ∷ []
-commands_with None (TwoReplicas by to) = Pull by to ∷ []
+    command.Change by (MkDir path) ∷ command.Change by (Resolve path) ∷ command.Look by (Ls path)
+    ∷ command.Look by (Read path) ∷ command.Look by (Versions path) ∷ []
+commands_with (Some by) (PathAndKind path kind) = command.Change by (Create path kind) ∷ []
+commands_with (Some by) (PathAndText path text) =
+    command.Change by (Write path text) ∷ command.Change by (Settle path text) ∷ []
+commands_with None (TwoReplicas by to) = command.Pull by to ∷ []
 commands_with (Some by) (TwoReplicas first second) = []
 commands_with None Nothing = []
 commands_with None (OnePath path) = []
@@ -52,32 +56,28 @@ abbrev are_letters : List ℕ → Bool
 are_letters [] = true
 are_letters (byte ∷ bytes) = if nat_le 97 byte then are_letters bytes else false
 
--- The command's spelling is a good one, and leads back to the command.
+-- The command's verb is of letters, and its spelling leads back to the command.
 record IsListed (command : Command) : Type 0 where
-  number : IfSome (spelling_of command).by IsReplicaNumber
   letters : are_letters (verb_of command) ≡ true
-  behind : AreArguments (spelling_of command).behind
   found : at_spelling (spelling_of command) ≡ Some command
 
 -- the rows of the table, one for each verb
-listed : (command : Command) → IsCommand command → IsListed command
-listed (MkDir by path) valid = record { number = valid.0; letters = refl; behind = valid.1; found = refl }
-listed (Create by path kind) valid =
-    record { number = valid.0; letters = refl; behind = (valid.1, valid.3); found = refl }
-listed (Write by path text) valid = record { number = valid.0; letters = refl; behind = valid.1; found = refl }
-listed (Settle by path text) valid = record { number = valid.0; letters = refl; behind = valid.1; found = refl }
-listed (Resolve by path) valid = record { number = valid.0; letters = refl; behind = valid.1; found = refl }
-listed (Read by path) valid = record { number = valid.0; letters = refl; behind = valid.1; found = refl }
-listed (Versions by path) valid = record { number = valid.0; letters = refl; behind = valid.1; found = refl }
-listed (Ls by path) valid = record { number = valid.0; letters = refl; behind = valid.1; found = refl }
-listed (Tree by) valid = record { number = valid; letters = refl; behind = tt; found = refl }
-listed (Pull by to) valid = record { number = tt; letters = refl; behind = valid; found = refl }
+listed : (command : Command) → IsListed command
+listed (command.Change by (MkDir path)) = record { letters = refl; found = refl }
+listed (command.Change by (Create path kind)) = record { letters = refl; found = refl }
+listed (command.Change by (Write path text)) = record { letters = refl; found = refl }
+listed (command.Change by (Settle path text)) = record { letters = refl; found = refl }
+listed (command.Change by (Resolve path)) = record { letters = refl; found = refl }
+listed (command.Look by (Ls path)) = record { letters = refl; found = refl }
+listed (command.Look by (Read path)) = record { letters = refl; found = refl }
+listed (command.Look by (Versions path)) = record { letters = refl; found = refl }
+listed (command.Look by Tree) = record { letters = refl; found = refl }
+listed (command.Pull by to) = record { letters = refl; found = refl }
 
 -- the table has one command for a spelling
-one_command : (command other : Command) → IsCommand command → IsCommand other →
-    spelling_of command ≡ spelling_of other → command ≡ other
-one_command command other valid also same =
-    let found : Some command ≡ Some other = sym (listed command valid).found ∙ ap at_spelling same ∙ (listed other also).found in
+one_command : (command other : Command) → spelling_of command ≡ spelling_of other → command ≡ other
+one_command command other same =
+    let found : Some command ≡ Some other = sym (listed command).found ∙ ap at_spelling same ∙ (listed other).found in
     cc
 
 -- no space stands among letters
@@ -120,15 +120,16 @@ IsCut-command : (command : Command) → IsCommand command →
     (left_of (argument_words (spelling_of command).behind))
 IsCut-command command valid =
     let spelling : Spelling = spelling_of command in
-    let is_listed = listed command valid in
-    let free : IsFreeOf 32 spelling.verb = All-from_recursion (λ byte. byte ≢ 32) spelling.verb (letters_free spelling.verb is_listed.letters) in
+    let letters = (listed command).letters in
+    let free : IsFreeOf 32 spelling.verb =
+    All-from_recursion (λ byte. byte ≢ 32) spelling.verb (letters_free spelling.verb letters) in
     let words : List (List ℕ) = argument_words spelling.behind in
     let whole = led_words spelling.by spelling.verb words in
     record {
-      number = is_listed.number;
+      number = valid.number;
       free = free;
       whole = whole;
-      none = rw whole (no_leading_number spelling.by spelling.verb (left_of words) is_listed.letters free);
+      none = rw whole (no_leading_number spelling.by spelling.verb (left_of words) letters free);
     }
 
 -- a spelling is its three parts
@@ -148,8 +149,8 @@ command_text_injective command other valid also same =
     let second : Spelling = spelling_of other in
     let cut = one_cut (command_text command) first.verb second.verb first.by second.by _ _ (IsCut-command command valid)
     (rw same (IsCut-command other also)) in
-    let behind = one_arguments first.behind second.behind (listed command valid).behind (listed other also).behind cut.2 in
-    one_command command other valid also (same_spelling first second cut.0 cut.1 behind)
+    let behind = one_arguments first.behind second.behind valid.behind also.behind cut.2 in
+    one_command command other (same_spelling first second cut.0 cut.1 behind)
 
 -- the line has the spelling of the command that is read off it, or no command's
 pub reading_of : (line verb : List ℕ) (by : Option ℕ) (left : Option (List ℕ)) (behind : Arguments)
@@ -164,7 +165,7 @@ reading_of line verb by left behind None cut read none = λ spelled.
     let command : Command = spelled.0 in
     let spelling : Spelling = spelling_of command in
     let parts = one_cut line spelling.verb verb spelling.by by _ left (rw spelled.2 (IsCut-command command spelled.1)) cut in
-    let arguments = one_arguments spelling.behind behind (listed command spelled.1).behind read.0 (parts.2 ∙ read.1) in
+    let arguments = one_arguments spelling.behind behind spelled.1.behind read.0 (parts.2 ∙ read.1) in
     none command spelled.1 (same_spelling spelling _ parts.0 parts.1 arguments)
 
 -- where what stands behind the verb are no arguments, the line is no command's
@@ -175,4 +176,4 @@ reading_fault line verb by left NotCommand cut none = λ spelled.
     let command : Command = spelled.0 in
     let spelling : Spelling = spelling_of command in
     let parts = one_cut line spelling.verb verb spelling.by by _ left (rw spelled.2 (IsCut-command command spelled.1)) cut in
-    none spelling.behind (listed command spelled.1).behind (sym parts.2)
+    none spelling.behind spelled.1.behind (sym parts.2)

@@ -10,8 +10,10 @@ use Rattle.ficus_names.specs.declared.listing.Line.{Line}
 use Rattle.ficus_names.specs.Text.{shown_text_of}
 use Rattle.ficus_path.specs.Text.{quoted_text}
 use Rattle.ficus_vv.specs.Vector.{Counts, in_order}
+use Rattle.ficus_commands.specs.declared.told.Told.{Told}
+use Rattle.ficus_commands.specs.declared.told.Told.TheVariants.{Text, Names, Tree, Versions}
 use Rattle.ficus_script.specs.declared.answer.Answer.{Answer}
-use Rattle.ficus_script.specs.declared.answer.Answer.TheVariants.{Done, Made, Text, Names, Tree, Versions, Refused}
+use Rattle.ficus_script.specs.declared.answer.Answer.TheVariants as answer
 
 -- the shown name, its target and the kind, ` conflict` for a file in conflict, and byte 10
 abbrev pub name_line : Line → List ℕ
@@ -40,12 +42,16 @@ version_line members version = vector_text members version.vector ++ 32 ∷ quot
 abbrev pub counted_lines : {Item : Type 0} → (Item → List ℕ) → List Item → List ℕ
 counted_lines line_text items = count_line (length items) ++ flat_map line_text items
 
+-- the text of what a look told
+abbrev pub told_text_of : Told → List ℕ
+told_text_of (Text text) = codes "ok " ++ quoted_text text ++ 10 ∷ []
+told_text_of (Names lines) = counted_lines name_line lines
+told_text_of (Tree lines) = counted_lines tree_line lines
+told_text_of (Versions members list) = counted_lines (version_line members) list
+
 -- the text of each answer
 abbrev pub answer_text_of : Answer → List ℕ
-answer_text_of Done = codes "ok" ++ 10 ∷ []
-answer_text_of (Made id) = codes "ok " ++ id_text id ++ 10 ∷ []
-answer_text_of (Text text) = codes "ok " ++ quoted_text text ++ 10 ∷ []
-answer_text_of (Names lines) = counted_lines name_line lines
-answer_text_of (Tree lines) = counted_lines tree_line lines
-answer_text_of (Versions members list) = counted_lines (version_line members) list
-answer_text_of (Refused refusal) = codes "no " ++ refusal_word refusal ++ 10 ∷ []
+answer_text_of answer.Done = codes "ok" ++ 10 ∷ []
+answer_text_of (answer.Made id) = codes "ok " ++ id_text id ++ 10 ∷ []
+answer_text_of (answer.Told told) = told_text_of told
+answer_text_of (answer.Refused refusal) = codes "no " ++ refusal_word refusal ++ 10 ∷ []

@@ -1,28 +1,15 @@
 -- The commands of a script, and how each is spelled.
-use Rattle.std.specs.Prelude.{◌≡◌, ◌≢◌, ℕ, List, [], ◌∷◌, ◌++◌, Option, Some, None, codes}
+use Rattle.std.specs.Prelude.{◌≡◌, ℕ, List, [], ◌∷◌, ◌++◌, Option, Some, None, IfSome, codes}
 use Rattle.std.specs.List.{join_with_byte}
 use Rattle.std.specs.Fmt.{decimal}
-use Rattle.ficus_ids.specs.declared.kind.Kind.TheVariants.{Dir}
-use Rattle.ficus_path.specs.Path.{IsPath, IsNew}
+use Rattle.ficus_commands.specs.Change.{HasNewPath}
+use Rattle.ficus_commands.specs.declared.change.Change.TheVariants.{MkDir, Create, Write, Settle, Resolve}
+use Rattle.ficus_commands.specs.declared.look.Look.TheVariants.{Ls, Read, Versions, Tree}
 use Rattle.ficus_script.specs.declared.arguments.Arguments.{Arguments}
 use Rattle.ficus_script.specs.declared.arguments.Arguments.TheVariants.{Nothing, OnePath, PathAndKind, PathAndText, TwoReplicas}
 use Rattle.ficus_script.specs.declared.command.Command.{Command}
-use Rattle.ficus_script.specs.declared.command.Command.TheVariants.{MkDir, Create, Write, Settle, Resolve, Ls, Read, Versions, Tree, Pull}
-use Rattle.ficus_script.specs.Arguments.{IsReplicaNumber, argument_words}
-
--- the numbers are those of replicas, the paths are paths, what is to be made has a new path, and a file that is to be
--- made has the kind of a file
-abbrev pub IsCommand : Command → Type 0
-IsCommand (MkDir by path) = IsReplicaNumber by × IsPath path × IsNew path
-IsCommand (Create by path kind) = IsReplicaNumber by × IsPath path × IsNew path × (kind ≢ Dir)
-IsCommand (Write by path text) = IsReplicaNumber by × IsPath path
-IsCommand (Settle by path text) = IsReplicaNumber by × IsPath path
-IsCommand (Resolve by path) = IsReplicaNumber by × IsPath path
-IsCommand (Ls by path) = IsReplicaNumber by × IsPath path
-IsCommand (Read by path) = IsReplicaNumber by × IsPath path
-IsCommand (Versions by path) = IsReplicaNumber by × IsPath path
-IsCommand (Tree by) = IsReplicaNumber by
-IsCommand (Pull by to) = IsReplicaNumber by × IsReplicaNumber to
+use Rattle.ficus_script.specs.declared.command.Command.TheVariants as command
+use Rattle.ficus_script.specs.Arguments.{AreArguments, IsReplicaNumber, argument_words}
 
 -- what a line is made of: the number of the replica that leads it, if one does, the verb, and what stands behind it
 pub record Spelling : Type 0 where
@@ -40,16 +27,27 @@ of_none verb behind = record { by = None; verb = verb; behind = behind }
 
 -- the one table of verbs: each command's verb, and what stands before and behind it
 abbrev pub spelling_of : Command → Spelling
-spelling_of (MkDir by path) = of_replica by (codes "mkdir") (OnePath path)
-spelling_of (Create by path kind) = of_replica by (codes "create") (PathAndKind path kind)
-spelling_of (Write by path text) = of_replica by (codes "write") (PathAndText path text)
-spelling_of (Settle by path text) = of_replica by (codes "settle") (PathAndText path text)
-spelling_of (Resolve by path) = of_replica by (codes "resolve") (OnePath path)
-spelling_of (Ls by path) = of_replica by (codes "ls") (OnePath path)
-spelling_of (Read by path) = of_replica by (codes "read") (OnePath path)
-spelling_of (Versions by path) = of_replica by (codes "versions") (OnePath path)
-spelling_of (Tree by) = of_replica by (codes "tree") Nothing
-spelling_of (Pull by to) = of_none (codes "pull") (TwoReplicas by to)
+spelling_of (command.Change by (MkDir path)) = of_replica by (codes "mkdir") (OnePath path)
+spelling_of (command.Change by (Create path kind)) = of_replica by (codes "create") (PathAndKind path kind)
+spelling_of (command.Change by (Write path text)) = of_replica by (codes "write") (PathAndText path text)
+spelling_of (command.Change by (Settle path text)) = of_replica by (codes "settle") (PathAndText path text)
+spelling_of (command.Change by (Resolve path)) = of_replica by (codes "resolve") (OnePath path)
+spelling_of (command.Look by (Ls path)) = of_replica by (codes "ls") (OnePath path)
+spelling_of (command.Look by (Read path)) = of_replica by (codes "read") (OnePath path)
+spelling_of (command.Look by (Versions path)) = of_replica by (codes "versions") (OnePath path)
+spelling_of (command.Look by Tree) = of_replica by (codes "tree") Nothing
+spelling_of (command.Pull by to) = of_none (codes "pull") (TwoReplicas by to)
+
+-- what is to be made has a new path
+abbrev pub IsNewWhereMade : Command → Type 0
+IsNewWhereMade (command.Change by change) = HasNewPath change
+IsNewWhereMade other = Unit {0}
+
+-- the numbers are those of replicas, the arguments are such, and what is to be made has a new path
+pub record IsCommand (command : Command) : Type 0 where
+  pub number : IfSome (spelling_of command).by IsReplicaNumber
+  pub behind : AreArguments (spelling_of command).behind
+  pub new : IsNewWhereMade command
 
 -- the number of a replica is a word, and none is no word
 abbrev pub replica_words : Option ℕ → List (List ℕ)

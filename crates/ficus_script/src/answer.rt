@@ -1,6 +1,5 @@
-use ficus_file::Version;
-use ficus_ids::{Id, Listed, Members, Refusal};
-use ficus_names::Line;
+use ficus_commands::Told;
+use ficus_ids::{Id, Refusal};
 
 /// What a command came to.
 #[derive(Drop)]
@@ -9,17 +8,8 @@ pub enum Answer {
     Done,
     /// It was done, and the update of this number made the object.
     Made(Id),
-    /// The text of a file.
-    Text(Listed<u8>),
-    /// The names in a directory.
-    Names(Listed<Line>),
-    /// The names in each directory that was reached.
-    Tree(Listed<Line>),
-    /// The versions of a file of a volume with these members.
-    Versions {
-        members: Members,
-        list: Listed<Version>,
-    },
+    /// What the look told.
+    Told(Told),
     /// It was refused.
     Refused(Refusal),
 }

@@ -3,10 +3,12 @@ ghost use Rattle.ficus_ids.specs.declared.kind.Kind.TheVariants.{Dir};
 ghost use Rattle.ficus_path.specs.Path.{IsPath};
 ghost use Rattle.ficus_script.specs.Arguments.{AreArguments, IsReplicaNumber};
 ghost use Rattle.ficus_script.specs.Command.{Spelling, IsCommandOf, of_none, of_replica};
+ghost use Rattle.ficus_script.specs.declared.command.Command.TheVariants as command;
 ghost use Rattle.ficus_script.specs.declared.arguments.Arguments.TheVariants.{Nothing, OnePath, PathAndKind, PathAndText, TwoReplicas};
 
 use crate::Command;
 use crate::arguments::Arguments;
+use ficus_commands::{Change, Look};
 use ficus_ids::{Kind, Listed};
 use ficus_path::Path;
 
@@ -31,7 +33,7 @@ fn with_nothing(by: u8, verb: &[u8]) -> Option<Command>
     ensures { IsCommandOf (of_replica by verb.now Nothing) result }
 {
     match verb {
-        _ if verb == b"tree".as_slice() => Some(Command::Tree { by }),
+        _ if verb == b"tree".as_slice() => look(by, Look::Tree),
         _ => None,
     }
 }
@@ -42,11 +44,11 @@ fn with_path(by: u8, verb: &[u8], path: Path) -> Option<Command>
     ensures { IsCommandOf (of_replica by verb.now (OnePath path)) result }
 {
     match verb {
-        _ if verb == b"mkdir".as_slice() && path.is_new() => Some(Command::MkDir { by, path }),
-        _ if verb == b"resolve".as_slice() => Some(Command::Resolve { by, path }),
-        _ if verb == b"ls".as_slice() => Some(Command::Ls { by, path }),
-        _ if verb == b"read".as_slice() => Some(Command::Read { by, path }),
-        _ if verb == b"versions".as_slice() => Some(Command::Versions { by, path }),
+        _ if verb == b"mkdir".as_slice() && path.is_new() => change(by, Change::MkDir { path }),
+        _ if verb == b"resolve".as_slice() => change(by, Change::Resolve { path }),
+        _ if verb == b"ls".as_slice() => look(by, Look::Ls { path }),
+        _ if verb == b"read".as_slice() => look(by, Look::Read { path }),
+        _ if verb == b"versions".as_slice() => look(by, Look::Versions { path }),
         _ => None,
     }
 }
@@ -58,11 +60,10 @@ fn with_kind(by: u8, verb: &[u8], path: Path, kind: Kind) -> Option<Command>
     ensures { IsCommandOf (of_replica by verb.now (PathAndKind path kind)) result }
 {
     match verb {
-        _ if verb == b"create".as_slice() && path.is_new() => Some(Command::Create {
+        _ if verb == b"create".as_slice() && path.is_new() => change(
             by,
-            path,
-            kind,
-        }),
+            Change::Create { path, kind },
+        ),
         _ => None,
     }
 }
@@ -73,8 +74,8 @@ fn with_text(by: u8, verb: &[u8], path: Path, text: Listed<u8>) -> Option<Comman
     ensures { IsCommandOf (of_replica by verb.now (PathAndText path text)) result }
 {
     match verb {
-        _ if verb == b"write".as_slice() => Some(Command::Write { by, path, text }),
-        _ if verb == b"settle".as_slice() => Some(Command::Settle { by, path, text }),
+        _ if verb == b"write".as_slice() => change(by, Change::Write { path, text }),
+        _ if verb == b"settle".as_slice() => change(by, Change::Settle { path, text }),
         _ => None,
     }
 }
@@ -88,4 +89,16 @@ fn with_replicas(verb: &[u8], by: u8, to: u8) -> Option<Command>
         _ if verb == b"pull".as_slice() => Some(Command::Pull { by, to }),
         _ => None,
     }
+}
+
+fn change(by: u8, change: Change) -> Option<Command>
+    ensures { result ≡ Some (command.Change by change) }
+{
+    Some(Command::Change { by, change })
+}
+
+fn look(by: u8, look: Look) -> Option<Command>
+    ensures { result ≡ Some (command.Look by look) }
+{
+    Some(Command::Look { by, look })
 }

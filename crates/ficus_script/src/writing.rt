@@ -1,9 +1,10 @@
 ghost use Rattle.std.specs.Prelude.{◌≡◌, [], ◌∷◌, ◌++◌, codes, IfOk, OnOk};
 ghost use Rattle.ficus_path.specs.Text.{quoted_text};
-ghost use Rattle.ficus_script.specs.Answer.{answer_text_of, count_line, counted_lines, name_line, tree_line};
+ghost use Rattle.ficus_script.specs.Answer.{answer_text_of, told_text_of, count_line, counted_lines, name_line, tree_line};
 ghost use Rattle.ficus_script.specs.Answer.{vector_text, version_line};
 
 use crate::Answer;
+use ficus_commands::Told;
 use ficus_file::Version;
 use ficus_ids::{Members, Memory};
 use ficus_names::{Line, shown_text};
@@ -18,14 +19,22 @@ pub fn answer_text(alloc: Global, answer: &Answer) -> Result<Vec<u8>, Memory>
     match answer {
         Answer::Done => Ok(Vec::from_slice(alloc, b"ok\n")?),
         Answer::Made(id) => Ok(format!(in alloc; "ok {id}\n")?.into_bytes()),
-        Answer::Text(text) => text_text(alloc, text.items()),
-        Answer::Names(lines) => names_text(alloc, lines.items()),
-        Answer::Tree(lines) => tree_text(alloc, lines.items()),
-        Answer::Versions { members, list } => versions_text(alloc, *members, list.items()),
+        Answer::Told(told) => told_text(alloc, told),
         Answer::Refused(refusal) => {
             let word = refusal.word();
             Ok(format!(in alloc; "no {word}\n")?.into_bytes())
         }
+    }
+}
+
+fn told_text(alloc: Global, told: &Told) -> Result<Vec<u8>, Memory>
+    ensures { IfOk result (λ text. text.items ≡ told_text_of told.now) }
+{
+    match told {
+        Told::Text(text) => text_text(alloc, text.items()),
+        Told::Names(lines) => names_text(alloc, lines.items()),
+        Told::Tree(lines) => tree_text(alloc, lines.items()),
+        Told::Versions { members, list } => versions_text(alloc, *members, list.items()),
     }
 }
 

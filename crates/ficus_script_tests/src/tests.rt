@@ -1,3 +1,4 @@
+use ficus_commands::{Change, Look, Told};
 use ficus_file::Version;
 use ficus_ids::{Id, Kind, Listed, Members, Name, Refusal};
 use ficus_names::{Line, ShownName};
@@ -63,8 +64,16 @@ fn all_described(alloc: Global, script: &str) -> Result<Vec<u8>, Fail> {
 
 fn described(alloc: Global, command: &Command) -> Result<Vec<u8>, Fail> {
     match command {
-        Command::MkDir { by, path } => with_path(alloc, format!(in alloc; "{by} makes ")?, path),
-        Command::Create { by, path, kind } => {
+        Command::Change { by, change } => change_described(alloc, *by, change),
+        Command::Look { by, look } => look_described(alloc, *by, look),
+        Command::Pull { by, to } => Ok(format!(in alloc; "{by} takes from {to}; ")?.into_bytes()),
+    }
+}
+
+fn change_described(alloc: Global, by: u8, change: &Change) -> Result<Vec<u8>, Fail> {
+    match change {
+        Change::MkDir { path } => with_path(alloc, format!(in alloc; "{by} makes ")?, path),
+        Change::Create { path, kind } => {
             let kind = kind.word();
             with_path(
                 alloc,
@@ -72,7 +81,7 @@ fn described(alloc: Global, command: &Command) -> Result<Vec<u8>, Fail> {
                 path,
             )
         }
-        Command::Write { by, path, text } => {
+        Change::Write { path, text } => {
             with_text(
                 alloc,
                 format!(in alloc; "{by} writes ")?,
@@ -80,7 +89,7 @@ fn described(alloc: Global, command: &Command) -> Result<Vec<u8>, Fail> {
                 path,
             )
         }
-        Command::Settle { by, path, text } => {
+        Change::Settle { path, text } => {
             with_text(
                 alloc,
                 format!(in alloc; "{by} settles ")?,
@@ -88,22 +97,22 @@ fn described(alloc: Global, command: &Command) -> Result<Vec<u8>, Fail> {
                 path,
             )
         }
-        Command::Resolve { by, path } => with_path(
-            alloc,
-            format!(in alloc; "{by} resolves ")?,
-            path,
-        ),
-        Command::Ls { by, path } => with_path(alloc, format!(in alloc; "{by} lists ")?, path),
-        Command::Read { by, path } => with_path(alloc, format!(in alloc; "{by} reads ")?, path),
-        Command::Versions { by, path } => {
+        Change::Resolve { path } => with_path(alloc, format!(in alloc; "{by} resolves ")?, path),
+    }
+}
+
+fn look_described(alloc: Global, by: u8, look: &Look) -> Result<Vec<u8>, Fail> {
+    match look {
+        Look::Ls { path } => with_path(alloc, format!(in alloc; "{by} lists ")?, path),
+        Look::Read { path } => with_path(alloc, format!(in alloc; "{by} reads ")?, path),
+        Look::Versions { path } => {
             with_path(
                 alloc,
                 format!(in alloc; "{by} lists the versions of ")?,
                 path,
             )
         }
-        Command::Tree { by } => Ok(format!(in alloc; "{by} walks; ")?.into_bytes()),
-        Command::Pull { by, to } => Ok(format!(in alloc; "{by} takes from {to}; ")?.into_bytes()),
+        Look::Tree => Ok(format!(in alloc; "{by} walks; ")?.into_bytes()),
     }
 }
 
@@ -131,7 +140,12 @@ fn a_text_may_be_longer_than_a_file(rt: HostRuntime) -> Result<(), Fail> {
     append_text(&mut script, &long)?;
     let commands = read_script(rt.alloc(), &script)?;
     let lengths = match commands.as_slice() {
-        [Command::Write { text, .. }] => Some(text.items().len()),
+        [
+            Command::Change {
+                change: Change::Write { text, .. },
+                ..
+            },
+        ] => Some(text.items().len()),
         _ => None,
     };
     assert_eq!(rt; lengths, Some(16_385));
@@ -220,13 +234,16 @@ fn faults_and_answers_have_their_texts(rt: HostRuntime) -> Result<(), Fail> {
         (Answer::Done, "ok\n"),
         (Answer::Made(id((2, 17))), "ok 2.17\n"),
         (Answer::Refused(Refusal::NoEntry), "no noentry\n"),
-        (Answer::Names(Listed::of(Vec::new(alloc))), "ok 0\n"),
         (
-            Answer::Names(Listed::of(names)),
+            Answer::Told(Told::Names(Listed::of(Vec::new(alloc)))),
+            "ok 0\n",
+        ),
+        (
+            Answer::Told(Told::Names(Listed::of(names))),
             "ok 2\nmy\\x20notes 2.2 dir\nf 2.9 plain conflict\n",
         ),
         (
-            Answer::Tree(Listed::of(tree)),
+            Answer::Told(Told::Tree(Listed::of(tree))),
             "ok 4\n0.0 a#1.1 1.1 dir\n0.0 a#2.1 2.1 dir\n1.1 b 1.2 dir\n2.1 my\\x20notes 2.2 dir\n",
         ),
     ] {
@@ -256,7 +273,7 @@ fn id((replica, number): (u8, u32)) -> Id {
 fn answers_on_files_have_their_texts(rt: HostRuntime) -> Result<(), Fail> {
     let alloc = rt.alloc();
     let text = Vec::from_slice(alloc, b"a \"b\"\n")?;
-    let answer = Answer::Text(Listed::of(text));
+    let answer = Answer::Told(Told::Text(Listed::of(text)));
     assert_eq!(rt;
         answer_text(alloc, &answer)?.as_slice(),
         b"ok \"a \\\"b\\\"\\n\"\n".as_slice()
@@ -264,10 +281,10 @@ fn answers_on_files_have_their_texts(rt: HostRuntime) -> Result<(), Fail> {
     let mut list = Vec::new(alloc);
     list.push(version(alloc, [1, 1, 0, 0, 0, 0, 0, 0], b"b")?)?;
     list.push(version(alloc, [20, 0, 0, 0, 0, 0, 0, 0], b"")?)?;
-    let answer = Answer::Versions {
+    let answer = Answer::Told(Told::Versions {
         members: Members::new(2).ok_or("members")?,
         list: Listed::of(list),
-    };
+    });
     assert_eq!(rt;
         answer_text(alloc, &answer)?.as_slice(),
         b"ok 2\n[1,1] \"b\"\n[20,0] \"\"\n".as_slice()

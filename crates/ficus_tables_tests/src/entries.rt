@@ -40,55 +40,60 @@ fn target(entries: &Entries, name: &[u8]) -> Result<u32, NameFault> {
     }
 }
 
-// Enters and removes an object. Whether its name led nowhere before, and to the object while it was there.
-fn turn(entries: &mut Entries, number: u32) -> Result<bool, Fail> {
+// Enters and removes an object. Its name leads nowhere before, and to the object while it is there.
+fn turn(entries: &mut Entries, number: u32) -> Result<(), Fail> {
     let before = target(entries, b"goes")?;
     enter(entries, number, b"goes")?;
     let between = target(entries, b"goes")?;
     remove(entries, number);
-    Ok(before == 0 && between == number)
+    if before != 0 || between != number {
+        return Err("a turn went wrong".into());
+    }
+    Ok(())
+}
+
+// Folds the changes in.
+fn fold(entries: &mut Entries) -> Result<(), Memory> {
+    *entries = entries.copy()?;
+    Ok(())
 }
 
 // A name is entered and removed a thousand times beside one that stays, and the changes of every second turn are
-// folded in by a copy. No entries where a turn went wrong.
-fn worn(alloc: Global) -> Result<Entries, Fail> {
-    let mut entries = Entries::new(alloc);
-    enter(&mut entries, 1, b"stays")?;
+// folded in by a copy.
+fn wear(entries: &mut Entries) -> Result<(), Fail> {
+    enter(entries, 1, b"stays")?;
     for number in 2..1002 {
-        if !turn(&mut entries, number)? {
-            return Ok(Entries::new(alloc));
-        }
+        turn(entries, number)?;
         if number % 2 == 0 {
-            entries = entries.copy()?;
+            fold(entries)?;
         }
     }
-    Ok(entries)
-}
-
-#[test]
-fn removed_entries_leave_their_names(rt: HostRuntime) -> Result<(), Fail> {
-    let entries = worn(rt.alloc())?;
-    assert!(rt; entries.len() == 1001, "a turn went wrong");
-    let stays = target(&entries, b"stays")?;
-    assert!(rt; stays == 1);
-    let goes = target(&entries, b"goes")?;
-    assert!(rt; goes == 0);
     Ok(())
 }
 
-#[test]
-fn removed_entries_still_lie_in_their_directory(rt: HostRuntime) -> Result<(), Fail> {
-    let mut entries = worn(rt.alloc())?;
-    let inside = entries.inside(ROOT)?;
-    assert!(rt; inside.len() == 1001);
-    let below = entries.inside(id(1))?;
-    assert!(rt; below.is_empty());
-    let live = entries.copy()?.noted_live_inside(ROOT)?;
-    assert!(rt; live.len() == 1);
-    assert!(rt; entries.live_inside(ROOT));
-    remove(&mut entries, 1);
-    assert!(rt; !entries.live_inside(ROOT));
-    Ok(())
+// Where the name that stays and the name that goes lead.
+fn targets(entries: &Entries) -> Result<[u32; 2], NameFault> {
+    let stays = target(entries, b"stays")?;
+    let goes = target(entries, b"goes")?;
+    Ok([stays, goes])
+}
+
+// How many entries lie in a directory.
+fn count_inside(entries: &Entries, dir: Id) -> Result<usize, Memory> {
+    let inside = entries.inside(dir)?;
+    Ok(inside.len())
+}
+
+// How many live entries are noted to lie in the root.
+fn count_noted(entries: &Entries) -> Result<usize, Memory> {
+    let live = entries.noted_live_inside(ROOT)?;
+    Ok(live.len())
+}
+
+// The same, once all changes are folded in.
+fn count_live(entries: &Entries) -> Result<usize, Memory> {
+    let folded = entries.copy()?;
+    count_noted(&folded)
 }
 
 // Whether all entries from this place on are dead, and known to be so to replica 1 alone.
@@ -106,16 +111,78 @@ fn are_dead(entries: &Entries, first: usize) -> Result<bool, Memory> {
     Ok(true)
 }
 
+// What is found of worn entries. The last two fields are of the time after the entry that stays is removed.
+#[derive(Clone, Copy)]
+struct Found {
+    count: usize,
+    // The objects to which the names lead.
+    stays: u32,
+    goes: u32,
+    // How many entries lie in the root and in the object that stays, and how many live ones in the root.
+    inside: usize,
+    below: usize,
+    live: usize,
+    has_live: bool,
+    // Whether all entries but the first are dead, and whether all are.
+    others_dead: bool,
+    all_dead: bool,
+    has_live_after: bool,
+    all_dead_after: bool,
+}
+
+fn look(entries: &mut Entries) -> Result<Found, Fail> {
+    let [stays, goes] = targets(entries)?;
+    let mut found = Found {
+        count: entries.len(),
+        stays,
+        goes,
+        inside: count_inside(entries, ROOT)?,
+        below: count_inside(entries, id(1))?,
+        live: count_live(entries)?,
+        has_live: entries.live_inside(ROOT),
+        others_dead: are_dead(entries, 1)?,
+        all_dead: are_dead(entries, 0)?,
+        has_live_after: true,
+        all_dead_after: false,
+    };
+    remove(entries, 1);
+    found.has_live_after = entries.live_inside(ROOT);
+    found.all_dead_after = are_dead(entries, 0)?;
+    Ok(found)
+}
+
+fn found_of_worn(alloc: Global) -> Result<Found, Fail> {
+    let mut entries = Entries::new(alloc);
+    wear(&mut entries)?;
+    look(&mut entries)
+}
+
+#[test]
+fn removed_entries_leave_their_names(rt: HostRuntime) -> Result<(), Fail> {
+    let found = found_of_worn(rt.alloc())?;
+    assert!(rt; found.count == 1001);
+    assert!(rt; found.stays == 1);
+    assert!(rt; found.goes == 0);
+    Ok(())
+}
+
+#[test]
+fn removed_entries_still_lie_in_their_directory(rt: HostRuntime) -> Result<(), Fail> {
+    let found = found_of_worn(rt.alloc())?;
+    assert!(rt; found.inside == 1001);
+    assert!(rt; found.below == 0);
+    assert!(rt; found.live == 1);
+    assert!(rt; found.has_live);
+    assert!(rt; !found.has_live_after);
+    Ok(())
+}
+
 #[test]
 fn a_removal_is_known_where_it_was_made(rt: HostRuntime) -> Result<(), Fail> {
-    let mut entries = worn(rt.alloc())?;
-    assert!(rt; entries.len() == 1001);
-    let others = are_dead(&entries, 1)?;
-    assert!(rt; others);
-    let before = are_dead(&entries, 0)?;
-    assert!(rt; !before);
-    remove(&mut entries, 1);
-    let after = are_dead(&entries, 0)?;
-    assert!(rt; after);
+    let found = found_of_worn(rt.alloc())?;
+    assert!(rt; found.count == 1001);
+    assert!(rt; found.others_dead);
+    assert!(rt; !found.all_dead);
+    assert!(rt; found.all_dead_after);
     Ok(())
 }

@@ -10,7 +10,7 @@ use std::test::Fail;
 const TWO_MEMBERS: &str = "ficus replay --members 2";
 
 // Scripts of two members with their answers: an indented line is a line of an answer.
-const SCRIPTS: [&str; 6] = [
+const SCRIPTS: &[&str] = &[
     // An empty script.
     "",
     // A last line needs no end, and a name has 64 bytes at most.
@@ -78,30 +78,77 @@ pull 1 2
 ",
 ];
 
-// What a run over a source and a sink in memory came to.
-#[derive(Drop)]
-struct Ran {
-    status: Status,
-    written: Vec<u8>,
+// What the program is called with: its words, its script, and the calls of its source and of its sink that fail.
+#[derive(Clone, Copy)]
+struct Call<'a> {
+    words: &'a str,
+    script: &'a [u8],
+    source_fails: &'a [u32],
+    sink_fails: &'a [u32],
 }
 
-fn run(
-    alloc: Global,
-    words: &str,
-    script: &[u8],
-    source_fails: &[u32],
-    sink_fails: &[u32],
-) -> Result<Ran, Fail> {
-    let mut owned = Vec::new(alloc);
-    for word in words.split(' ') {
-        owned.push(String::from_str(alloc, word)?)?;
+fn faultless<'a>(words: &'a str, script: &'a [u8]) -> Call<'a> {
+    Call {
+        words,
+        script,
+        source_fails: &[],
+        sink_fails: &[],
     }
-    let mut input = MemSource::new(script.to_vec(alloc)?, source_fails.to_vec(alloc)?);
-    let mut output = MemSink::new(alloc, sink_fails.to_vec(alloc)?)?;
-    let status = ficus(alloc, &owned, &mut input, &mut output);
+}
+
+// How a run over a source and a sink in memory ended, and whether it put what is wanted.
+#[derive(Clone, Copy)]
+struct Ran {
+    status: Status,
+    is_as_wanted: bool,
+}
+
+fn words(alloc: Global, text: &str) -> Result<Vec<String>, Fail> {
+    let mut words = Vec::new(alloc);
+    for word in text.split(' ') {
+        words.push(String::from_str(alloc, word)?)?;
+    }
+    Ok(words)
+}
+
+fn source(alloc: Global, script: &[u8], fails: &[u32]) -> Result<MemSource, Fail> {
+    let script = script.to_vec(alloc)?;
+    let fails = fails.to_vec(alloc)?;
+    Ok(MemSource::new(script, fails))
+}
+
+fn sink(alloc: Global, fails: &[u32]) -> Result<MemSink, Fail> {
+    let fails = fails.to_vec(alloc)?;
+    Ok(MemSink::new(alloc, fails)?)
+}
+
+fn run(alloc: Global, call: &Call<'_>, wanted: &[u8]) -> Result<Ran, Fail> {
+    let words = words(alloc, call.words)?;
+    run_with_words(alloc, call, &words, wanted)
+}
+
+fn run_with_words(
+    alloc: Global,
+    call: &Call<'_>,
+    words: &Vec<String>,
+    wanted: &[u8],
+) -> Result<Ran, Fail> {
+    let mut input = source(alloc, call.script, call.source_fails)?;
+    run_on_source(alloc, call, words, &mut input, wanted)
+}
+
+fn run_on_source(
+    alloc: Global,
+    call: &Call<'_>,
+    words: &Vec<String>,
+    input: &mut MemSource,
+    wanted: &[u8],
+) -> Result<Ran, Fail> {
+    let mut output = sink(alloc, call.sink_fails)?;
+    let status = ficus(alloc, words, input, &mut output);
     Ok(Ran {
         status,
-        written: output.written().to_vec(alloc)?,
+        is_as_wanted: output.written() == wanted,
     })
 }
 
@@ -113,37 +160,53 @@ fn ended(code: u8, line: u32) -> Status {
     }
 }
 
-// The script of a row, and what it puts.
-fn parts(alloc: Global, row: &str) -> Result<(String, String), Fail> {
-    let mut script = String::new(alloc);
-    let mut answers = String::new(alloc);
+// Adds a line to a script, whose last line has no end.
+fn add_command(script: &mut String, line: &str) -> Result<(), Fail> {
+    if !script.is_empty() {
+        script.push('\n')?;
+    }
+    script.push_str(line)?;
+    Ok(())
+}
+
+fn add_answer(answers: &mut String, line: &str) -> Result<(), Fail> {
+    answers.push_str(line)?;
+    answers.push('\n')?;
+    Ok(())
+}
+
+// Adds the script of a row, and what it puts.
+fn add_parts(row: &str, script: &mut String, answers: &mut String) -> Result<(), Fail> {
     for line in row.lines() {
-        if let Some(answer) = line.strip_prefix("    ") {
-            answers.push_str(answer)?;
-            answers.push('\n')?;
-        } else {
-            if !script.is_empty() {
-                script.push('\n')?;
-            }
-            script.push_str(line)?;
+        match line.strip_prefix("    ") {
+            Some(answer) => add_answer(answers, answer)?,
+            None => add_command(script, line)?,
         }
     }
-    Ok((script, answers))
+    Ok(())
+}
+
+// Runs the script of a row, which is to put the row's answers.
+fn run_row(alloc: Global, row: &str) -> Result<Ran, Fail> {
+    let mut script = String::new(alloc);
+    let mut answers = String::new(alloc);
+    add_parts(row, &mut script, &mut answers)?;
+    let call = faultless(TWO_MEMBERS, script.as_bytes());
+    run(alloc, &call, answers.as_bytes())
 }
 
 #[test]
 fn scripts_are_answered(rt: HostRuntime) -> Result<(), Fail> {
-    for row in SCRIPTS {
-        let (script, answers) = parts(rt.alloc(), row)?;
-        let ran = run(rt.alloc(), TWO_MEMBERS, script.as_bytes(), &[], &[])?;
-        assert_eq!(rt; ran.status, ended(0, 0), "{row}");
-        assert_eq!(rt; ran.written.as_slice(), answers.as_bytes(), "{row}");
+    for &row in SCRIPTS {
+        let ran = run_row(rt.alloc(), row)?;
+        assert!(rt; ran.status == ended(0, 0), "{row}");
+        assert!(rt; ran.is_as_wanted, "{row}");
     }
     Ok(())
 }
 
 // Words and scripts that are refused, with the code and the line that it names.
-const REFUSED: [(&str, &str, u8, u32); 22] = [
+const REFUSED: &[(&str, &str, u8, u32)] = &[
     ("", "1 mkdir /a\n", 1, 0),
     ("ficus", "1 mkdir /a\n", 1, 0),
     ("ficus run", "1 mkdir /a\n", 1, 0),
@@ -182,100 +245,132 @@ const REFUSED: [(&str, &str, u8, u32); 22] = [
 
 #[test]
 fn words_and_scripts_are_refused(rt: HostRuntime) -> Result<(), Fail> {
-    for (words, script, code, line) in REFUSED {
-        let ran = run(rt.alloc(), words, script.as_bytes(), &[], &[])?;
-        assert_eq!(rt; ran.status, ended(code, line), "{words:?} {script:?}");
-        assert_eq!(rt;
-            ran.written.as_slice(),
-            b"".as_slice(),
-            "{words:?} {script:?}"
-        );
+    for &(words, script, code, line) in REFUSED {
+        let ran = run(rt.alloc(), &faultless(words, script.as_bytes()), b"")?;
+        assert!(rt; ran.status == ended(code, line), "{words:?} {script:?}");
+        assert!(rt; ran.is_as_wanted, "{words:?} {script:?}");
     }
     Ok(())
 }
 
-fn empty_lines(alloc: Global, count: usize) -> Result<Vec<u8>, Fail> {
-    Ok(vec![in alloc; b'\n'; count]?)
+// How a script of so many empty lines ends.
+fn run_empty_lines(alloc: Global, count: usize) -> Result<Status, Fail> {
+    let script = vec![in alloc; b'\n'; count]?;
+    let ran = run(alloc, &faultless(TWO_MEMBERS, &script), b"")?;
+    Ok(ran.status)
 }
 
 #[test]
 fn a_script_has_a_mebibyte_at_most(rt: HostRuntime) -> Result<(), Fail> {
     for (bytes, code) in [(1_048_576, 0), (1_048_577, 8)] {
-        let script = empty_lines(rt.alloc(), bytes)?;
-        let ran = run(rt.alloc(), TWO_MEMBERS, &script, &[], &[])?;
-        assert_eq!(rt; ran.status, ended(code, 0), "{bytes} bytes");
+        let status = run_empty_lines(rt.alloc(), bytes)?;
+        assert!(rt; status == ended(code, 0), "{bytes} bytes");
     }
     Ok(())
 }
 
+// Calls of the source and of the sink that fail, the code, and what is put.
+const FAULTS: &[(&[u32], &[u32], u8, &str)] = &[
+    (&[1], &[0], 4, ""),
+    (&[2], &[0], 4, ""),
+    (&[0], &[1], 5, ""),
+    (&[0], &[2], 5, "ok 1.1\n"),
+    (&[0], &[3], 0, "ok 1.1\nno exists\n"),
+];
+
 #[test]
 fn a_source_or_a_sink_fails_at_each_call_in_turn(rt: HostRuntime) -> Result<(), Fail> {
-    let script = b"1 mkdir /a\n1 mkdir /a\n";
-    for (source_fails, sink_fails, code, written) in [
-        ([1], [0], 4, ""),
-        ([2], [0], 4, ""),
-        ([0], [1], 5, ""),
-        ([0], [2], 5, "ok 1.1\n"),
-        ([0], [3], 0, "ok 1.1\nno exists\n"),
-    ] {
-        let ran = run(rt.alloc(), TWO_MEMBERS, script, &source_fails, &sink_fails)?;
-        assert_eq!(rt;
-            ran.status,
-            ended(code, 0),
+    for &(source_fails, sink_fails, code, written) in FAULTS {
+        let call = Call {
+            words: TWO_MEMBERS,
+            script: b"1 mkdir /a\n1 mkdir /a\n",
+            source_fails,
+            sink_fails,
+        };
+        let ran = run(rt.alloc(), &call, written.as_bytes())?;
+        assert!(rt;
+            ran.status == ended(code, 0),
             "{source_fails:?} {sink_fails:?}"
         );
-        assert_eq!(rt;
-            ran.written.as_slice(),
-            written.as_bytes(),
-            "{source_fails:?} {sink_fails:?}"
-        );
+        assert!(rt; ran.is_as_wanted, "{source_fails:?} {sink_fails:?}");
     }
     Ok(())
+}
+
+// Scripts that are served one after the other, the code of each, and how many events have then happened.
+const SERVED: &[(&str, u8, u32)] = &[
+    ("1 mkdir /a\n", 0, 3),
+    ("1 mkdir /a\n1 mkdir /b\n", 0, 4),
+    // The answer isn't put, and what it answers is done.
+    ("1 mkdir /c\n1 mkdir /d\n", 5, 5),
+    ("1 mkdir /c\n1 mkdir /d\n", 0, 6),
+];
+
+fn serve_script(
+    alloc: Global,
+    world: &mut World,
+    script: &str,
+    output: &mut MemSink,
+) -> Result<Status, Fail> {
+    let commands = read_script(alloc, script.as_bytes())?;
+    if commands.len() > 2 || world.history().len() >= 100 {
+        return Err("more than a test serves".into());
+    }
+    Ok(serve(alloc, world, &commands, output))
+}
+
+// The place of the first script that isn't served as wanted, if there is one.
+fn first_served_wrong(
+    alloc: Global,
+    world: &mut World,
+    output: &mut MemSink,
+) -> Result<Option<usize>, Fail> {
+    for (place, &(script, code, events)) in SERVED.iter().enumerate() {
+        let status = serve_script(alloc, world, script, output)?;
+        if status != ended(code, 0) || world.history().len() != events {
+            return Ok(Some(place));
+        }
+    }
+    Ok(None)
+}
+
+// The same in a fresh world.
+fn first_served_wrong_anew(alloc: Global, output: &mut MemSink) -> Result<Option<usize>, Fail> {
+    let members = Members::new(2).ok_or("two members")?;
+    let mut world = World::fresh(alloc, members)?;
+    first_served_wrong(alloc, &mut world, output)
 }
 
 #[test]
 fn a_world_goes_on_from_where_it_was_left(rt: HostRuntime) -> Result<(), Fail> {
-    let members = Members::new(2).ok_or("two members")?;
-    let mut world = World::fresh(rt.alloc(), members)?;
-    let mut output = MemSink::new(rt.alloc(), [4].to_vec(rt.alloc())?)?;
-    for (script, code, events) in [
-        ("1 mkdir /a\n", 0, 3),
-        ("1 mkdir /a\n1 mkdir /b\n", 0, 4),
-        // The answer isn't put, and what it answers is done.
-        ("1 mkdir /c\n1 mkdir /d\n", 5, 5),
-        ("1 mkdir /c\n1 mkdir /d\n", 0, 6),
-    ] {
-        let commands = read_script(rt.alloc(), script.as_bytes())?;
-        assert!(rt; commands.len() <= 2);
-        assert!(rt; world.history().len() < 100);
-        let status = serve(rt.alloc(), &mut world, &commands, &mut output);
-        assert_eq!(rt; status, ended(code, 0), "{script:?}");
-        assert_eq!(rt; world.history().len(), events, "{script:?}");
-    }
-    assert_eq!(rt;
-        output.written(),
-        b"ok 1.1\nno exists\nok 1.2\nno exists\nok 1.4\n".as_slice()
-    );
+    let mut output = sink(rt.alloc(), &[4])?;
+    let wrong = first_served_wrong_anew(rt.alloc(), &mut output)?;
+    assert!(rt; wrong.is_none(), "{wrong:?}");
+    assert!(rt; output.written() == b"ok 1.1\nno exists\nok 1.2\nno exists\nok 1.4\n".as_slice());
     Ok(())
 }
 
+fn has_text(alloc: Global, status: &Status, text: &str) -> Result<bool, Fail> {
+    let found = status_text(alloc, status)?;
+    Ok(found.as_slice() == text.as_bytes())
+}
+
+const STATUS_TEXTS: &[(u8, &str)] = &[
+    (0, ""),
+    (1, "ficus: usage\n"),
+    (2, "ficus: bad line 1048577\n"),
+    (3, "ficus: memory\n"),
+    (4, "ficus: read fault\n"),
+    (5, "ficus: write fault\n"),
+    (8, "ficus: script too long\n"),
+    (10, "ficus: no words\n"),
+];
+
 #[test]
 fn statuses_have_their_texts(rt: HostRuntime) -> Result<(), Fail> {
-    for (code, text) in [
-        (0, ""),
-        (1, "ficus: usage\n"),
-        (2, "ficus: bad line 1048577\n"),
-        (3, "ficus: memory\n"),
-        (4, "ficus: read fault\n"),
-        (5, "ficus: write fault\n"),
-        (8, "ficus: script too long\n"),
-        (10, "ficus: no words\n"),
-    ] {
-        let status = ended(code, 1_048_577);
-        assert_eq!(rt;
-            status_text(rt.alloc(), &status)?.as_slice(),
-            text.as_bytes()
-        );
+    for &(code, text) in STATUS_TEXTS {
+        let has = has_text(rt.alloc(), &ended(code, 1_048_577), text)?;
+        assert!(rt; has, "{text}");
     }
     Ok(())
 }

@@ -10,19 +10,20 @@ use Rattle.ficus_laws.specs.Laws.{KnowSameUpdates, ShowSame}
 use Rattle.ficus_laws.proofs.Shown.{shows_same, same_from_known}
 use Rattle.ficus_laws.proofs.Views.{same_turned, equal_known, conflict_within}
 use Rattle.ficus_version_laws.proofs.Latest.{VersionsWithin, are_shown_same}
-use Rattle.ficus_rules.specs.Look.{Look}
+use Rattle.ficus_commands.specs.declared.look.Look.{Look}
 use Rattle.ficus_rules.specs.View.{SameShown, View, history_view}
 use Rattle.ficus_rules.specs.Rule.{Along}
 use Rattle.ficus_rules.proofs.Looks.{look_along}
 use Rattle.ficus_rules.proofs.Rules.{then_along, gives_along}
 use Rattle.ficus_script.specs.declared.answer.Answer.{Answer}
-use Rattle.ficus_world.specs.Sort.{answer_of, LookAnswer}
+use Rattle.ficus_script.specs.declared.answer.Answer.TheVariants.{Told}
+use Rattle.ficus_world.specs.Answers.{LookAnswer}
 use Rattle.ficus_world.proofs.OneRun.{look_answer_once}
 
 -- what is shown the same is answered the same
 pub look_answer_along : {one other : View} → SameShown one other → (look : Look)
     → Along (LookAnswer one look) (LookAnswer other look)
-look_answer_along same look = then_along (look_along same look) (λ told tells. gives_along (answer_of told))
+look_answer_along same look = then_along (look_along same look) (λ told tells. gives_along (Told told))
 
 module _ (volume : Volume) (H : List Event) (replica other : ℕ) (same : KnowSameUpdates H replica other) where
   abbrev mine : ℕ → Type 0

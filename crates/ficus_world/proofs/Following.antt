@@ -14,9 +14,9 @@ use Rattle.ficus_laws.proofs.Pull.{length_asked, serve_may_come, accept_may_come
 use Rattle.ficus_replica.specs.declared.replica.Replica.{Replica}
 use Rattle.ficus_replica.specs.Accept.{AcceptGives, AcceptStands, IsServed}
 use Rattle.ficus_replica.specs.Ask.{AskGives}
-use Rattle.ficus_rules.specs.Change.{Change}
+use Rattle.ficus_commands.specs.declared.change.Change.{Change}
 use Rattle.ficus_replica.specs.Change.{ChangedAfter}
-use Rattle.ficus_rules.specs.Look.{Look}
+use Rattle.ficus_commands.specs.declared.look.Look.{Look}
 use Rattle.ficus_replica.specs.SavedOf.{StandsFor, generation_of}
 use Rattle.ficus_script.specs.declared.command.Command.{Command}
 use Rattle.ficus_script.specs.declared.answer.Answer.{Answer}
@@ -25,7 +25,7 @@ use Rattle.ficus_world.specs.Actions.{unchanged, happened, AtMember, Updates}
 use Rattle.ficus_world.specs.Actions.Adds.{Added}
 use Rattle.ficus_world.specs.Follows.{Follows}
 use Rattle.ficus_world.specs.ModelWorld.{ModelWorld, Effect}
-use Rattle.ficus_world.specs.Moves.{next_number_of, ArePeers, Served, advanced, TakesServed, MovesBySort, Moves}
+use Rattle.ficus_world.specs.Moves.{next_number_of, ArePeers, Served, advanced, TakesServed, CarriesOut, Moves}
 use Rattle.ficus_world.specs.Moves.FindsMember.{Finds, FindsNone}
 use Rattle.ficus_world.specs.Moves.KeepsUpdate.{Keeps}
 use Rattle.ficus_world.specs.Moves.KeepsAsk.{Sends, NoPeers}
@@ -34,7 +34,8 @@ use Rattle.ficus_world.specs.Moves.TakesServed.{Accepts, Refuses}
 use Rattle.ficus_world.specs.Run.{Does}
 use Rattle.ficus_world.specs.Sequence.Sequence.{Ends, Goes}
 use Rattle.ficus_world.specs.Sequence.ByRule.{Says}
-use Rattle.ficus_world.specs.Sort.{Sort, Changes, Looks, Pulls, sort_of, answer_to}
+use Rattle.ficus_script.specs.declared.command.Command.TheVariants.{Change as Changes, Look as Looks, Pull as Pulls}
+use Rattle.ficus_world.specs.Answers.{answer_to}
 use Rattle.ficus_world.specs.World.{Whole, IsNumbered, WorldStandsFor}
 use Rattle.ficus_replica.proofs.Accepts.{accept_gives_stands}
 use Rattle.ficus_replica.proofs.Asks.{asks_stands}
@@ -47,10 +48,10 @@ use Rattle.ficus_world.proofs.Agreement.{look_answer_along}
 use Rattle.ficus_world.proofs.Standing.{member_of, member_from, replica_stands, raise, raised_length, advanced_stands, served_stands}
 
 -- the model does so too, and the world stands for what that leaves
-record FollowsBySort (volume : Volume) (W : ModelWorld) (sort : Sort) (result : Result Answer Refusal) (new : Whole) :
+record FollowsIn (volume : Volume) (W : ModelWorld) (command : Command) (result : Result Answer Refusal) (new : Whole) :
     Type 0 where
   pub effect : Effect
-  pub does : Does volume sort W result effect
+  pub does : Does volume command W result effect
   pub stands : WorldStandsFor volume effect.after new
 
 module _ (volume : Volume) (W : ModelWorld) (old : Whole) (stands : WorldStandsFor volume W old) where
@@ -68,7 +69,7 @@ module _ (volume : Volume) (W : ModelWorld) (old : Whole) (stands : WorldStandsF
       (sym (replica_stands volume W old stands by member is).saved.next) Added
 
   follow_change : (by : ℕ) (change : Change) (result : Result Answer Refusal) (new : Whole)
-      → MovesBySort (Changes by change) old result new → FollowsBySort volume W (Changes by change) result new
+      → CarriesOut (Changes by change) old result new → FollowsIn volume W (Changes by change) result new
   follow_change by change result new (Ends (FindsNone none)) =
       record { effect = unchanged W; does = Ends (at_none by none); stands = stands }
   follow_change by change result new (Goes (Finds {member = member} is) (Ends {refusal = refusal} (Says refused))) =
@@ -93,7 +94,7 @@ module _ (volume : Volume) (W : ModelWorld) (old : Whole) (stands : WorldStandsF
       }
 
   follow_look : (by : ℕ) (look : Look) (result : Result Answer Refusal) (new : Whole)
-      → MovesBySort (Looks by look) old result new → FollowsBySort volume W (Looks by look) result new
+      → CarriesOut (Looks by look) old result new → FollowsIn volume W (Looks by look) result new
   follow_look by look result new (Ends (FindsNone none)) =
       record { effect = unchanged W; does = Ends (at_none by none); stands = stands }
   follow_look by look result new (Goes (Finds {member = member} is) (Says answer)) =
@@ -223,7 +224,7 @@ module _ (volume : Volume) (W : ModelWorld) (old : Whole) (stands : WorldStandsF
 
       follow_taking : (peer : Member) (result : Result Answer Refusal) (new : Whole)
           → IsNumbered asked_world.members to peer → TakesServed by to (served peer) answered_world result new
-          → FollowsBySort volume W (Pulls by to) result new
+          → FollowsIn volume W (Pulls by to) result new
       follow_taking peer result new peer_is (Refuses {was = holder} {refusal = refusal} holder_is no_memory gives) =
           absurd (never_refused refusal no_memory (takes peer holder (Err refusal) peer_is holder_is gives))
       follow_taking peer result new peer_is (Accepts {was = holder} {new = next} holder_is gives) =
@@ -237,8 +238,8 @@ module _ (volume : Volume) (W : ModelWorld) (old : Whole) (stands : WorldStandsF
                 (ap (λ n. Accept by n) serve_raised) may_accept by holder next holder_is refl now.stands;
           }
 
-    follow_pull : (result : Result Answer Refusal) (new : Whole) → MovesBySort (Pulls by to) old result new
-        → FollowsBySort volume W (Pulls by to) result new
+    follow_pull : (result : Result Answer Refusal) (new : Whole) → CarriesOut (Pulls by to) old result new
+        → FollowsIn volume W (Pulls by to) result new
     follow_pull result new (Ends (NoPeers none)) =
         record { effect = unchanged W; does = Ends (Ends (Says (inl (may_not_ask none, refl)))); stands = stands }
     follow_pull result new (Goes (Sends peers is asks) (Ends hands)) = elim hands [ ]
@@ -246,17 +247,17 @@ module _ (volume : Volume) (W : ModelWorld) (old : Whole) (stands : WorldStandsF
         (Goes (Sends {was = was} {asked = waiting} peers is asks) (Goes (Hands {peer = peer} peer_is) taking)) =
         follow_taking was waiting peers is asks peer result new peer_is taking
 
-  follow_sort : (sort : Sort) (result : Result Answer Refusal) (new : Whole)
-      → MovesBySort sort old result new → FollowsBySort volume W sort result new
-  follow_sort (Changes by change) result new moves = follow_change by change result new moves
-  follow_sort (Looks by look) result new moves = follow_look by look result new moves
-  follow_sort (Pulls by to) result new moves = follow_pull by to result new moves
+  follow_command : (command : Command) (result : Result Answer Refusal) (new : Whole)
+      → CarriesOut command old result new → FollowsIn volume W command result new
+  follow_command (Changes by change) result new moves = follow_change by change result new moves
+  follow_command (Looks by look) result new moves = follow_look by look result new moves
+  follow_command (Pulls by to) result new moves = follow_pull by to result new moves
 
   -- whatever a command does to the world, it does to what the world stands for
   pub follow : (command : Command) (answer : Answer) (new : Whole) → Moves old command answer new
       → Follows volume W command answer new
   follow command answer new moves =
-      let follows = follow_sort (sort_of command) moves.result new moves.does in
+      let follows = follow_command command moves.result new moves.does in
       record {
         outcome = follows.effect.outcome;
         after = follows.effect.after;

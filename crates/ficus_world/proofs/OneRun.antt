@@ -3,16 +3,18 @@ use Rattle.std.proofs.Common.{◌≡◌, ℕ, List, ◌∷◌, refl, sym, ap, ap
 use Rattle.ficus_ids.specs.declared.refusal.Refusal.{Refusal}
 use Rattle.ficus_model.specs.declared.event.Event.{Event}
 use Rattle.ficus_model.specs.Lawful.{Volume}
-use Rattle.ficus_rules.specs.Look.{Look}
+use Rattle.ficus_commands.specs.declared.look.Look.{Look}
 use Rattle.ficus_rules.specs.Rule.{Once}
 use Rattle.ficus_rules.specs.View.{history_view}
 use Rattle.ficus_script.specs.declared.command.Command.{Command}
 use Rattle.ficus_script.specs.declared.answer.Answer.{Answer}
+use Rattle.ficus_script.specs.declared.answer.Answer.TheVariants.{Told}
 use Rattle.ficus_world.specs.Actions.{Wants, AddsWhereMayCome, after}
 use Rattle.ficus_world.specs.ModelWorld.{ModelWorld, Outcome}
 use Rattle.ficus_world.specs.Run.{Does, Step, Run}
 use Rattle.ficus_world.specs.Run.Run.{End, Then}
-use Rattle.ficus_world.specs.Sort.{Sort, Changes, Looks, Pulls, sort_of, answer_of, LookAnswer, answer_as}
+use Rattle.ficus_script.specs.declared.command.Command.TheVariants.{Change as Changes, Look as Looks, Pull as Pulls}
+use Rattle.ficus_world.specs.Answers.{LookAnswer, answer_as}
 use Rattle.ficus_rules.proofs.Changes.{change_once}
 use Rattle.ficus_rules.proofs.Looks.{look_once}
 use Rattle.ficus_rules.proofs.Sound.{history_sound}
@@ -24,7 +26,7 @@ pub look_answer_once : (volume : Volume) (H : List Event) (r : ℕ) (look : Look
     → Once (LookAnswer (history_view volume H r) look)
 look_answer_once volume H r look =
     then_once (look_once (history_view volume H r) (history_sound volume H r) look)
-    (λ told. gives_once (answer_of told))
+    (λ told. gives_once (Told told))
 
 module _ (good : ModelWorld → Type 0) (refusal : Refusal) where
   wants_sure : IsSure (Wants good refusal)
@@ -41,7 +43,7 @@ module _ {A : Type 0} (volume : Volume) (given : ModelWorld → A) (event : Even
   adds_where_once = sequence_once _ _ (wants_sure _ refusal) (wants_once _ refusal) (λ may. adds_once given event)
 
 -- a command has one answer, and leaves one world
-does_once : (volume : Volume) (sort : Sort) → OnceByOutcome (Does volume sort)
+does_once : (volume : Volume) (command : Command) → OnceByOutcome (Does volume command)
 does_once volume (Changes by change) =
     sequence_once _ _ (wants_sure _ _) (wants_once _ _)
     (λ member. sequence_once _ _ (by_rule_sure _)
@@ -59,7 +61,7 @@ module _ {volume : Volume} {old new other : ModelWorld} {command : Command} {out
       → (answer ≡ again) × (new ≡ other)
   step_once one two =
       let same =
-      does_once volume (sort_of command) old one.result two.result (record { outcome = outcome; after = new })
+      does_once volume command old one.result two.result (record { outcome = outcome; after = new })
       (record { outcome = outcome; after = other }) one.does two.does refl in
       (one.answer_is ∙ ap answer_as same.0 ∙ sym two.answer_is, ap after same.1)
 

@@ -25,7 +25,7 @@ use Rattle.ficus_world.specs.Run.{Does, Step, Run}
 use Rattle.ficus_world.specs.Run.Run.{End, Then}
 use Rattle.ficus_world.specs.Sequence.Sequence.{Ends, Goes}
 use Rattle.ficus_world.specs.Sequence.ByRule.{Says}
-use Rattle.ficus_world.specs.Sort.{Sort, Changes, Looks, Pulls, sort_of}
+use Rattle.ficus_script.specs.declared.command.Command.TheVariants.{Change as Changes, Look as Looks, Pull as Pulls}
 use Rattle.ficus_world.specs.Start.{default_volume, restarts}
 use Rattle.ficus_replica.proofs.Changing.{change_may}
 
@@ -38,9 +38,9 @@ module _ (volume : Volume) where
   adds_lawful given event refusal W result left lawful (Goes (Says may) Added) =
       lawful_more volume W.events event lawful may.0
 
-  -- what commands of each sort do leaves a lawful history lawful
-  does_lawful : (sort : Sort) (W : ModelWorld) (result : Result Answer Refusal) (left : Effect)
-      → IsLawful volume W.events → Does volume sort W result left → IsLawful volume left.after.events
+  -- what a command does leaves a lawful history lawful
+  does_lawful : (command : Command) (W : ModelWorld) (result : Result Answer Refusal) (left : Effect)
+      → IsLawful volume W.events → Does volume command W result left → IsLawful volume left.after.events
   does_lawful (Changes by change) W result left lawful (Ends (Says none)) = lawful
   does_lawful (Changes by change) W result left lawful (Goes (Says member) (Ends (Says refused))) = lawful
   does_lawful (Changes by change) W result left lawful (Goes (Says member) (Goes {a = op} (Says decided) Added)) =
@@ -79,7 +79,7 @@ module _ (volume : Volume) where
 step_lawful : {volume : Volume} {old new : ModelWorld} {command : Command} {outcome : Outcome} {answer : Answer}
     → Step volume old command outcome answer new → IsLawful volume old.events → IsLawful volume new.events
 step_lawful {volume} {old} {new} {command} {outcome} step lawful =
-    does_lawful volume (sort_of command) old step.result (record { outcome = outcome; after = new }) lawful step.does
+    does_lawful volume command old step.result (record { outcome = outcome; after = new }) lawful step.does
 
 pub run_lawful : {volume : Volume} {old new : ModelWorld} {commands : List Command} {outcomes : List Outcome}
     {answers : List Answer} → Run volume old commands outcomes answers new → IsLawful volume old.events

@@ -11,6 +11,8 @@ use Rattle.ficus_laws.proofs.Lawful.{lawful_more}
 use Rattle.ficus_replica.specs.declared.replica.Replica.{Replica}
 use Rattle.ficus_replica.specs.SavedOf.{StandsFor}
 use Rattle.ficus_world.specs.declared.member.Member.{Member}
+use Rattle.ficus_world.specs.declared.member.Standing.{Standing as MemberStanding}
+use Rattle.ficus_world.specs.declared.member.Standing.TheVariants.{Up as IsUp}
 use Rattle.ficus_world.specs.Actions.{happened}
 use Rattle.ficus_world.specs.ModelWorld.{Standing, Up, ModelWorld}
 use Rattle.ficus_world.specs.Moves.{advanced}
@@ -20,13 +22,16 @@ use Rattle.ficus_world.proofs.LastPart.{length_part, part_more}
 use Rattle.ficus_world.proofs.Replaced.{number_read, replaced}
 
 -- so far each member is up
+is_up : (standing : MemberStanding) → standing ≡ IsUp
+is_up IsUp = refl
+
 up_stands : (volume : Volume) (H : List Event) (r : ℕ) (member : Member) (standing : Standing)
     → MemberStandsFor volume H r member standing → StandsFor volume H r member.replica
-up_stands volume H r member Up stands = stands
+up_stands volume H r member Up stands = stands.1
 
 pub stands_up : (volume : Volume) (H : List Event) (r : ℕ) (member : Member) (standing : Standing)
     → StandsFor volume H r member.replica → MemberStandsFor volume H r member standing
-stands_up volume H r member Up stands = stands
+stands_up volume H r member Up stands = (is_up member.standing, stands)
 
 module _ (volume : Volume) (W : ModelWorld) (old : Whole) (stands : WorldStandsFor volume W old) where
   pub member_of : (r : ℕ) → IsMember (length old.members) r → IsMember volume.members r

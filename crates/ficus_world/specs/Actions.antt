@@ -8,15 +8,16 @@ use Rattle.ficus_model.specs.declared.event.Event.TheVariants.{Update, Ask, Serv
 use Rattle.ficus_model.specs.declared.event.Op.{Op}
 use Rattle.ficus_model.specs.Lawful.{Volume, MayCome}
 use Rattle.ficus_laws.specs.Updates.{next_number}
-use Rattle.ficus_rules.specs.Change.{Change, ChangeRule}
-use Rattle.ficus_rules.specs.Look.{Look}
+use Rattle.ficus_commands.specs.declared.change.Change.{Change}
+use Rattle.ficus_rules.specs.Change.{ChangeRule}
+use Rattle.ficus_commands.specs.declared.look.Look.{Look}
 use Rattle.ficus_rules.specs.Rule.{Where, Gives}
 use Rattle.ficus_rules.specs.View.{history_view}
 use Rattle.ficus_script.specs.declared.answer.Answer.{Answer}
 use Rattle.ficus_script.specs.declared.answer.Answer.TheVariants.{Done}
 use Rattle.ficus_world.specs.ModelWorld.{ModelWorld, AllDone, Effect}
 use Rattle.ficus_world.specs.Sequence.{Action, Sequence, ByRule}
-use Rattle.ficus_world.specs.Sort.{answer_to, LookAnswer}
+use Rattle.ficus_world.specs.Answers.{answer_to, LookAnswer}
 
 -- an action on a world of the model
 abbrev pub ModelAction : Type 0 → Type 1

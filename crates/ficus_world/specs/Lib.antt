@@ -1,10 +1,9 @@
 pub mod Sequence
 pub mod ModelWorld
-pub mod Sort
+pub mod Answers
 pub mod Actions
 pub mod Run
 pub mod World
 pub mod Moves
-pub mod Member
 pub mod Follows
 pub mod Start

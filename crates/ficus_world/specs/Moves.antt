@@ -12,16 +12,18 @@ use Rattle.ficus_file.specs.declared.file.FileReplica.{FileReplica}
 use Rattle.ficus_replica.specs.declared.replica.Replica.{Replica}
 use Rattle.ficus_replica.specs.Accept.{AcceptGives}
 use Rattle.ficus_replica.specs.Ask.{AskGives}
-use Rattle.ficus_rules.specs.Change.{Change, ChangeRule}
+use Rattle.ficus_commands.specs.declared.change.Change.{Change}
+use Rattle.ficus_rules.specs.Change.{ChangeRule}
 use Rattle.ficus_replica.specs.Effect.{Applied}
-use Rattle.ficus_rules.specs.Look.{Look}
+use Rattle.ficus_commands.specs.declared.look.Look.{Look}
 use Rattle.ficus_answers.specs.View.{tables_view}
 use Rattle.ficus_script.specs.declared.command.Command.{Command}
 use Rattle.ficus_script.specs.declared.answer.Answer.{Answer}
 use Rattle.ficus_script.specs.declared.answer.Answer.TheVariants.{Done}
 use Rattle.ficus_world.specs.declared.member.Member.{Member}
 use Rattle.ficus_world.specs.Sequence.{Action, Sequence, ByRule}
-use Rattle.ficus_world.specs.Sort.{Sort, Changes, Looks, Pulls, sort_of, answer_to, LookAnswer, answer_as}
+use Rattle.ficus_script.specs.declared.command.Command.TheVariants.{Change as Changes, Look as Looks, Pull as Pulls}
+use Rattle.ficus_world.specs.Answers.{answer_to, LookAnswer, answer_as}
 use Rattle.ficus_world.specs.World.{Whole, IsNumbered}
 
 -- an action on a world as contracts see it
@@ -109,16 +111,16 @@ pub data TakesServed (by to : ℕ) (served : Served) (old : Whole) : Result Answ
       → AcceptGives was.replica to served.number served.entries served.files (Err refusal)
       → TakesServed by to served old (Err refusal) old
 
--- what commands of each sort do to a world, action by action
-abbrev pub MovesBySort : Sort → WholeAction Answer
-MovesBySort (Changes by change) =
+-- what each command does to a world, action by action
+abbrev pub CarriesOut : Command → WholeAction Answer
+CarriesOut (Changes by change) =
     Sequence itself (FindsMember by) (λ member. Sequence itself (TablesDecide member change) (KeepsUpdate by member))
-MovesBySort (Looks by look) = Sequence itself (FindsMember by) (λ member. TablesShow member look)
-MovesBySort (Pulls by to) =
+CarriesOut (Looks by look) = Sequence itself (FindsMember by) (λ member. TablesShow member look)
+CarriesOut (Pulls by to) =
     Sequence itself (KeepsAsk by to) (λ ask. Sequence itself (HandsOver to ask) (TakesServed by to))
 
 -- one command: its answer, and the world after it
 pub record Moves (old : Whole) (command : Command) (answer : Answer) (new : Whole) : Type 0 where
   pub result : Result Answer Refusal
-  pub does : MovesBySort (sort_of command) old result new
+  pub does : CarriesOut command old result new
   pub answer_is : answer ≡ answer_as result

@@ -7,10 +7,11 @@ use Rattle.ficus_script.specs.declared.answer.Answer.{Answer}
 use Rattle.ficus_world.specs.Actions.{ModelAction, after, AtMember, Decides, Updates, Sees, Asks, Serves, TakesAnswer}
 use Rattle.ficus_world.specs.ModelWorld.{ModelWorld, Outcome}
 use Rattle.ficus_world.specs.Sequence.{Sequence}
-use Rattle.ficus_world.specs.Sort.{Sort, Changes, Looks, Pulls, sort_of, answer_as}
+use Rattle.ficus_script.specs.declared.command.Command.TheVariants.{Change as Changes, Look as Looks, Pull as Pulls}
+use Rattle.ficus_world.specs.Answers.{answer_as}
 
--- what commands of each sort do, action by action
-abbrev pub Does : Volume → Sort → ModelAction Answer
+-- what each command does, action by action
+abbrev pub Does : Volume → Command → ModelAction Answer
 Does volume (Changes by change) =
     Sequence after (AtMember volume by) (λ member. Sequence after (Decides volume by change) (Updates by))
 Does volume (Looks by look) = Sequence after (AtMember volume by) (λ member. Sees volume by look)
@@ -21,7 +22,7 @@ Does volume (Pulls by to) =
 pub record Step (volume : Volume) (old : ModelWorld) (command : Command) (outcome : Outcome) (answer : Answer)
     (new : ModelWorld) : Type 0 where
   pub result : Result Answer Refusal
-  pub does : Does volume (sort_of command) old result (record { outcome = outcome; after = new })
+  pub does : Does volume command old result (record { outcome = outcome; after = new })
   pub answer_is : answer ≡ answer_as result
 
 -- commands, one after the other: what the outside does in each, their answers, and the world after them

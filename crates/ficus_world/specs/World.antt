@@ -8,6 +8,7 @@ use Rattle.ficus_codec.specs.Saved.{FitsImage}
 use Rattle.ficus_replica.specs.declared.replica.Replica.{Replica}
 use Rattle.ficus_replica.specs.SavedOf.{StandsFor}
 use Rattle.ficus_world.specs.declared.member.Member.{Member}
+use Rattle.ficus_world.specs.declared.member.Standing.TheVariants.{Up as IsUp}
 use Rattle.ficus_world.specs.ModelWorld.{Standing, Up, ModelWorld}
 
 -- the members, and the events of this run
@@ -50,9 +51,9 @@ pub record IsLastPart (events H : List Event) : Type 0 where
   pub earlier : List Event
   pub is : H ≡ earlier ++ map (raised (length earlier)) events
 
--- what a member holds that stands so: a replica that is up stands for the history
+-- a member that is up in the model is up, and its replica stands for the history
 abbrev pub MemberStandsFor : Volume → List Event → ℕ → Member → Standing → Type 0
-MemberStandsFor volume H r member Up = StandsFor volume H r member.replica
+MemberStandsFor volume H r member Up = (member.standing ≡ IsUp) × StandsFor volume H r member.replica
 
 -- The world stands for one of the model: what happened there is lawful, and ends with the stored events; there are as
 -- many members, 2 to 8, and each stands as the model says.

@@ -2,7 +2,7 @@ ghost use Rattle.std.specs.Prelude.{◌≡◌, IfOk};
 ghost use Rattle.ficus_ids.specs.Members.{IsCount};
 ghost use Rattle.ficus_world.specs.Start.{default_volume, restarts, AreFresh};
 
-use crate::member::Member;
+use crate::member::{Member, Standing};
 use crate::world::{DEFAULT_BYTES, DEFAULT_IDS};
 use ficus_ids::{Members, Memory};
 use ficus_model::{Event, History};
@@ -19,7 +19,10 @@ pub(crate) fn fresh_members(alloc: Global, members: Members) -> Result<Vec<Membe
     for before in 0..count {
         let me = before + 1;
         let replica = Replica::fresh(alloc, me, members, DEFAULT_IDS, DEFAULT_BYTES);
-        list.push(Member { replica })?;
+        list.push(Member {
+            replica,
+            standing: Standing::Up,
+        })?;
     }
     Ok(list)
 }

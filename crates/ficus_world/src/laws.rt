@@ -4,13 +4,14 @@ ghost use Rattle.ficus_ids.specs.declared.refusal.Refusal.TheVariants.{Stale};
 ghost use Rattle.ficus_laws.specs.Laws.{KnowSameUpdates};
 ghost use Rattle.ficus_model.specs.Lawful.{Volume, IsLawful};
 ghost use Rattle.ficus_model.specs.declared.event.Event.{Event};
-ghost use Rattle.ficus_rules.specs.Look.{Look};
+ghost use Rattle.ficus_commands.specs.declared.look.Look.{Look};
 ghost use Rattle.ficus_rules.specs.View.{history_view};
 ghost use Rattle.ficus_script.specs.declared.answer.Answer.{Answer};
 ghost use Rattle.ficus_script.specs.declared.command.Command.{Command};
 ghost use Rattle.ficus_world.specs.ModelWorld.{ModelWorld, Outcome, Effect};
 ghost use Rattle.ficus_world.specs.Run.{Does, Run};
-ghost use Rattle.ficus_world.specs.Sort.{Pulls, LookAnswer};
+ghost use Rattle.ficus_world.specs.Answers.{LookAnswer};
+ghost use Rattle.ficus_script.specs.declared.command.Command.TheVariants.{Pull as Pulls};
 ghost use Rattle.ficus_world.specs.Start.{default_volume, start};
 
 /// Commands leave a lawful history, whatever they are.

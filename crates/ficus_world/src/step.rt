@@ -1,25 +1,26 @@
 ghost use Rattle.std.specs.Prelude.{◌≡◌, ◌≢◌, ◌↔◌, ◌+◌, ◌<◌, ◌≤◌, ◌++◌, ◌∷◌, [], Err, length, IsTrue, IfOk, OnErr, IsErrOf};
 ghost use Rattle.ficus_ids.specs.declared.refusal.Refusal.TheVariants.{Memory as OutOfMemory};
 ghost use Rattle.ficus_model.specs.declared.event.Event.TheVariants.{Ask, Serve};
-ghost use Rattle.ficus_world.specs.Sort.{answer_as};
+ghost use Rattle.ficus_world.specs.Answers.{answer_as, answer_to};
 ghost use Rattle.ficus_world.specs.World.{event_limit};
 
 use crate::World;
-use crate::member::answer;
+use crate::member::hold;
+use ficus_commands::{Change, Look};
 use ficus_ids::{Id, Memory, Refusal};
-use ficus_model::{Event, History};
+use ficus_model::{Event, History, Op};
 use ficus_script::{Answer, Command};
 use std::alloc::Global;
 
 impl World {
     ghost use Rattle.ficus_model.specs.Lawful.{Volume};
     ghost use Rattle.ficus_rules.specs.Rule.{UnlessMemory};
+    ghost use Rattle.ficus_commands.specs.Change.{HasNewPath};
     ghost use Rattle.ficus_script.specs.Command.{IsCommand};
+    ghost use Rattle.ficus_script.specs.declared.command.Command.TheVariants.{Change as Changes, Look as Looks, Pull as Pulls};
     ghost use Rattle.ficus_world.specs.ModelWorld.{ModelWorld};
     ghost use Rattle.ficus_world.specs.Follows.{Follows};
-    ghost use Rattle.ficus_world.specs.Member.{IsChangeBy, IsLookBy};
-    ghost use Rattle.ficus_world.specs.Moves.{ArePeers, MovesBySort, Moves};
-    ghost use Rattle.ficus_world.specs.Sort.{Pulls, sort_of};
+    ghost use Rattle.ficus_world.specs.Moves.{ArePeers, CarriesOut, Moves};
     ghost use Rattle.ficus_world.specs.World.{WorldStandsFor};
 
     /// Carries out one command, and answers it. After `Memory` the world is as before.
@@ -42,60 +43,50 @@ impl World {
     fn carry_out(&mut self, alloc: Global, command: &Command) -> Result<Answer, Refusal>
         requires command { IsCommand command.now }
         requires room { length self.old.events < event_limit }
-        ensures moves { UnlessMemory (λ answer. MovesBySort (sort_of command.now) self.old answer self.new) result }
+        ensures moves { UnlessMemory (λ answer. CarriesOut command.now self.old answer self.new) result }
         ensures grows { length self.new.events ≤ length self.old.events + 3 }
         ensures memory { IsErrOf result OutOfMemory → self.new ≡ self.old }
     {
         match command {
-            Command::MkDir { by, .. }
-            | Command::Create { by, .. }
-            | Command::Write { by, .. }
-            | Command::Settle { by, .. }
-            | Command::Resolve { by, .. } => self.change(alloc, *by, command),
-            Command::Ls { by, .. }
-            | Command::Tree { by }
-            | Command::Read { by, .. }
-            | Command::Versions { by, .. } => self.look(alloc, *by, command),
+            Command::Change { by, change } => self.change(alloc, *by, change),
+            Command::Look { by, look } => self.look(alloc, *by, look),
             Command::Pull { by, to } => self.pull(alloc, *by, *to),
         }
     }
 
     // All memory is taken before anything changes.
-    fn change(&mut self, alloc: Global, by: u8, command: &Command) -> Result<Answer, Refusal>
-        requires command { IsCommand command.now }
-        requires change { IsChangeBy by (sort_of command.now) }
+    fn change(&mut self, alloc: Global, by: u8, change: &Change) -> Result<Answer, Refusal>
+        requires new { HasNewPath change.now }
         requires room { length self.old.events < event_limit }
-        ensures moves { UnlessMemory (λ answer. MovesBySort (sort_of command.now) self.old answer self.new) result }
+        ensures moves { UnlessMemory (λ answer. CarriesOut (Changes by change.now) self.old answer self.new) result }
         ensures grows { length self.new.events ≤ length self.old.events + 1 }
         ensures memory { IsErrOf result OutOfMemory → self.new ≡ self.old }
     {
         if !self.has(by) {
             return Err(Refusal::Member);
         }
-        let member = self.member(by);
-        let number = member.replica.saved.next;
-        let next = member.change(alloc, by, command)?;
+        let replica = &self.member(by).replica;
+        let number = replica.saved.next;
+        let next = replica.change(alloc, change)?;
         self.history.reserve(1)?;
-        let answer = answer(
-            Id {
-                replica: by,
-                number,
-            },
-            &next.op,
-        );
+        let id = Id {
+            replica: by,
+            number,
+        };
+        let answer = answer(id, &next.op);
         self.history.push(Event::Update { by, op: next.op });
-        self.members[by as usize - 1].replica = next.replica;
+        hold(&mut self.members, by, next.replica);
         Ok(answer)
     }
 
-    fn look(&self, alloc: Global, by: u8, command: &Command) -> Result<Answer, Refusal>
-        requires look { IsLookBy by (sort_of command.now) }
-        ensures { UnlessMemory (λ answer. MovesBySort (sort_of command.now) self.now answer self.now) result }
+    fn look(&self, alloc: Global, by: u8, look: &Look) -> Result<Answer, Refusal>
+        ensures { UnlessMemory (λ answer. CarriesOut (Looks by look.now) self.now answer self.now) result }
     {
         if !self.has(by) {
             return Err(Refusal::Member);
         }
-        self.member(by).look(alloc, by, command)
+        let told = self.member(by).replica.look(alloc, look)?;
+        Ok(Answer::Told(told))
     }
 
     // Whether they are the numbers of two different members.
@@ -108,7 +99,7 @@ impl World {
     // All memory is taken before anything changes.
     fn pull(&mut self, alloc: Global, by: u8, to: u8) -> Result<Answer, Refusal>
         requires room { length self.old.events < event_limit }
-        ensures moves { UnlessMemory (λ answer. MovesBySort (Pulls by to) self.old answer self.new) result }
+        ensures moves { UnlessMemory (λ answer. CarriesOut (Pulls by to) self.old answer self.new) result }
         ensures grows { length self.new.events ≤ length self.old.events + 3 }
         ensures memory { IsErrOf result OutOfMemory → self.new ≡ self.old }
     {
@@ -129,13 +120,13 @@ impl World {
             Err(Refusal::Memory) => return Err(Refusal::Memory),
             Err(refusal) => {
                 push_serve(&mut self.history, by, to);
-                self.members[by as usize - 1].replica = asked;
+                hold(&mut self.members, by, asked);
                 return Err(refusal);
             }
         };
         let serve = push_serve(&mut self.history, by, to);
         self.history.push(Event::Accept { by, serve });
-        self.members[by as usize - 1].replica = accepted;
+        hold(&mut self.members, by, accepted);
         Ok(Answer::Done)
     }
 }
@@ -163,5 +154,21 @@ fn answered(came_to: Result<Answer, Refusal>) -> Result<Answer, Memory>
         Ok(answer) => Ok(answer),
         Err(Refusal::Memory) => Err(Memory),
         Err(refusal) => Ok(Answer::Refused(refusal)),
+    }
+}
+
+// The answer to an update of this number.
+fn answer(number: Id, op: &Op) -> Answer
+    ensures { result ≡ answer_to number op.now }
+{
+    match op {
+        Op::Make { .. } | Op::Link { .. } | Op::Move { .. } | Op::Adopt { .. } => Answer::Made(
+            number,
+        ),
+        Op::Remove { .. }
+        | Op::Write { .. }
+        | Op::Settle { .. }
+        | Op::Resolve { .. }
+        | Op::Discard { .. } => Answer::Done,
     }
 }

@@ -1,6 +1,6 @@
 use Rattle.std.proofs.Common.{◌++◌, ap, ◌∙◌}
 use Rattle.ficus_names.specs.ListingLaws.{IsListing-along}
-use Rattle.ficus_rules.specs.Told.{Names}
+use Rattle.ficus_commands.specs.declared.told.Told.TheVariants.{Names}
 use Rattle.ficus_rules.proofs.Listings.{lines_of_one}
 use Rattle.ficus_answers.specs.View.{tables_view}
 use Rattle.ficus_answers.proofs.Tables.{tables_bound, shown_named}
@@ -19,6 +19,6 @@ returns c =
       (
         added.0,
         lines_of_one (tables_view c.args.saved.now) c.in_ok-dir.dir c.in_ok-names.names.items added.0 listing added.1,
-        ap Names (added.2 ∙ ap (λ before. before ++ added.0) c.in_ok-lines.ensures.items),
+        ap Names (c.of.ensures ∙ added.2 ∙ ap (λ before. before ++ added.0) c.in_ok-lines.ensures.items),
       ),
     )

@@ -1,6 +1,7 @@
-use Rattle.std.proofs.Common.{◌≤◌, List, length, refl, sym, subst}
+use Rattle.std.proofs.Common.{◌≤◌, List, length, sym, ap, subst}
 use Rattle.ficus_ids.specs.Rising.{IsRisingBy}
 use Rattle.ficus_ids.specs.declared.id.Id.{Id}
+use Rattle.ficus_commands.specs.declared.told.Told.TheVariants.{Tree}
 use Rattle.ficus_names.specs.ListingLaws.{IsListing-along}
 use Rattle.ficus_answers.specs.View.{tables_view}
 use Rattle.ficus_answers.proofs.Tables.{tables_bound, shown_named}
@@ -36,5 +37,5 @@ returns c =
       c.loop-dir.lines.items,
       first_all c.args.saved.now c.in_ok-reached.reached.items c.loop-dir.dir-index
           c.loop-dir.lines.items c.in_ok-reached.ensures.exact past first,
-      refl,
+      ap Tree c.of.ensures,
     )

@@ -10,81 +10,90 @@ use Rattle.ficus_recon_file.proofs.merge.merge_files.Goals.{in-Some+then-not-add
 
 pub loop-index-init : goal.loop-index-init
 loop-index-init c =
-    let same : c.in_ok-both.both ≡ c.args.mine.now = c.in_ok-both.ensures.same in
-    let are : AreFiles c.args.mine.now = c.copy.ensures.files in
-    (none_changes c.args.held.now c.args.mine.now c.in_ok-both.both are.rising same, subst AreFiles (sym same) are)
+    let same : c.in_ok-both.both ≡ c.args.sides.now.mine = c.in_ok-both.ensures.same ∙ c.mine.ensures in
+    let are : AreFiles c.args.sides.now.mine = c.len-index-end.ensures.mine in
+    (none_changes c.args.held.now c.args.sides.now.mine c.in_ok-both.both are.rising same, subst AreFiles (sym same) are)
 
 pub adds_nothing-requires-clause-can : goal.adds_nothing-requires-clause-can
-adds_nothing-requires-clause-can c = c.requires.fit.each c.in-Some.file.now c.at-their.result.now c.in-Some.ensures.found.0
-    (contains_at c.args.theirs.now c.loop-index.index c.at-their.result.now c.at-their.ensures) c.in-Some.ensures.found.1
+adds_nothing-requires-clause-can c =
+    let found = rw c.in-Some.is at c.at-pair.ensures.mine in
+    c.requires.fit.each c.in-Some.file.now c.at-pair.result.theirs.now found.0
+    (contains_at c.args.sides.now.theirs c.loop-index.index c.at-pair.result.theirs.now c.at-pair.ensures.theirs) found.1
 
 pub adds_nothing-requires-clause-mine : goal.adds_nothing-requires-clause-mine
-adds_nothing-requires-clause-mine c = c.get.ensures.files.each c.in-Some.file.now c.in-Some.ensures.found.0
+adds_nothing-requires-clause-mine c =
+    let found = rw c.in-Some.is at c.at-pair.ensures.mine in
+    c.len-index-end.ensures.mine.each c.in-Some.file.now found.0
 
 pub adds_nothing-requires-clause-theirs : goal.adds_nothing-requires-clause-theirs
-adds_nothing-requires-clause-theirs c = c.len-index-end.ensures.files.each c.at-their.result.now
-    (contains_at c.args.theirs.now c.loop-index.index c.at-their.result.now c.at-their.ensures)
+adds_nothing-requires-clause-theirs c = c.len-index-end.ensures.theirs.each c.at-pair.result.theirs.now
+    (contains_at c.args.sides.now.theirs c.loop-index.index c.at-pair.result.theirs.now c.at-pair.ensures.theirs)
 
 pub merged_file-requires-clause-can : goal.merged_file-requires-clause-can
-merged_file-requires-clause-can c = c.requires.fit.each c.in-Some.file.now c.at-their.result.now c.in-Some.ensures.found.0
-    (contains_at c.args.theirs.now c.loop-index.index c.at-their.result.now c.at-their.ensures) c.in-Some.ensures.found.1
+merged_file-requires-clause-can c =
+    let found = rw c.in-Some.is at c.at-pair.ensures.mine in
+    c.requires.fit.each c.in-Some.file.now c.at-pair.result.theirs.now found.0
+    (contains_at c.args.sides.now.theirs c.loop-index.index c.at-pair.result.theirs.now c.at-pair.ensures.theirs) found.1
 
 pub merged_file-requires-clause-theirs : goal.merged_file-requires-clause-theirs
-merged_file-requires-clause-theirs c = c.len-index-end.ensures.files.each c.at-their.result.now
-    (contains_at c.args.theirs.now c.loop-index.index c.at-their.result.now c.at-their.ensures)
+merged_file-requires-clause-theirs c = c.len-index-end.ensures.theirs.each c.at-pair.result.theirs.now
+    (contains_at c.args.sides.now.theirs c.loop-index.index c.at-pair.result.theirs.now c.at-pair.ensures.theirs)
 
 pub put-requires-then-is_among : goal.put-requires-then-is_among
 put-requires-then-is_among c =
-    let is : c.in_ok-copy-in-None.field-0 ≡ c.at-their.result.now = c.in_ok-copy-in-None.ensures in
-    subst IsHeldFile (sym is) (c.len-index-end.ensures.files.each c.at-their.result.now
-    (contains_at c.args.theirs.now c.loop-index.index c.at-their.result.now c.at-their.ensures))
+    let is : c.in_ok-copy-in-None.field-0 ≡ c.at-pair.result.theirs.now = c.in_ok-copy-in-None.ensures in
+    subst IsHeldFile (sym is) (c.len-index-end.ensures.theirs.each c.at-pair.result.theirs.now
+    (contains_at c.args.sides.now.theirs c.loop-index.index c.at-pair.result.theirs.now c.at-pair.ensures.theirs))
 
 pub loop-index-preserved : goal.loop-index-preserved
 loop-index-preserved c =
     let held = c.args.held.now in
-    let mine = c.args.mine.now in
-    let theirs = c.args.theirs.now in
-    let their : FileReplica = c.at-their.result.now in
-    let rising_mine = c.get.ensures.files.rising in
-    let rising = c.len-index-end.ensures.files.rising in
+    let mine = c.args.sides.now.mine in
+    let theirs = c.args.sides.now.theirs in
+    let their : FileReplica = c.at-pair.result.theirs.now in
+    let rising_mine = c.len-index-end.ensures.mine.rising in
+    let rising = c.len-index-end.ensures.theirs.rising in
     let before = c.loop-index.invariant in
-    elim c.match-get.branch [
+    elim c.match-pair.branch [
       | in-Some+then-not-adds_nothing+in_ok-merged_file-in-Some+in_ok-put-in-Some w ↦
           let merged = w.in_ok-merged_file-in-Some.ensures.merged in
-          let found = w.in-Some.ensures.found in
+          let found = rw w.in-Some.is at c.at-pair.ensures.mine in
           rw w.both-is (
-            put_there held mine theirs c.loop-index.index their rising_mine rising c.at-their.ensures c.loop-index.both w.put.new.self
+            put_there held mine theirs c.loop-index.index their rising_mine rising c.at-pair.ensures.theirs c.loop-index.both w.put.new.self
                 w.in_ok-merged_file-in-Some.field-0 (Some w.in-Some.file.now) found
                 (merged.id ∙ found.1) merged w.in_ok-put-in-Some.ensures.puts w.put.ensures.files.rising before.0,
             w.put.ensures.files,
           )
       | in-Some+else-not-adds_nothing w ↦
           let nothing : w.adds_nothing.result ≡ true = w.if-not-adds_nothing.false in
+          let found = rw w.in-Some.is at c.at-pair.ensures.mine in
           rw w.both-is (
-            skipped held mine theirs c.loop-index.index their rising_mine rising c.at-their.ensures c.loop-index.both
-                (Some w.in-Some.file.now) w.in-Some.ensures.found (w.adds_nothing.ensures nothing) before.0,
+            skipped held mine theirs c.loop-index.index their rising_mine rising c.at-pair.ensures.theirs c.loop-index.both
+                (Some w.in-Some.file.now) found (w.adds_nothing.ensures nothing) before.0,
             before.1,
           )
       | in-None+then-is_among+in_ok-copy-in-None+in_ok-put-in-None w ↦
+          let found = rw w.in-None.is at c.at-pair.ensures.mine in
           let item : FileReplica = w.in_ok-copy-in-None.field-0 in
           let is : item ≡ their = w.in_ok-copy-in-None.ensures in
           let among : Contains held their.id = w.is_among.ensures.0 w.if-is_among.true in
           let taken : IsTaken held their (Some item) = record { named = λ _. ap Some is; unnamed = λ none. absurd (none among) } in
           rw w.both-is (
-            put_there held mine theirs c.loop-index.index their rising_mine rising c.at-their.ensures c.loop-index.both
-                w.put-then-is_among.new.self item None w.in-None.ensures.found
+            put_there held mine theirs c.loop-index.index their rising_mine rising c.at-pair.ensures.theirs c.loop-index.both
+                w.put-then-is_among.new.self item None found
                 (ap id_of is) taken w.in_ok-put-in-None.ensures.puts w.put-then-is_among.ensures.files.rising before.0,
             w.put-then-is_among.ensures.files,
           )
       | in-None+else-is_among w ↦
+          let found = rw w.in-None.is at c.at-pair.ensures.mine in
           let taken : IsTaken held their None = record {
             named = λ among. absurd
                 (both_ways w.is_among.result w.if-is_among.false (w.is_among.ensures.1 among));
             unnamed = λ _. refl;
           } in
           rw w.both-is (
-            skipped held mine theirs c.loop-index.index their rising_mine rising c.at-their.ensures c.loop-index.both None
-                w.in-None.ensures.found taken before.0,
+            skipped held mine theirs c.loop-index.index their rising_mine rising c.at-pair.ensures.theirs c.loop-index.both None
+                found taken before.0,
             before.1,
           )
     ]

@@ -1,26 +1,16 @@
-use Rattle.std.proofs.Common.{arith}
-use Rattle.std.proofs.lemmas.Bool.{both_ways}
-use Rattle.ficus_replica.proofs.Taking.{taken_none, taken_all, taken_skipped, taken_pushed}
+use Rattle.std.proofs.lemmas.Result.{IfOk-weaker}
+use Rattle.ficus_codec.specs.Tables.{touched_by}
+use Rattle.ficus_replica.specs.Taken.{AreMarked}
+use Rattle.ficus_replica.proofs.Taking.{taken_is}
 use Rattle.ficus_replica.proofs.taken.taken.Goals as goal
-use Rattle.ficus_replica.proofs.taken.taken.Goals.{then-branch+in_ok-push, else-branch}
-
-pub loop-index-init : goal.loop-index-init
-loop-index-init c = rw c.new-ids.ensures.items (taken_none c.args.entries.now c.args.mine.now c.args.theirs.now)
-
-pub loop-index-preserved : goal.loop-index-preserved
-loop-index-preserved c =
-    elim c.if-branch.branch [
-      | then-branch+in_ok-push w ↦ rw (w.ids-is, w.in_ok-push.ensures.items)
-          (taken_pushed c.args.entries.now c.args.mine.now c.args.theirs.now c.loop-index.index c.at.result.now
-          c.len-index-end.ensures.files.rising c.at.ensures c.loop-index.ids.items
-          (c.in_ok-is_new.ensures.0 w.if-branch.true) c.loop-index.invariant)
-      | else-branch w ↦ rw w.ids-is
-          (taken_skipped c.args.entries.now c.args.mine.now c.args.theirs.now c.loop-index.index c.at.result.now
-          c.len-index-end.ensures.files.rising c.at.ensures c.loop-index.ids.items
-          (λ new. both_ways c.in_ok-is_new.field-0 w.if-branch.false (c.in_ok-is_new.ensures.1 new)) c.loop-index.invariant)
-    ]
 
 pub returns-clause-taken : goal.returns-clause-taken
 returns-clause-taken c =
-    taken_all c.args.entries.now c.args.mine.now c.args.theirs.now c.loop-index.index c.loop-index.ids.items
-    (omega (arith, c.len-index-end.ensures.value)) c.loop-index.invariant
+    let alone = c.in_ok-alone.alone.items in
+    let marks = c.in_ok-marks.marks.items in
+    let marked : AreMarked (touched_by c.args.entries.now) alone marks =
+    rw c.deref.ensures.value at c.in_ok-marks.ensures in
+    IfOk-weaker c.marked.result _ _
+    (λ kept is. taken_is c.args.entries.now c.args.sides.now.mine c.args.sides.now.theirs alone marks kept.items
+    c.in_ok-alone.ensures.alone marked (rw (c.deref-2.ensures.value, c.deref-3.ensures.value) at is))
+    c.marked.ensures.marked

@@ -7,26 +7,24 @@ use Rattle.ficus_entry.proofs.Killed.{found_so_far, rising_view}
 use Rattle.ficus_entry.proofs.Later.{overlaid_step}
 use Rattle.ficus_entry.proofs.entries.Entries.whole.Goals as goal
 
-pub put-requires : goal.put-requires
-put-requires c =
+pub changed-requires : goal.changed-requires
+changed-requires c =
     let changes = c.deref-change-items.result.now in
     let base = c.in_ok-table.table.list in
     let item : Changed = c.change-item.result in
     let removals : All (IsRemoval base) changes =
     rw (c.in_ok-table.ensures, c.deref-change-items.ensures.value) c.self.invariant.removals in
-    let copied : c.in_ok-copy.field-0 ≡ item.entry = cc c.in_ok-copy.ensures in
-    rw (c.loop-change.invariant, copied)
+    rw c.loop-change.invariant
     (found_so_far changes base c.loop-change.change-index item c.loop-change-test.true removals
     (sym c.change-item.is))
 
 pub loop-change-preserved : goal.loop-change-preserved
 loop-change-preserved c =
     let item : Changed = c.change-item.result in
-    let copied : c.in_ok-copy.field-0 ≡ item.entry = cc c.in_ok-copy.ensures in
     let is : item ≡ get_or c.deref-change-items.result.now c.loop-change.change-index item = c.change-item.is in
     let step = overlaid_step c.deref-change-items.result.now c.in_ok-table.table.list c.loop-change.change-index item
     c.loop-change-test.true in
-    rw (c.in_ok-table-2.ensures, step, ← is, copied, c.loop-change.invariant)
+    rw (c.in_ok-table-2.ensures, step, ← is, c.loop-change.invariant)
 
 pub returns-clause-same : goal.returns-clause-same
 returns-clause-same c =

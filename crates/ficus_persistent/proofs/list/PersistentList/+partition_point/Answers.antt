@@ -1,5 +1,5 @@
 use Rattle.std.proofs.Common.{◌≡◌, ◌∷◌, ◌++◌, true, false, arith}
-use Rattle.ficus_persistent.proofs.Sides.{long, right_parted, cut_left, cut_right}
+use Rattle.ficus_persistent.proofs.Sides.{long, left_parted, right_parted, cut_left, cut_right}
 use Rattle.ficus_persistent.proofs.list.PersistentList.+partition_point.Goals as goal
 
 pub partition_point-requires : goal.partition_point-requires
@@ -12,6 +12,21 @@ partition_point-requires g t c κs within =
         (
           within.1,
           right_parted b.left b.item b.right (g.C.Cut.is_before c.args.cut.now)
+              (rw e at c.requires),
+        ),
+      ),
+    )
+
+pub partition_point-requires-else-is_before : goal.partition_point-requires-else-is_before
+partition_point-requires-else-is_before g t c κs within =
+    let b = c.as_ref-branch.result.now in
+    let e : c.args.self.now ≡ b.left ++ b.item ∷ b.right = grind arith in (
+      grind (arith, e, long b.left b.item b.right),
+      (
+        within.0,
+        (
+          within.1,
+          left_parted b.left b.item b.right (g.C.Cut.is_before c.args.cut.now)
               (rw e at c.requires),
         ),
       ),

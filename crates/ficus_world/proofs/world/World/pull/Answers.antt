@@ -1,11 +1,10 @@
-use Rattle.std.proofs.Common.{◌≡◌, rules, ◌-◌, Err, sym, subst, ap, ◌∙◌, length, length-append, arith}
-use Rattle.std.specs.Prelude.{slice_set}
+use Rattle.std.proofs.Common.{◌≡◌, rules, Err, sym, subst, ap, ◌∙◌, length, length-append, arith}
 use Rattle.ficus_ids.specs.declared.refusal.Refusal.TheVariants.{Memory}
 use Rattle.ficus_rules.proofs.Rules.{or_memory}
-use Rattle.ficus_world.specs.Moves.{ArePeers, MovesBySort}
+use Rattle.ficus_world.specs.Moves.{ArePeers, CarriesOut}
 use Rattle.ficus_world.specs.Moves.KeepsAsk.{NoPeers}
 use Rattle.ficus_world.specs.Sequence.Sequence.{Ends}
-use Rattle.ficus_world.specs.Sort.{Pulls}
+use Rattle.ficus_script.specs.declared.command.Command.TheVariants.{Pull as Pulls}
 use Rattle.ficus_world.specs.World.{Whole}
 use Rattle.ficus_world.proofs.Moved.{not_so}
 use Rattle.ficus_world.proofs.Pulled.{pull_moves, pull_refused}
@@ -18,55 +17,60 @@ returns-then-not-are_peers-clause-moves c =
 
 pub invariant_of-self-in-Err : goal.invariant_of-self-in-Err
 invariant_of-self-in-Err c =
-    let peers = subst (λ (w : Whole). ArePeers (length w.members) c.args.by c.args.to) (sym c.self.view_is)
-    (c.are_peers.ensures.0 c.if-not-are_peers.false) in
+    let was = c.member.result.now in
     let events = rw c.in_ok-reserve.ensures.events at c.push_serve.ensures.events in
     let longer = ap length events ∙ length-append c.self.inside.history.events _ in
+    let is = c.member.ensures.is in
     let sound = rw c.in_ok-reserve.ensures.events at c.member.ensures.sound in
     let asked = asked_sound sound c.in_ok-asked.ensures.gives c.in_ok-asked.ensures.fits in
-    world_after c.self.invariant peers.first (sound_more asked (omega arith)) (omega arith)
+    world_after _ _ was _ is _ _ c.self.invariant (sound_more asked (omega arith)) (omega arith) _
+    (c.hold.ensures was is)
 
 pub returns-in-Err-clause-moves : goal.returns-in-Err-clause-moves
 returns-in-Err-clause-moves c =
     let by = c.args.by in
     let to = c.args.to in
+    let was = c.member.result.now in
     let refusal = c.in-Err.refusal in
+    let is = c.member.ensures.is in
     let old : Whole = record { members = c.self.inside.members.items; events = c.self.inside.history.events } in
-    let new : Whole = record {
-      members = slice_set old.members (by - 1) (record { replica = c.in_ok-asked.asked });
-      events = c.push_serve.new.history.events;
-    } in
+    let new : Whole = record { members = c.hold.new.members.items; events = c.push_serve.new.history.events } in
     let peers = subst (λ (w : Whole). ArePeers (length w.members) by to) (sym c.self.view_is)
     (c.are_peers.ensures.0 c.if-not-are_peers.false) in
     let no_memory : refusal ≡ Memory → ⊥ = search rules in
-    let moves = pull_refused old by to c.member.result.now c.member-2.result.now c.in_ok-asked.asked peers
+    let moves = pull_refused old by to was c.member-2.result.now c.in_ok-asked.asked peers
     c.member.ensures.is c.member-2.ensures.is c.in_ok-asked.ensures.gives refusal no_memory c.in-Err.ensures.gives in
-    let here : MovesBySort (Pulls by to) c.args.self.now (Err refusal) new =
-    rw (c.push_serve.ensures.events, c.in_ok-reserve.ensures.events, ← c.self.view_is) moves in
-    or_memory (λ answer. MovesBySort (Pulls by to) c.args.self.now answer new) (Err refusal) here
+    let here : CarriesOut (Pulls by to) c.args.self.now (Err refusal) new =
+    rw (c.hold.ensures was is, c.push_serve.ensures.events, c.in_ok-reserve.ensures.events, ← c.self.view_is)
+    moves in
+    or_memory (λ answer. CarriesOut (Pulls by to) c.args.self.now answer new) (Err refusal) here
 
 pub invariant_of-self-4 : goal.invariant_of-self-4
 invariant_of-self-4 c =
-    let peers = subst (λ (w : Whole). ArePeers (length w.members) c.args.by c.args.to) (sym c.self.view_is)
-    (c.are_peers.ensures.0 c.if-not-are_peers.false) in
+    let was = c.member.result.now in
     let events = rw c.in_ok-reserve.ensures.events at c.push_serve-serve.ensures.events in
     let served = ap length events ∙ length-append c.self.inside.history.events _ in
     let longer = ap length c.push.ensures.events ∙ length-append c.push_serve-serve.new.history.events _ in
+    let is = c.member.ensures.is in
     let sound = rw c.in_ok-reserve.ensures.events at c.member.ensures.sound in
     let asked = asked_sound sound c.in_ok-asked.ensures.gives c.in_ok-asked.ensures.fits in
     let accepted = accepted_sound asked c.in-Ok.ensures.gives c.in-Ok.ensures.fits in
-    world_after c.self.invariant peers.first (sound_more accepted (omega arith)) (omega arith)
+    world_after _ _ was _ is _ _ c.self.invariant (sound_more accepted (omega arith)) (omega arith) _
+    (c.hold-2.ensures was is)
 
 pub returns-clause-moves : goal.returns-clause-moves
 returns-clause-moves c =
     let by = c.args.by in
     let to = c.args.to in
+    let was = c.member.result.now in
+    let is = c.member.ensures.is in
     let old : Whole = record { members = c.self.inside.members.items; events = c.self.inside.history.events } in
     let peers = subst (λ (w : Whole). ArePeers (length w.members) by to) (sym c.self.view_is)
     (c.are_peers.ensures.0 c.if-not-are_peers.false) in
-    let moves = pull_moves old by to c.member.result.now c.member-2.result.now c.in_ok-asked.asked peers
+    let moves = pull_moves old by to was c.member-2.result.now c.in_ok-asked.asked peers
     c.member.ensures.is c.member-2.ensures.is c.in_ok-asked.ensures.gives c.in-Ok.accepted c.in-Ok.ensures.gives in
     rw (
+      c.hold-2.ensures was is,
       c.push.ensures.events,
       c.push_serve-serve.ensures.events,
       c.push_serve-serve.ensures.position,

@@ -1,0 +1,7 @@
+use Rattle.ficus_answers.proofs.changes.change.Goals as goal
+
+pub returns-in-Write : goal.returns-in-Write
+returns-in-Write c = rw (c.in-Write.is, ← c.items.ensures) c.write.ensures
+
+pub returns-in-Settle : goal.returns-in-Settle
+returns-in-Settle c = rw (c.in-Settle.is, ← c.items-in-Settle.ensures) c.settle.ensures

@@ -1,0 +1,30 @@
+ghost use Rattle.ficus_codec.specs.Saved.{FitsImage};
+ghost use Rattle.ficus_commands.specs.Change.{HasNewPath};
+ghost use Rattle.ficus_rules.specs.Change.{ChangeRule};
+ghost use Rattle.ficus_rules.specs.Rule.{UnlessMemory};
+ghost use Rattle.ficus_answers.specs.View.{tables_view};
+
+use crate::making::make;
+use crate::resolving::resolve;
+use crate::settling::settle;
+use crate::writing::write;
+use ficus_codec::Saved;
+use ficus_commands::Change;
+use ficus_ids::{Kind, Refusal};
+use ficus_model::Op;
+use std::alloc::Global;
+
+/// Which operation the change is, or why it is refused.
+pub fn change(alloc: Global, saved: &Saved, change: &Change) -> Result<Op, Refusal>
+    requires fits { FitsImage saved.now }
+    requires new { HasNewPath change.now }
+    ensures { UnlessMemory (ChangeRule (tables_view saved.now) change.now) result }
+{
+    match change {
+        Change::MkDir { path } => make(saved, path, Kind::Dir),
+        Change::Create { path, kind } => make(saved, path, *kind),
+        Change::Write { path, text } => write(alloc, saved, path, text.items()),
+        Change::Settle { path, text } => settle(alloc, saved, path, text.items()),
+        Change::Resolve { path } => resolve(alloc, saved, path),
+    }
+}

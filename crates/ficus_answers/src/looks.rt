@@ -1,0 +1,26 @@
+ghost use Rattle.ficus_codec.specs.Saved.{FitsImage};
+ghost use Rattle.ficus_rules.specs.Look.{LookRule};
+ghost use Rattle.ficus_rules.specs.Rule.{UnlessMemory};
+ghost use Rattle.ficus_answers.specs.View.{tables_view};
+
+use crate::all_versions::versions;
+use crate::listing::list;
+use crate::reading::read;
+use crate::whole_tree::tree;
+use ficus_codec::Saved;
+use ficus_commands::{Look, Told};
+use ficus_ids::Refusal;
+use std::alloc::Global;
+
+/// What the look tells, or why it is refused.
+pub fn look(alloc: Global, saved: &Saved, look: &Look) -> Result<Told, Refusal>
+    requires { FitsImage saved.now }
+    ensures { UnlessMemory (LookRule (tables_view saved.now) look.now) result }
+{
+    match look {
+        Look::Ls { path } => list(alloc, saved, path),
+        Look::Read { path } => read(alloc, saved, path),
+        Look::Versions { path } => versions(alloc, saved, path),
+        Look::Tree => Ok(tree(alloc, saved)?),
+    }
+}

@@ -1,0 +1,19 @@
+ghost use Rattle.std.specs.Prelude.{◌≢◌};
+ghost use Rattle.ficus_codec.specs.Saved.{FitsImage};
+ghost use Rattle.ficus_ids.specs.declared.kind.Kind.TheVariants.{Dir};
+ghost use Rattle.ficus_rules.specs.Text.{IsTextOf};
+ghost use Rattle.ficus_answers.specs.Files.{IsFileIn};
+ghost use Rattle.ficus_answers.specs.View.{tables_view};
+
+use ficus_codec::Saved;
+use ficus_file::FileReplica;
+
+/// The text of a file that isn't in conflict.
+pub(crate) fn text_of<'a>(saved: &Saved, file: &'a FileReplica) -> &'a [u8]
+    requires fits { FitsImage saved.now }
+    requires file { IsFileIn saved.now file.now }
+    requires settled { (tables_view saved.now).conflicts file.now.id → ⊥ }
+    ensures { IsTextOf (tables_view saved.now) file.now.id result.now }
+{
+    file.bytes()
+}

@@ -1,0 +1,18 @@
+use ficus_path::Path;
+
+/// A look for which a replica may be asked. It changes nothing; the refusals come in the order in which they stand
+/// here.
+#[derive(Debug, Drop)]
+pub enum Look {
+    /// The names in the directory at the path. Refused as the walk is; with `NotDir` exactly where the object is a
+    /// file.
+    Ls { path: Path },
+    /// The text of the file at the path. Refused as the walk is; with `IsDir` exactly where the object is a directory;
+    /// with `Conflict` exactly where the file is in conflict.
+    Read { path: Path },
+    /// The versions of the file at the path, in the order of vectors. Refused as the walk is; with `IsDir` exactly
+    /// where the object is a directory.
+    Versions { path: Path },
+    /// The names in each directory that is reached from the root. Never refused.
+    Tree,
+}

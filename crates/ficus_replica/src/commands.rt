@@ -1,0 +1,32 @@
+use crate::{Next, Replica};
+use ficus_commands::{Change, Look, Told};
+use ficus_ids::Refusal;
+use std::alloc::Global;
+
+impl Replica {
+    ghost use Rattle.std.specs.Prelude.{◌-◌, ◌^◌, ◌<◌, IfOk};
+    ghost use Rattle.ficus_codec.specs.Saved.{FitsImage};
+    ghost use Rattle.ficus_commands.specs.Change.{HasNewPath};
+    ghost use Rattle.ficus_replica.specs.Change.{ChangeGives};
+    ghost use Rattle.ficus_replica.specs.Look.{LookGives};
+
+    /// The replica after the change, and which operation it is, or why it is refused.
+    pub fn change(&self, alloc: Global, change: &Change) -> Result<Next, Refusal>
+        requires new { HasNewPath change.now }
+        requires fits { FitsImage self.now.saved }
+        requires generation { self.now.saved.generation < 2 ^ 63 - 1 }
+        ensures gives { ChangeGives self.now change.now result }
+        ensures fits { IfOk result (λ next. FitsImage next.replica.saved) }
+    {
+        let op = ficus_answers::change(alloc, &self.saved, change)?;
+        Ok(self.applied(alloc, op)?)
+    }
+
+    /// What the look tells, or why it is refused.
+    pub fn look(&self, alloc: Global, look: &Look) -> Result<Told, Refusal>
+        requires { FitsImage self.now.saved }
+        ensures { LookGives self.now look.now result }
+    {
+        ficus_answers::look(alloc, &self.saved, look)
+    }
+}
