@@ -4,7 +4,7 @@ use Rattle.std.specs.Prelude.{All, Contains}
 use Rattle.std.proofs.lemmas.List.Elements.{All-contains}
 use Rattle.ficus_ids.specs.RisingLaws.{one_item}
 use Rattle.ficus_ids.specs.declared.id.Id.{Id}
-use Rattle.ficus_model.specs.Live.{Entry as ModelEntry}
+use Rattle.ficus_model.specs.Live.{ModelEntry}
 use Rattle.ficus_entry.specs.declared.entry.Entry.{Entry}
 use Rattle.ficus_entry.specs.declared.entry.State.{State}
 use Rattle.ficus_entry.specs.declared.entry.State.TheVariants.{Live}

@@ -6,7 +6,7 @@ use Rattle.ficus_entry.specs.declared.entry.Entry.{Entry}
 use Rattle.ficus_entry.specs.declared.entry.State.TheVariants.{Live}
 use Rattle.ficus_file.specs.Version.{HasTwoTexts}
 use Rattle.ficus_file.specs.declared.file.FileReplica.{FileReplica}
-use Rattle.ficus_model.specs.Live.{Entry as ModelEntry}
+use Rattle.ficus_model.specs.Live.{ModelEntry}
 use Rattle.ficus_codec.specs.declared.saved.Saved.{Saved}
 pub use Rattle.ficus_rules.specs.View.{View, SameShown, SameView, history_view}
 

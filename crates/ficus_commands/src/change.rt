@@ -3,7 +3,7 @@ use ficus_path::Path;
 
 /// A change for which a replica may be asked. Each is one operation, or is refused; the refusals come in the order in
 /// which they stand here.
-#[derive(Debug, Drop)]
+#[derive(Drop)]
 pub enum Change {
     /// Makes a directory at the new path. Refused as the walk to the parent is; with `Exists` exactly where a live
     /// entry of the parent has the name; with `Spent` exactly where the replica has made all its updates.

@@ -2,7 +2,7 @@ use ficus_path::Path;
 
 /// A look for which a replica may be asked. It changes nothing; the refusals come in the order in which they stand
 /// here.
-#[derive(Debug, Drop)]
+#[derive(Drop)]
 pub enum Look {
     /// The names in the directory at the path. Refused as the walk is; with `NotDir` exactly where the object is a
     /// file.

@@ -122,7 +122,7 @@ impl Entries {
         ensures kept { OnErr result (self.new ≡ self.old) }
         ensures rising { IsRising self.new }
     {
-        let table = self.with(entry)?;
+        let table = self.putting(entry)?;
         self.hold(table)
     }
 
@@ -221,28 +221,6 @@ impl Entries {
     {
         let table = self.whole()?;
         table.putting(self.allocator(), entry)
-    }
-
-    // The entries and one more, whose identifier no entry has.
-    fn with(&self, entry: Entry) -> Result<Table, Memory>
-        requires { Holds self.now entry.id → ⊥ }
-        ensures adds { IfOk result (λ table. AddsEntry self.now table.list entry) }
-        ensures rising { IsRising self.now }
-    {
-        let alloc = self.allocator();
-        let place = self.place(entry.id);
-        let table = self.whole()?;
-        table.insert(alloc, place, entry)
-    }
-
-    // Where an entry goes whose identifier no entry has.
-    fn place(&self, id: Id) -> usize
-        requires { Holds self.now id → ⊥ }
-        ensures { IsPlace self.now id result }
-    {
-        match self.search(id) {
-            Ok(index) | Err(index) => index,
-        }
     }
 
     // Where the entry with the identifier is, or where one with it would go.

@@ -4,7 +4,7 @@ use ficus_ids::{Id, Marks, Memory, Name};
 
 /// Whether an entry is removed, and who is known to know it. Removed entries are kept, as in Ficus (Guy
 /// 1991), so that "removed here" differs from "not yet known here".
-#[derive(Clone, Copy, Debug, PartialEq, Eq)]
+#[derive(Clone, Copy, PartialEq, Eq)]
 pub enum State {
     /// The entry isn't removed.
     Live,
@@ -18,7 +18,7 @@ pub enum State {
 }
 
 /// An entry of a directory: a name for an object.
-#[derive(Debug, Drop)]
+#[derive(Drop)]
 pub struct Entry {
     /// The number of the update that made it.
     pub id: Id,

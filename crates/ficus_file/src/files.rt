@@ -100,7 +100,7 @@ impl Files {
         ensures kept { OnErr result (self.new ≡ self.old) }
         ensures files { AreFiles self.new }
     {
-        let list = self.adding(file)?;
+        let list = self.putting(file)?;
         self.hold(list)
     }
 
@@ -180,21 +180,6 @@ impl Files {
         Ok(())
     }
 
-    // The files and one more, whose identifier no file has.
-    fn adding(&self, file: FileReplica) -> Result<PersistentList<Held>, Memory>
-        requires new { Holds self.now file.id → ⊥ }
-        requires may { IsHeldFile file }
-        ensures adds { IfOk result (λ list. Adds self.now list file) }
-        ensures files { IfOk result AreFiles }
-        ensures were { AreFiles self.now }
-    {
-        let alloc = self.allocator();
-        let place = self.place(file.id);
-        let list = self.whole()?;
-        let held = Held::of(alloc, file)?;
-        list.insert(alloc, place, held)
-    }
-
     // The files with this one, in place of the one with its identifier if there is one.
     fn putting(&self, file: FileReplica) -> Result<PersistentList<Held>, Memory>
         requires { IsHeldFile file }
@@ -209,16 +194,6 @@ impl Files {
         match found {
             Ok(index) => list.put(alloc, index, held),
             Err(index) => list.insert(alloc, index, held),
-        }
-    }
-
-    // Where a file goes whose identifier no file has.
-    fn place(&self, id: Id) -> usize
-        requires { Holds self.now id → ⊥ }
-        ensures { IsPlace self.now id result }
-    {
-        match self.search(id) {
-            Ok(index) | Err(index) => index,
         }
     }
 

@@ -75,8 +75,15 @@ fn gathered<'a>(
 {
     let mut held = Vec::with_capacity(alloc, list.len())?;
     list.gather(&mut held)?;
+    files_of(alloc, &held)
+}
+
+// The file of each.
+fn files_of<'a>(alloc: Global, held: &[&'a Held]) -> Result<Vec<&'a FileReplica>, Memory>
+    ensures { IfOk result (λ files. map (λ file. file.now) files.items ≡ map (λ one. one.now) held.now) }
+{
     let mut files = Vec::with_capacity(alloc, held.len())?;
-    for one in &held {
+    for one in held {
         files.push(one.file())?;
     }
     Ok(files)

@@ -4,7 +4,7 @@ use Rattle.ficus_ids.specs.declared.id.Id.{Id}
 use Rattle.ficus_model.specs.declared.event.Event.{Event}
 use Rattle.ficus_model.specs.Events.{IsOf, before, through}
 use Rattle.ficus_model.specs.Known.{Knows, HasInPast}
-use Rattle.ficus_model.specs.Live.{Entry, IsEntered, IsRemoved}
+use Rattle.ficus_model.specs.Live.{ModelEntry, IsEntered, IsRemoved}
 use Rattle.ficus_laws.specs.Updates.{UpdatesWithin}
 use Rattle.ficus_laws.proofs.Positions.{agree_back, agree_before, agree_take, of_before}
 use Rattle.ficus_laws.proofs.Knowledge.{knows_within, knows_later}
@@ -61,7 +61,7 @@ removed_then H {later = later} {replica = replica} h r =
     removed_within (known_within H later replica) (removed_stays H h r)
 
 -- an entry that is known through a known event is known
-pub entered_through : {H : List Event} (n : ℕ) {replica peer position : ℕ} {entry : Entry} → IsOf H position peer →
+pub entered_through : {H : List Event} (n : ℕ) {replica peer position : ℕ} {entry : ModelEntry} → IsOf H position peer →
     Knows (before n H) replica position → IsEntered H (Knows (through position H) peer) entry →
     IsEntered H (Knows (before n H) replica) entry
 entered_through n own k e = record {

@@ -6,7 +6,7 @@ use Rattle.ficus_model.specs.declared.event.Event.{Event}
 use Rattle.ficus_model.specs.declared.event.Event.TheVariants.{Collect}
 use Rattle.ficus_model.specs.Events.{IsAt, before, through}
 use Rattle.ficus_model.specs.Known.{Knows}
-use Rattle.ficus_model.specs.Live.{Entry, IsEntered}
+use Rattle.ficus_model.specs.Live.{ModelEntry, IsEntered}
 use Rattle.ficus_model.specs.Held.{IsDropped, Touches, IsDone}
 use Rattle.ficus_laws.proofs.Positions.{AgreeBelow, agree_back, agree_more, agree_at, agree_take, through_is, at_within, at_end, at_cases}
 use Rattle.ficus_laws.proofs.Knowledge.{knows_within}
@@ -66,14 +66,14 @@ module _ (members : ℕ) (H : List Event) (replica : ℕ) (object : Id) (event :
     no_orphan = λ orphan. d.no_orphan (orphan_within (same_turned known) orphan);
   }
     where
-      there : (entry : Entry) → IsEntered H (Knows H replica) entry → Touches entry object →
+      there : (entry : ModelEntry) → IsEntered H (Knows H replica) entry → Touches entry object →
           IsDropped members after replica entry.id
       there entry e touches = subst
           (λ L. IsDropped members L replica entry.id)
           through_end
           (d.dropped entry (entered_within (same_updates known).back e) touches)
 
-      dropped : (entry : Entry) →
+      dropped : (entry : ModelEntry) →
           IsDropped members H replica entry.id ⊎ ((event ≡ Collect replica) × IsTwoFull members H replica entry.id) →
           IsDropped members H replica entry.id ⊎ IsTwoFull members H replica entry.id
       dropped entry (inl was) = inl was
@@ -103,7 +103,7 @@ module _ (members : ℕ) (H : List Event) (replica : ℕ) (object : Id) (event :
     no_orphan = λ orphan. g.no_orphan (orphan_within known orphan);
   }
     where
-      dropped : (entry : Entry) → IsDropped members H replica entry.id ⊎ IsTwoFull members H replica entry.id →
+      dropped : (entry : ModelEntry) → IsDropped members H replica entry.id ⊎ IsTwoFull members H replica entry.id →
           IsDropped members after replica entry.id
       dropped entry (inl was) = dropped_more (event ∷ []) was
       dropped entry (inr full) = dropped_now event is full

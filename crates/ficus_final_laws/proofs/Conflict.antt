@@ -11,7 +11,7 @@ use Rattle.ficus_model.specs.declared.event.Event.TheVariants.{Update}
 use Rattle.ficus_model.specs.declared.event.Op.{Op}
 use Rattle.ficus_model.specs.Events.{IsUpdate, count_of}
 use Rattle.ficus_model.specs.Known.{Knows, HasInPast}
-use Rattle.ficus_model.specs.Live.{Entry, IsEntered, IsRemoved, IsLive, IsBoundBy, HasName, IsMade, IsFile, IsDirectory}
+use Rattle.ficus_model.specs.Live.{ModelEntry, IsEntered, IsRemoved, IsLive, IsBoundBy, HasName, IsMade, IsFile, IsDirectory}
 use Rattle.ficus_model.specs.Reached.IsReached.{Base, Through}
 use Rattle.ficus_model.specs.Versions.{written_of, IsVersion, IsShown, IsInConflict}
 use Rattle.ficus_model.specs.View.{IsOrphan, IsReachedFile}
@@ -65,7 +65,7 @@ module _ (n replica : ℕ) (early : n ≤ 10) (known : Known n replica 0) where
     });
   }
 
-  alone : {entry : Entry} → IsEntered (cut n) (Known n replica) entry → file_entry ≡ entry
+  alone : {entry : ModelEntry} → IsEntered (cut n) (Known n replica) entry → file_entry ≡ entry
   alone e = entry_is (one_of_before n e.known e.update) e.enters
 
   names : AreNames (cut n) (Known n replica) (example_file ∷ []) example_file
@@ -83,7 +83,7 @@ module _ (n replica : ℕ) (early : n ≤ 10) (known : Known n replica 0) where
           by = sym (only (here_or_there example_file found [] inside));
         },
         λ bound.
-            let is = ap (λ (entry : Entry). entry.id) (alone bound.bound.live.entered) ∙ bound.by in
+            let is = ap (λ (entry : ModelEntry). entry.id) (alone bound.bound.live.entered) ∙ bound.by in
             subst (Contains (example_file ∷ [])) is (here example_file []),
       )
 
@@ -171,7 +171,7 @@ orphaned = record {
     nameless n =
         let e = n.live.entered in
         let is = entry_is (one_of e.position e.update) e.enters in
-        let gone = λ (entry : Entry). IsRemoved conflict_history (Knows conflict_history 1) entry.id in
+        let gone = λ (entry : ModelEntry). IsRemoved conflict_history (Knows conflict_history 1) entry.id in
         n.live.not_removed (subst gone is removed)
 
 -- each update may come

@@ -11,7 +11,7 @@ use Rattle.ficus_model.specs.declared.event.Op.{Op}
 use Rattle.ficus_model.specs.declared.event.Op.TheVariants.{Write, Settle}
 use Rattle.ficus_model.specs.Events.{IsUpdate, before}
 use Rattle.ficus_model.specs.Known.{Knows, HasInPast}
-use Rattle.ficus_model.specs.Live.{Entry, entry_of, entered_by, removed_by}
+use Rattle.ficus_model.specs.Live.{ModelEntry, entry_of, entered_by, removed_by}
 use Rattle.ficus_model.specs.Versions.{covered_by}
 use Rattle.ficus_laws.proofs.Positions.{agree_before, of_at, of_same}
 use Rattle.ficus_laws.proofs.Updates.{id_of, agree_update}
@@ -93,10 +93,10 @@ pub one_of_before : (n : ℕ) {replica position : ℕ} {number : Id} {op : Op} �
 one_of_before n {position = position} k u =
     one_of position (agree_update (agree_before n conflict_history) (known_before conflict_history n k) u)
 
-abbrev pub file_entry : Entry
+abbrev pub file_entry : ModelEntry
 file_entry = entry_of example_file ROOT (codes "a") example_file
 
-pub entry_is : {position : ℕ} {number : Id} {op : Op} {entry : Entry} → IsOneOf position number op →
+pub entry_is : {position : ℕ} {number : Id} {op : Op} {entry : ModelEntry} → IsOneOf position number op →
     entered_by number op ≡ Some entry → file_entry ≡ entry
 entry_is {entry = entry} Making enters = same_Some file_entry entry enters
 entry_is {entry = entry} WritingFirst enters = absurd (enters_none entry enters)

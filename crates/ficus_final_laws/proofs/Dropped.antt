@@ -12,7 +12,7 @@ use Rattle.ficus_model.specs.declared.event.Op.{Op}
 use Rattle.ficus_model.specs.declared.event.Op.TheVariants.{Remove, Discard}
 use Rattle.ficus_model.specs.Events.{IsOf, IsUpdate, before, through}
 use Rattle.ficus_model.specs.Known.{Knows}
-use Rattle.ficus_model.specs.Live.{Entry, entry_of, removed_by, IsEntered, IsRemoved}
+use Rattle.ficus_model.specs.Live.{ModelEntry, entry_of, removed_by, IsEntered, IsRemoved}
 use Rattle.ficus_model.specs.Versions.{IsCovering}
 use Rattle.ficus_model.specs.Lawful.{Volume, MayUpdate, IsLawful}
 use Rattle.ficus_model.specs.Knowledge.{KnowsThatKnows, KnowsThatAllKnow}
@@ -107,7 +107,7 @@ pub record RemovesNameOf (H : List Event) (object : Id) (position : ℕ) : Type 
   pub number : Id
   pub op : Op
   pub update : IsUpdate H position number op
-  pub entry : Entry
+  pub entry : ModelEntry
   pub leads : entry.target ≡ object
   pub removes : Contains (removed_by number op) entry.id
   pub entered : IsEntered H (Knows (through position H) number.replica) entry

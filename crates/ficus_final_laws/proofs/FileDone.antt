@@ -7,7 +7,7 @@ use Rattle.ficus_model.specs.declared.event.Event.TheVariants.{Update, Ask, Serv
 use Rattle.ficus_model.specs.declared.event.Op.{Op}
 use Rattle.ficus_model.specs.Events.{IsAt, IsUpdate, before}
 use Rattle.ficus_model.specs.Known.{Knows, HasInPast}
-use Rattle.ficus_model.specs.Live.{Entry, entered_by, IsEntered, IsMade}
+use Rattle.ficus_model.specs.Live.{ModelEntry, entered_by, IsEntered, IsMade}
 use Rattle.ficus_model.specs.Versions.{version_of, IsCovering, IsUncovered}
 use Rattle.ficus_model.specs.View.{IsFilled, HasUnseen, IsOrphan}
 use Rattle.ficus_model.specs.Lawful.{IsLawful}
@@ -79,7 +79,7 @@ made = record {
   update = makes;
 }
 
-same_entry : {U : ℕ → Type 0} {entry : Entry} → (e : IsEntered done_history U entry) → example_file ≡ entry.id
+same_entry : {U : ℕ → Type 0} {entry : ModelEntry} → (e : IsEntered done_history U entry) → example_file ≡ entry.id
 same_entry {entry = entry} e = go (makes_or_removes e.update)
   where
     go : ((entry.id ≡ example_file) × (e.op ≡ makes_file) × (e.position ≡ 0)) ⊎ (e.op ≡ removes_file) →

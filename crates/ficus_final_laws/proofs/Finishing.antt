@@ -8,7 +8,7 @@ use Rattle.ficus_model.specs.declared.event.Event.{Event}
 use Rattle.ficus_model.specs.declared.event.Op.TheVariants.{Make}
 use Rattle.ficus_model.specs.Events.{IsOf, IsUpdate, before}
 use Rattle.ficus_model.specs.Known.{Knows, HasInPast}
-use Rattle.ficus_model.specs.Live.{Entry, entry_of, IsEntered, IsRemoved, HasName, IsMade, IsFile}
+use Rattle.ficus_model.specs.Live.{ModelEntry, entry_of, IsEntered, IsRemoved, HasName, IsMade, IsFile}
 use Rattle.ficus_model.specs.Versions.{IsVersion, IsCovering}
 use Rattle.ficus_model.specs.Lawful.{Volume, IsLawful}
 use Rattle.ficus_model.specs.Held.{Touches, IsDone}
@@ -33,7 +33,7 @@ use Rattle.ficus_final_laws.proofs.Before.{known_before, known_next, known_stays
 use Rattle.ficus_final_laws.proofs.Dropped.{KnowsRemovals, dropped_knows, covering_removes}
 use Rattle.ficus_final_laws.proofs.Using.{user_sees}
 
-entry_use : {H : List Event} {U : ℕ → Type 0} {object : Id} {entry : Entry} → (e : IsEntered H U entry) →
+entry_use : {H : List Event} {U : ℕ → Type 0} {object : Id} {entry : ModelEntry} → (e : IsEntered H U entry) →
     Touches entry object → IsUse H object e.position
 entry_use {entry = entry} e touches = record {
   number = entry.id;
@@ -74,7 +74,7 @@ module _ (volume : Volume) (H : List Event) (lawful : IsLawful volume H) {replic
   earlier_lawful = lawful_before volume H position lawful
 
   -- each member knew each removal of each entry that touches the object and that the collector knew
-  removals : {member : ℕ} {entry : Entry} → IsEntered H (Knows earlier replica) entry → Touches entry object →
+  removals : {member : ℕ} {entry : ModelEntry} → IsEntered H (Knows earlier replica) entry → Touches entry object →
       IsMember volume.members member → KnowsRemovals H position replica member entry.id
   removals {entry = entry} e touches m = dropped_knows volume H lawful position (done.dropped entry e touches) m
 
@@ -167,13 +167,13 @@ module _ (volume : Volume) (H : List Event) (lawful : IsLawful volume H) {replic
   use_known {used} u = uses_below (used + 1) used (omega arith) u
 
   -- so each member knew every removal of each entry that touches the object
-  member_removals : {member : ℕ} {entry : Entry} {U : ℕ → Type 0} → IsMember volume.members member →
+  member_removals : {member : ℕ} {entry : ModelEntry} {U : ℕ → Type 0} → IsMember volume.members member →
       IsEntered H U entry → Touches entry object → KnowsRemovals H position replica member entry.id
   member_removals m e touches =
       let k = use_known (entry_use e touches) in
       removals (record { position = e.position; op = e.op; known = k; update = e.update; enters = e.enters }) touches m
 
-  pub entry_removed : {member : ℕ} {entry : Entry} {U : ℕ → Type 0} → IsMember volume.members member →
+  pub entry_removed : {member : ℕ} {entry : ModelEntry} {U : ℕ → Type 0} → IsMember volume.members member →
       IsEntered H U entry → Touches entry object → IsRemoved earlier (Knows earlier member) entry.id
   entry_removed m e touches =
       let s = member_removals m e touches in

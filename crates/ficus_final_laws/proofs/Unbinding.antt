@@ -6,7 +6,7 @@ use Rattle.ficus_model.specs.declared.event.Event.{Event}
 use Rattle.ficus_model.specs.declared.event.Event.TheVariants.{Update}
 use Rattle.ficus_model.specs.declared.event.Op.TheVariants.{Remove, Move}
 use Rattle.ficus_model.specs.Known.{Knows}
-use Rattle.ficus_model.specs.Live.{Entry, entry_of, IsLive, IsBound}
+use Rattle.ficus_model.specs.Live.{ModelEntry, entry_of, IsLive, IsBound}
 use Rattle.ficus_model.specs.Lawful.{Volume, AreNames, MayUpdate, IsLawful}
 use Rattle.ficus_laws.specs.Updates.{next_number}
 use Rattle.ficus_laws.proofs.Lawful.{lawful_less}
@@ -14,7 +14,7 @@ use Rattle.ficus_laws.proofs.Places.{some_inside}
 use Rattle.ficus_removal_laws.proofs.Taking.{remove_live, move_live}
 
 -- names that are all of one name don't leave a live entry of it out
-named_inside : {H : List Event} {U : ℕ → Type 0} {entries : List Id} {target : Id} {entry : Entry} →
+named_inside : {H : List Event} {U : ℕ → Type 0} {entries : List Id} {target : Id} {entry : ModelEntry} →
     (names : AreNames H U entries target) → IsLive H U entry → entry.dir ≡ names.dir → entry.name ≡ names.name →
     entry.target ≡ target → Contains entries entry.id
 named_inside {entry = entry} names live in_dir named leads = (names.all entry.id).1 (record {
@@ -46,8 +46,8 @@ move_unbinds volume H replica entries dir name target names lawful bound =
     -- the entry that a Move enters has a name that is free
     new : bound.entry ≡ entry_of (next_number replica H) dir name target → ⊥
     new is =
-        let in_dir = ap (λ (entry : Entry). entry.dir) is in
-        let named = ap (λ (entry : Entry). entry.name) is in
+        let in_dir = ap (λ (entry : ModelEntry). entry.dir) is in
+        let named = ap (λ (entry : ModelEntry). entry.name) is in
         may.allowed.place.free (
           target,
           record {

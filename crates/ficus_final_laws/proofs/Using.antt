@@ -11,7 +11,7 @@ use Rattle.ficus_model.specs.declared.event.Op.{Op}
 use Rattle.ficus_model.specs.declared.event.Op.TheVariants.{Make, Link, Remove, Move, Write, Settle, Resolve, Adopt, Discard}
 use Rattle.ficus_model.specs.Events.{before}
 use Rattle.ficus_model.specs.Known.{Knows}
-use Rattle.ficus_model.specs.Live.{Entry, entry_of, entered_by, IsBound}
+use Rattle.ficus_model.specs.Live.{ModelEntry, entry_of, entered_by, IsBound}
 use Rattle.ficus_model.specs.Reached.IsReached.{Base, Through}
 use Rattle.ficus_model.specs.Versions.{version_of}
 use Rattle.ficus_model.specs.View.{IsFilled, HasUnseen, IsOrphan, IsTop, IsInReach}
@@ -73,21 +73,21 @@ module _ {H : List Event} {U : ℕ → Type 0} {object : Id} (no_root : object �
   writes_alive ByResolve allowed = inr (reach_alive no_root allowed.in_reach.reached)
 
   -- the entry that is entered leads to what was alive, and lies in what was in reach
-  entry_alive : {number dir target : Id} {name : List ℕ} {entry : Entry} →
+  entry_alive : {number dir target : Id} {name : List ℕ} {entry : ModelEntry} →
       Some (entry_of number dir name target) ≡ Some entry → IsInReach H U dir →
       ((target ≡ object) → (number ≡ object) ⊎ IsAlive H U object) → Touches entry object →
       (number ≡ object) ⊎ IsAlive H U object
   entry_alive {number} {dir} {target} {name} {entry} enters reached leads (inl touches) =
-      leads (ap (λ (found : Entry). found.target) (same_Some (entry_of number dir name target) entry enters) ∙ touches)
+      leads (ap (λ (found : ModelEntry). found.target) (same_Some (entry_of number dir name target) entry enters) ∙ touches)
   entry_alive {number} {dir} {target} {name} {entry} enters reached leads (inr touches) =
       let is = same_Some (entry_of number dir name target) entry enters in
-      let in_dir = ap (λ (found : Entry). found.dir) is ∙ touches in
+      let in_dir = ap (λ (found : ModelEntry). found.dir) is ∙ touches in
       inr (reach_alive no_root (subst (IsInReach H U) in_dir reached))
 
   alive_as : {number target : Id} → IsAlive H U target → target ≡ object → (number ≡ object) ⊎ IsAlive H U object
   alive_as alive is = inr (subst (IsAlive H U) is alive)
 
-  enters_alive : (number : Id) (op : Op) (entry : Entry) → IsAllowed H U op → entered_by number op ≡ Some entry →
+  enters_alive : (number : Id) (op : Op) (entry : ModelEntry) → IsAllowed H U op → entered_by number op ≡ Some entry →
       Touches entry object → (number ≡ object) ⊎ IsAlive H U object
   enters_alive number (Make dir name kind) entry place enters touches =
       entry_alive enters place.parent.reached inl touches
@@ -107,8 +107,8 @@ module _ {H : List Event} {U : ℕ → Type 0} {object : Id} (no_root : object �
       is = same_Some (entry_of number ATTIC (codes "discarded") file) entry enters
 
       discards : Touches entry object → (number ≡ object) ⊎ IsAlive H U object
-      discards (inl leads) = alive_as (orphan_alive may.orphan) (ap (λ (found : Entry). found.target) is ∙ leads)
-      discards (inr in_dir) = absurd (no_attic (sym (ap (λ (found : Entry). found.dir) is ∙ in_dir)))
+      discards (inl leads) = alive_as (orphan_alive may.orphan) (ap (λ (found : ModelEntry). found.target) is ∙ leads)
+      discards (inr in_dir) = absurd (no_attic (sym (ap (λ (found : ModelEntry). found.dir) is ∙ in_dir)))
 
 -- an update of a lawful history that uses an object makes it, or its replica saw the object alive before
 pub user_sees : (volume : Volume) (H : List Event) (object : Id) (position : ℕ) → IsLawful volume H →

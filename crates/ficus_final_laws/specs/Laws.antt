@@ -8,7 +8,7 @@ use Rattle.ficus_model.specs.declared.event.Event.TheVariants.{Update, Collect}
 use Rattle.ficus_model.specs.declared.event.Op.TheVariants.{Remove, Move}
 use Rattle.ficus_model.specs.Events.{before}
 use Rattle.ficus_model.specs.Known.{Knows}
-use Rattle.ficus_model.specs.Live.{Entry, IsEntered, IsRemoved, IsBound, IsMade}
+use Rattle.ficus_model.specs.Live.{ModelEntry, IsEntered, IsRemoved, IsBound, IsMade}
 use Rattle.ficus_model.specs.Versions.{IsVersion, IsCovering}
 use Rattle.ficus_model.specs.View.{IsOrphan, IsInReach}
 use Rattle.ficus_model.specs.Lawful.{Volume, AreNames, IsLawful}
@@ -33,7 +33,7 @@ pub record KnowsAllOf (H : List Event) (position replica : ℕ) (object : Id) : 
   pub made : (kind : Kind) × IsMade H (Knows (before position H) replica) object kind
   pub versions : (version : ℕ) → IsVersion H object version → Knows (before position H) replica version
   pub removals : (removal : ℕ) → IsCovering H object removal → Knows (before position H) replica removal
-  pub entries : (reader : ℕ) (entry : Entry) → IsEntered H (Knows H reader) entry → Touches entry object →
+  pub entries : (reader : ℕ) (entry : ModelEntry) → IsEntered H (Knows H reader) entry → Touches entry object →
       IsRemoved H (Knows (before position H) replica) entry.id
 
 -- where a member has an object done, each member knew all of it
@@ -71,7 +71,7 @@ MoveUnbinds = (volume : Volume) (H : List Event) (replica : ℕ) (entries : List
 pub record IsGivenUp (members : ℕ) (H : List Event) (replica : ℕ) (object : Id) : Type 0 where
   pub kind : Kind
   pub made : IsMade H (Knows H replica) object kind
-  pub dropped : (entry : Entry) → IsEntered H (Knows H replica) entry → Touches entry object →
+  pub dropped : (entry : ModelEntry) → IsEntered H (Knows H replica) entry → Touches entry object →
       IsDropped members H replica entry.id ⊎ IsTwoFull members H replica entry.id
   pub no_orphan : IsOrphan H (Knows H replica) object → ⊥
 

@@ -4,14 +4,14 @@ use Rattle.ficus_ids.specs.declared.id.Id.{Id}
 use Rattle.ficus_model.specs.declared.event.Event.{Event}
 use Rattle.ficus_model.specs.declared.event.Op.{Op}
 use Rattle.ficus_model.specs.Events.{IsUpdate}
-use Rattle.ficus_model.specs.Live.{Entry, entered_by, IsLive}
+use Rattle.ficus_model.specs.Live.{ModelEntry, entered_by, IsLive}
 use Rattle.ficus_model.specs.Versions.{version_of}
 use Rattle.ficus_model.specs.View.{HasUnseen}
 use Rattle.ficus_model.specs.Held.{Touches}
 
 -- the update with this number enters an entry that leads to the object or lies in it
 pub record EntersTouching (number : Id) (op : Op) (object : Id) : Type 0 where
-  pub entry : Entry
+  pub entry : ModelEntry
   pub enters : entered_by number op ≡ Some entry
   pub touches : Touches entry object
 
@@ -24,7 +24,7 @@ pub record IsUse (H : List Event) (object : Id) (position : ℕ) : Type 0 where
 
 -- a live entry leads to the object or lies in it
 pub record HasLiveEntry (H : List Event) (U : ℕ → Type 0) (object : Id) : Type 0 where
-  pub entry : Entry
+  pub entry : ModelEntry
   pub live : IsLive H U entry
   pub touches : Touches entry object
 

@@ -20,8 +20,8 @@ module _ {X : Type 0} (id_of : X → Id) (xs : List X) (rising : IsRisingBy id_o
   old_inside = (index, within, get_or_from_slice_get xs index old old at)
 
   -- of two places neither has the identifier of the other
-  apart : (i j : ℕ) (d : X) → i < j → j < length xs → id_of (get_or xs i d) ≢ id_of (get_or xs j d)
-  apart i j d before inside same = not_below_itself (id_of (get_or xs i d))
+  ids_differ : (i j : ℕ) (d : X) → i < j → j < length xs → id_of (get_or xs i d) ≢ id_of (get_or xs j d)
+  ids_differ i j d before inside same = not_below_itself (id_of (get_or xs i d))
       (subst (λ id. id_cmp (id_of (get_or xs i d)) id ≡ Less) (sym same) (rising.each i j d before inside))
 
   -- no other item has its identifier
@@ -32,8 +32,8 @@ module _ {X : Type 0} (id_of : X → Id) (xs : List X) (rising : IsRisingBy id_o
       let one : id_of (get_or xs other x) ≡ id_of (get_or xs index x) = ap id_of is ∙ same ∙ sym (ap id_of old_is) in
       elim (cases_order other index) [
         | inl equal ↦ differs equal
-        | inr (inl before) ↦ apart other index x before within one
-        | inr (inr behind) ↦ apart index other x behind inside (sym one)
+        | inr (inl before) ↦ ids_differ other index x before within one
+        | inr (inr behind) ↦ ids_differ index other x behind inside (sym one)
       ]
 
   elsewhere : (other : ℕ) (x : X) → other ≢ index → other < length xs → get_or (set xs index new) other x ≡ x →

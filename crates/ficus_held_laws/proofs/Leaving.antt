@@ -13,7 +13,7 @@ use Rattle.ficus_model.specs.declared.event.Event.{Event}
 use Rattle.ficus_model.specs.declared.event.Event.TheVariants.{Collect}
 use Rattle.ficus_model.specs.Events.{actor}
 use Rattle.ficus_model.specs.Known.{Knows}
-use Rattle.ficus_model.specs.Live.{Entry, IsEntered, IsMade}
+use Rattle.ficus_model.specs.Live.{ModelEntry, IsEntered, IsMade}
 use Rattle.ficus_model.specs.Held.{IsDropped, Touches, IsDone, IsHeldObject}
 use Rattle.ficus_model.specs.Vectors.{IsCoverOf}
 use Rattle.ficus_laws.specs.Updates.{IsQuiet}
@@ -112,7 +112,7 @@ module _ {members : ℕ} (H : List Event) (event : Event) (replica : ℕ)
   }
 
 -- an entry touches an object, or it doesn't
-touches_decided : (entry : Entry) (object : Id) → Decided (Touches entry object)
+touches_decided : (entry : ModelEntry) (object : Id) → Decided (Touches entry object)
 touches_decided entry object = go (same_id_or_not entry.target object) (same_id_or_not entry.dir object)
   where
     neither : entry.target ≢ object → entry.dir ≢ object → Touches entry object → ⊥
@@ -194,7 +194,7 @@ module _ {members : ℕ} (H : List Event) (replica : ℕ) (entries : List Kept) 
       held (inr (end, is, g)) = not_given_up why.1 g
 
   -- a known entry that touches an object which no entry of the list touches is dropped
-  entry_dropped : {object : Id} → (IsTouched entries object → ⊥) → (entry : Entry) →
+  entry_dropped : {object : Id} → (IsTouched entries object → ⊥) → (entry : ModelEntry) →
       IsEntered collected (Knows collected replica) entry → Touches entry object →
       IsDropped members collected replica entry.id
   entry_dropped {object} untouched entry e touches = go (held_or_not (λ (item : Kept). item.id) entries entry.id)

@@ -17,7 +17,7 @@ use Rattle.ficus_model.specs.declared.event.Op.{Op}
 use Rattle.ficus_model.specs.Events.{actor}
 use Rattle.ficus_model.specs.Known.{Knows}
 use Rattle.ficus_model.specs.Lawful.{Volume, IsLawful}
-use Rattle.ficus_model.specs.Live.{Entry, entered_by, IsEntered}
+use Rattle.ficus_model.specs.Live.{ModelEntry, entered_by, IsEntered}
 use Rattle.ficus_model.specs.Held.{IsDropped}
 use Rattle.ficus_laws.specs.Updates.{next_number}
 use Rattle.ficus_laws.proofs.AfterUpdate.{entered_after}
@@ -108,7 +108,7 @@ list_stepped volume H replica op {entries} {next} several lawful kept steps = re
         stepped_kept volume H replica op lawful several (found f.from) f.stepped
 
     listed : {entry : Kept} → HasSteppedEntry replica (next_number replica H) op entry next → Holds next entry.id
-    listed s = record { item = s.next; inside = s.inside; has_id = ap (λ (place : Entry). place.id) s.stepped.same }
+    listed s = record { item = s.next; inside = s.inside; has_id = ap (λ (place : ModelEntry). place.id) s.stepped.same }
 
     absent : (id : Id) → (Holds next id → ⊥) → IsAbsent volume.members (H ++ Update replica op ∷ []) replica id
     absent id none e = go (entered_after H replica op e.entered) (held_or_not (λ (item : Kept). item.id) entries id)

@@ -13,7 +13,7 @@ use Rattle.ficus_model.specs.declared.event.Op.TheVariants.{Make}
 use Rattle.ficus_model.specs.Events.{IsUpdate, through}
 use Rattle.ficus_model.specs.Known.{Knows}
 use Rattle.ficus_model.specs.Lawful.{Volume, IsLawful}
-use Rattle.ficus_model.specs.Live.{Entry, entry_of, IsEntered, IsMade}
+use Rattle.ficus_model.specs.Live.{ModelEntry, entry_of, IsEntered, IsMade}
 use Rattle.ficus_model.specs.Held.{IsDropped, IsDone, IsHeldObject}
 use Rattle.ficus_model.specs.Versions.{IsVersion, IsCovering}
 use Rattle.ficus_model.specs.Vectors.{IsCoverOf}
@@ -214,7 +214,7 @@ module _ (volume : Volume) (H : List Event) (replica served server : ℕ) (entri
         go (Some found, (inside, named)) = record {
           entry = found;
           inside = inside;
-          touches = inl (ap (λ (place : Entry). place.target)
+          touches = inl (ap (λ (place : ModelEntry). place.target)
               (entered_once (kept_entries.each found inside).held.entered entered_then named));
         }
 

@@ -14,7 +14,7 @@ use Rattle.ficus_model.specs.declared.event.Event.{Event}
 use Rattle.ficus_model.specs.declared.event.Event.TheVariants.{Update, Ask, Serve, Accept, Collect, Restart}
 use Rattle.ficus_model.specs.Events.{actor}
 use Rattle.ficus_model.specs.Known.{Knows}
-use Rattle.ficus_model.specs.Live.{Entry, IsEntered, IsRemoved}
+use Rattle.ficus_model.specs.Live.{ModelEntry, IsEntered, IsRemoved}
 use Rattle.ficus_model.specs.Held.{IsDropped}
 use Rattle.ficus_laws.specs.Updates.{SameUpdates, IsQuiet}
 use Rattle.ficus_laws.proofs.Deciding.{Decided}
@@ -45,7 +45,7 @@ inside_decided (first ∷ ids) id = go (same_id_or_not first id) (inside_decided
 -- after both histories the same is known of the entry with this identifier
 pub record SameEntry (members : ℕ) (H K : List Event) (replica : ℕ) (id : Id) : Type 0 where
   pub marks : SameMarks members H K replica id
-  pub entered : (entry : Entry) → entry.id ≡ id →
+  pub entered : (entry : ModelEntry) → entry.id ≡ id →
       IsEntered H (Knows H replica) entry ↔ IsEntered K (Knows K replica) entry
   pub removed : IsRemoved H (Knows H replica) id ↔ IsRemoved K (Knows K replica) id
   pub dropped : IsDropped members H replica id ↔ IsDropped members K replica id
@@ -173,7 +173,7 @@ one_state members H replica id (Dead one two) (Dead first second) a b = ap₂ De
     (same_marks two second (λ peer. same_test (has two peer) (has second peer)
     (λ inside. (b.second peer).1 ((a.second peer).0 inside)) (λ inside. (a.second peer).1 ((b.second peer).0 inside))))
 
-abbrev pub kept_of : Entry → State → Kept
+abbrev pub kept_of : ModelEntry → State → Kept
 kept_of place state = record { id = place.id; dir = place.dir; name = place.name; target = place.target; state = state }
 
 -- entries with one place and one state are one

@@ -12,7 +12,7 @@ use Rattle.ficus_model.specs.declared.event.Event.TheVariants.{Update}
 use Rattle.ficus_model.specs.declared.event.Op.{Op}
 use Rattle.ficus_model.specs.Known.{Knows}
 use Rattle.ficus_model.specs.Lawful.{Volume, IsLawful}
-use Rattle.ficus_model.specs.Live.{Entry, entered_by, removed_by, IsEntered, IsRemoved}
+use Rattle.ficus_model.specs.Live.{ModelEntry, entered_by, removed_by, IsEntered, IsRemoved}
 use Rattle.ficus_model.specs.Held.{IsDropped}
 use Rattle.ficus_laws.specs.Updates.{next_number, IsIssued}
 use Rattle.ficus_laws.proofs.AfterUpdate.{entered_id, entered_after, entered_new, removed_after, removed_new}
@@ -53,11 +53,11 @@ module _ (volume : Volume) (H : List Event) (replica : ℕ) (op : Op)
       removal_first volume after lawful (update_end H replica op) inside
       (subst (λ L. IsRemoved L (Knows L replica) id) (sym (take_at H (Update replica op ∷ []) (length H) refl)) r)
 
-  abbrev IsEnteredBefore : Entry → Type 0
+  abbrev IsEnteredBefore : ModelEntry → Type 0
   IsEnteredBefore entry = IsEntered H (Knows H replica) entry
 
   -- what was entered before isn't entered again
-  not_new : {entry other : Entry} → IsEnteredBefore entry → entered_by (next_number replica H) op ≡ Some other →
+  not_new : {entry other : ModelEntry} → IsEnteredBefore entry → entered_by (next_number replica H) op ≡ Some other →
       other.id ≡ entry.id → ⊥
   not_new {entry} {other} e new same =
       let next : entry.id ≡ next_number replica H = sym same ∙ entered_id (next_number replica H) op other new in
@@ -66,7 +66,7 @@ module _ (volume : Volume) (H : List Event) (replica : ℕ) (op : Op)
 
   -- what it neither enters nor removes stays as it was
   pub untouched : (id : Id) → (Contains removes id → ⊥) →
-      ((entry : Entry) → entered_by (next_number replica H) op ≡ Some entry → entry.id ≡ id → ⊥) →
+      ((entry : ModelEntry) → entered_by (next_number replica H) op ≡ Some entry → entry.id ≡ id → ⊥) →
       SameEntry volume.members H after replica id
   untouched id beside not_entered = record {
     marks = marks_kept volume.members H (Update replica op) replica id is_member (inr beside);
@@ -81,7 +81,7 @@ module _ (volume : Volume) (H : List Event) (replica : ℕ) (op : Op)
     dropped = (dropped_more (Update replica op ∷ []), undropped (Update replica op) (λ is. cc));
   }
     where
-      entered : (entry : Entry) → entry.id ≡ id →
+      entered : (entry : ModelEntry) → entry.id ≡ id →
           IsEnteredBefore entry ⊎ (entered_by (next_number replica H) op ≡ Some entry) → IsEnteredBefore entry
       entered entry named (inl was) = was
       entered entry named (inr new) = absurd (not_entered entry new named)
@@ -90,17 +90,17 @@ module _ (volume : Volume) (H : List Event) (replica : ℕ) (op : Op)
       removed (inl was) = was
       removed (inr inside) = absurd (beside inside)
 
-  pub left_as_it_was : {entry : Entry} → IsEnteredBefore entry → (Contains removes entry.id → ⊥) →
+  pub left_as_it_was : {entry : ModelEntry} → IsEnteredBefore entry → (Contains removes entry.id → ⊥) →
       SameEntry volume.members H after replica entry.id
   left_as_it_was {entry} e beside = untouched entry.id beside (λ other new same. not_new e new same)
 
-  still_entered : {entry : Entry} → IsEnteredBefore entry ⊎ (entered_by (next_number replica H) op ≡ Some entry) →
+  still_entered : {entry : ModelEntry} → IsEnteredBefore entry ⊎ (entered_by (next_number replica H) op ≡ Some entry) →
       IsEntered after (Knows after replica) entry
   still_entered (inl was) = entered_within (within_more H (Update replica op ∷ []) replica) was
   still_entered {entry} (inr new) = entered_new H replica op entry new
 
   -- what it enters and doesn't remove is alive then
-  fresh : {id : Id} {entry : Entry} → entered_by (next_number replica H) op ≡ Some entry → entry.id ≡ id →
+  fresh : {id : Id} {entry : ModelEntry} → entered_by (next_number replica H) op ≡ Some entry → entry.id ≡ id →
       (Contains removes id → ⊥) → IsRemoved after (Knows after replica) id → ⊥
   fresh {id} {entry} new named beside r = go (removed_after H replica op r)
     where
@@ -124,7 +124,7 @@ module _ (volume : Volume) (H : List Event) (replica : ℕ) (op : Op)
             beside);
       }
 
-  fresh_alive : {id : Id} {entry : Entry} → entered_by (next_number replica H) op ≡ Some entry → entry.id ≡ id →
+  fresh_alive : {id : Id} {entry : ModelEntry} → entered_by (next_number replica H) op ≡ Some entry → entry.id ≡ id →
       (Contains removes id → ⊥) → (state : State) → StandsAs volume.members after replica id (Some state) → state ≡ Live
   fresh_alive new named beside Live stands = refl
   fresh_alive new named beside (Dead one two) stands = absurd (fresh new named beside stands.removed)
@@ -222,7 +222,7 @@ module _ (volume : Volume) (H : List Event) (replica : ℕ) (op : Op)
         entered (inr new) = still_entered (inr new.enters)
 
         same_id : next.id ≡ entry.id
-        same_id = ap (λ (place : Entry). place.id) stepped.same
+        same_id = ap (λ (place : ModelEntry). place.id) stepped.same
 
         same : (Contains removes entry.id → ⊥) → entry ≡ next
         same beside = same_kept (sym stepped.same) (sym (stepped.left beside))

@@ -10,13 +10,13 @@ use Rattle.ficus_model.specs.declared.event.Event.{Event}
 use Rattle.ficus_model.specs.declared.event.Event.TheVariants.{Update, Ask, Serve, Accept, Collect, Restart}
 use Rattle.ficus_model.specs.declared.event.Op.{Op}
 use Rattle.ficus_model.specs.Held.{IsHeldEntry}
-use Rattle.ficus_model.specs.Live.{Entry, entry_of, entered_by, removed_by}
+use Rattle.ficus_model.specs.Live.{ModelEntry, entry_of, entered_by, removed_by}
 use Rattle.ficus_laws.specs.Updates.{next_number}
 use Rattle.ficus_removal_laws.specs.Marks.{IsAbsent}
 use Rattle.ficus_merge_laws.specs.States.{StandsAs, IsKilled}
 
 -- the entry, without its state
-abbrev pub place_of : Kept → Entry
+abbrev pub place_of : Kept → ModelEntry
 place_of entry = entry_of entry.id entry.dir entry.name entry.target
 
 -- the replica holds the entry, and its state is the one that the history gives

@@ -254,3 +254,15 @@ module _ {X : Type 0} (id_of : X → Id) where
       absurd (held_b (record { item = a; inside = held_a.0; has_id = held_a.1 }))
   one_held xs id (Some a) (Some b) rising held_a held_b =
       ap Some (one_item xs a b rising held_a.0 held_b.0 (held_a.1 ∙ sym held_b.1))
+
+  -- in place of the items with its identifier an item only comes in addition, where there are none
+  pub put_adds : (old new : List X) (item : X) → (HoldsBy id_of old (id_of item) → ⊥) →
+      ((other : X) → Contains new other ↔ ((Contains old other × (id_of other ≢ id_of item)) ⊎ (other ≡ item))) →
+      (other : X) → Contains new other ↔ (Contains old other ⊎ (other ≡ item))
+  put_adds old new item none puts other = (
+    λ inside. elim ((puts other).0 inside) [ inl kept ↦ inl kept.0 | inr is ↦ inr is ],
+    λ either. (puts other).1 (elim either [
+      | inl kept ↦ inl (kept, λ same. none (record { item = other; inside = kept; has_id = same }))
+      | inr is ↦ inr is
+    ]),
+  )

@@ -6,7 +6,7 @@ use std::fmt;
 /// The identifier of an entry and of the object that it made: the replica that issued it, from 1 to 8, and
 /// the number of the update there, from 1. Identifiers need no coordination, since no two replicas issue
 /// the same one (Guy 1991). They are ordered by replica, then by number.
-#[derive(Clone, Copy, Debug, PartialEq, Eq, PartialOrd, Ord, Hash)]
+#[derive(Clone, Copy, PartialEq, Eq, PartialOrd, Ord)]
 pub struct Id {
     pub replica: u8,
     pub number: u32,

@@ -3,7 +3,7 @@ ghost use Rattle.std.specs.Prelude.{◌≡◌, List};
 use std::marker::Model;
 
 /// A `Vec` that contracts see as the list of its items, without its capacity and its place in memory.
-#[derive(Debug, Drop)]
+#[derive(Drop)]
 pub struct Listed<T> {
     items: Vec<T>,
 }

@@ -6,7 +6,7 @@ use std::marker::Model;
 
 /// A set of replica numbers from 1 to 8. Contracts see it as the number in which bit `r - 1` stands for
 /// replica `r`, and speak of it by `has`.
-#[derive(Clone, Copy, Debug, PartialEq, Eq, Hash)]
+#[derive(Clone, Copy, PartialEq, Eq)]
 pub struct Marks {
     bits: u8,
 }

@@ -4,7 +4,7 @@ ghost use Rattle.ficus_ids.specs.Members.{IsCount, IsMember};
 use std::marker::Model;
 
 /// How many replicas a volume has, from 2 to 8. They are numbered from 1.
-#[derive(Clone, Copy, Debug, PartialEq, Eq)]
+#[derive(Clone, Copy, PartialEq, Eq)]
 pub struct Members {
     count: u8,
 }

@@ -5,7 +5,7 @@ use std::error::Error;
 use std::fmt;
 
 /// Memory that a call wanted was refused.
-#[derive(Clone, Copy, Debug, PartialEq, Eq, Hash)]
+#[derive(Clone, Copy, Debug, PartialEq, Eq)]
 pub struct Memory;
 
 impl fmt::Display for Memory {

@@ -18,7 +18,7 @@ pub const NAME_LIMIT: usize = 64;
 
 /// The name of an entry in its directory: 1 to 64 bytes without byte 0, `/` and `#`, and neither `.` nor
 /// `..`. Its bytes lie in the value itself, so that a copy takes no memory. Contracts see it as its bytes.
-#[derive(Debug, Drop)]
+#[derive(Drop)]
 pub struct Name {
     bytes: ArrayVec<u8, NAME_LIMIT>,
 }
@@ -32,7 +32,7 @@ impl Model for Name {
 }
 
 /// Why bytes gave no name.
-#[derive(Clone, Copy, Debug, PartialEq, Eq, Hash)]
+#[derive(Clone, Copy, Debug, PartialEq, Eq)]
 pub enum NameFault {
     /// The bytes aren't a name.
     NotName,

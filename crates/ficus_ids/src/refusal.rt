@@ -6,7 +6,7 @@ use crate::Memory;
 use std::alloc::{AllocError, AllocFailed};
 
 /// Why a command is refused. The answer to a refused command is `no` and the refusal's word.
-#[derive(Clone, Copy, Debug, PartialEq, Eq, Hash)]
+#[derive(Clone, Copy, Debug, PartialEq, Eq)]
 pub enum Refusal {
     /// Memory was refused.
     Memory,

@@ -8,7 +8,7 @@ use Rattle.ficus_model.specs.declared.event.Event.TheVariants.{Ask, Serve, Accep
 use Rattle.ficus_model.specs.Events.{IsAt, IsOf, through}
 use Rattle.ficus_model.specs.Known.{HasSeen, Knows}
 use Rattle.ficus_model.specs.Known.HasSeen.{Itself, Earlier, Heard}
-use Rattle.ficus_model.specs.Live.{Entry, IsEntered, IsRemoved, IsLive, IsMade}
+use Rattle.ficus_model.specs.Live.{ModelEntry, IsEntered, IsRemoved, IsLive, IsMade}
 use Rattle.ficus_model.specs.Lawful.{Volume, AnswersOpenAsk, IsLawful}
 use Rattle.ficus_laws.specs.Accepts.{IsLiveJoined}
 use Rattle.ficus_laws.specs.Updates.{UpdatesWithin, Joined}
@@ -89,7 +89,7 @@ module _ (H : List Event) (replica served server : ℕ) (by_server : IsOf H serv
   within_after = within_chain within_served (same_accept H replica served).there
 
   -- what is entered and removed then was so at one of the two
-  pub accept_entered : {entry : Entry} → IsEntered after (Knows after replica) entry →
+  pub accept_entered : {entry : ModelEntry} → IsEntered after (Knows after replica) entry →
       IsEntered H (Knows H replica) entry ⊎ IsEntered (through served H) (Knows (through served H) server) entry
   accept_entered {entry} e = go (entered_either (entered_within (same_accept H replica served).back e))
     where
@@ -124,7 +124,7 @@ module _ (H : List Event) (replica served server : ℕ) (by_server : IsOf H serv
   made_accept (inr his) = made_within within_after his
 
   -- what is alive then was entered at one of the two and is removed at neither
-  pub accept_live : {entry : Entry} → IsLive after (Knows after replica) entry →
+  pub accept_live : {entry : ModelEntry} → IsLive after (Knows after replica) entry →
       IsLiveJoined H (Knows H replica) (through served H) (Knows (through served H) server) entry
   accept_live {entry} l = record {
     entered = accept_entered l.entered;
@@ -132,7 +132,7 @@ module _ (H : List Event) (replica served server : ℕ) (by_server : IsOf H serv
     kept_there = λ r. l.not_removed (removed_within within_after r);
   }
 
-  pub live_accept : {entry : Entry} →
+  pub live_accept : {entry : ModelEntry} →
       IsLiveJoined H (Knows H replica) (through served H) (Knows (through served H) server) entry →
       IsLive after (Knows after replica) entry
   live_accept {entry} l = record { entered = entered l.entered; not_removed = λ r. removed (accept_removed r) }

@@ -10,37 +10,37 @@ use Rattle.ficus_model.specs.declared.event.Event.TheVariants.{Update}
 use Rattle.ficus_model.specs.declared.event.Op.{Op}
 use Rattle.ficus_model.specs.declared.event.Op.TheVariants.{Make, Link, Remove, Move, Write, Settle, Resolve, Adopt, Discard}
 use Rattle.ficus_model.specs.Known.{Knows}
-use Rattle.ficus_model.specs.Live.{Entry, entry_of, entered_by, removed_by, IsEntered, IsRemoved, IsLive, IsMade}
+use Rattle.ficus_model.specs.Live.{ModelEntry, entry_of, entered_by, removed_by, IsEntered, IsRemoved, IsLive, IsMade}
 use Rattle.ficus_laws.specs.Updates.{next_number, made_entry, HasUpdate}
 use Rattle.ficus_laws.proofs.Shown.{entered_from, removed_from, entered_has, removed_has, entered_within, removed_within, made_within}
 use Rattle.ficus_laws.proofs.OneMore.{within_more, has_end, has_after_update}
 
-pub enters_none : (entry : Entry) → None ≡ Some entry → ⊥
+pub enters_none : (entry : ModelEntry) → None ≡ Some entry → ⊥
 enters_none entry e = cc
 
 -- an entry has the number of the update that enters it
-pub entered_id : (number : Id) (op : Op) (entry : Entry) → entered_by number op ≡ Some entry → entry.id ≡ number
+pub entered_id : (number : Id) (op : Op) (entry : ModelEntry) → entered_by number op ≡ Some entry → entry.id ≡ number
 entered_id number (Make dir name kind) entry e =
-    sym (ap (λ (found : Entry). found.id) (same_Some (entry_of number dir name number) entry e))
+    sym (ap (λ (found : ModelEntry). found.id) (same_Some (entry_of number dir name number) entry e))
 entered_id number (Link dir name target) entry e =
-    sym (ap (λ (found : Entry). found.id) (same_Some (entry_of number dir name target) entry e))
+    sym (ap (λ (found : ModelEntry). found.id) (same_Some (entry_of number dir name target) entry e))
 entered_id number (Remove entries target) entry e = absurd (enters_none entry e)
 entered_id number (Move entries dir name target) entry e =
-    sym (ap (λ (found : Entry). found.id) (same_Some (entry_of number dir name target) entry e))
+    sym (ap (λ (found : ModelEntry). found.id) (same_Some (entry_of number dir name target) entry e))
 entered_id number (Write file bytes) entry e = absurd (enters_none entry e)
 entered_id number (Settle file bytes) entry e = absurd (enters_none entry e)
 entered_id number (Resolve file bytes) entry e = absurd (enters_none entry e)
 entered_id number (Adopt file dir name) entry e =
-    sym (ap (λ (found : Entry). found.id) (same_Some (entry_of number dir name file) entry e))
+    sym (ap (λ (found : ModelEntry). found.id) (same_Some (entry_of number dir name file) entry e))
 entered_id number (Discard file) entry e =
-    sym (ap (λ (found : Entry). found.id) (same_Some (entry_of number ATTIC (codes "discarded") file) entry e))
+    sym (ap (λ (found : ModelEntry). found.id) (same_Some (entry_of number ATTIC (codes "discarded") file) entry e))
 
 -- In each of these a replica has done one more operation.
 module _ (H : List Event) (replica : ℕ) (op : Op) where
   abbrev after : List Event
   after = H ++ Update replica op ∷ []
 
-  pub entered_after : {entry : Entry} → IsEntered after (Knows after replica) entry →
+  pub entered_after : {entry : ModelEntry} → IsEntered after (Knows after replica) entry →
       IsEntered H (Knows H replica) entry ⊎ (entered_by (next_number replica H) op ≡ Some entry)
   entered_after {entry} e = go (has_after_update op (entered_has e))
     where
@@ -50,7 +50,7 @@ module _ (H : List Event) (replica : ℕ) (op : Op) where
       go (inr (next, same)) =
           inr (ap (λ number. entered_by number op) (sym next) ∙ ap (entered_by entry.id) (sym same) ∙ e.enters)
 
-  pub entered_new : (entry : Entry) → entered_by (next_number replica H) op ≡ Some entry →
+  pub entered_new : (entry : ModelEntry) → entered_by (next_number replica H) op ≡ Some entry →
       IsEntered after (Knows after replica) entry
   entered_new entry new =
       let id = entered_id (next_number replica H) op entry new in
@@ -72,7 +72,7 @@ module _ (H : List Event) (replica : ℕ) (op : Op) where
   removed_new id new = removed_from id (has_end H replica op) new
 
   -- what is alive then was alive and isn't removed, or it is new
-  pub live_after : {entry : Entry} → IsLive after (Knows after replica) entry →
+  pub live_after : {entry : ModelEntry} → IsLive after (Knows after replica) entry →
       (IsLive H (Knows H replica) entry ⊎ (entered_by (next_number replica H) op ≡ Some entry)) ×
       (Contains (removed_by (next_number replica H) op) entry.id → ⊥)
   live_after {entry} l = (go (entered_after l.entered), λ removed. l.not_removed (removed_new entry.id removed))
@@ -91,14 +91,14 @@ module _ (H : List Event) (replica : ℕ) (op : Op) where
       go (inl was) = before was
       go (inr new) = now new
 
-  pub live_kept : {entry : Entry} → IsLive H (Knows H replica) entry →
+  pub live_kept : {entry : ModelEntry} → IsLive H (Knows H replica) entry →
       (Contains (removed_by (next_number replica H) op) entry.id → ⊥) → IsLive after (Knows after replica) entry
   live_kept {entry} l kept = record {
     entered = entered_within (within_more H (Update replica op ∷ []) replica) l.entered;
     not_removed = still_not_removed entry.id l.not_removed kept;
   }
 
-  pub live_new : (entry : Entry) → entered_by (next_number replica H) op ≡ Some entry →
+  pub live_new : (entry : ModelEntry) → entered_by (next_number replica H) op ≡ Some entry →
       (IsRemoved H (Knows H replica) entry.id → ⊥) → (Contains (removed_by (next_number replica H) op) entry.id → ⊥) →
       IsLive after (Knows after replica) entry
   live_new entry new fresh kept =
@@ -130,7 +130,7 @@ module _ (H : List Event) (replica : ℕ) (dir : Id) (name : List ℕ) (kind : K
   removes_none : (id : Id) → Contains (removed_by (next_number replica H) make) id → ⊥
   removes_none id removes = omega arith
 
-  pub make_live : {entry : Entry} → IsLive once_made (Knows once_made replica) entry →
+  pub make_live : {entry : ModelEntry} → IsLive once_made (Knows once_made replica) entry →
       IsLive H (Knows H replica) entry ⊎ (entry ≡ made_entry replica H dir name)
   make_live {entry} l = go (live_after H replica make l).0
     where
@@ -139,7 +139,8 @@ module _ (H : List Event) (replica : ℕ) (dir : Id) (name : List ℕ) (kind : K
       go (inl was) = inl was
       go (inr new) = inr (let e : Some (made_entry replica H dir name) ≡ Some entry = new in cc)
 
-  pub make_kept : {entry : Entry} → IsLive H (Knows H replica) entry → IsLive once_made (Knows once_made replica) entry
+  pub make_kept : {entry : ModelEntry} → IsLive H (Knows H replica) entry →
+      IsLive once_made (Knows once_made replica) entry
   make_kept {entry} l = live_kept H replica make l (removes_none entry.id)
 
   pub make_new : (IsRemoved H (Knows H replica) (next_number replica H) → ⊥) →

@@ -13,7 +13,7 @@ use Rattle.ficus_model.specs.declared.event.Op.{Op}
 use Rattle.ficus_model.specs.declared.event.Op.TheVariants.{Make}
 use Rattle.ficus_model.specs.Events.{IsUpdate, before, is_update_of}
 use Rattle.ficus_model.specs.Known.{Knows}
-use Rattle.ficus_model.specs.Live.{Entry, entered_by, removed_by, IsEntered, IsRemoved, IsMade}
+use Rattle.ficus_model.specs.Live.{ModelEntry, entered_by, removed_by, IsEntered, IsRemoved, IsMade}
 use Rattle.ficus_model.specs.Lawful.{Volume, IsAllowed, MayUpdate, IsLawful}
 use Rattle.ficus_laws.specs.Updates.{next_number, IsIssued}
 use Rattle.ficus_laws.proofs.Positions.{of_at}
@@ -31,7 +31,7 @@ issued_more {H} {id} T i = record {
 pub issued_later : {H : List Event} {id : Id} (n : ℕ) → IsIssued (before n H) id → IsIssued H id
 issued_later {H} {id} n i = subst (λ K. IsIssued K id) (take-append-drop n H) (issued_more (drop n H) i)
 
-pub entered_issued : {H : List Event} {U : ℕ → Type 0} {entry : Entry} → IsEntered H U entry → IsIssued H entry.id
+pub entered_issued : {H : List Event} {U : ℕ → Type 0} {entry : ModelEntry} → IsEntered H U entry → IsIssued H entry.id
 entered_issued e = update_issued e.update
 
 -- what an operation may remove has been issued, or it is the next number
@@ -62,7 +62,7 @@ pub next_not_removed : (volume : Volume) (H : List Event) (replica : ℕ) {U : �
 next_not_removed volume H replica lawful r = let i = removed_issued volume H lawful r in omega (arith, i.at_most)
 
 -- an identifier is entered once, as one entry
-pub entered_once : {H : List Event} {U V : ℕ → Type 0} {entry other : Entry} → IsEntered H U entry →
+pub entered_once : {H : List Event} {U V : ℕ → Type 0} {entry other : ModelEntry} → IsEntered H U entry →
     IsEntered H V other → entry.id ≡ other.id → entry ≡ other
 entered_once {H} {U} {V} {entry} {other} e f same =
     let again : IsUpdate H f.position entry.id f.op = subst (λ id. IsUpdate H f.position id f.op) (sym same) f.update in

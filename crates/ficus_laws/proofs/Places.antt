@@ -14,7 +14,7 @@ use Rattle.ficus_model.specs.declared.event.Op.TheVariants.{Make, Link, Remove, 
 use Rattle.ficus_model.specs.Events.{IsOf, before}
 use Rattle.ficus_model.specs.Known.{HasSeen, Knows}
 use Rattle.ficus_model.specs.Known.HasSeen.{Earlier}
-use Rattle.ficus_model.specs.Live.{Entry, entry_of, entered_by, removed_by, IsEntered, IsRemoved, IsLive, IsMade, IsDirectory}
+use Rattle.ficus_model.specs.Live.{ModelEntry, entry_of, entered_by, removed_by, IsEntered, IsRemoved, IsLive, IsMade, IsDirectory}
 use Rattle.ficus_model.specs.View.{IsFilled, HasUnseen, IsOrphan}
 use Rattle.ficus_model.specs.Lawful.{Volume, AreNames, IsAllowed, MayUpdate, IsLawful}
 use Rattle.ficus_laws.specs.Updates.{HasUpdate, UpdatesWithin}
@@ -53,7 +53,7 @@ orphan_made {H} {U} {object} orphan = go orphan.kept
     go (inr unseen) = (unseen.is_file.kind, unseen.is_file.made)
 
 -- an entry lies in a directory, or in the attic and is removed by the update that enters it
-entered_place : (H : List Event) (U : ℕ → Type 0) (number : Id) (op : Op) (entry : Entry) → IsAllowed H U op →
+entered_place : (H : List Event) (U : ℕ → Type 0) (number : Id) (op : Op) (entry : ModelEntry) → IsAllowed H U op →
     entered_by number op ≡ Some entry →
     IsDirectory H U entry.dir ⊎ ((entry.dir ≡ ATTIC) × Contains (removed_by number op) number)
 entered_place H U number (Make dir name kind) entry place enters =
@@ -73,7 +73,7 @@ entered_place H U number (Discard file) entry may enters =
     inr (subst (λ found. found.dir ≡ ATTIC) same refl, here number [])
 
 -- in a lawful history each entry lies in a directory, or in the attic and is removed
-pub entered_in_place : (volume : Volume) (H : List Event) {replica : ℕ} {entry : Entry} → IsLawful volume H →
+pub entered_in_place : (volume : Volume) (H : List Event) {replica : ℕ} {entry : ModelEntry} → IsLawful volume H →
     IsEntered H (Knows H replica) entry →
     IsDirectory H (Knows H replica) entry.dir ⊎ ((entry.dir ≡ ATTIC) × IsRemoved H (Knows H replica) entry.id)
 entered_in_place volume H {replica} {entry} lawful e =
@@ -95,7 +95,7 @@ entered_in_place volume H {replica} {entry} lawful e =
     go (inr (attic, removes)) = inr (attic, removed_from entry.id (entered_has e) removes)
 
 -- so each live entry lies in a directory
-pub live_in_directory : (volume : Volume) (H : List Event) {replica : ℕ} {entry : Entry} → IsLawful volume H →
+pub live_in_directory : (volume : Volume) (H : List Event) {replica : ℕ} {entry : ModelEntry} → IsLawful volume H →
     IsLive H (Knows H replica) entry → IsDirectory H (Knows H replica) entry.dir
 live_in_directory volume H {replica} {entry} lawful live = go (entered_in_place volume H lawful live.entered)
   where
@@ -107,13 +107,13 @@ live_in_directory volume H {replica} {entry} lawful live = go (entered_in_place 
 -- In each of these an operation is done where less is known, by a replica that knows what the names lead to.
 module _ {H K : List Event} {U V : ℕ → Type 0} (more : UpdatesWithin K V H U)
     (named : (entries : List Id) (target : Id) → AreNames K V entries target → (kind : Kind) × IsMade K V target kind) where
-  known_target : {number target : Id} {entry : Entry} (dir : Id) (name : List ℕ) →
+  known_target : {number target : Id} {entry : ModelEntry} (dir : Id) (name : List ℕ) →
       entered_by number (Link dir name target) ≡ Some entry → (kind : Kind) × IsMade K V target kind →
       (kind : Kind) × IsMade H U entry.target kind
   known_target {number} {target} {entry} dir name enters made =
       (made.0, subst (λ found. IsMade H U found.target made.0) (same_Some (entry_of number dir name target) entry enters) (made_within more made.1))
 
-  target_made : (number : Id) (op : Op) (entry : Entry) → HasUpdate H U number op → IsAllowed K V op →
+  target_made : (number : Id) (op : Op) (entry : ModelEntry) → HasUpdate H U number op → IsAllowed K V op →
       entered_by number op ≡ Some entry → (kind : Kind) × IsMade H U entry.target kind
   target_made number (Make dir name kind) entry u may enters =
       let same = same_Some (entry_of number dir name number) entry enters in
@@ -134,7 +134,8 @@ pub some_inside : (entries : List Id) → entries ≢ [] → (id : Id) × Contai
 some_inside [] some = absurd (some refl)
 some_inside (id ∷ entries) some = (id, here id entries)
 
-target_made_below : (volume : Volume) (bound : ℕ) (H : List Event) {replica : ℕ} {entry : Entry} → IsLawful volume H →
+target_made_below : (volume : Volume) (bound : ℕ) (H : List Event) {replica : ℕ} {entry : ModelEntry} →
+    IsLawful volume H →
     (e : IsEntered H (Knows H replica) entry) → e.position < bound →
     (kind : Kind) × IsMade H (Knows H replica) entry.target kind
 target_made_below volume zero H lawful e h = absurd (omega arith)
@@ -153,6 +154,6 @@ target_made_below volume (suc bound) H {replica} {entry} lawful e h =
     entry.id e.op entry (entered_has e) may.allowed e.enters
 
 -- in a lawful history each entry names an object that is made
-pub entered_target : (volume : Volume) (H : List Event) {replica : ℕ} {entry : Entry} → IsLawful volume H →
+pub entered_target : (volume : Volume) (H : List Event) {replica : ℕ} {entry : ModelEntry} → IsLawful volume H →
     IsEntered H (Knows H replica) entry → (kind : Kind) × IsMade H (Knows H replica) entry.target kind
 entered_target volume H lawful e = target_made_below volume (e.position + 1) H lawful e (omega arith)

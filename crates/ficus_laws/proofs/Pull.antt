@@ -10,7 +10,7 @@ use Rattle.ficus_model.specs.declared.event.Op.{Op}
 use Rattle.ficus_model.specs.Events.{IsAt, IsUpdate, count_of}
 use Rattle.ficus_model.specs.Known.{HasSeen, Knows}
 use Rattle.ficus_model.specs.Known.HasSeen.{Earlier}
-use Rattle.ficus_model.specs.Live.{Entry, IsLive, IsMade}
+use Rattle.ficus_model.specs.Live.{ModelEntry, IsLive, IsMade}
 use Rattle.ficus_model.specs.Lawful.{Volume, ClosesAsk, MayCome, AnswersOpenAsk, IsLawful}
 use Rattle.ficus_laws.specs.Accepts.{IsLiveJoined, asked, answered, pulled}
 use Rattle.ficus_laws.specs.Updates.{next_number, HasUpdate, SameUpdates, Joined}
@@ -185,11 +185,12 @@ module _ (H : List Event) (replica server : ℕ) where
           record { position = u.position; known = knows_pulled_other differs u.known (update_within was); update = was }
 
   -- what is alive for the replica after a pull was entered for it or for the server, and is removed for neither
-  pub pulled_live : {entry : Entry} → IsLive (pulled H replica server) (Knows (pulled H replica server) replica) entry →
+  pub pulled_live : {entry : ModelEntry} →
+      IsLive (pulled H replica server) (Knows (pulled H replica server) replica) entry →
       IsLiveJoined H (Knows H replica) H (Knows H server) entry
   pulled_live l = joined_live (live_same (same_back same_pulled) l)
 
-  pub live_pulled : {entry : Entry} → IsLiveJoined H (Knows H replica) H (Knows H server) entry →
+  pub live_pulled : {entry : ModelEntry} → IsLiveJoined H (Knows H replica) H (Knows H server) entry →
       IsLive (pulled H replica server) (Knows (pulled H replica server) replica) entry
   live_pulled l = live_same same_pulled (live_joined l)
 

@@ -6,12 +6,12 @@ use Rattle.ficus_ids.specs.declared.id.Id.{Id}
 use Rattle.ficus_model.specs.declared.event.Event.{Event}
 use Rattle.ficus_model.specs.declared.event.Op.{Op}
 use Rattle.ficus_model.specs.declared.event.Op.TheVariants.{Make, Link, Remove, Move, Write, Settle, Resolve, Adopt, Discard}
-use Rattle.ficus_model.specs.Live.{Entry, removed_by, IsLive}
+use Rattle.ficus_model.specs.Live.{ModelEntry, removed_by, IsLive}
 use Rattle.ficus_model.specs.Lawful.{AreNames, IsAllowed}
 
 -- an entry with this identifier is alive
 pub record IsLiveAs (H : List Event) (U : ℕ → Type 0) (id : Id) : Type 0 where
-  pub entry : Entry
+  pub entry : ModelEntry
   pub live : IsLive H U entry
   pub named : entry.id ≡ id
 

@@ -6,7 +6,7 @@ use Rattle.ficus_ids.specs.declared.kind.Kind.{Kind}
 use Rattle.ficus_model.specs.declared.event.Event.{Event}
 use Rattle.ficus_model.specs.declared.event.Op.{Op}
 use Rattle.ficus_model.specs.declared.event.Op.TheVariants.{Make}
-use Rattle.ficus_model.specs.Live.{Entry, entered_by, removed_by, IsEntered, IsRemoved, IsLive, IsBound, IsMade, IsDirectory}
+use Rattle.ficus_model.specs.Live.{ModelEntry, entered_by, removed_by, IsEntered, IsRemoved, IsLive, IsBound, IsMade, IsDirectory}
 use Rattle.ficus_model.specs.Reached.{IsReached, Leads, IsInTree}
 use Rattle.ficus_model.specs.Reached.IsReached.{Base, Through}
 use Rattle.ficus_model.specs.Known.{Knows}
@@ -41,7 +41,7 @@ pub same_chain : {H K L : List Event} {U V W : ℕ → Type 0} → SameUpdates H
 same_chain a b = record { there = within_chain a.there b.there; back = within_chain b.back a.back }
 
 -- what is entered, removed and made stays so where more updates are known
-pub entered_within : {H K : List Event} {U V : ℕ → Type 0} {entry : Entry} → UpdatesWithin H U K V →
+pub entered_within : {H K : List Event} {U V : ℕ → Type 0} {entry : ModelEntry} → UpdatesWithin H U K V →
     IsEntered H U entry → IsEntered K V entry
 entered_within {entry} more e =
     let u = more.has entry.id e.op (record { position = e.position; known = e.known; update = e.update }) in
@@ -65,7 +65,7 @@ directory_within more (inl root) = inl root
 directory_within more (inr made) = inr (made_within more made)
 
 -- the same updates show the same
-pub live_same : {H K : List Event} {U V : ℕ → Type 0} {entry : Entry} → SameUpdates H U K V → IsLive H U entry →
+pub live_same : {H K : List Event} {U V : ℕ → Type 0} {entry : ModelEntry} → SameUpdates H U K V → IsLive H U entry →
     IsLive K V entry
 live_same same l =
     record { entered = entered_within same.there l.entered; not_removed = λ r. l.not_removed (removed_within same.back r) }
@@ -117,7 +117,7 @@ has_either {H} {U} {V} {number} {op} u = go u.known
     go (inl known) = inl (record { position = u.position; known = known; update = u.update })
     go (inr known) = inr (record { position = u.position; known = known; update = u.update })
 
-pub entered_from : {H : List Event} {U : ℕ → Type 0} {op : Op} (entry : Entry) → HasUpdate H U entry.id op →
+pub entered_from : {H : List Event} {U : ℕ → Type 0} {op : Op} (entry : ModelEntry) → HasUpdate H U entry.id op →
     entered_by entry.id op ≡ Some entry → IsEntered H U entry
 entered_from {op} entry u enters =
     record { position = u.position; op = op; known = u.known; update = u.update; enters = enters }
@@ -127,7 +127,7 @@ pub removed_from : {H : List Event} {U : ℕ → Type 0} {number : Id} {op : Op}
 removed_from {number} {op} id u removes =
     record { position = u.position; number = number; op = op; known = u.known; update = u.update; removes = removes }
 
-pub entered_has : {H : List Event} {U : ℕ → Type 0} {entry : Entry} (e : IsEntered H U entry) →
+pub entered_has : {H : List Event} {U : ℕ → Type 0} {entry : ModelEntry} (e : IsEntered H U entry) →
     HasUpdate H U entry.id e.op
 entered_has e = record { position = e.position; known = e.known; update = e.update }
 
@@ -142,7 +142,7 @@ pub made_has : {H : List Event} {U : ℕ → Type 0} {object : Id} {kind : Kind}
     HasUpdate H U object (Make m.dir m.name kind)
 made_has m = record { position = m.position; known = m.known; update = m.update }
 
-pub entered_either : {H : List Event} {U V : ℕ → Type 0} {entry : Entry} → IsEntered H (Joined U V) entry →
+pub entered_either : {H : List Event} {U V : ℕ → Type 0} {entry : ModelEntry} → IsEntered H (Joined U V) entry →
     IsEntered H U entry ⊎ IsEntered H V entry
 entered_either {H} {U} {V} {entry} e = go (has_either (entered_has e))
   where
@@ -174,7 +174,7 @@ pub within_joined_right : {H : List Event} {U V : ℕ → Type 0} → UpdatesWit
 within_joined_right = within_known (λ position known. inr known)
 
 -- what is alive where both are known was entered in one and is removed in neither
-pub joined_live : {H : List Event} {U V : ℕ → Type 0} {entry : Entry} → IsLive H (Joined U V) entry →
+pub joined_live : {H : List Event} {U V : ℕ → Type 0} {entry : ModelEntry} → IsLive H (Joined U V) entry →
     IsLiveJoined H U H V entry
 joined_live l = record {
   entered = entered_either l.entered;
@@ -182,7 +182,7 @@ joined_live l = record {
   kept_there = λ r. l.not_removed (removed_within within_joined_right r);
 }
 
-pub live_joined : {H : List Event} {U V : ℕ → Type 0} {entry : Entry} → IsLiveJoined H U H V entry →
+pub live_joined : {H : List Event} {U V : ℕ → Type 0} {entry : ModelEntry} → IsLiveJoined H U H V entry →
     IsLive H (Joined U V) entry
 live_joined {H} {U} {V} {entry} l =
     record { entered = entered l.entered; not_removed = λ r. removed (removed_either r) }

@@ -2,10 +2,10 @@
 use Rattle.std.specs.Prelude.{◌⊎◌, ℕ, ◌+◌, List, [], ◌∷◌, ◌++◌, length}
 use Rattle.ficus_model.specs.declared.event.Event.{Event}
 use Rattle.ficus_model.specs.declared.event.Event.TheVariants.{Ask, Serve, Accept}
-use Rattle.ficus_model.specs.Live.{Entry, IsEntered, IsRemoved}
+use Rattle.ficus_model.specs.Live.{ModelEntry, IsEntered, IsRemoved}
 
 -- entered in one of the two, and removed in neither
-pub record IsLiveJoined (H : List Event) (U : ℕ → Type 0) (K : List Event) (V : ℕ → Type 0) (entry : Entry) :
+pub record IsLiveJoined (H : List Event) (U : ℕ → Type 0) (K : List Event) (V : ℕ → Type 0) (entry : ModelEntry) :
     Type 0 where
   pub entered : IsEntered H U entry ⊎ IsEntered K V entry
   pub kept : IsRemoved H U entry.id → ⊥

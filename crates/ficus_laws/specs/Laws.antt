@@ -11,7 +11,7 @@ use Rattle.ficus_model.specs.declared.event.Op.{Op}
 use Rattle.ficus_model.specs.declared.event.Op.TheVariants.{Make}
 use Rattle.ficus_model.specs.Events.{IsOf, IsUpdate, through, actor, count_of}
 use Rattle.ficus_model.specs.Known.{Knows}
-use Rattle.ficus_model.specs.Live.{Entry, entry_of, IsLive, IsRemoved, IsBound, IsMade, IsDirectory}
+use Rattle.ficus_model.specs.Live.{ModelEntry, entry_of, IsLive, IsRemoved, IsBound, IsMade, IsDirectory}
 use Rattle.ficus_model.specs.Reached.{IsInTree}
 use Rattle.ficus_model.specs.Lawful.{Volume, MayCome, IsLawful}
 use Rattle.ficus_laws.specs.Accepts.{IsLiveJoined}
@@ -19,7 +19,7 @@ use Rattle.ficus_laws.specs.Updates.{next_number, made_entry, IsQuiet}
 
 -- the same entries are alive, the same objects are made, and the same ones are reached from the root
 pub record ShowSame (H : List Event) (U : ℕ → Type 0) (K : List Event) (V : ℕ → Type 0) : Type 0 where
-  pub live : (entry : Entry) → IsLive H U entry ↔ IsLive K V entry
+  pub live : (entry : ModelEntry) → IsLive H U entry ↔ IsLive K V entry
   pub bound : (dir : Id) (name : List ℕ) (target : Id) → IsBound H U dir name target ↔ IsBound K V dir name target
   pub made : (object : Id) (kind : Kind) → IsMade H U object kind ↔ IsMade K V object kind
   pub tree : (object : Id) → IsInTree H U object ↔ IsInTree K V object
@@ -39,13 +39,13 @@ NumbersNameOne =
 -- an identifier names one entry, whoever is shown it
 abbrev pub IdsNameOneEntry : Type 0
 IdsNameOneEntry =
-    (H : List Event) (replica reader : ℕ) (entry other : Entry) → IsLive H (Knows H replica) entry →
+    (H : List Event) (replica reader : ℕ) (entry other : ModelEntry) → IsLive H (Knows H replica) entry →
     IsLive H (Knows H reader) other → entry.id ≡ other.id → entry ≡ other
 
 -- what is alive lies in a directory and names an object that is made
 abbrev pub EntriesHavePlaces : Type 0
 EntriesHavePlaces =
-    (volume : Volume) (H : List Event) (replica : ℕ) (entry : Entry) → IsLawful volume H →
+    (volume : Volume) (H : List Event) (replica : ℕ) (entry : ModelEntry) → IsLawful volume H →
     IsLive H (Knows H replica) entry →
     IsDirectory H (Knows H replica) entry.dir × (kind : Kind) × IsMade H (Knows H replica) entry.target kind
 
@@ -63,7 +63,7 @@ KeepsShown =
 -- after a Make one more entry is alive for its replica
 abbrev pub MakeEnters : Type 0
 MakeEnters =
-    (volume : Volume) (H : List Event) (replica : ℕ) (dir : Id) (name : List ℕ) (kind : Kind) (entry : Entry) →
+    (volume : Volume) (H : List Event) (replica : ℕ) (dir : Id) (name : List ℕ) (kind : Kind) (entry : ModelEntry) →
     IsLawful volume H →
     let K = H ++ Update replica (Make dir name kind) ∷ [] in
     IsLive K (Knows K replica) entry ↔ (IsLive H (Knows H replica) entry ⊎ (entry ≡ made_entry replica H dir name))
@@ -90,7 +90,7 @@ AcceptJoinsKnown = (H : List Event) (replica served server position : ℕ) → I
 
 -- and for it is alive what was entered for one of the two and is removed for neither
 abbrev pub AcceptJoinsLive : Type 0
-AcceptJoinsLive = (H : List Event) (replica served server : ℕ) (entry : Entry) → IsOf H served server →
+AcceptJoinsLive = (H : List Event) (replica served server : ℕ) (entry : ModelEntry) → IsOf H served server →
     let K = H ++ Accept replica served ∷ [] in
     IsLive K (Knows K replica) entry ↔
     IsLiveJoined H (Knows H replica) (through served H) (Knows (through served H) server) entry
@@ -113,7 +113,7 @@ pub record IsPull (volume : Volume) (H : List Event) (replica server : ℕ) : Ty
 pub record IsPulled (H : List Event) (replica server : ℕ) (K : List Event) : Type 0 where
   pub known : (position : ℕ) → position < length H →
       Knows K replica position ↔ (Knows H replica position ⊎ Knows H server position)
-  pub live : (entry : Entry) →
+  pub live : (entry : ModelEntry) →
       IsLive K (Knows K replica) entry ↔ IsLiveJoined H (Knows H replica) H (Knows H server) entry
   pub made : (object : Id) (kind : Kind) →
       IsMade K (Knows K replica) object kind ↔
@@ -132,7 +132,7 @@ KnowSameUpdates H replica other =
 -- what a replica knows to be removed is never alive for it again
 abbrev pub NoReturn : Type 0
 NoReturn =
-    (H later : List Event) (replica : ℕ) (entry : Entry) → IsRemoved H (Knows H replica) entry.id →
+    (H later : List Event) (replica : ℕ) (entry : ModelEntry) → IsRemoved H (Knows H replica) entry.id →
     IsLive (H ++ later) (Knows (H ++ later) replica) entry → ⊥
 
 -- a history of two members: the second makes a file, and the first asks it and takes its answer
@@ -142,5 +142,5 @@ small_volume = record { members = 2; ids = 1; bytes = 0 }
 abbrev pub small_history : List Event
 small_history = Update 2 (Make ROOT (codes "a") Plain) ∷ Ask 1 2 ∷ Serve 2 1 ∷ Accept 1 2 ∷ []
 
-abbrev pub small_entry : Entry
+abbrev pub small_entry : ModelEntry
 small_entry = entry_of (record { replica = 2; number = 1 }) ROOT (codes "a") (record { replica = 2; number = 1 })

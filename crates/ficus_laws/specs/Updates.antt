@@ -5,7 +5,7 @@ use Rattle.ficus_model.specs.declared.event.Event.{Event}
 use Rattle.ficus_model.specs.declared.event.Event.TheVariants.{Update, Ask, Serve, Accept, Collect, Restart}
 use Rattle.ficus_model.specs.declared.event.Op.{Op}
 use Rattle.ficus_model.specs.Events.{IsUpdate, count_of}
-use Rattle.ficus_model.specs.Live.{Entry}
+use Rattle.ficus_model.specs.Live.{ModelEntry}
 
 -- the number of the next update of a replica
 abbrev pub next_number : ℕ → List Event → Id
@@ -17,7 +17,7 @@ pub record IsIssued (H : List Event) (id : Id) : Type 0 where
   pub at_most : id.number ≤ count_of id.replica H
 
 -- the entry that a Make would enter as the next update of a replica
-abbrev pub made_entry : ℕ → List Event → Id → List ℕ → Entry
+abbrev pub made_entry : ℕ → List Event → Id → List ℕ → ModelEntry
 made_entry replica H dir name =
     record { id = next_number replica H; dir = dir; name = name; target = next_number replica H }
 

@@ -8,7 +8,7 @@ use Rattle.ficus_model.specs.declared.event.Event.{Event}
 use Rattle.ficus_model.specs.declared.event.Event.TheVariants.{Update, Ask, Serve, Accept, Collect, Restart}
 use Rattle.ficus_model.specs.declared.event.Op.{Op}
 use Rattle.ficus_model.specs.Known.{Knows}
-use Rattle.ficus_model.specs.Live.{Entry, entered_by, removed_by, IsRemoved}
+use Rattle.ficus_model.specs.Live.{ModelEntry, entered_by, removed_by, IsRemoved}
 use Rattle.ficus_model.specs.Knowledge.{IsInOne, IsInTwo}
 use Rattle.ficus_model.specs.Held.{IsDropped}
 use Rattle.ficus_laws.specs.Updates.{next_number}
@@ -35,7 +35,7 @@ StandsAs members H replica id (Some (Dead one two)) = IsMarked members H replica
 
 -- the operation, as the next update of the replica after the history, enters an entry with this identifier
 pub record EntersAs (H : List Event) (replica : ℕ) (op : Op) (id : Id) : Type 0 where
-  pub entry : Entry
+  pub entry : ModelEntry
   pub enters : entered_by (next_number replica H) op ≡ Some entry
   pub named : entry.id ≡ id
 

@@ -8,7 +8,7 @@ use Rattle.ficus_model.specs.declared.event.Event.TheVariants.{Collect}
 use Rattle.ficus_model.specs.Events.{IsAt, before, through}
 use Rattle.ficus_model.specs.Known.{Knows}
 use Rattle.ficus_model.specs.Knowledge.{IsInTwo}
-use Rattle.ficus_model.specs.Live.{Entry, IsEntered, IsMade}
+use Rattle.ficus_model.specs.Live.{ModelEntry, IsEntered, IsMade}
 use Rattle.ficus_model.specs.View.{IsOrphan}
 
 -- the replica has collected when its second set of the entry was full
@@ -18,7 +18,7 @@ pub record IsDropped (members : ℕ) (H : List Event) (replica : ℕ) (entry : I
   pub full : (member : ℕ) → IsMember members member → IsInTwo members (before position H) replica member entry
 
 -- the entry leads to the object or lies in it
-abbrev pub Touches : Entry → Id → Type 0
+abbrev pub Touches : ModelEntry → Id → Type 0
 Touches entry object = (entry.target ≡ object) ⊎ (entry.dir ≡ object)
 
 -- At this position the replica collects, and the object is done: each entry that it then knew and that touches the
@@ -27,12 +27,12 @@ pub record IsDone (members : ℕ) (H : List Event) (replica : ℕ) (object : Id)
   pub collect : IsAt H position (Collect replica)
   pub kind : Kind
   pub made : IsMade H (Knows (before position H) replica) object kind
-  pub dropped : (entry : Entry) → IsEntered H (Knows (before position H) replica) entry → Touches entry object →
+  pub dropped : (entry : ModelEntry) → IsEntered H (Knows (before position H) replica) entry → Touches entry object →
       IsDropped members (through position H) replica entry.id
   pub no_orphan : IsOrphan H (Knows (before position H) replica) object → ⊥
 
 -- a known entry that isn't dropped
-pub record IsHeldEntry (members : ℕ) (H : List Event) (replica : ℕ) (entry : Entry) : Type 0 where
+pub record IsHeldEntry (members : ℕ) (H : List Event) (replica : ℕ) (entry : ModelEntry) : Type 0 where
   pub entered : IsEntered H (Knows H replica) entry
   pub held : IsDropped members H replica entry.id → ⊥
 

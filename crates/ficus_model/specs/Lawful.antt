@@ -8,7 +8,7 @@ use Rattle.ficus_model.specs.declared.event.Op.{Op}
 use Rattle.ficus_model.specs.declared.event.Op.TheVariants.{Make, Link, Remove, Move, Write, Settle, Resolve, Adopt, Discard}
 use Rattle.ficus_model.specs.Events.{IsAt, before, count_of}
 use Rattle.ficus_model.specs.Known.{Knows}
-use Rattle.ficus_model.specs.Live.{Entry, IsLive, IsBound, IsBoundBy, IsTaken, IsDirectory, IsFile, HasInside}
+use Rattle.ficus_model.specs.Live.{ModelEntry, IsLive, IsBound, IsBoundBy, IsTaken, IsDirectory, IsFile, HasInside}
 use Rattle.ficus_model.specs.Reached.{IsReachedFrom}
 use Rattle.ficus_model.specs.Versions.{IsInConflict, written_of}
 use Rattle.ficus_model.specs.View.{IsOrphan, IsReachedDirectory, IsReachedFile}
@@ -42,7 +42,7 @@ pub record AreNames (H : List Event) (U : ℕ → Type 0) (entries : List Id) (o
 
 -- a live entry that isn't among these leads to the object
 pub record HasOtherName (H : List Event) (U : ℕ → Type 0) (entries : List Id) (object : Id) : Type 0 where
-  pub entry : Entry
+  pub entry : ModelEntry
   pub live : IsLive H U entry
   pub leads : entry.target ≡ object
   pub beside : Contains entries entry.id → ⊥

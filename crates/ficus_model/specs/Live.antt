@@ -11,18 +11,18 @@ use Rattle.ficus_model.specs.declared.event.Op.TheVariants.{Make, Link, Remove, 
 use Rattle.ficus_model.specs.Events.{IsUpdate}
 
 -- an entry of a directory: its identifier, the directory, the name, and the object that it names
-pub record Entry : Type 0 where
+pub record ModelEntry : Type 0 where
   pub id : Id
   pub dir : Id
   pub name : List ℕ
   pub target : Id
 
 -- the entry with these parts
-abbrev pub entry_of : Id → Id → List ℕ → Id → Entry
+abbrev pub entry_of : Id → Id → List ℕ → Id → ModelEntry
 entry_of id dir name target = record { id = id; dir = dir; name = name; target = target }
 
 -- the entry that the update with this number enters, if it enters one
-abbrev pub entered_by : Id → Op → Option Entry
+abbrev pub entered_by : Id → Op → Option ModelEntry
 entered_by number (Make dir name kind) = Some (entry_of number dir name number)
 entered_by number (Link dir name target) = Some (entry_of number dir name target)
 entered_by number (Remove entries target) = None
@@ -46,7 +46,7 @@ removed_by number (Adopt file dir name) = []
 removed_by number (Discard file) = number ∷ []
 
 -- a known update enters this entry
-pub record IsEntered (H : List Event) (U : ℕ → Type 0) (entry : Entry) : Type 0 where
+pub record IsEntered (H : List Event) (U : ℕ → Type 0) (entry : ModelEntry) : Type 0 where
   pub position : ℕ
   pub op : Op
   pub known : U position
@@ -63,13 +63,13 @@ pub record IsRemoved (H : List Event) (U : ℕ → Type 0) (entry : Id) : Type 0
   pub removes : Contains (removed_by number op) entry
 
 -- entered, and not removed
-pub record IsLive (H : List Event) (U : ℕ → Type 0) (entry : Entry) : Type 0 where
+pub record IsLive (H : List Event) (U : ℕ → Type 0) (entry : ModelEntry) : Type 0 where
   pub entered : IsEntered H U entry
   pub not_removed : IsRemoved H U entry.id → ⊥
 
 -- a live entry of the directory has the name and leads to the object
 pub record IsBound (H : List Event) (U : ℕ → Type 0) (dir : Id) (name : List ℕ) (target : Id) : Type 0 where
-  pub entry : Entry
+  pub entry : ModelEntry
   pub live : IsLive H U entry
   pub in_dir : entry.dir ≡ dir
   pub named : entry.name ≡ name
@@ -86,13 +86,13 @@ IsTaken H U dir name = (target : Id) × IsBound H U dir name target
 
 -- the object has a live name: a live entry leads to it
 pub record HasName (H : List Event) (U : ℕ → Type 0) (object : Id) : Type 0 where
-  pub entry : Entry
+  pub entry : ModelEntry
   pub live : IsLive H U entry
   pub leads : entry.target ≡ object
 
 -- a live entry lies in the directory
 pub record HasInside (H : List Event) (U : ℕ → Type 0) (dir : Id) : Type 0 where
-  pub entry : Entry
+  pub entry : ModelEntry
   pub live : IsLive H U entry
   pub in_dir : entry.dir ≡ dir
 

@@ -2,7 +2,7 @@ use ficus_ids::{Id, Kind, Listed, Name};
 
 /// One atomic action of one replica. A history is a list of events; a position is a place in it, from 0.
 /// Reconciliation is pairwise and one-sided, as in Ficus (Guy, Popek and Page 1993).
-#[derive(Debug, Drop)]
+#[derive(Drop)]
 pub enum Event {
     /// Replica `by` changes what it holds. Its k-th update over its life is numbered `by.k`, from 1.
     Update { by: u8, op: Op },
@@ -19,7 +19,7 @@ pub enum Event {
 }
 
 /// What an update does. An entry that it enters has the update's number as its identifier.
-#[derive(Debug, Drop)]
+#[derive(Drop)]
 pub enum Op {
     /// Makes an object of a kind and enters it in a directory under a name. The object has the update's
     /// number as its identifier, as the entry has.

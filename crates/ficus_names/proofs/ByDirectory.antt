@@ -18,10 +18,10 @@ use Rattle.ficus_names.specs.declared.binding.Binding.{Binding}
 use Rattle.ficus_names.specs.declared.directories.Directories.{Directories}
 use Rattle.ficus_names.proofs.Known.{bindings_push, bindings_stay}
 
-apart : (dir other : Id) → other ≢ dir → (answer : Ordering) → id_cmp dir other ≡ answer → is_eq answer ≡ false
-apart dir other differs Less is = refl
-apart dir other differs Equal is = absurd (differs (sym (id_cmp-Equal dir other is)))
-apart dir other differs Greater is = refl
+not_at : (dir other : Id) → other ≢ dir → (answer : Ordering) → id_cmp dir other ≡ answer → is_eq answer ≡ false
+not_at dir other differs Less is = refl
+not_at dir other differs Equal is = absurd (differs (sym (id_cmp-Equal dir other is)))
+not_at dir other differs Greater is = refl
 
 pub items_or : (found : Option (Vec Binding Global)) (empty : Vec Binding Global) → empty.items ≡ [] →
     (unwrap_or found empty).items ≡ items_of found
@@ -36,7 +36,7 @@ module _ (old between new : BTreeMap Id (Vec Binding Global)) (dir : Id) (bindin
 
   pub put_others : (other : Id) → other ≢ dir → items_of (get id_cmp new other) ≡ items_of (get id_cmp old other)
   put_others other differs =
-      let away : is_at (id_cmp dir) other ≡ false = apart dir other differs (id_cmp dir other) refl in
+      let away : is_at (id_cmp dir) other ≡ false = not_at dir other differs (id_cmp dir other) refl in
       ap items_of (put.2 other away ∙ taken.2 other away)
 
 -- the names of each directory are those that the entries in front of the place have in it

@@ -14,7 +14,7 @@ use ficus_ids::{Id, Memory, Name};
 use std::alloc::Global;
 
 /// A name with an object to which it leads.
-#[derive(Debug, Drop, PartialEq, Eq, PartialOrd, Ord)]
+#[derive(Drop, PartialEq, Eq, PartialOrd, Ord)]
 pub struct Binding {
     pub name: Name,
     pub target: Id,

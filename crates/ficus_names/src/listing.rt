@@ -13,7 +13,7 @@ use ficus_ids::{Id, Kind, Memory, Name};
 use std::alloc::Global;
 
 /// An object as its directory shows it.
-#[derive(Debug, Drop)]
+#[derive(Drop)]
 pub struct ShownName {
     pub name: Name,
     pub target: Id,
@@ -22,7 +22,7 @@ pub struct ShownName {
 }
 
 /// A line of a listing.
-#[derive(Debug, Drop)]
+#[derive(Drop)]
 pub struct Line {
     /// The directory that is shown.
     pub dir: Id,

@@ -5,7 +5,7 @@ use std::fmt;
 
 /// A call on the outside failed. The count of faults of the object that was called rose, or stands at its
 /// last value, so nobody but the outside itself can be the cause.
-#[derive(Clone, Copy, Debug, PartialEq, Eq, Hash)]
+#[derive(Clone, Copy, Debug, PartialEq, Eq)]
 pub struct Failed;
 
 impl fmt::Display for Failed {

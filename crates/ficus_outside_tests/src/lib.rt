@@ -1,8 +1,6 @@
-//! Tests of sources and sinks: those in memory, and those over the standard streams.
+//! Tests of the source and the sink over the standard streams, of which no clause says what they give and show.
 #![tactic(auto)]
 
-#[cfg(test)]
-mod memory;
 #[cfg(test)]
 mod streams;
 #[cfg(test)]

@@ -1,6 +1,7 @@
 // Sources and sinks over the standard streams.
 use crate::system::{Screen, Turn, Typed};
 use ficus_outside::{Failed, Sink, Source, StdSink, StdSource};
+use std::alloc::{AllocError, Global};
 use std::cell::{Cell, RefCell};
 use std::test::Fail;
 
@@ -40,18 +41,46 @@ const TAKEN: [Taken; 6] = [
     },
 ];
 
+// Whether the next call of the source answers so. What it gives is added to what was given.
+fn takes(
+    source: &mut StdSource<Typed>,
+    answer: Result<usize, Failed>,
+    given: &mut Vec<u8>,
+) -> Result<bool, AllocError> {
+    let mut piece = [0; 4];
+    let taken = source.take(&mut piece);
+    given.extend_from_slice(&piece[..taken.unwrap_or(0)])?;
+    Ok(taken == answer)
+}
+
+// Whether the calls of the source answer so.
+fn takes_all(
+    source: &mut StdSource<Typed>,
+    answers: &[Result<usize, Failed>],
+    given: &mut Vec<u8>,
+) -> Result<bool, AllocError> {
+    for answer in answers {
+        if !takes(source, *answer, given)? {
+            return Ok(false);
+        }
+    }
+    Ok(true)
+}
+
+// Whether the source answers as the row says, and gives the text.
+fn gives(alloc: Global, row: &Taken) -> Result<bool, AllocError> {
+    let turns = row.turns;
+    let mut source = StdSource::new(Typed { text: TEXT, turns });
+    let mut given = Vec::new(alloc);
+    let is_as_told = takes_all(&mut source, row.answers, &mut given)?;
+    Ok(is_as_told && given.as_slice() == TEXT)
+}
+
 #[test]
 fn a_source_gives_what_its_reader_gives(rt: HostRuntime) -> Result<(), Fail> {
-    for (row, Taken { turns, answers }) in TAKEN.into_iter().enumerate() {
-        let mut source = StdSource::new(Typed { text: TEXT, turns });
-        let mut given = Vec::new(rt.alloc());
-        for answer in answers {
-            let mut piece = [0; 4];
-            let taken = source.take(&mut piece);
-            assert_eq!(rt; taken, *answer, "row {row}");
-            given.extend_from_slice(&piece[..taken.unwrap_or(0)])?;
-        }
-        assert_eq!(rt; given.as_slice(), TEXT, "row {row}");
+    for (row, taken) in TAKEN.iter().enumerate() {
+        let is = gives(rt.alloc(), taken)?;
+        assert!(rt; is, "row {row}");
     }
     Ok(())
 }
@@ -97,22 +126,36 @@ const PUT: [Put; 5] = [
     },
 ];
 
+// Whether the puts of the pieces answer so.
+fn puts_all(sink: &mut StdSink<&Screen>, puts: &[(&str, Result<usize, Failed>)]) -> bool {
+    for (piece, answer) in puts {
+        if sink.put(piece.as_bytes()) != *answer {
+            return false;
+        }
+    }
+    true
+}
+
+// Whether a sink over the screen answers as the row says.
+fn puts(screen: &Screen, row: &Put) -> bool {
+    let mut sink = StdSink::new(screen);
+    puts_all(&mut sink, row.puts)
+}
+
+// The same, and whether the screen then shows what the row says.
+fn shows(alloc: Global, row: &Put) -> bool {
+    let screen = Screen {
+        shown: RefCell::new(Vec::new(alloc)),
+        turns: Cell::new(row.turns),
+    };
+    puts(&screen, row) && screen.shown.into_inner().as_slice() == row.shown.as_bytes()
+}
+
 #[test]
 fn a_sink_takes_what_its_runtime_takes(rt: HostRuntime) -> Result<(), Fail> {
-    for (row, Put { turns, puts, shown }) in PUT.into_iter().enumerate() {
-        let screen = Screen {
-            shown: RefCell::new(Vec::new(rt.alloc())),
-            turns: Cell::new(turns),
-        };
-        let mut sink = StdSink::new(&screen);
-        for (piece, answer) in puts {
-            assert_eq!(rt; sink.put(piece.as_bytes()), *answer, "row {row}");
-        }
-        assert_eq!(rt;
-            screen.shown.into_inner().as_slice(),
-            shown.as_bytes(),
-            "row {row}"
-        );
+    for (row, put) in PUT.iter().enumerate() {
+        let is = shows(rt.alloc(), put);
+        assert!(rt; is, "row {row}");
     }
     Ok(())
 }

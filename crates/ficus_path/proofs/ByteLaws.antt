@@ -111,14 +111,14 @@ IsSpelling-byte_text = record {
   shorter = λ b rest. form_shorter rest (byte_form b);
 }
 
-form_all : {b : ℕ} {text : List ℕ} (P : ℕ → Type 0) → P 92 → P 110 → P 120 → ((d : ℕ) → P (digit_glyph false d)) →
+all_of_form : {b : ℕ} {text : List ℕ} (P : ℕ → Type 0) → P 92 → P 110 → P 120 → ((d : ℕ) → P (digit_glyph false d)) →
     (is_plain b ≡ true → P b) → Form b text → All P text
-form_all P back line hexed glyph itself backslash =
+all_of_form P back line hexed glyph itself backslash =
     All-cons P 92 (92 ∷ []) back (All-cons P 92 [] back (All-nil P))
-form_all P back line hexed glyph itself newline =
+all_of_form P back line hexed glyph itself newline =
     All-cons P 92 (110 ∷ []) back (All-cons P 110 [] line (All-nil P))
-form_all {b} P back line hexed glyph itself (plain p q) = All-cons P b [] (itself q) (All-nil P)
-form_all {b} P back line hexed glyph itself (hex p q r) =
+all_of_form {b} P back line hexed glyph itself (plain p q) = All-cons P b [] (itself q) (All-nil P)
+all_of_form {b} P back line hexed glyph itself (hex p q r) =
     let high = digit_glyph false (b / 16) in
     let last = digit_glyph false (b % 16) in
     All-cons P 92 (120 ∷ high ∷ last ∷ []) back
@@ -131,7 +131,7 @@ glyph_from_zero d = grind (arith, nat_tests)
 -- a byte below the digits stands in no spelling but its own
 pub IsFreeOf-byte_text : (s b : ℕ) → s < 48 → b ≢ s → IsFreeOf s (byte_text b)
 IsFreeOf-byte_text s b low other =
-    form_all (λ byte. byte ≢ s) (λ e. omega arith) (λ e. omega arith) (λ e. omega arith)
+    all_of_form (λ byte. byte ≢ s) (λ e. omega arith) (λ e. omega arith) (λ e. omega arith)
     (λ d e. absurd (omega (arith, glyph_from_zero d))) (λ _. other) (byte_form b)
 
 from_plain : (b : ℕ) → is_plain b ≡ true → 33 ≤ b
@@ -140,4 +140,4 @@ from_plain b e = grind (arith, nat_tests)
 -- no blank and no control byte stands in a spelling
 pub byte_text_visible : (b : ℕ) → All (λ byte. 33 ≤ byte) (byte_text b)
 byte_text_visible b =
-    form_all (λ byte. 33 ≤ byte) (omega arith) (omega arith) (omega arith) (λ d. omega (arith, glyph_from_zero d)) (from_plain b) (byte_form b)
+    all_of_form (λ byte. 33 ≤ byte) (omega arith) (omega arith) (omega arith) (λ d. omega (arith, glyph_from_zero d)) (from_plain b) (byte_form b)

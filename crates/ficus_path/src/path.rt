@@ -11,7 +11,7 @@ use std::fmt;
 pub const PART_LIMIT: usize = 32;
 
 /// Where a path begins.
-#[derive(Clone, Copy, Debug)]
+#[derive(Clone, Copy)]
 pub enum Base {
     /// At the root of the volume.
     Root,
@@ -19,14 +19,14 @@ pub enum Base {
 
 /// One step of a path: the entry of this name in the directory reached so far. Where several live entries of
 /// the directory have the name, the target tells which one is meant.
-#[derive(Debug, Drop)]
+#[derive(Drop)]
 pub struct Part {
     pub name: Name,
     pub target: Option<Id>,
 }
 
 /// Where an object is looked for: from the base, through at most 32 parts.
-#[derive(Debug, Drop)]
+#[derive(Drop)]
 pub struct Path {
     pub base: Base,
     pub parts: Listed<Part>,

@@ -390,22 +390,114 @@ impl<T: Item> PersistentList<T> {
         left.height().max(right.height()).saturating_add(1)
     }
 
-    // The same as `join_copied`, by a rotation where one side is more than one higher.
+    // The same as `join_shared`, by a rotation where one side is more than one higher.
     fn balanced(
         alloc: Global,
-        left: PersistentList<T>,
+        left: &PersistentList<T>,
         item: &T,
-        right: PersistentList<T>,
+        right: &PersistentList<T>,
     ) -> Result<PersistentList<T>, Memory>
-        ensures { IfOk result (λ list. list ≡ left ++ item.now ∷ right) }
+        ensures { IfOk result (λ list. list ≡ left.now ++ item.now ∷ right.now) }
     {
-        if let Some(outer) = left.too_high_beside(&right) {
-            outer.lean_left(alloc, item, &right)
-        } else if let Some(outer) = right.too_high_beside(&left) {
-            outer.lean_right(alloc, &left, item)
+        if let Some(outer) = left.too_high_beside(right) {
+            outer
+                .right
+                .rotated(alloc, &outer.left, &outer.item, item, right)
+        } else if let Some(outer) = right.too_high_beside(left) {
+            outer
+                .left
+                .rotated(alloc, left, item, &outer.item, &outer.right)
         } else {
-            PersistentList::join_copied(alloc, left, item, right)
+            PersistentList::join_shared(alloc, left, item, right)
         }
+    }
+
+    // The list between two others, each with an item in between, with the highest of the three at the top.
+    fn rotated(
+        &self,
+        alloc: Global,
+        left: &PersistentList<T>,
+        first: &T,
+        last: &T,
+        right: &PersistentList<T>,
+    ) -> Result<PersistentList<T>, Memory>
+        ensures { IfOk result (λ list. list ≡ left.now ++ first.now ∷ (self.now ++ last.now ∷ right.now)) }
+    {
+        let height = self.height();
+        if height > left.height() && height > right.height() {
+            self.at_the_top(alloc, left, first, last, right)
+        } else if left.height() > right.height() {
+            self.below_first(alloc, left, first, last, right)
+        } else {
+            self.below_last(alloc, left, first, last, right)
+        }
+    }
+
+    // The same, with the first item at the top.
+    fn below_first(
+        &self,
+        alloc: Global,
+        left: &PersistentList<T>,
+        first: &T,
+        last: &T,
+        right: &PersistentList<T>,
+    ) -> Result<PersistentList<T>, Memory>
+        ensures { IfOk result (λ list. list ≡ left.now ++ first.now ∷ (self.now ++ last.now ∷ right.now)) }
+    {
+        let below = PersistentList::join_shared(alloc, self, last, right)?;
+        PersistentList::join_shared(alloc, left, first, &below)
+    }
+
+    // The same, with the last item at the top.
+    fn below_last(
+        &self,
+        alloc: Global,
+        left: &PersistentList<T>,
+        first: &T,
+        last: &T,
+        right: &PersistentList<T>,
+    ) -> Result<PersistentList<T>, Memory>
+        ensures { IfOk result (λ list. list ≡ left.now ++ first.now ∷ (self.now ++ last.now ∷ right.now)) }
+    {
+        let below = PersistentList::join_shared(alloc, left, first, self)?;
+        PersistentList::join_shared(alloc, &below, last, right)
+    }
+
+    // The same, with the list's own top at the top.
+    fn at_the_top(
+        &self,
+        alloc: Global,
+        left: &PersistentList<T>,
+        first: &T,
+        last: &T,
+        right: &PersistentList<T>,
+    ) -> Result<PersistentList<T>, Memory>
+        ensures { IfOk result (λ list. list ≡ left.now ++ first.now ∷ (self.now ++ last.now ∷ right.now)) }
+    {
+        match &self.node {
+            Node::Empty => self.below_first(alloc, left, first, last, right),
+            Node::One(top) => {
+                PersistentList::around(alloc, left, first, top.as_ref(), last, right)
+            }
+            Node::Fork(branch) => branch.as_ref().between(alloc, left, first, last, right),
+        }
+    }
+
+    // Two lists and three items between them, with the one in the middle at the top.
+    fn around(
+        alloc: Global,
+        left: &PersistentList<T>,
+        first: &T,
+        top: &T,
+        last: &T,
+        right: &PersistentList<T>,
+    ) -> Result<PersistentList<T>, Memory>
+        ensures { IfOk result (λ list. list ≡ left.now ++ first.now ∷ top.now ∷ last.now ∷ right.now) }
+    {
+        let none = PersistentList::new();
+        let before = PersistentList::join_shared(alloc, left, first, &none)?;
+        let behind = PersistentList::join_shared(alloc, &none, last, right)?;
+        PersistentList::join_copied(alloc, before, top, behind)
     }
 
     // The branch at the top, where it is more than one higher than the other list.
@@ -426,8 +518,7 @@ impl<T: Item> Branch<T> {
     fn with_left(&self, alloc: Global, left: PersistentList<T>) -> Result<PersistentList<T>, Memory>
         ensures { IfOk result (λ list. list ≡ left ++ self.now.item ∷ self.now.right) }
     {
-        let right = self.right.copy()?;
-        PersistentList::balanced(alloc, left, &self.item, right)
+        PersistentList::balanced(alloc, &left, &self.item, &self.right)
     }
 
     // With another right side.
@@ -438,8 +529,7 @@ impl<T: Item> Branch<T> {
     ) -> Result<PersistentList<T>, Memory>
         ensures { IfOk result (λ list. list ≡ self.now.left ++ self.now.item ∷ right) }
     {
-        let left = self.left.copy()?;
-        PersistentList::balanced(alloc, left, &self.item, right)
+        PersistentList::balanced(alloc, &self.left, &self.item, &right)
     }
 
     // With another item between the same sides.
@@ -461,152 +551,24 @@ impl<T: Item> Branch<T> {
         requires first { behind ≡ remove self.now.right 0 }
         ensures { IfOk result (λ list. list ≡ self.now.left ++ self.now.right) }
     {
-        let left = self.left.copy()?;
-        PersistentList::balanced(alloc, left, self.right.at(0), behind)
+        PersistentList::balanced(alloc, &self.left, self.right.at(0), &behind)
     }
 
-    // The branch, which is too high, and behind it an item and a list.
-    fn lean_left(
-        &self,
-        alloc: Global,
-        item: &T,
-        right: &PersistentList<T>,
-    ) -> Result<PersistentList<T>, Memory>
-        ensures { IfOk result (λ list. list
-            ≡ (self.now.left ++ self.now.item ∷ self.now.right) ++ item.now ∷ right.now) }
-    {
-        if self.left.height() >= self.right.height() {
-            self.rotate_right(alloc, item, right)
-        } else {
-            self.turn_right(alloc, item, right)
-        }
-    }
-
-    // A list and an item, and behind them the branch, which is too high.
-    fn lean_right(
+    // The branch between two lists, each with an item in between, and its own item at the top.
+    fn between(
         &self,
         alloc: Global,
         left: &PersistentList<T>,
-        item: &T,
-    ) -> Result<PersistentList<T>, Memory>
-        ensures { IfOk result (λ list. list
-            ≡ left.now ++ item.now ∷ (self.now.left ++ self.now.item ∷ self.now.right)) }
-    {
-        if self.right.height() >= self.left.height() {
-            self.rotate_left(alloc, left, item)
-        } else {
-            self.turn_left(alloc, left, item)
-        }
-    }
-
-    // The branch, and behind it an item and a list, under the branch's item.
-    fn rotate_right(
-        &self,
-        alloc: Global,
-        item: &T,
+        first: &T,
+        last: &T,
         right: &PersistentList<T>,
     ) -> Result<PersistentList<T>, Memory>
         ensures { IfOk result (λ list. list
-            ≡ (self.now.left ++ self.now.item ∷ self.now.right) ++ item.now ∷ right.now) }
+            ≡ left.now ++ first.now ∷ ((self.now.left ++ self.now.item ∷ self.now.right) ++ last.now ∷ right.now)) }
     {
-        let below = PersistentList::join_shared(alloc, &self.right, item, right)?;
-        PersistentList::join_shared(alloc, &self.left, &self.item, &below)
-    }
-
-    // A list and an item, and behind them the branch, under the branch's item.
-    fn rotate_left(
-        &self,
-        alloc: Global,
-        left: &PersistentList<T>,
-        item: &T,
-    ) -> Result<PersistentList<T>, Memory>
-        ensures { IfOk result (λ list. list
-            ≡ left.now ++ item.now ∷ (self.now.left ++ self.now.item ∷ self.now.right)) }
-    {
-        let below = PersistentList::join_shared(alloc, left, item, &self.left)?;
-        PersistentList::join_shared(alloc, &below, &self.item, &self.right)
-    }
-
-    // The same as `rotate_right`, under the item at the top of the right side, which is what is too high.
-    fn turn_right(
-        &self,
-        alloc: Global,
-        item: &T,
-        right: &PersistentList<T>,
-    ) -> Result<PersistentList<T>, Memory>
-        ensures { IfOk result (λ list. list
-            ≡ (self.now.left ++ self.now.item ∷ self.now.right) ++ item.now ∷ right.now) }
-    {
-        match &self.right.node {
-            Node::Empty => self.rotate_right(alloc, item, right),
-            Node::One(top) => {
-                let none = PersistentList::new();
-                self.turn_right_at(alloc, &none, top.as_ref(), &none, item, right)
-            }
-            Node::Fork(inner) => {
-                let inner = inner.as_ref();
-                self.turn_right_at(alloc, &inner.left, &inner.item, &inner.right, item, right)
-            }
-        }
-    }
-
-    // The same, where the right side is an item between two lists.
-    fn turn_right_at(
-        &self,
-        alloc: Global,
-        before: &PersistentList<T>,
-        top: &T,
-        behind: &PersistentList<T>,
-        item: &T,
-        right: &PersistentList<T>,
-    ) -> Result<PersistentList<T>, Memory>
-        ensures { IfOk result (λ list. list
-            ≡ (self.now.left ++ self.now.item ∷ (before.now ++ top.now ∷ behind.now)) ++ item.now ∷ right.now) }
-    {
-        let first = PersistentList::join_shared(alloc, &self.left, &self.item, before)?;
-        let last = PersistentList::join_shared(alloc, behind, item, right)?;
-        PersistentList::join_copied(alloc, first, top, last)
-    }
-
-    // The same as `rotate_left`, under the item at the top of the left side, which is what is too high.
-    fn turn_left(
-        &self,
-        alloc: Global,
-        left: &PersistentList<T>,
-        item: &T,
-    ) -> Result<PersistentList<T>, Memory>
-        ensures { IfOk result (λ list. list
-            ≡ left.now ++ item.now ∷ (self.now.left ++ self.now.item ∷ self.now.right)) }
-    {
-        match &self.left.node {
-            Node::Empty => self.rotate_left(alloc, left, item),
-            Node::One(top) => {
-                let none = PersistentList::new();
-                self.turn_left_at(alloc, left, item, &none, top.as_ref(), &none)
-            }
-            Node::Fork(inner) => {
-                let inner = inner.as_ref();
-                self.turn_left_at(alloc, left, item, &inner.left, &inner.item, &inner.right)
-            }
-        }
-    }
-
-    // The same, where the left side is an item between two lists.
-    fn turn_left_at(
-        &self,
-        alloc: Global,
-        left: &PersistentList<T>,
-        item: &T,
-        before: &PersistentList<T>,
-        top: &T,
-        behind: &PersistentList<T>,
-    ) -> Result<PersistentList<T>, Memory>
-        ensures { IfOk result (λ list. list
-            ≡ left.now ++ item.now ∷ ((before.now ++ top.now ∷ behind.now) ++ self.now.item ∷ self.now.right)) }
-    {
-        let first = PersistentList::join_shared(alloc, left, item, before)?;
-        let last = PersistentList::join_shared(alloc, behind, &self.item, &self.right)?;
-        PersistentList::join_copied(alloc, first, top, last)
+        let before = PersistentList::join_shared(alloc, left, first, &self.left)?;
+        let behind = PersistentList::join_shared(alloc, &self.right, last, right)?;
+        PersistentList::join_copied(alloc, before, &self.item, behind)
     }
 }
 

@@ -9,7 +9,7 @@ use ficus_ids::{Id, Memory};
 use std::alloc::Global;
 
 /// A way from a directory to an object that an entry in it names.
-#[derive(Clone, Copy, Debug)]
+#[derive(Clone, Copy)]
 pub struct Link {
     pub dir: Id,
     pub target: Id,

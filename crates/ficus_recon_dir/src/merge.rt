@@ -1,4 +1,4 @@
-ghost use Rattle.std.specs.Prelude.{◌≡◌, IfOk};
+ghost use Rattle.std.specs.Prelude.{◌≡◌, IfOk, OnOk};
 ghost use Rattle.ficus_ids.specs.Members.{IsMember};
 ghost use Rattle.ficus_entry.specs.Entry.{IsRising};
 ghost use Rattle.ficus_recon_dir.specs.Merge.{MergesEntries, Replaces};
@@ -54,11 +54,21 @@ fn replaced(entries: &Entries, changes: &[Entry]) -> Result<Entries, Memory>
     ensures replaces { IfOk result (Replaces entries.now changes.now) }
     ensures rising { IfOk result IsRising }
 {
+    let mut replaced = entries.copy()?;
+    replace(&mut replaced, changes)?;
+    Ok(replaced)
+}
+
+// Puts these in place of those that have their identifiers.
+fn replace(entries: &mut Entries, changes: &[Entry]) -> Result<(), Memory>
+    requires { IsRising changes.now }
+    ensures replaces { OnOk result (Replaces entries.old changes.now entries.new) }
+    ensures rising { OnOk result (IsRising entries.new) }
+{
     // Tells that the identifiers rise.
     let _count = entries.len();
-    let mut replaced = entries.copy()?;
     for change in changes {
-        replaced.put(change.copy()?)?;
+        entries.put(change.copy()?)?;
     }
-    Ok(replaced)
+    Ok(())
 }

@@ -1,4 +1,4 @@
-ghost use Rattle.std.specs.Prelude.{◌≡◌, ◌<◌, ◌^◌, ◌++◌, length, IfOk, OnOk, slice_get};
+ghost use Rattle.std.specs.Prelude.{◌≡◌, ◌<◌, ◌^◌, [], ◌++◌, length, IfOk, OnOk, slice_get};
 ghost use Rattle.std.specs.Option.{option_copied};
 ghost use Rattle.ficus_entry.specs.Entry.{IsRising};
 ghost use Rattle.ficus_recon_dir.specs.Merge.{AreLowest, IsMadeBy, as_list};
@@ -38,17 +38,32 @@ pub(crate) fn made_by<R: Rule>(
     ensures rising { IfOk result (λ made. IsRising made.items) }
 {
     let mut made = Vec::with_capacity(alloc, room)?;
+    make(&mut made, rule, mine, theirs)?;
+    Ok(made)
+}
+
+// Puts what a rule makes of two lists into an empty one.
+fn make<R: Rule>(
+    made: &mut Vec<Entry>,
+    rule: &R,
+    mine: &InOrder<'_>,
+    theirs: &InOrder<'_>,
+) -> Result<(), Memory>
+    requires { made.old.items ≡ [] }
+    ensures made { OnOk result (IsMadeBy (R.Makes rule.now) mine.now theirs.now made.new.items) }
+    ensures rising { OnOk result (IsRising made.new.items) }
+{
     let mut mine_done = 0;
     let mut theirs_done = 0;
     while mine_done < mine.len() || theirs_done < theirs.len() {
         let my_next = entry_at(mine, mine_done);
         let their_next = entry_at(theirs, theirs_done);
         let next = lowest(my_next, their_next);
-        note(&mut made, rule.make(next.mine, next.theirs)?)?;
+        note(made, rule.make(next.mine, next.theirs)?)?;
         mine_done += usize::from(next.mine.is_some());
         theirs_done += usize::from(next.theirs.is_some());
     }
-    Ok(made)
+    Ok(())
 }
 
 // What the two lists hold under one identifier.

@@ -58,6 +58,23 @@ pub fn merge_files(alloc: Global, sides: &SideBySide<'_>, held: &[Id]) -> Result
     ensures files { IfOk result AreFiles }
 {
     let mut both = sides.mine().copy()?;
+    merge_into(&mut both, alloc, sides, held)?;
+    Ok(both)
+}
+
+// Puts what the peer's files add into a copy of mine.
+fn merge_into(
+    both: &mut Files,
+    alloc: Global,
+    sides: &SideBySide<'_>,
+    held: &[Id],
+) -> Result<(), Memory>
+    requires same { both.old ≡ sides.now.mine }
+    requires fit { Fit sides.now.mine sides.now.theirs }
+    requires rising { IsRisingBy (λ id. id) held.now }
+    ensures merged { OnOk result (AreMergedFiles held.now sides.now.mine sides.now.theirs both.new) }
+    ensures files { OnOk result (AreFiles both.new) }
+{
     for index in 0..sides.len() {
         let pair = sides.at(index);
         match pair.mine {
@@ -73,5 +90,5 @@ pub fn merge_files(alloc: Global, sides: &SideBySide<'_>, held: &[Id]) -> Result
             }
         }
     }
-    Ok(both)
+    Ok(())
 }

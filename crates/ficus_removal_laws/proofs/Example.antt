@@ -12,7 +12,7 @@ use Rattle.ficus_model.specs.declared.event.Event.TheVariants.{Update, Ask, Serv
 use Rattle.ficus_model.specs.declared.event.Op.{Op}
 use Rattle.ficus_model.specs.declared.event.Op.TheVariants.{Make, Remove}
 use Rattle.ficus_model.specs.Known.{Knows}
-use Rattle.ficus_model.specs.Live.{Entry, IsLive, IsBoundBy, IsDirectory, IsMade, IsRemoved}
+use Rattle.ficus_model.specs.Live.{ModelEntry, IsLive, IsBoundBy, IsDirectory, IsMade, IsRemoved}
 use Rattle.ficus_model.specs.Lawful.{AreNames, HasPlace, IsLawful}
 use Rattle.ficus_model.specs.Reached.IsReached.{Base}
 use Rattle.ficus_model.specs.View.{IsReachedDirectory}
@@ -88,14 +88,14 @@ file_lawful =
     lawful_more drop_volume [] (Update 1 made) (lawful_none drop_volume)
     (record { member = first; left = omega arith; bytes = tt; allowed = place })
 
-abbrev file_entry : Entry
+abbrev file_entry : ModelEntry
 file_entry = record { id = drop_entry; dir = ROOT; name = codes "a"; target = drop_entry }
 
 file_lives : IsLive with_file (Knows with_file 1) file_entry
 unfolding with_file made
 file_lives = make_new [] 1 ROOT (codes "a") Plain (next_not_removed drop_volume [] 1 (lawful_none drop_volume))
 
-file_alone : {entry : Entry} → IsLive with_file (Knows with_file 1) entry → entry ≡ file_entry
+file_alone : {entry : ModelEntry} → IsLive with_file (Knows with_file 1) entry → entry ≡ file_entry
 unfolding with_file made
 file_alone {entry} live = go (make_live [] 1 ROOT (codes "a") Plain live)
   where
@@ -121,15 +121,15 @@ names = record { dir = ROOT; name = codes "a"; parent = root_directory; all = al
     all id = (
       λ inside. named (only (here_or_there drop_entry id [] inside)),
       λ bound.
-          let is = sym bound.by ∙ ap (λ (entry : Entry). entry.id) (file_alone bound.bound.live) in
+          let is = sym bound.by ∙ ap (λ (entry : ModelEntry). entry.id) (file_alone bound.bound.live) in
           subst (Contains (drop_entry ∷ [])) (sym is) (here drop_entry []),
     )
 
 not_root : drop_entry ≡ ROOT → ⊥
-not_root root = apart 1 0 (omega arith) (ap (λ (id : Id). id.replica) root)
+not_root root = differs_from_less 1 0 (omega arith) (ap (λ (id : Id). id.replica) root)
   where
-    apart : (replica other : ℕ) → other < replica → replica ≡ other → ⊥
-    apart replica other less same = omega arith
+    differs_from_less : (replica other : ℕ) → other < replica → replica ≡ other → ⊥
+    differs_from_less replica other less same = omega arith
 
 no_directory : IsDirectory with_file (Knows with_file 1) drop_entry → ⊥
 unfolding with_file made

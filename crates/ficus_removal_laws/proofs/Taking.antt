@@ -8,7 +8,7 @@ use Rattle.ficus_model.specs.declared.event.Event.{Event}
 use Rattle.ficus_model.specs.declared.event.Event.TheVariants.{Update}
 use Rattle.ficus_model.specs.declared.event.Op.TheVariants.{Remove, Move, Discard}
 use Rattle.ficus_model.specs.Known.{Knows}
-use Rattle.ficus_model.specs.Live.{Entry, entry_of, entered_by, IsLive}
+use Rattle.ficus_model.specs.Live.{ModelEntry, entry_of, entered_by, IsLive}
 use Rattle.ficus_model.specs.Lawful.{Volume, AreNames, IsLawful}
 use Rattle.ficus_laws.specs.Updates.{next_number, IsIssued}
 use Rattle.ficus_laws.proofs.Lawful.{lawful_less}
@@ -16,7 +16,7 @@ use Rattle.ficus_laws.proofs.Issued.{entered_issued, next_not_removed}
 use Rattle.ficus_laws.proofs.AfterUpdate.{enters_none, entered_id, live_after, live_kept, live_new}
 
 -- no live entry has the next number of a replica
-live_not_next : {H : List Event} {U : ℕ → Type 0} {entry : Entry} (replica : ℕ) → IsLive H U entry →
+live_not_next : {H : List Event} {U : ℕ → Type 0} {entry : ModelEntry} (replica : ℕ) → IsLive H U entry →
     entry.id ≡ next_number replica H → ⊥
 live_not_next {H} replica live next =
     let issued = subst (IsIssued H) next (entered_issued live.entered) in
@@ -26,7 +26,7 @@ module _ (H : List Event) (replica : ℕ) (entries : List Id) (target : Id) wher
   abbrev removed : List Event
   removed = H ++ Update replica (Remove entries target) ∷ []
 
-  pub remove_live : {entry : Entry} → IsLive removed (Knows removed replica) entry →
+  pub remove_live : {entry : ModelEntry} → IsLive removed (Knows removed replica) entry →
       IsLive H (Knows H replica) entry × (Contains entries entry.id → ⊥)
   remove_live {entry} live = let found = live_after H replica (Remove entries target) live in (go found.0, found.1)
     where
@@ -36,7 +36,7 @@ module _ (H : List Event) (replica : ℕ) (entries : List Id) (target : Id) wher
       go (inl was) = was
       go (inr new) = absurd (enters_none entry new)
 
-  pub live_remove : {entry : Entry} → IsLive H (Knows H replica) entry × (Contains entries entry.id → ⊥) →
+  pub live_remove : {entry : ModelEntry} → IsLive H (Knows H replica) entry × (Contains entries entry.id → ⊥) →
       IsLive removed (Knows removed replica) entry
   live_remove (was, kept) = live_kept H replica (Remove entries target) was kept
 
@@ -45,10 +45,10 @@ module _ (volume : Volume) (H : List Event) (replica : ℕ) (entries : List Id) 
   abbrev moved : List Event
   moved = H ++ Update replica (Move entries dir name target) ∷ []
 
-  abbrev moved_entry : Entry
+  abbrev moved_entry : ModelEntry
   moved_entry = entry_of (next_number replica H) dir name target
 
-  pub move_live : {entry : Entry} → IsLive moved (Knows moved replica) entry →
+  pub move_live : {entry : ModelEntry} → IsLive moved (Knows moved replica) entry →
       (IsLive H (Knows H replica) entry × (Contains entries entry.id → ⊥)) ⊎ (entry ≡ moved_entry)
   move_live {entry} live = let found = live_after H replica (Move entries dir name target) live in go found.0 found.1
     where
@@ -64,7 +64,7 @@ module _ (volume : Volume) (H : List Event) (replica : ℕ) (entries : List Id) 
       let named = (names.all (next_number replica H)).0 inside in
       live_not_next replica named.bound.live named.by
 
-  pub live_move : {entry : Entry} →
+  pub live_move : {entry : ModelEntry} →
       (IsLive H (Knows H replica) entry × (Contains entries entry.id → ⊥)) ⊎ (entry ≡ moved_entry) →
       IsLive moved (Knows moved replica) entry
   live_move (inl (was, kept)) = live_kept H replica (Move entries dir name target) was kept
@@ -77,7 +77,7 @@ module _ (H : List Event) (replica : ℕ) (file : Id) where
   abbrev discarded : List Event
   discarded = H ++ Update replica (Discard file) ∷ []
 
-  pub discard_live : {entry : Entry} → IsLive discarded (Knows discarded replica) entry →
+  pub discard_live : {entry : ModelEntry} → IsLive discarded (Knows discarded replica) entry →
       IsLive H (Knows H replica) entry
   discard_live {entry} live = let found = live_after H replica (Discard file) live in go found.0 found.1
     where
@@ -88,7 +88,7 @@ module _ (H : List Event) (replica : ℕ) (file : Id) where
           let id = entered_id (next_number replica H) (Discard file) entry new in
           absurd (kept (subst (Contains (next_number replica H ∷ [])) (sym id) (here (next_number replica H) [])))
 
-  pub live_discard : {entry : Entry} → IsLive H (Knows H replica) entry →
+  pub live_discard : {entry : ModelEntry} → IsLive H (Knows H replica) entry →
       IsLive discarded (Knows discarded replica) entry
   live_discard {entry} live =
       live_kept H replica (Discard file) live

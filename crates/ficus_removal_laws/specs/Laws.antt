@@ -9,7 +9,7 @@ use Rattle.ficus_model.specs.declared.event.Op.TheVariants.{Remove, Move, Discar
 use Rattle.ficus_model.specs.Events.{IsOf, IsUpdate, through, actor}
 use Rattle.ficus_model.specs.Known.{Knows}
 use Rattle.ficus_model.specs.Lawful.{Volume, MayCome, IsLawful}
-use Rattle.ficus_model.specs.Live.{Entry, entry_of, removed_by, IsRemoved, IsLive}
+use Rattle.ficus_model.specs.Live.{ModelEntry, entry_of, removed_by, IsRemoved, IsLive}
 use Rattle.ficus_model.specs.Held.{IsDropped}
 use Rattle.ficus_model.specs.Knowledge.{IsHeard, IsInOne, IsInTwo, KnowsThatKnows, KnowsThatAllKnow}
 use Rattle.ficus_laws.specs.Updates.{next_number}
@@ -62,21 +62,21 @@ RemovalsAreKnown = (volume : Volume) (H : List Event) (replica position : ℕ) (
 
 -- after a Remove its replica has alive what it had, but for the entries that the Remove names
 abbrev pub RemoveTakes : Type 0
-RemoveTakes = (H : List Event) (replica : ℕ) (entries : List Id) (target : Id) (entry : Entry) →
+RemoveTakes = (H : List Event) (replica : ℕ) (entries : List Id) (target : Id) (entry : ModelEntry) →
     let K = H ++ Update replica (Remove entries target) ∷ [] in
     IsLive K (Knows K replica) entry ↔ (IsLive H (Knows H replica) entry × (Contains entries entry.id → ⊥))
 
 -- after a Move too, and the entry that the Move enters
 abbrev pub MoveTakes : Type 0
 MoveTakes = (volume : Volume) (H : List Event) (replica : ℕ) (entries : List Id) (dir : Id) (name : List ℕ)
-    (target : Id) (entry : Entry) → let K = H ++ Update replica (Move entries dir name target) ∷ [] in
+    (target : Id) (entry : ModelEntry) → let K = H ++ Update replica (Move entries dir name target) ∷ [] in
     IsLawful volume K → IsLive K (Knows K replica) entry ↔
     ((IsLive H (Knows H replica) entry × (Contains entries entry.id → ⊥)) ⊎
     (entry ≡ entry_of (next_number replica H) dir name target))
 
 -- after a Discard what it had: the entry that a Discard enters is removed at once
 abbrev pub DiscardTakes : Type 0
-DiscardTakes = (H : List Event) (replica : ℕ) (file : Id) (entry : Entry) →
+DiscardTakes = (H : List Event) (replica : ℕ) (file : Id) (entry : ModelEntry) →
     let K = H ++ Update replica (Discard file) ∷ [] in
     IsLive K (Knows K replica) entry ↔ IsLive H (Knows H replica) entry
 
@@ -151,7 +151,7 @@ DroppedIsRemoved = (members : ℕ) (H : List Event) (replica member : ℕ) (entr
 
 -- what is alive for a member nobody has dropped
 abbrev pub LiveIsNotDropped : Type 0
-LiveIsNotDropped = (members : ℕ) (H : List Event) (replica member : ℕ) (entry : Entry) →
+LiveIsNotDropped = (members : ℕ) (H : List Event) (replica member : ℕ) (entry : ModelEntry) →
     IsLive H (Knows H member) entry → IsMember members member → IsDropped members H replica entry.id → ⊥
 
 -- nor what isn't in the first set of a member for some member

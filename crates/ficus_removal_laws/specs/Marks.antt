@@ -5,7 +5,7 @@ use Rattle.ficus_ids.specs.declared.id.Id.{Id}
 use Rattle.ficus_model.specs.declared.event.Event.{Event}
 use Rattle.ficus_model.specs.declared.event.Event.TheVariants.{Update, Ask, Serve, Accept, Collect, Restart}
 use Rattle.ficus_model.specs.Known.{Knows}
-use Rattle.ficus_model.specs.Live.{Entry, removed_by, IsEntered}
+use Rattle.ficus_model.specs.Live.{ModelEntry, removed_by, IsEntered}
 use Rattle.ficus_model.specs.Knowledge.{IsHeard, IsInOne, IsInTwo}
 use Rattle.ficus_model.specs.Held.{IsDropped, IsHeldEntry}
 use Rattle.ficus_laws.specs.Updates.{next_number}
@@ -34,7 +34,7 @@ pub record SameMarks (members : ℕ) (H K : List Event) (replica : ℕ) (entry :
 
 -- the entry with this identifier is entered, as far as U knows
 pub record IsEnteredAs (H : List Event) (U : ℕ → Type 0) (id : Id) : Type 0 where
-  pub entry : Entry
+  pub entry : ModelEntry
   pub entered : IsEntered H U entry
   pub named : entry.id ≡ id
 
@@ -44,7 +44,7 @@ IsAbsent members H replica id = IsEnteredAs H (Knows H replica) id → IsDropped
 
 -- a removal begins: the replica holds the entry, is alone in its first set, and nobody is in the second
 pub record IsBegun (members : ℕ) (H : List Event) (replica : ℕ) (id : Id) : Type 0 where
-  pub entry : Entry
+  pub entry : ModelEntry
   pub held : IsHeldEntry members H replica entry
   pub named : entry.id ≡ id
   pub one : (peer : ℕ) → IsInOne H replica peer id ↔ (peer ≡ replica)

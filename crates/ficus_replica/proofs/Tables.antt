@@ -7,7 +7,7 @@ use Rattle.ficus_entry.specs.Entry.{AddsEntry}
 use Rattle.ficus_entry.specs.declared.entry.Entry.{Entry}
 use Rattle.ficus_file.specs.declared.file.FileReplica.{FileReplica}
 use Rattle.ficus_model.specs.declared.event.Op.{Op}
-use Rattle.ficus_model.specs.Live.{Entry as ModelEntry, entered_by, removed_by}
+use Rattle.ficus_model.specs.Live.{ModelEntry, entered_by, removed_by}
 use Rattle.ficus_codec.specs.Laws.{FitsReplica}
 use Rattle.ficus_codec.specs.Saved.{FitsImage}
 use Rattle.ficus_codec.specs.declared.saved.Saved.{Saved}

@@ -8,7 +8,7 @@ use Rattle.ficus_file.specs.declared.version.Version.{Version}
 use Rattle.ficus_model.specs.declared.event.Event.{Event}
 use Rattle.ficus_model.specs.Known.{Knows}
 use Rattle.ficus_model.specs.Lawful.{Volume, IsLawful}
-use Rattle.ficus_model.specs.Live.{Entry as ModelEntry, IsLive, IsMade, HasName}
+use Rattle.ficus_model.specs.Live.{ModelEntry, IsLive, IsMade, HasName}
 use Rattle.ficus_model.specs.Versions.{IsInConflict}
 use Rattle.ficus_laws.proofs.Places.{entered_target}
 use Rattle.ficus_codec.specs.declared.saved.Saved.{Saved}

@@ -71,8 +71,7 @@ impl Replica {
     {
         let saved = &self.saved;
         let merged = merge_entries(alloc, &saved.entries, entries, saved.me, saved.members)?;
-        let taken = taken(alloc, &merged, sides)?;
-        let both = merge_files(alloc, sides, &taken)?;
+        let both = merged_files(alloc, &merged, sides)?;
         Ok((merged, both))
     }
 
@@ -157,4 +156,18 @@ impl Replica {
     {
         id.replica != self.saved.me || id.number < self.saved.next
     }
+}
+
+ghost use Rattle.ficus_codec.specs.Tables.{touched_by};
+ghost use Rattle.ficus_file.specs.Files.{AreFiles};
+ghost use Rattle.ficus_recon_file.specs.Merge.{Fit as FilesFit, AreMergedFiles};
+
+// What its files and those of the peer make together, where it holds these entries afterwards.
+fn merged_files(alloc: Global, entries: &Entries, sides: &SideBySide<'_>) -> Result<Files, Memory>
+    requires { FilesFit sides.now.mine sides.now.theirs }
+    ensures merged { IfOk result (AreMergedFiles (touched_by entries.now) sides.now.mine sides.now.theirs) }
+    ensures files { IfOk result AreFiles }
+{
+    let taken = taken(alloc, entries, sides)?;
+    merge_files(alloc, sides, &taken)
 }

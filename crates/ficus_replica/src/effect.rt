@@ -14,6 +14,9 @@ impl Replica {
     ghost use Rattle.std.specs.Prelude.{◌-◌, ◌^◌, ◌<◌, ◌≤◌};
     ghost use Rattle.ficus_answers.specs.View.{tables_view};
     ghost use Rattle.ficus_codec.specs.Saved.{FitsImage};
+    ghost use Rattle.ficus_entry.specs.Entry.{AddsEntry, IsRising};
+    ghost use Rattle.ficus_file.specs.File.{made_file};
+    ghost use Rattle.ficus_file.specs.Files.{Adds, AreFiles};
     ghost use Rattle.ficus_held_files.specs.Laws.{Overwrites};
     ghost use Rattle.ficus_model.specs.declared.event.Op.{Op as Operation};
     ghost use Rattle.ficus_model.specs.declared.event.Op.TheVariants.{Make as Makes};
@@ -75,13 +78,36 @@ impl Replica {
         requires fits { FitsImage self.now.saved }
         ensures { IfOk result (λ tables. IsStepped self.now.saved (Makes dir name.now kind) tables.0 tables.1) }
     {
-        let id = self.next_id();
-        let entry = new_entry(id, dir, name)?;
+        let entries = self.entries_with(dir, name)?;
+        let files = self.files_with(alloc, kind)?;
+        Ok((entries, files))
+    }
+
+    // The entries with one for a new object.
+    fn entries_with(&self, dir: Id, name: &Name) -> Result<Entries, Memory>
+        requires { FitsImage self.now.saved }
+        ensures adds { IfOk result (λ entries. AddsEntry self.now.saved.entries entries (held_live (
+            record { id = next_id self.now.saved; dir = dir; name = name.now; target = next_id self.now.saved }))) }
+        ensures rising { IfOk result IsRising }
+        ensures name { IsName name.now }
+    {
+        let entry = new_entry(self.next_id(), dir, name)?;
         let mut entries = self.saved.entries.copy()?;
         entries.insert(entry)?;
+        Ok(entries)
+    }
+
+    // The files with a new object.
+    fn files_with(&self, alloc: Global, kind: Kind) -> Result<Files, Memory>
+        requires { FitsImage self.now.saved }
+        ensures adds { IfOk result (λ files. Adds self.now.saved.files files
+            (made_file (next_id self.now.saved) kind self.now.saved.me)) }
+        ensures files { IfOk result AreFiles }
+    {
+        let file = FileReplica::made(alloc, self.next_id(), kind, self.saved.me)?;
         let mut files = self.saved.files.copy()?;
-        files.insert(FileReplica::made(alloc, id, kind, self.saved.me)?)?;
-        Ok((entries, files))
+        files.insert(file)?;
+        Ok(files)
     }
 
     // The tables with one version of the file in place of all.

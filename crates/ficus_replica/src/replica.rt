@@ -8,7 +8,7 @@ use ficus_model::Op;
 use std::alloc::Global;
 
 /// An ask that waits for its answer.
-#[derive(Clone, Copy, Debug, PartialEq, Eq)]
+#[derive(Clone, Copy, PartialEq, Eq)]
 pub struct Asked {
     /// The replica that was asked.
     pub to: u8,

@@ -3,7 +3,7 @@ use Rattle.std.proofs.Common.{◌≡◌, ℕ, List, [], ◌∷◌, Option, Some,
 use Rattle.ficus_ids.specs.declared.id.Id.{Id}
 use Rattle.ficus_ids.specs.declared.id.TheConstants.{ROOT}
 use Rattle.ficus_ids.specs.declared.refusal.Refusal.TheVariants.{NotDir, IsDir}
-use Rattle.ficus_model.specs.Live.{Entry as ModelEntry}
+use Rattle.ficus_model.specs.Live.{ModelEntry}
 use Rattle.ficus_model.specs.Reached.IsReached.{Base, Through}
 use Rattle.ficus_path.specs.declared.path.Base.{Base as PathBase}
 use Rattle.ficus_path.specs.declared.path.Base.TheVariants.{Root}

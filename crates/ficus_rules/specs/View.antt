@@ -9,7 +9,7 @@ use Rattle.ficus_model.specs.declared.event.Event.{Event}
 use Rattle.ficus_model.specs.Events.{count_of}
 use Rattle.ficus_model.specs.Known.{Knows}
 use Rattle.ficus_model.specs.Lawful.{Volume}
-use Rattle.ficus_model.specs.Live.{Entry as ModelEntry, IsLive, IsMade, HasName}
+use Rattle.ficus_model.specs.Live.{ModelEntry, IsLive, IsMade, HasName}
 use Rattle.ficus_model.specs.Reached.{IsReached}
 use Rattle.ficus_model.specs.Versions.{IsInConflict, written_of}
 use Rattle.ficus_file_laws.specs.Items.{AreVersionsOf}

@@ -9,7 +9,7 @@ use Rattle.std.proofs.lemmas.Bool.{ne_eqb, true≢false}
 use Rattle.ficus_path.proofs.CutLaws.{IsFreeOf}
 use Rattle.ficus_script.specs.declared.command.Command.{Command}
 use Rattle.ficus_script.specs.Command.{IsCommand, command_text}
-use Rattle.ficus_script.specs.Line.{Takes}
+use Rattle.ficus_script.specs.Line.{AddsLine}
 use Rattle.ficus_script.specs.Script.{lines_of, is_kept, IsScriptLine}
 
 abbrev AreFree : List ℕ → Type 0
@@ -49,7 +49,7 @@ pub record IsReadTo (bytes : List ℕ) (number : ℕ) (commands : List Command) 
 
 pub IsReadTo-more : {bytes rest : List ℕ} {number : ℕ} {old new : List Command} (line others : List ℕ) →
     IsReadTo bytes number old rest → lines_of rest ≡ line ∷ lines_of others → length others < length rest →
-    Takes line old new → IsReadTo bytes (number + 1) new others
+    AddsLine line old new → IsReadTo bytes (number + 1) new others
 IsReadTo-more {old} line others so_far cut shorter takes = record {
   before = so_far.before ++ line ∷ [];
   lines = so_far.lines ∙ ap (λ (lines : List (List ℕ)). so_far.before ++ lines) cut ∙ sym (append_assoc so_far.before (line ∷ []) (lines_of others));

@@ -40,7 +40,7 @@ IsReadingOf line (Err NotCommand) = IsCommandLine line → ⊥
 IsReadingOf line (Err Memory) = Unit {0}
 
 -- the line may stand in a script, and the command that it spells, if it isn't passed over, comes behind the old ones
-pub record Takes (line : List ℕ) (old new : List Command) : Type 0 where
+pub record AddsLine (line : List ℕ) (old new : List Command) : Type 0 where
   pub more : List Command
   pub added : new ≡ old ++ more
   pub each : All IsCommand more

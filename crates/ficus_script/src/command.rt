@@ -2,7 +2,7 @@ use ficus_commands::{Change, Look};
 
 /// What a line of a script asks for. The numbers are those of replicas, from 1 to 255; a world refuses those of
 /// no member. A text may have any length; a world refuses one that is too long for a file.
-#[derive(Debug, Drop)]
+#[derive(Drop)]
 pub enum Command {
     /// A change by replica `by`: `R mkdir N`, `R create N KIND`, `R write P TEXT`, `R settle P TEXT`, `R resolve P`.
     Change { by: u8, change: Change },

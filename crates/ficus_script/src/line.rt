@@ -12,7 +12,7 @@ use ficus_path::{PathFault, TextFault};
 use std::alloc::{AllocFailed, Global};
 
 /// Why a line gave no command.
-#[derive(Clone, Copy, Debug)]
+#[derive(Clone, Copy)]
 pub(crate) enum LineFault {
     /// The line spells no command.
     NotCommand,

@@ -1,5 +1,5 @@
 ghost use Rattle.std.specs.Prelude.{◌≡◌, ◌<◌, ℕ, [], ◌∷◌, length, Err, IfOk, OnOk, IfSome, IfNone, IsErrOf};
-ghost use Rattle.ficus_script.specs.Line.{Takes, fault_at};
+ghost use Rattle.ficus_script.specs.Line.{AddsLine, fault_at};
 ghost use Rattle.ficus_script.specs.Script.{is_passed_over, lines_of, IsScriptLine, IsScript, IsFirstBadLine};
 
 use crate::cut::cut_at;
@@ -39,7 +39,7 @@ fn first_line(bytes: &[u8]) -> Option<(&[u8], &[u8])>
 
 // Adds the command of the line, where it isn't passed over.
 fn take_line(alloc: Global, commands: &mut Vec<Command>, line: &[u8]) -> Result<(), LineFault>
-    ensures taken { OnOk result (Takes line.now commands.old.items commands.new.items) }
+    ensures taken { OnOk result (AddsLine line.now commands.old.items commands.new.items) }
     ensures not_command { IsErrOf result LineFault.NotCommand → IsScriptLine line.now → ⊥ }
 {
     if !is_passed_over(line) {

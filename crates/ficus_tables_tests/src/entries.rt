@@ -111,78 +111,38 @@ fn are_dead(entries: &Entries, first: usize) -> Result<bool, Memory> {
     Ok(true)
 }
 
-// What is found of worn entries. The last two fields are of the time after the entry that stays is removed.
-#[derive(Clone, Copy)]
-struct Found {
-    count: usize,
-    // The objects to which the names lead.
-    stays: u32,
-    goes: u32,
-    // How many entries lie in the root and in the object that stays, and how many live ones in the root.
-    inside: usize,
-    below: usize,
-    live: usize,
-    has_live: bool,
-    // Whether all entries but the first are dead, and whether all are.
-    others_dead: bool,
-    all_dead: bool,
-    has_live_after: bool,
-    all_dead_after: bool,
+// Whether the name that stays leads to its object, the other one nowhere, and all that was entered still lies in the
+// root, one of it live.
+fn is_worn(entries: &Entries) -> Result<bool, Fail> {
+    let leads = targets(entries)? == [1, 0];
+    let inside = count_inside(entries, ROOT)?;
+    let live = count_live(entries)?;
+    Ok(leads && inside == 1001 && live == 1 && entries.live_inside(ROOT))
 }
 
-fn look(entries: &mut Entries) -> Result<Found, Fail> {
-    let [stays, goes] = targets(entries)?;
-    let mut found = Found {
-        count: entries.len(),
-        stays,
-        goes,
-        inside: count_inside(entries, ROOT)?,
-        below: count_inside(entries, id(1))?,
-        live: count_live(entries)?,
-        has_live: entries.live_inside(ROOT),
-        others_dead: are_dead(entries, 1)?,
-        all_dead: are_dead(entries, 0)?,
-        has_live_after: true,
-        all_dead_after: false,
-    };
+// Whether nothing is live in the root, and all that was entered is dead.
+fn is_bare(entries: &Entries) -> Result<bool, Memory> {
+    let dead = are_dead(entries, 0)?;
+    Ok(dead && !entries.live_inside(ROOT))
+}
+
+// Whether the entries are worn, and bare once the one that stays is removed.
+fn are_worn(entries: &mut Entries) -> Result<bool, Fail> {
+    wear(entries)?;
+    let worn = is_worn(entries)?;
     remove(entries, 1);
-    found.has_live_after = entries.live_inside(ROOT);
-    found.all_dead_after = are_dead(entries, 0)?;
-    Ok(found)
+    let bare = is_bare(entries)?;
+    Ok(worn && bare)
 }
 
-fn found_of_worn(alloc: Global) -> Result<Found, Fail> {
+fn are_worn_anew(alloc: Global) -> Result<bool, Fail> {
     let mut entries = Entries::new(alloc);
-    wear(&mut entries)?;
-    look(&mut entries)
+    are_worn(&mut entries)
 }
 
 #[test]
-fn removed_entries_leave_their_names(rt: HostRuntime) -> Result<(), Fail> {
-    let found = found_of_worn(rt.alloc())?;
-    assert!(rt; found.count == 1001);
-    assert!(rt; found.stays == 1);
-    assert!(rt; found.goes == 0);
-    Ok(())
-}
-
-#[test]
-fn removed_entries_still_lie_in_their_directory(rt: HostRuntime) -> Result<(), Fail> {
-    let found = found_of_worn(rt.alloc())?;
-    assert!(rt; found.inside == 1001);
-    assert!(rt; found.below == 0);
-    assert!(rt; found.live == 1);
-    assert!(rt; found.has_live);
-    assert!(rt; !found.has_live_after);
-    Ok(())
-}
-
-#[test]
-fn a_removal_is_known_where_it_was_made(rt: HostRuntime) -> Result<(), Fail> {
-    let found = found_of_worn(rt.alloc())?;
-    assert!(rt; found.count == 1001);
-    assert!(rt; found.others_dead);
-    assert!(rt; !found.all_dead);
-    assert!(rt; found.all_dead_after);
+fn removed_entries_leave_their_names_and_stay_known(rt: HostRuntime) -> Result<(), Fail> {
+    let worn = are_worn_anew(rt.alloc())?;
+    assert!(rt; worn);
     Ok(())
 }

@@ -7,7 +7,7 @@ use std::alloc::Global;
 
 /// How a run of the program ended: the code with which it ends, and, where the code names them, the line of
 /// the script and the replica; otherwise these are 0.
-#[derive(Clone, Copy, Debug, PartialEq, Eq, Hash)]
+#[derive(Clone, Copy, PartialEq, Eq)]
 pub struct Status {
     pub code: u8,
     pub line: u32,

@@ -1,8 +1,8 @@
 // The program over sources and sinks in memory.
 use ficus_ids::Members;
 use ficus_outside::{MemSink, MemSource};
-use ficus_script::read_script;
-use ficus_top::{Status, ficus, serve, status_text};
+use ficus_script::{ScriptFault, read_script};
+use ficus_top::{Status, ficus, serve};
 use ficus_world::World;
 use std::alloc::Global;
 use std::test::Fail;
@@ -228,19 +228,6 @@ const REFUSED: &[(&str, &str, u8, u32)] = &[
         2,
         4,
     ),
-    // No kind of a file, no text, and another spelling of a byte.
-    (TWO_MEMBERS, "1 create /f frob\n", 2, 1),
-    (TWO_MEMBERS, "1 create /f dir\n", 2, 1),
-    (TWO_MEMBERS, "1 create /f max\n1 write /f\n", 2, 2),
-    (TWO_MEMBERS, "1 create /f max\n1 write /f 12\n", 2, 2),
-    (TWO_MEMBERS, "1 create /f max\n1 write /f \"\\x31\"\n", 2, 2),
-    // A name of 65 bytes.
-    (
-        TWO_MEMBERS,
-        "1 mkdir /nnnnnnnnnnnnnnnnnnnnnnnnnnnnnnnnnnnnnnnnnnnnnnnnnnnnnnnnnnnnnnnnn\n",
-        2,
-        1,
-    ),
 ];
 
 #[test]
@@ -249,22 +236,6 @@ fn words_and_scripts_are_refused(rt: HostRuntime) -> Result<(), Fail> {
         let ran = run(rt.alloc(), &faultless(words, script.as_bytes()), b"")?;
         assert!(rt; ran.status == ended(code, line), "{words:?} {script:?}");
         assert!(rt; ran.is_as_wanted, "{words:?} {script:?}");
-    }
-    Ok(())
-}
-
-// How a script of so many empty lines ends.
-fn run_empty_lines(alloc: Global, count: usize) -> Result<Status, Fail> {
-    let script = vec![in alloc; b'\n'; count]?;
-    let ran = run(alloc, &faultless(TWO_MEMBERS, &script), b"")?;
-    Ok(ran.status)
-}
-
-#[test]
-fn a_script_has_a_mebibyte_at_most(rt: HostRuntime) -> Result<(), Fail> {
-    for (bytes, code) in [(1_048_576, 0), (1_048_577, 8)] {
-        let status = run_empty_lines(rt.alloc(), bytes)?;
-        assert!(rt; status == ended(code, 0), "{bytes} bytes");
     }
     Ok(())
 }
@@ -350,26 +321,21 @@ fn a_world_goes_on_from_where_it_was_left(rt: HostRuntime) -> Result<(), Fail> {
     Ok(())
 }
 
-fn has_text(alloc: Global, status: &Status, text: &str) -> Result<bool, Fail> {
-    let found = status_text(alloc, status)?;
-    Ok(found.as_slice() == text.as_bytes())
+fn has_text(alloc: Global, fault: &ScriptFault, text: &str) -> Result<bool, Fail> {
+    let found = fault.to_string(alloc)?;
+    Ok(found.as_str() == text)
 }
 
-const STATUS_TEXTS: &[(u8, &str)] = &[
-    (0, ""),
-    (1, "ficus: usage\n"),
-    (2, "ficus: bad line 1048577\n"),
-    (3, "ficus: memory\n"),
-    (4, "ficus: read fault\n"),
-    (5, "ficus: write fault\n"),
-    (8, "ficus: script too long\n"),
-    (10, "ficus: no words\n"),
+const FAULT_TEXTS: &[(ScriptFault, &str)] = &[
+    (ScriptFault::BadLine(1), "bad line 1"),
+    (ScriptFault::BadLine(1_048_577), "bad line 1048577"),
+    (ScriptFault::Memory, "memory"),
 ];
 
 #[test]
-fn statuses_have_their_texts(rt: HostRuntime) -> Result<(), Fail> {
-    for &(code, text) in STATUS_TEXTS {
-        let has = has_text(rt.alloc(), &ended(code, 1_048_577), text)?;
+fn faults_of_a_script_have_their_texts(rt: HostRuntime) -> Result<(), Fail> {
+    for (fault, text) in FAULT_TEXTS {
+        let has = has_text(rt.alloc(), fault, text)?;
         assert!(rt; has, "{text}");
     }
     Ok(())

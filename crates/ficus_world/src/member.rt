@@ -6,7 +6,7 @@ ghost use Rattle.ficus_world.specs.declared.member.Member.{Member as MemberValue
 use ficus_replica::Replica;
 
 /// How a member stands.
-#[derive(Clone, Copy, Debug)]
+#[derive(Clone, Copy)]
 pub enum Standing {
     /// It takes commands.
     Up,

@@ -65,10 +65,10 @@ impl World {
         if !self.has(by) {
             return Err(Refusal::Member);
         }
+        self.history.reserve(1)?;
         let replica = &self.member(by).replica;
         let number = replica.saved.next;
         let next = replica.change(alloc, change)?;
-        self.history.reserve(1)?;
         let id = Id {
             replica: by,
             number,

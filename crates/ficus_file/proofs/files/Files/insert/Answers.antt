@@ -1,5 +1,9 @@
 use Rattle.std.proofs.lemmas.Result.{on_ok_weaker}
+use Rattle.ficus_ids.specs.RisingLaws.{put_adds}
+use Rattle.ficus_file.specs.Files.{id_of}
 use Rattle.ficus_file.proofs.files.Files.insert.Goals as goal
 
 pub returns-clause-added : goal.returns-clause-added
-returns-clause-added c = on_ok_weaker c.hold.result (λ is. rw is c.in_ok-list.ensures.adds) c.hold.ensures.held
+returns-clause-added c =
+    on_ok_weaker c.hold.result
+    (λ is. rw is (put_adds id_of c.args.self.now _ c.args.file c.requires.new c.in_ok-list.ensures.puts)) c.hold.ensures.held

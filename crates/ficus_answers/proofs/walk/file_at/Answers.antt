@@ -1,0 +1,21 @@
+use Rattle.std.proofs.Common.{ap, refl, sym, ◌∙◌, inl, inr}
+use Rattle.ficus_file.specs.Files.{id_of}
+use Rattle.ficus_answers.proofs.Refusals.{isnt}
+use Rattle.ficus_answers.proofs.walk.file_at.Goals as goal
+
+pub returns-then-is_directory-clause-rule : goal.returns-then-is_directory-clause-rule
+returns-then-is_directory-clause-rule c =
+    let led = rw c.items.ensures at c.in_ok-object.ensures.rule in
+    inr (c.in_ok-object.object, led, inl (c.if-is_directory.ensures.0 refl, refl))
+
+pub returns-clause-rule : goal.returns-clause-rule
+returns-clause-rule c =
+    let led = rw c.items.ensures at c.in_ok-object.ensures.rule in
+    let is = ap id_of (sym c.named.ensures.so) ∙ c.named.ensures.has_id in
+    (c.in_ok-object.object, led, (isnt c.if-is_directory.ensures, is))
+
+pub named-requires-clause-named : goal.named-requires-clause-named
+named-requires-clause-named c = elim c.in_ok-object.ensures.shown [
+  | inl root ↦ absurd (isnt c.if-is_directory.ensures (inl root))
+  | inr named ↦ named
+]
