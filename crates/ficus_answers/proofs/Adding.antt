@@ -9,7 +9,7 @@ use Rattle.ficus_names.specs.declared.listing.Line.{Line}
 use Rattle.ficus_names.specs.declared.listing.ShownName.{ShownName}
 use Rattle.ficus_rules.specs.Lines.{AreLinesOf, TellsObject}
 use Rattle.ficus_codec.specs.declared.saved.Saved.{Saved}
-use Rattle.ficus_answers.specs.View.{IsNamedBy, tables_view}
+use Rattle.ficus_answers.specs.View.{IsVisibleBy, tables_view}
 
 -- the line of a shown name
 pub record IsLineOf (saved : Saved) (dir : Id) (shown : ShownName) (line : Line) : Type 0 where
@@ -17,14 +17,14 @@ pub record IsLineOf (saved : Saved) (dir : Id) (shown : ShownName) (line : Line)
   pub shown_is : line.shown ≡ shown
   pub object : TellsObject (tables_view saved) line
 
--- the lines of the names done stand behind those from before, and the names left are of named objects
+-- the lines of the names done stand behind those from before, and the names left are of visible objects
 pub record HasAdded (saved : Saved) (dir : Id) (names left : List ShownName) (before lines : List Line) : Type 0 where
   pub done : List ShownName
   pub own : List Line
   pub whole : done ++ left ≡ names
   pub is : lines ≡ before ++ own
   pub of_dir : AreLinesOf (tables_view saved) dir done own
-  pub named : All (λ shown. IsNamedBy saved.entries shown.target) left
+  pub visible : All (λ shown. IsVisibleBy saved shown.target) left
 
 module _ (saved : Saved) (dir : Id) where
   no_lines_of : AreLinesOf (tables_view saved) dir [] []
@@ -52,14 +52,14 @@ module _ (saved : Saved) (dir : Id) where
   }
 
   pub added_none : (names : List ShownName) (before : List Line) →
-      All (λ shown. IsNamedBy saved.entries shown.target) names → HasAdded saved dir names names before before
-  added_none names before named = record {
+      All (λ shown. IsVisibleBy saved shown.target) names → HasAdded saved dir names names before before
+  added_none names before visible = record {
     done = [];
     own = [];
     whole = refl;
     is = sym (append-nil before);
     of_dir = no_lines_of;
-    named = named;
+    visible = visible;
   }
 
   pub added_more : (names left : List ShownName) (shown : ShownName) (before lines : List Line) (line : Line) →
@@ -71,7 +71,7 @@ module _ (saved : Saved) (dir : Id) where
     whole = append_assoc added.done (shown ∷ []) left ∙ added.whole;
     is = ap (λ so_far. so_far ++ line ∷ []) added.is ∙ append_assoc before added.own (line ∷ []);
     of_dir = more_lines_of added.done added.own shown line added.of_dir is;
-    named = All-tail (λ item. IsNamedBy saved.entries item.target) shown left added.named;
+    visible = All-tail (λ item. IsVisibleBy saved item.target) shown left added.visible;
   }
 
   -- all of them

@@ -1,10 +1,9 @@
 -- What tables that fit show: by their entries, and of each object by its file.
-use Rattle.std.proofs.Common.{◌≡◌, ◌↔◌, ℕ, List, refl, sym, ap, subst, ◌∙◌}
+use Rattle.std.proofs.Common.{◌≡◌, ◌↔◌, ℕ, List, refl, sym, ap, subst, ◌∙◌, inl, inr}
 use Rattle.std.specs.Prelude.{All, Contains}
 use Rattle.std.proofs.lemmas.List.Elements.{All-contains}
 use Rattle.ficus_ids.specs.RisingLaws.{one_item}
 use Rattle.ficus_ids.specs.declared.id.Id.{Id}
-use Rattle.ficus_model.specs.Live.{ModelEntry}
 use Rattle.ficus_entry.specs.declared.entry.Entry.{Entry}
 use Rattle.ficus_entry.specs.declared.entry.State.{State}
 use Rattle.ficus_entry.specs.declared.entry.State.TheVariants.{Live}
@@ -17,15 +16,15 @@ use Rattle.ficus_codec.specs.Saved.{FitsImage}
 use Rattle.ficus_codec.specs.Tables.{FitsFile, HasObjectsIn}
 use Rattle.ficus_codec.specs.declared.saved.Saved.{Saved}
 use Rattle.ficus_rules.specs.View.{IsBoundIn}
-use Rattle.ficus_answers.specs.View.{HasObject, IsNamedBy, held_live, tables_view}
+use Rattle.ficus_rules.specs.Marks.{without_state}
+use Rattle.ficus_answers.specs.View.{HasObject, IsNamedBy, IsVisibleBy, held_as, held_live, tables_view}
 
--- an entry, without its state
-abbrev pub without_state : Entry → ModelEntry
-without_state entry = record { id = entry.id; dir = entry.dir; name = entry.name; target = entry.target }
+-- an entry is what tables hold of it in its state
+pub held_in_state : (entry : Entry) (state : State) → entry.state ≡ state → entry ≡ held_as (without_state entry) state
+held_in_state entry state is = ap (λ (state : State). record entry { state = state }) is
 
--- a live entry is what tables hold of it
 pub held_as_live : (entry : Entry) → entry.state ≡ Live → entry ≡ held_live (without_state entry)
-held_as_live entry live = ap (λ (state : State). record entry { state = state }) live
+held_as_live entry live = held_in_state entry Live live
 
 module _ (saved : Saved) where
   pub tables_bound : (dir : Id) (name : List ℕ) (target : Id) →
@@ -53,10 +52,15 @@ module _ (saved : Saved) where
       IsNamedBy saved.entries object
   bound_named bound = record { entry = bound.entry; inside = bound.live; leads = bound.leads }
 
+  -- and so visible
+  pub bound_visible : {dir object : Id} {name : List ℕ} → IsBoundIn (tables_view saved) dir name object →
+      IsVisibleBy saved object
+  bound_visible bound = inl (bound_named bound)
+
   -- so is what a directory shows
-  pub shown_named : {dir : Id} {names : List ShownName} → IsListing (IsBoundIn (tables_view saved) dir) names →
-      All (λ shown. IsNamedBy saved.entries shown.target) names
-  shown_named listing place default within = bound_named (listing.shown place default within).bound
+  pub shown_visible : {dir : Id} {names : List ShownName} → IsListing (IsBoundIn (tables_view saved) dir) names →
+      All (λ shown. IsVisibleBy saved shown.target) names
+  shown_visible listing place default within = bound_visible (listing.shown place default within).bound
 
 module _ {saved : Saved} (fits : FitsImage saved) where
   -- what is named is among the files
@@ -65,6 +69,11 @@ module _ {saved : Saved} (fits : FitsImage saved) where
       let objects = All-contains (HasObjectsIn saved.files) saved.entries (held_live named.entry) fits.tables.objects
       named.inside in
       subst (Holds saved.files) named.leads objects.target
+
+  -- so is what is visible
+  pub visible_held : {object : Id} → IsVisibleBy saved object → Holds saved.files object
+  visible_held (inl named) = named_held named
+  visible_held (inr orphan) = record { item = orphan.file; inside = orphan.inside; has_id = orphan.has_id }
 
   module _ {object : Id} {file : FileReplica} (has : HasObject saved object (λ held. held ≡ file)) where
     -- a file is one with what the tables hold under its identifier
@@ -77,7 +86,7 @@ module _ {saved : Saved} (fits : FitsImage saved) where
     pub so_of_file : (is : FileReplica → Type 0) → is file ↔ HasObject saved object is
     so_of_file is = (
       λ so. record {
-        named = has.named;
+        visible = has.visible;
         file = has.file;
         inside = has.inside;
         has_id = has.has_id;

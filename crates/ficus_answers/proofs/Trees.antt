@@ -21,7 +21,8 @@ use Rattle.ficus_rules.specs.View.{View, IsBoundIn, LeadsWithin, IsReachedIn}
 use Rattle.ficus_answers.specs.View.{held_live, tables_view}
 use Rattle.ficus_rules.proofs.Listings.{no_lines, lines_more, lines_along}
 use Rattle.ficus_rules.proofs.Views.{same_itself}
-use Rattle.ficus_answers.proofs.Tables.{held_as_live, without_state}
+use Rattle.ficus_rules.specs.Marks.{without_state}
+use Rattle.ficus_answers.proofs.Tables.{held_as_live}
 
 module _ (view : View) where
   -- the lines of the first objects
@@ -61,7 +62,7 @@ module _ (view : View) where
         ]))
 
 module _ (saved : Saved) where
-  leads_from : (dir object : Id) → LeadsIn saved.entries dir object →
+  pub leads_from : (dir object : Id) → LeadsIn saved.entries dir object →
       LeadsWithin (tables_view saved) dir object
   leads_from dir object way = (
     way.entry.name,
@@ -74,7 +75,7 @@ module _ (saved : Saved) where
     },
   )
 
-  leads_into : (dir object : Id) → LeadsWithin (tables_view saved) dir object →
+  pub leads_into : (dir object : Id) → LeadsWithin (tables_view saved) dir object →
       LeadsIn saved.entries dir object
   leads_into dir object (name, bound) =
       record { entry = held_live bound.entry; inside = bound.live; live = refl; in_dir = bound.in_dir; leads = bound.leads }

@@ -17,12 +17,12 @@ use Rattle.ficus_names.specs.Find.{FindsOnly, FindAnswer}
 use Rattle.ficus_names.specs.FindLaws.{FindAnswer-along}
 use Rattle.ficus_codec.specs.declared.saved.Saved.{Saved}
 use Rattle.ficus_rules.specs.View.{IsBoundIn, IsTakenIn, IsDirectoryIn}
-use Rattle.ficus_answers.specs.View.{IsRootOrNamed, tables_view}
-use Rattle.ficus_rules.specs.Walk.{BaseRule, PartsRule, WalkRule, last_name, name_of}
+use Rattle.ficus_answers.specs.View.{IsRootOrVisible, IsVisibleBy, tables_view}
+use Rattle.ficus_rules.specs.Walk.{BaseRule, PartsRule, WalkRule, last_name, last_target, name_of, target_of}
 use Rattle.ficus_rules.specs.Rule.{Where}
 use Rattle.ficus_rules.proofs.Rules.{then_goes}
 use Rattle.ficus_answers.proofs.Refusals.{tested_goes, tested_stops}
-use Rattle.ficus_answers.proofs.Tables.{tables_bound, bound_named}
+use Rattle.ficus_answers.proofs.Tables.{tables_bound, bound_visible}
 use Rattle.ficus_rules.proofs.Walks.{found_bound}
 
 module _ (saved : Saved) where
@@ -39,14 +39,14 @@ module _ (saved : Saved) where
         FindAnswer (BindsIn saved.entries object) part.name part.target answer → FoundRule object part answer
     found_shown answer found = FindAnswer-along (tables_bound saved object) part.name part.target answer found
 
-    -- what is found among the entries is named
-    pub found_named : (answer : Result Id Refusal) →
+    -- what is found among the entries is visible
+    pub found_visible : (answer : Result Id Refusal) →
         FindAnswer (BindsIn saved.entries object) part.name part.target answer →
-        IfOk answer (IsRootOrNamed saved.entries)
-    found_named (Ok next) found =
-        inr (bound_named saved (found_bound (IsBoundIn (tables_view saved) object) part.name part.target next
+        IfOk answer (IsRootOrVisible saved)
+    found_visible (Ok next) found =
+        inr (bound_visible saved (found_bound (IsBoundIn (tables_view saved) object) part.name part.target next
         (found_shown (Ok next) found)))
-    found_named (Err refusal) found = tt
+    found_visible (Err refusal) found = tt
 
     -- and what the part leads to from a directory
     pub stepped : (answer : Result Id Refusal) → IsDirectoryIn (tables_view saved) object →
@@ -56,11 +56,11 @@ module _ (saved : Saved) where
 
   -- an object reached, such that all parts lead from the base to what the rest leads to from there
   pub record HasReached (base : Base) (parts : List Part) (object : Id) (rest : List Part) : Type 0 where
-    pub shown : IsRootOrNamed saved.entries object
+    pub shown : IsRootOrVisible saved object
     pub leads : (answer : Result Id Refusal) → PartsRule (tables_view saved) rest object answer →
         WalkRule (tables_view saved) base parts answer
 
-  pub reached_start : (base : Base) (parts : List Part) (object : Id) → IsRootOrNamed saved.entries object →
+  pub reached_start : (base : Base) (parts : List Part) (object : Id) → IsRootOrVisible saved object →
       BaseRule (tables_view saved) base (Ok object) → HasReached base parts object parts
   reached_start base parts object shown begun = record {
     shown = shown;
@@ -78,7 +78,7 @@ module _ (saved : Saved) where
         drop_more parts index part within ∙ ap (λ p. p ∷ drop (index + 1) parts) (sym is) in
         reached.leads answer (rw next rest)
 
-    pub reached_next : (next : Id) → IsRootOrNamed saved.entries next → StepRule object part (Ok next) →
+    pub reached_next : (next : Id) → IsRootOrVisible saved next → StepRule object part (Ok next) →
         HasReached base parts next (drop (index + 1) parts)
     reached_next next shown stepped = record {
       shown = shown;
@@ -149,3 +149,18 @@ module _ (saved : Saved) (dir : Id) (path : Path) (last : Part) (at : last_or No
       subst (λ target. FindAnswer (IsBoundIn (tables_view saved) dir) last.name target (Err refusal))
       (last_is_new path last is_new at) shown in
       rw name_is (taken_by saved dir last.name refusal taken only is)
+
+  -- what the last part leads to
+  pub entry_found : (answer : Result Id Refusal) →
+      FindAnswer (BindsIn saved.entries dir) last.name last.target answer →
+      FindAnswer (IsBoundIn (tables_view saved) dir) (last_name path) (last_target path) answer
+  entry_found answer found =
+      let shown = found_shown saved dir last answer found in
+      rw (name_is, ap target_of at) shown
+
+pub entry_visible : (saved : Saved) (dir : Id) (last : Part) (answer : Result Id Refusal) →
+    FindAnswer (BindsIn saved.entries dir) last.name last.target answer → IfOk answer (IsVisibleBy saved)
+entry_visible saved dir last (Ok object) found =
+    bound_visible saved (found_bound (IsBoundIn (tables_view saved) dir) last.name last.target object
+    (found_shown saved dir last (Ok object) found))
+entry_visible saved dir last (Err refusal) found = tt

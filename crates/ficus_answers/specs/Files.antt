@@ -11,6 +11,8 @@ use Rattle.ficus_model.specs.Lawful.{most_file_bytes}
 use Rattle.ficus_rules.specs.Resolved.{ResolvedRule}
 use Rattle.ficus_rules.specs.Rule.{Then, Unless, Gives}
 use Rattle.ficus_rules.specs.View.{View}
+use Rattle.ficus_rules.specs.Walk.{Found}
+use Rattle.ficus_answers.specs.declared.walk.Found.{Found as CodeFound}
 use Rattle.ficus_answers.specs.View.{HasObject}
 
 -- the identifier of the file that was found
@@ -18,7 +20,12 @@ abbrev pub id_found : Result (Bor FileReplica) Refusal → Result Id Refusal
 id_found (Ok file) = Ok file.now.id
 id_found (Err refusal) = Err refusal
 
--- a file, no directory, to which a live entry leads
+-- what was found at the path of an entry
+abbrev pub as_found : Result CodeFound Refusal → Result Found Refusal
+as_found (Ok found) = Ok (record { dir = found.dir; object = found.object })
+as_found (Err refusal) = Err refusal
+
+-- a file, no directory, that is visible
 pub record IsFileIn (saved : Saved) (file : FileReplica) : Type 0 where
   pub object : HasObject saved file.id (λ held. held ≡ file)
   pub is_file : file.kind ≢ Dir

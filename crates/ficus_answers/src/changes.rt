@@ -1,10 +1,13 @@
 ghost use Rattle.ficus_codec.specs.Saved.{FitsImage};
-ghost use Rattle.ficus_commands.specs.Change.{HasNewPath};
+ghost use Rattle.ficus_commands.specs.Change.{HasFitPaths};
 ghost use Rattle.ficus_rules.specs.Change.{ChangeRule};
 ghost use Rattle.ficus_rules.specs.Rule.{UnlessMemory};
 ghost use Rattle.ficus_answers.specs.View.{tables_view};
 
+use crate::linking::link;
 use crate::making::make;
+use crate::removing::remove;
+use crate::renaming::rename;
 use crate::resolving::resolve;
 use crate::settling::settle;
 use crate::writing::write;
@@ -17,7 +20,7 @@ use std::alloc::Global;
 /// Which operation the change is, or why it is refused.
 pub fn change(alloc: Global, saved: &Saved, change: &Change) -> Result<Op, Refusal>
     requires fits { FitsImage saved.now }
-    requires new { HasNewPath change.now }
+    requires paths { HasFitPaths change.now }
     ensures { UnlessMemory (ChangeRule (tables_view saved.now) change.now) result }
 {
     match change {
@@ -26,5 +29,8 @@ pub fn change(alloc: Global, saved: &Saved, change: &Change) -> Result<Op, Refus
         Change::Write { path, text } => write(alloc, saved, path, text.items()),
         Change::Settle { path, text } => settle(alloc, saved, path, text.items()),
         Change::Resolve { path } => resolve(alloc, saved, path),
+        Change::Rm { path } => remove(saved, path),
+        Change::Ln { from, path } => link(saved, from, path),
+        Change::Mv { from, path } => rename(alloc, saved, from, path),
     }
 }

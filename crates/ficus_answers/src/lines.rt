@@ -2,9 +2,9 @@ ghost use Rattle.std.specs.Prelude.{◌≡◌, ◌++◌, List, map, All, OnOk};
 ghost use Rattle.ficus_codec.specs.Saved.{FitsImage};
 ghost use Rattle.ficus_names.specs.declared.listing.Line.{Line as LineValue};
 ghost use Rattle.ficus_rules.specs.Lines.{AreLinesOf, TellsObject};
-ghost use Rattle.ficus_answers.specs.View.{tables_view, IsNamedBy};
+ghost use Rattle.ficus_answers.specs.View.{tables_view, IsVisibleBy};
 
-use crate::walk::named;
+use crate::walk::visible;
 use ficus_codec::Saved;
 use ficus_ids::{Id, Memory};
 use ficus_names::{Line, ShownName};
@@ -17,7 +17,7 @@ pub(crate) fn add_lines(
     names: Vec<ShownName>,
 ) -> Result<(), Memory>
     requires fits { FitsImage saved.now }
-    requires named { All (λ shown. IsNamedBy saved.now.entries shown.target) names.items }
+    requires visible { All (λ shown. IsVisibleBy saved.now shown.target) names.items }
     ensures { OnOk result ((more : List LineValue) × AreLinesOf (tables_view saved.now) dir names.items more
         × (lines.new.items ≡ lines.old.items ++ more)) }
 {
@@ -30,12 +30,12 @@ pub(crate) fn add_lines(
 // The line of a shown name.
 fn line_of(saved: &Saved, dir: Id, shown: ShownName) -> Line
     requires fits { FitsImage saved.now }
-    requires named { IsNamedBy saved.now.entries shown.target }
+    requires visible { IsVisibleBy saved.now shown.target }
     ensures dir { result.dir ≡ dir }
     ensures shown { result.shown ≡ shown }
     ensures object { TellsObject (tables_view saved.now) result }
 {
-    let file = named(saved, shown.target);
+    let file = visible(saved, shown.target);
     Line {
         dir,
         kind: file.kind,

@@ -6,6 +6,7 @@ ghost use Rattle.ficus_answers.specs.View.{tables_view};
 use crate::all_versions::versions;
 use crate::listing::list;
 use crate::reading::read;
+use crate::removed::marks;
 use crate::whole_tree::tree;
 use ficus_codec::Saved;
 use ficus_commands::{Look, Told};
@@ -22,5 +23,6 @@ pub fn look(alloc: Global, saved: &Saved, look: &Look) -> Result<Told, Refusal>
         Look::Read { path } => read(alloc, saved, path),
         Look::Versions { path } => versions(alloc, saved, path),
         Look::Tree => Ok(tree(alloc, saved)?),
+        Look::Marks => Ok(marks(alloc, saved)?),
     }
 }

@@ -5,9 +5,9 @@ ghost use Rattle.ficus_path.specs.Path.{IsEntry, IsNew};
 ghost use Rattle.ficus_names.specs.Find.{FindAnswer};
 ghost use Rattle.ficus_rules.specs.Rule.{Where};
 ghost use Rattle.ficus_rules.specs.View.{IsBoundIn, IsDirectoryIn, IsTakenIn};
-ghost use Rattle.ficus_rules.specs.Walk.{BaseRule, WalkRule, DirectoryRule, ParentRule, FileRule, last_name};
-ghost use Rattle.ficus_answers.specs.Files.{id_found, IsFileIn};
-ghost use Rattle.ficus_answers.specs.View.{tables_view, HasObject, IsNamedBy, IsRootOrNamed};
+ghost use Rattle.ficus_rules.specs.Walk.{BaseRule, WalkRule, DirectoryRule, ParentRule, FileRule, EntryRule, last_name, last_target};
+ghost use Rattle.ficus_answers.specs.Files.{as_found, id_found, IsFileIn};
+ghost use Rattle.ficus_answers.specs.View.{tables_view, HasObject, IsRootOrVisible, IsVisibleBy};
 
 use ficus_codec::Saved;
 use ficus_file::FileReplica;
@@ -19,7 +19,7 @@ use ficus_path::{Base, Part, Path};
 fn walk(saved: &Saved, base: Base, parts: &[Part]) -> Result<Id, Refusal>
     requires { FitsImage saved.now }
     ensures rule { WalkRule (tables_view saved.now) base parts.now result }
-    ensures shown { IfOk result (IsRootOrNamed saved.now.entries) }
+    ensures shown { IfOk result (IsRootOrVisible saved.now) }
 {
     let mut object = begin(saved, base)?;
     for part in parts {
@@ -31,7 +31,7 @@ fn walk(saved: &Saved, base: Base, parts: &[Part]) -> Result<Id, Refusal>
 // The object at which a walk begins.
 fn begin(saved: &Saved, base: Base) -> Result<Id, Refusal>
     ensures rule { BaseRule (tables_view saved.now) base result }
-    ensures shown { IfOk result (IsRootOrNamed saved.now.entries) }
+    ensures shown { IfOk result (IsRootOrVisible saved.now) }
 {
     match base {
         Base::Root => Ok(ROOT),
@@ -41,11 +41,11 @@ fn begin(saved: &Saved, base: Base) -> Result<Id, Refusal>
 // The object to which a part leads.
 fn go_on(saved: &Saved, object: Id, part: &Part) -> Result<Id, Refusal>
     requires fits { FitsImage saved.now }
-    requires shown { IsRootOrNamed saved.now.entries object }
+    requires shown { IsRootOrVisible saved.now object }
     ensures rule { let view = tables_view saved.now in
         Where (IsDirectoryIn view object) Refusal.NotDir
         (FindAnswer (IsBoundIn view object) part.now.name part.now.target) result }
-    ensures shown { IfOk result (IsRootOrNamed saved.now.entries) }
+    ensures shown { IfOk result (IsRootOrVisible saved.now) }
 {
     if !is_directory(saved, object) {
         return Err(Refusal::NotDir);
@@ -53,19 +53,19 @@ fn go_on(saved: &Saved, object: Id, part: &Part) -> Result<Id, Refusal>
     find(&saved.entries, object, part)
 }
 
-// Whether the object is a directory.
-fn is_directory(saved: &Saved, object: Id) -> bool
+/// Whether the object is a directory.
+pub(crate) fn is_directory(saved: &Saved, object: Id) -> bool
     requires fits { FitsImage saved.now }
-    requires shown { IsRootOrNamed saved.now.entries object }
+    requires shown { IsRootOrVisible saved.now object }
     ensures { IsTrue result ↔ IsDirectoryIn (tables_view saved.now) object }
 {
-    object == ROOT || named(saved, object).kind == Kind::Dir
+    object == ROOT || visible(saved, object).kind == Kind::Dir
 }
 
-/// The file or directory to which a live entry leads.
-pub(crate) fn named(saved: &Saved, object: Id) -> &FileReplica
+/// The visible file or directory with this identifier.
+pub(crate) fn visible(saved: &Saved, object: Id) -> &FileReplica
     requires fits { FitsImage saved.now }
-    requires named { IsNamedBy saved.now.entries object }
+    requires visible { IsVisibleBy saved.now object }
     ensures { HasObject saved.now object (λ file. file ≡ result.now) }
 {
     let Some(file) = saved.files.get(object) else {
@@ -104,6 +104,35 @@ pub(crate) fn parent_of(saved: &Saved, path: &Path) -> Result<Id, Refusal>
     directory_of(saved, path.base, &parts[..parts.len() - 1])
 }
 
+/// The directory of an entry, and the object to which the entry leads.
+#[derive(Clone, Copy)]
+pub(crate) struct Found {
+    pub(crate) dir: Id,
+    pub(crate) object: Id,
+}
+
+/// The entry at a path that names one.
+pub(crate) fn entry_at(saved: &Saved, path: &Path) -> Result<Found, Refusal>
+    requires fits { FitsImage saved.now }
+    requires entry { IsEntry path.now }
+    ensures rule { EntryRule (tables_view saved.now) path.now (as_found result) }
+    ensures visible { IfOk result (λ found. IsVisibleBy saved.now found.object) }
+{
+    let dir = parent_of(saved, path)?;
+    let object = found_in(saved, dir, path)?;
+    Ok(Found { dir, object })
+}
+
+// The object to which the last part of the path leads in the directory.
+fn found_in(saved: &Saved, dir: Id, path: &Path) -> Result<Id, Refusal>
+    requires entry { IsEntry path.now }
+    ensures rule { FindAnswer (IsBoundIn (tables_view saved.now) dir) (last_name path.now) (last_target path.now)
+        result }
+    ensures visible { IfOk result (IsVisibleBy saved.now) }
+{
+    find(&saved.entries, dir, last_part(path))
+}
+
 /// The file at a path.
 pub(crate) fn file_at<'a>(saved: &'a Saved, path: &Path) -> Result<&'a FileReplica, Refusal>
     requires { FitsImage saved.now }
@@ -114,7 +143,7 @@ pub(crate) fn file_at<'a>(saved: &'a Saved, path: &Path) -> Result<&'a FileRepli
     if is_directory(saved, object) {
         return Err(Refusal::IsDir);
     }
-    Ok(named(saved, object))
+    Ok(visible(saved, object))
 }
 
 /// Whether a live entry of the directory has the name of a new path.

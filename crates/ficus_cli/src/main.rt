@@ -2,17 +2,23 @@
 #![tactic(auto)]
 
 mod ending;
+mod run;
 
 use ending::{end, status_without_words};
 use ficus_outside::{StdSink, StdSource};
-use ficus_top::{Status, ficus};
+use run::run;
 use std::process::ExitCode;
 use std::rt::Env;
 use std::{env, io};
 
 fn main(rt: HostRuntime) -> ExitCode {
     let status = match words(&rt) {
-        Ok(words) => run(&rt, &words),
+        Ok(words) => run(
+            rt.alloc(),
+            &words,
+            &mut StdSource::new(&rt),
+            &mut StdSink::new(&rt),
+        ),
         Err(error) => status_without_words(error.kind()),
     };
     end(rt.alloc(), &status, &mut rt.stderr())
@@ -20,10 +26,4 @@ fn main(rt: HostRuntime) -> ExitCode {
 
 fn words<R: Env + AllocGlobal>(rt: &R) -> io::Result<Vec<String>> {
     Ok(env::args(rt)?.collect(rt.alloc())?)
-}
-
-fn run<R: Input + Print + AllocGlobal>(rt: &R, words: &Vec<String>) -> Status {
-    let mut input = StdSource::new(rt);
-    let mut output = StdSink::new(rt);
-    ficus(rt.alloc(), words, &mut input, &mut output)
 }

@@ -8,7 +8,7 @@ use Rattle.ficus_vv.specs.Vector.{Counts, count_of, no_counts, join, bump}
 use Rattle.ficus_vv.specs.VectorLaws.{count_of-join, count_of-none, bump_at_most, bump_other}
 use Rattle.ficus_file.specs.Version.{join_all}
 use Rattle.ficus_file.specs.declared.version.Version.{Version}
-use Rattle.ficus_codec.specs.declared.saved.TheConstants.{UPDATE_LIMIT}
+use Rattle.ficus_codec.specs.Limits.{update_limit}
 use Rattle.ficus_codec.specs.Tables.{FitsCounts, FitsVersion}
 
 -- no count is above what no count of two vectors is above
@@ -37,7 +37,7 @@ none_fits members = record {
 pub join_fits : (members : ℕ) (v w : Counts) → FitsCounts members v → FitsCounts members w →
     FitsCounts members (join v w)
 join_fits members v w first second = record {
-  at_most = λ replica. join_at_most v w replica UPDATE_LIMIT (first.at_most replica) (second.at_most replica);
+  at_most = λ replica. join_at_most v w replica update_limit (first.at_most replica) (second.at_most replica);
   members_only = λ replica other. omega (arith, join_at_most v w replica 0 (at_none v first replica other) (at_none w second replica other));
 }
   where
@@ -54,7 +54,7 @@ join_all_fits members (first ∷ later) each =
     (join_all_fits members later (λ version inside. each version (there first version later inside)))
 
 -- one more for a member fits where its count is below the limit
-pub bump_fits : (members me : ℕ) (v : Counts) → IsMember members me → count_of v me < UPDATE_LIMIT →
+pub bump_fits : (members me : ℕ) (v : Counts) → IsMember members me → count_of v me < update_limit →
     FitsCounts members v → FitsCounts members (bump me v)
 bump_fits members me v member room fits = record {
   at_most = λ replica. elim (cases_eq replica me) [

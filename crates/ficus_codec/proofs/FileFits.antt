@@ -8,7 +8,7 @@ use Rattle.ficus_ids.specs.declared.kind.Kind.{Kind}
 use Rattle.ficus_ids.specs.declared.kind.Kind.TheVariants.{Dir, Plain, Lines, Max, Keep}
 use Rattle.ficus_vv.specs.Vector.{count_of, no_counts, join}
 use Rattle.ficus_vv.specs.VectorLaws.{count_of-none, join_with_none, bump_at_most}
-use Rattle.ficus_file.specs.File.{IsWellFormed, over_all, first_versions, made_file, advanced}
+use Rattle.ficus_file.specs.File.{IsWellFormed, over_all, first_versions, made_file, advanced, covered_file}
 use Rattle.ficus_file.specs.FileLaws.{made_well_formed}
 use Rattle.ficus_file.specs.Version.{join_all}
 use Rattle.ficus_file.specs.declared.file.FileReplica.{FileReplica}
@@ -16,7 +16,7 @@ use Rattle.ficus_file.specs.declared.version.Version.{Version}
 use Rattle.ficus_recon_file.specs.Merge.{IsMergedFile}
 use Rattle.ficus_recon_file.specs.Versions.{AreMerged, IsKept, IsOfEither}
 use Rattle.ficus_recon_file.proofs.Current.{merged_current}
-use Rattle.ficus_codec.specs.declared.saved.TheConstants.{UPDATE_LIMIT, FILE_LIMIT}
+use Rattle.ficus_codec.specs.Limits.{update_limit, file_limit}
 use Rattle.ficus_codec.specs.Saved.{IsOfPast, IsFileOfPast}
 use Rattle.ficus_codec.specs.Tables.{IsIssuable, FitsVersion, FitsFile}
 use Rattle.ficus_codec.proofs.CountFits.{join_below, join_all_at_most, join_all_fits, join_fits, none_fits, bump_fits}
@@ -107,9 +107,9 @@ module _ (members me next : ℕ) where
       each : (version : Version) → Contains both.versions version → FitsAsVersion version
       each version inside = of_either version ((merged.versions.items version).0 inside).from
 
-module _ (members me next : ℕ) (member : IsMember members me) (some : 1 ≤ next) (room : next ≤ UPDATE_LIMIT) where
+module _ (members me next : ℕ) (member : IsMember members me) (some : 1 ≤ next) (room : next ≤ update_limit) where
   -- the version of the next update over versions that fit fits afterwards
-  over_all_fits : (bytes : List ℕ) (versions : List Version) → length bytes ≤ FILE_LIMIT →
+  over_all_fits : (bytes : List ℕ) (versions : List Version) → length bytes ≤ file_limit →
       ((version : Version) → Contains versions version → FitsAsVersion members me next version) →
       FitsAsVersion members me (next + 1) (over_all me bytes versions)
   over_all_fits bytes versions short each =
@@ -164,7 +164,7 @@ module _ (members me next : ℕ) (member : IsMember members me) (some : 1 ≤ ne
   }
 
   -- a file that the next update writes fits afterwards
-  pub advanced_file_fits : (bytes : List ℕ) (file : FileReplica) → length bytes ≤ FILE_LIMIT →
+  pub advanced_file_fits : (bytes : List ℕ) (file : FileReplica) → length bytes ≤ file_limit →
       IsWellFormed (advanced me bytes file) → FitsAsFile members me next file →
       FitsAsFile members me (next + 1) (advanced me bytes file)
   advanced_file_fits bytes file short well fits = record {
@@ -186,6 +186,36 @@ module _ (members me next : ℕ) (member : IsMember members me) (some : 1 ≤ ne
           FitsAsVersion members me (next + 1) version
       written version inside = of_one (over_all me bytes file.versions) version
           (over_all_fits bytes file.versions short (versions_fit members me next file fits)) inside
+
+  -- a file whose versions are covered fits afterwards
+  pub covered_file_fits : (file : FileReplica) → FitsAsFile members me next file →
+      FitsAsFile members me (next + 1) (covered_file file)
+  covered_file_fits file fits = record {
+    tables = record {
+      id = fits.tables.id;
+      well_formed = record {
+        directory = fits.tables.well_formed.directory;
+        current = fits.tables.well_formed.current;
+      };
+      versions = fits.tables.versions;
+      covered = join_fits members file.covered (join_all file.versions) fits.tables.covered
+          (join_all_fits members file.versions fits.tables.versions);
+      directory = λ dir. ap (λ v. join v (join_all file.versions)) (fits.tables.directory dir)
+          ∙ ap (λ versions. join no_counts (join_all versions)) (fits.tables.well_formed.directory dir)
+          ∙ join_with_none no_counts;
+    };
+    past = record {
+      id = past_later me next file.id fits.past.id;
+      versions = λ version inside. omega (arith, fits.past.versions version inside);
+      covered = omega (arith, join_below file.covered (join_all file.versions) me next fits.past.covered below_all);
+    };
+  }
+    where
+      below_all : count_of (join_all file.versions) me < next
+      below_all =
+          let most = join_all_at_most file.versions me (next - 1)
+          (λ version inside. omega (arith, fits.past.versions version inside)) in
+          omega arith
 
   -- one that stays fits afterwards
   pub file_fits_later : (file : FileReplica) → FitsAsFile members me next file → FitsAsFile members me (next + 1) file

@@ -1,6 +1,7 @@
 pub mod ChangedTables
 pub mod CountFits
 pub mod FileFits
+pub mod KilledTables
 pub mod Held
 pub mod MergeFits
 pub mod MergedFiles

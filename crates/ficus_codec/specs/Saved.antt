@@ -7,7 +7,7 @@ use Rattle.ficus_entry.specs.declared.entry.Entry.{Entry}
 use Rattle.ficus_file.specs.declared.file.FileReplica.{FileReplica}
 use Rattle.ficus_file.specs.declared.version.Version.{Version}
 use Rattle.ficus_codec.specs.declared.saved.Saved.{Saved}
-use Rattle.ficus_codec.specs.declared.saved.TheConstants.{UPDATE_LIMIT, BYTE_LIMIT}
+use Rattle.ficus_codec.specs.Limits.{update_limit, byte_limit}
 use Rattle.ficus_codec.specs.Tables.{FitsTables}
 
 -- an identifier of this replica's own is of an update that it has made
@@ -35,8 +35,8 @@ pub record FitsImage (saved : Saved) : Type 0 where
   pub members : IsCount saved.members
   pub me : IsMember saved.members saved.me
   pub ids_at_least : 1 ≤ saved.ids
-  pub ids_at_most : saved.ids ≤ UPDATE_LIMIT
-  pub bytes : saved.bytes ≤ BYTE_LIMIT
+  pub ids_at_most : saved.ids ≤ update_limit
+  pub bytes : saved.bytes ≤ byte_limit
   pub next_at_least : 1 ≤ saved.next
   pub next_at_most : saved.next ≤ saved.ids + 1
   pub used : saved.used ≤ saved.bytes

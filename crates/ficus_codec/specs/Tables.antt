@@ -16,13 +16,13 @@ use Rattle.ficus_file.specs.File.{IsWellFormed}
 use Rattle.ficus_file.specs.Files.{IsRising as AreRisingFiles, Holds}
 use Rattle.ficus_file.specs.declared.file.FileReplica.{FileReplica}
 use Rattle.ficus_file.specs.declared.version.Version.{Version}
-use Rattle.ficus_codec.specs.declared.saved.TheConstants.{UPDATE_LIMIT, FILE_LIMIT}
+use Rattle.ficus_codec.specs.Limits.{update_limit, file_limit}
 
 -- some member may have issued it
 pub record IsIssuable (members : ℕ) (id : Id) : Type 0 where
   pub replica : IsMember members id.replica
   pub at_least : 1 ≤ id.number
-  pub at_most : id.number ≤ UPDATE_LIMIT
+  pub at_most : id.number ≤ update_limit
 
 -- entries may lie in it
 abbrev pub MayHoldEntries : ℕ → Id → Type 0
@@ -55,13 +55,13 @@ pub record FitsEntry (members : ℕ) (entry : Entry) : Type 0 where
 
 -- each count is one of updates, and only members have counts
 pub record FitsCounts (members : ℕ) (counts : Counts) : Type 0 where
-  pub at_most : (replica : ℕ) → count_of counts replica ≤ UPDATE_LIMIT
+  pub at_most : (replica : ℕ) → count_of counts replica ≤ update_limit
   pub members_only : (replica : ℕ) → (IsMember members replica → ⊥) → count_of counts replica ≡ 0
 
 -- the version may stand in tables
 pub record FitsVersion (members : ℕ) (version : Version) : Type 0 where
   pub vector : FitsCounts members version.vector
-  pub bytes : length version.bytes ≤ FILE_LIMIT
+  pub bytes : length version.bytes ≤ file_limit
 
 -- the file or directory may stand in tables: of a directory nothing is covered
 pub record FitsFile (members : ℕ) (file : FileReplica) : Type 0 where

@@ -4,5 +4,5 @@
 mod laws;
 mod saved;
 
-pub use laws::{changed_tables_fit, merged_tables_fit};
+pub use laws::{changed_tables_fit, limits, merged_tables_fit};
 pub use saved::{BYTE_LIMIT, FILE_LIMIT, Saved, UPDATE_LIMIT};

@@ -21,4 +21,18 @@ pub enum Change {
     /// Ends the conflict of the file at the path by what the resolver of its kind makes of its versions. Refused as
     /// `Settle` is by that text, and before the limits with `Declined` exactly where the resolver declines.
     Resolve { path: Path },
+    /// Removes the name at the path from its object: all live entries of the directory that have this name and lead to
+    /// this object. The versions of a file are covered; what lies in a directory stays. Refused as the walk is; with
+    /// `NotEmpty` exactly where the object is a directory with a live entry in it, and every live name of it is the one
+    /// to be removed; with `Spent` as `MkDir` is.
+    Rm { path: Path },
+    /// Gives the file at the path `from` the new path `path` as a further name. Refused as the walk along `from` is; as
+    /// the walk to the parent of `path` is; with `IsDir` exactly where the object is a directory; with `Exists` and
+    /// `Spent` as `MkDir` is.
+    Ln { from: Path, path: Path },
+    /// Gives the object at the path `from` the new path `path` in place of this name: it stays the same object, with
+    /// what lies in it and with its versions. Refused as the walk along `from` is; as the walk to the parent of `path`
+    /// is; with `IntoSelf` exactly where the object is a directory, and the new parent is it or lies below it; with
+    /// `Exists` and `Spent` as `MkDir` is.
+    Mv { from: Path, path: Path },
 }

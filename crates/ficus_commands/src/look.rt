@@ -15,4 +15,7 @@ pub enum Look {
     Versions { path: Path },
     /// The names in each directory that is reached from the root. Never refused.
     Tree,
+    /// The removed entries that the replica holds, each with what is known of its removal. Never refused. It tells of
+    /// the replica and isn't part of its view: two that have heard of the same may hold different ones.
+    Marks,
 }

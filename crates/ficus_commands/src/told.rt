@@ -1,3 +1,4 @@
+use ficus_entry::Entry;
 use ficus_file::Version;
 use ficus_ids::{Listed, Members};
 use ficus_names::Line;
@@ -16,4 +17,7 @@ pub enum Told {
         members: Members,
         list: Listed<Version>,
     },
+    /// The removed entries, in the order of their identifiers. Of each, `one` has the members that are known to know of
+    /// the removal, and `two` those that are known to know that all know of it.
+    Marks(Listed<Entry>),
 }

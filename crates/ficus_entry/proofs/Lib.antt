@@ -1,4 +1,5 @@
 pub mod Killed
+pub mod KilledAll
 pub mod Later
 pub mod Noted
 pub mod Search

@@ -1,31 +1,17 @@
 -- What an edit of the entries keeps.
-use Rattle.std.proofs.Common.{◌≡◌, ◌≢◌, ◌⊎◌, ℕ, ◌<◌, List, length, get_or, set, map, Some, slice_get, ◌∙◌, refl, sym, ap, subst, inl, inr}
+use Rattle.std.proofs.Common.{◌≡◌, ◌≢◌, ◌⊎◌, ℕ, ◌<◌, List, length, get_or, set, Some, slice_get, ◌∙◌, refl, sym, ap, subst, inl, inr}
 use Rattle.std.specs.Prelude.{Contains}
 use Rattle.std.specs.List.{insert}
 use Rattle.std.specs.declared.cmp.Ordering.TheVariants.{Less}
 use Rattle.std.proofs.lemmas.Bool.{cases_eq, cases_order}
-use Rattle.std.proofs.lemmas.List.{length-set, length-map, get_or-map, get_or-set_same, get_or-set_other}
+use Rattle.std.proofs.lemmas.List.{length-set, get_or-set_same, get_or-set_other}
 use Rattle.std.proofs.lemmas.Option.{get_or_from_slice_get}
 use Rattle.ficus_ids.specs.declared.id.Id.{Id}
 use Rattle.ficus_ids.specs.Id.{id_cmp}
 use Rattle.ficus_ids.specs.IdLaws.{not_below_itself}
 use Rattle.ficus_ids.specs.RisingLaws.{Contains-insert, none_at_place}
 use Rattle.ficus_entry.specs.declared.entry.Entry.{Entry}
-use Rattle.ficus_index.specs.declared.place.Link.{Link}
 use Rattle.ficus_entry.specs.Entry.{IsRising, IsPlace, IsFoundAt, PutsEntry}
-use Rattle.ficus_entry.specs.Place.{link_of, AreNoted}
-
-Contains-map : {X Y : Type 0} (f : X → Y) (xs : List X) (x : X) → Contains xs x → Contains (map f xs) (f x)
-Contains-map f xs x (k, within, is) = (k, rw length-map within, get_or-map f xs k x (f x) within ∙ ap f is)
-
-pub insert_noted : (entries : List Entry) (links more : List Link) (index : ℕ) (entry : Entry) →
-    AreNoted entries links → ((other : Link) → Contains links other ⊎ (other ≡ link_of entry) → Contains more other) →
-    AreNoted (insert entries index entry) more
-insert_noted entries links more index entry noted into one inside missing =
-    elim ((Contains-insert entries index entry one).0 inside) [
-      | inl old ↦ noted one old (λ link. missing (into (link_of one) (inl link)))
-      | inr is ↦ missing (into (link_of one) (inr (ap link_of is)))
-    ]
 
 module _ (entries : List Entry) (entry : Entry) (index : ℕ) (found : IsFoundAt entries entry.id index) where
   same_at : (k : ℕ) (d : Entry) → (get_or (set entries index entry) k d).id ≡ (get_or entries k d).id
@@ -81,17 +67,6 @@ module _ (entries : List Entry) (entry : Entry) (index : ℕ) (found : IsFoundAt
   pub set_puts : IsRising entries → PutsEntry entries (set entries index entry) entry
   set_puts rising other = (from_set rising other, into_set other)
 
-  pub set_noted : (links fewer more : List Link) (id : Id) → id ≡ entry.id → IsRising entries →
-      AreNoted entries links → ((other : Link) → other.id ≢ id → Contains links other → Contains fewer other) →
-      ((other : Link) → Contains fewer other ⊎ (other ≡ link_of entry) → Contains more other) →
-      AreNoted (set entries index entry) more
-  set_noted links fewer more id same rising noted kept into one inside missing =
-      elim (from_set rising one inside) [
-        | inl old ↦ noted one old.0
-            (λ link. missing (into (link_of one) (inl (kept (link_of one) (λ is. old.1 (is ∙ same)) link))))
-        | inr is ↦ missing (into (link_of one) (inr (ap link_of is)))
-      ]
-
 pub insert_puts : (entries : List Entry) (entry : Entry) (index : ℕ) → IsPlace entries entry.id index →
     PutsEntry entries (insert entries index entry) entry
 insert_puts entries entry index place other =
@@ -112,9 +87,3 @@ pub id_of_found : (entries : List Entry) (id : Id) (index : ℕ) (entry : Entry)
     slice_get entries index ≡ Some entry → entry.id ≡ id
 id_of_found entries id index entry found at =
     ap (λ (e : Entry). e.id) (sym (get_or_from_slice_get entries index entry entry at)) ∙ found.1 entry
-
--- the entries are noted by a link of each
-pub all_noted : (entries : List Entry) (links : List Link) →
-    ((link : Link) → Contains (map link_of entries) link → Contains links link) → AreNoted entries links
-all_noted entries links linked entry inside missing =
-    missing (linked (link_of entry) (Contains-map link_of entries entry inside))

@@ -1,4 +1,4 @@
--- Which links note what lies in a directory.
+-- Where what lies in a directory is noted.
 use Rattle.std.proofs.Common.{◌≡◌, ℕ, ◌<◌, ◌≤◌, List, refl, ap, arith, Some, None, Ok, Err, Bool, ◌↔◌, subst}
 use Rattle.std.specs.Prelude.{Contains, Option, Result, IfOk, IfSome, IfNone, IsTrue}
 use Rattle.std.specs.Option.{MatchOption, is_some}
@@ -9,21 +9,22 @@ use Rattle.ficus_ids.specs.RisingLaws.{held_or_not}
 use Rattle.ficus_entry.specs.declared.entry.Entry.{Entry}
 use Rattle.ficus_entry.specs.declared.entry.State.{State}
 use Rattle.ficus_entry.specs.declared.entry.State.TheVariants.{Live, Dead}
-use Rattle.ficus_index.specs.declared.place.Link.{Link}
+use Rattle.ficus_index.specs.declared.place.Note.{Note}
 use Rattle.ficus_index.specs.declared.place.Place.{Place}
 use Rattle.ficus_index.specs.Digest.{digest_of}
-use Rattle.ficus_index.specs.Place.{IsSpan, IsLinkedWithin}
-use Rattle.ficus_index.specs.PlaceLaws.{linked_within, digest_small}
+use Rattle.ficus_index.specs.Place.{IsSpan, IsNotedWithin}
+use Rattle.ficus_index.specs.NoteLaws.{row_noted}
+use Rattle.ficus_index.specs.PlaceLaws.{noted_within, digest_small}
 use Rattle.ficus_entry.specs.Inside.{LiesBetween}
-use Rattle.ficus_entry.specs.Place.{rank_of, link_of, AreNoted}
+use Rattle.ficus_entry.specs.Place.{rank_of, note_of, AreNoted}
 
 -- an entry between two places is noted in their span
-pub entry_within : (entries : List Entry) (links : List Link) (from to : Place) (start end : ℕ) (entry : Entry) →
-    AreNoted entries links → IsSpan links from to start end → Contains entries entry → LiesBetween from to entry →
-    (IsLinkedWithin links start end entry.id → ⊥) → ⊥
-entry_within entries links from to start end entry noted span inside between never =
-    noted entry inside (λ linked. never
-    (linked_within links from to start end (link_of entry) span linked between.at_least between.below))
+pub entry_within : (entries : List Entry) (notes : List Note) (from to : Place) (start end : ℕ) (entry : Entry) →
+    AreNoted entries notes → IsSpan notes from to start end → Contains entries entry → LiesBetween from to entry →
+    (IsNotedWithin notes start end entry.id → ⊥) → ⊥
+entry_within entries notes from to start end entry noted span inside between never =
+    row_noted note_of entries notes noted entry inside (λ there. never
+    (noted_within notes from to start end (note_of entry) span there between.at_least between.below))
 
 pub between_ranks : (dir : Id) (low high : ℕ) (entry : Entry) → entry.dir ≡ dir → low ≤ rank_of entry →
     rank_of entry < high → LiesBetween (record { dir = dir; rank = low }) (record { dir = dir; rank = high }) entry

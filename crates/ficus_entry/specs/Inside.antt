@@ -39,3 +39,25 @@ pub record LiesInside (entries : List Entry) (dir id : Id) : Type 0 where
 pub record LiesBetween (from to : Place) (entry : Entry) : Type 0 where
   pub at_least : order_of from ≤ order_of (place_of entry)
   pub below : order_of (place_of entry) < order_of to
+
+-- an entry of the list has the identifier and is so
+pub record HoldsSuch (is : Entry → Type 0) (entries : List Entry) (id : Id) : Type 0 where
+  pub entry : Entry
+  pub inside : Contains entries entry
+  pub so : is entry
+  pub has_id : entry.id ≡ id
+
+-- the entry is live, lies in the directory, has the name and leads to the object
+pub record IsNameOf (dir : Id) (name : List ℕ) (target : Id) (entry : Entry) : Type 0 where
+  pub named : IsNamedIn entry dir name
+  pub leads : entry.target ≡ target
+
+-- the entry is live and leads to the object from another directory or under another name
+pub record IsOtherName (dir : Id) (name : List ℕ) (target : Id) (entry : Entry) : Type 0 where
+  pub live : entry.state ≡ Live
+  pub leads : entry.target ≡ target
+  pub other : entry.dir ≡ dir → entry.name ≡ name → ⊥
+
+-- an entry of the list is such
+abbrev pub HasOtherName : List Entry → Id → List ℕ → Id → Type 0
+HasOtherName entries dir name target = (entry : Entry) × Contains entries entry × IsOtherName dir name target entry

@@ -1,8 +1,9 @@
 -- What the index notes of entries.
-use Rattle.std.specs.Prelude.{ℕ, List, Contains}
+use Rattle.std.specs.Prelude.{ℕ, List}
 use Rattle.ficus_index.specs.Digest.{digest_of, digest_count}
-use Rattle.ficus_index.specs.declared.place.Link.{Link}
+use Rattle.ficus_index.specs.declared.place.Note.{Note}
 use Rattle.ficus_index.specs.declared.place.Place.{Place}
+use Rattle.ficus_index.specs.Place.{AreNotesOf}
 use Rattle.ficus_entry.specs.declared.entry.Entry.{Entry}
 use Rattle.ficus_entry.specs.declared.entry.State.TheVariants.{Live, Dead}
 
@@ -15,9 +16,9 @@ abbrev pub place_of : Entry → Place
 place_of entry = record { dir = entry.dir; rank = rank_of entry }
 
 -- what the index notes of an entry
-abbrev pub link_of : Entry → Link
-link_of entry = record { place = place_of entry; id = entry.id }
+abbrev pub note_of : Entry → Note
+note_of entry = record { place = place_of entry; id = entry.id }
 
--- none of the entries isn't noted
-abbrev pub AreNoted : List Entry → List Link → Type 0
-AreNoted entries links = (entry : Entry) → Contains entries entry → (Contains links (link_of entry) → ⊥) → ⊥
+-- the notes are those of the entries, each as often
+abbrev pub AreNoted : List Entry → List Note → Type 0
+AreNoted entries notes = AreNotesOf note_of entries notes

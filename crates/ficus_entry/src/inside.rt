@@ -1,13 +1,14 @@
 ghost use Rattle.std.specs.Prelude.{◌≡◌, ◌↔◌, ◌≤◌, length, Contains, IsTrue, IfOk, IfSome, IfNone};
 ghost use Rattle.std.specs.List.Sorted.{IsStrictlySortedBy};
 ghost use Rattle.ficus_ids.specs.Id.{id_cmp};
+ghost use Rattle.ficus_ids.specs.Rising.{IsRisingBy};
 ghost use Rattle.ficus_ids.specs.declared.id.Id.{Id as IdValue};
 ghost use Rattle.ficus_entry.specs.declared.entry.Entry.{Entry as EntryValue};
 ghost use Rattle.ficus_entry.specs.declared.entry.State.TheVariants.{Live};
-ghost use Rattle.ficus_entry.specs.Inside.{IsNamedIn, Leads, HasLiveInside, LiesInside, LiesBetween};
-ghost use Rattle.ficus_index.specs.Place.{IsLinkedWithin};
+ghost use Rattle.ficus_entry.specs.Inside.{IsNamedIn, Leads, HasLiveInside, HasOtherName, HoldsSuch, IsNameOf, IsOtherName, LiesInside, LiesBetween};
+ghost use Rattle.ficus_index.specs.Place.{IsNotedWithin};
 
-use crate::{Entries, Entry};
+use crate::{Entries, Entry, InOrder};
 use ficus_ids::{Id, Memory, Name};
 use ficus_index::{Index, Place, REMOVED, Span, digest};
 
@@ -85,6 +86,45 @@ impl Entries {
             rank: rank + 1,
         };
         self.first(Place { dir, rank }, to, &Named { dir, name, leading })
+    }
+
+    /// The identifiers of the live entries of the directory that have the name and lead to the object, in order. It
+    /// takes time for the entries of this name there alone.
+    pub fn names_of(&self, dir: Id, name: &Name, target: Id) -> Result<Vec<Id>, Memory>
+        ensures entries { IfOk result (λ ids. (id : IdValue) →
+            Contains ids.items id ↔ HoldsSuch (IsNameOf dir name.now target) self.now id) }
+        ensures rising { IfOk result (λ ids. IsRisingBy (λ (id : IdValue). id) ids.items) }
+    {
+        Ok(once_each(self.noted_names_of(dir, name, target)?))
+    }
+
+    /// Whether a live entry leads to the object from another directory or under another name. It looks at each entry
+    /// once.
+    pub fn has_other_name(&self, dir: Id, name: &Name, target: Id) -> Result<bool, Memory>
+        ensures { IfOk result (λ has. IsTrue has ↔ HasOtherName self.now dir name.now target) }
+    {
+        let in_order = self.in_order()?;
+        Ok(any_other_name(&in_order, dir, name, target))
+    }
+
+    // The same as `names_of`, in the order of the index, perhaps some twice.
+    fn noted_names_of(&self, dir: Id, name: &Name, target: Id) -> Result<Vec<Id>, Memory>
+        ensures { IfOk result (λ ids. (id : IdValue) →
+            Contains ids.items id ↔ HoldsSuch (IsNameOf dir name.now target) self.now id) }
+    {
+        let rank = digest(name);
+        let from = Place { dir, rank };
+        let to = Place {
+            dir,
+            rank: rank + 1,
+        };
+        let leading = Leading::To(target);
+        all_of(
+            self,
+            &self.table.index,
+            self.table.index.span(from, to),
+            &Named { dir, name, leading },
+        )
     }
 
     /// Whether a live entry lies in the directory.
@@ -165,6 +205,16 @@ impl Entries {
         )
     }
 
+    // Whether an entry has the identifier and passes the test.
+    fn holds_passing<T: Test>(&self, id: Id, test: &T) -> bool
+        ensures { IsTrue result ↔ HoldsSuch (T.Passes test.now) self.now id }
+    {
+        match self.get(id) {
+            Some(entry) => test.passes(entry),
+            None => false,
+        }
+    }
+
     // The entry with the identifier, if it passes the test.
     fn passing<T: Test>(&self, id: Id, test: &T) -> Option<&Entry>
         ensures some { IfSome result (λ entry. Contains self.now entry.now × T.Passes test.now entry.now) }
@@ -178,7 +228,7 @@ impl Entries {
     }
 }
 
-// The first entry that passes the test among those that the links of a span note.
+// The first entry that passes the test among those that a span notes.
 fn first_of<'a, T: Test>(
     entries: &'a Entries,
     index: &Index,
@@ -188,7 +238,7 @@ fn first_of<'a, T: Test>(
     requires { span.end ≤ length index.now }
     ensures some { IfSome result (λ entry. Contains entries.now entry.now × T.Passes test.now entry.now) }
     ensures none { IfNone result ((entry : EntryValue) → Contains entries.now entry
-        → T.Passes test.now entry → IsLinkedWithin index.now span.start span.end entry.id → ⊥) }
+        → T.Passes test.now entry → IsNotedWithin index.now span.start span.end entry.id → ⊥) }
 {
     for position in span.start..span.end {
         if let Some(entry) = entries.passing(index.id_at(position), test) {
@@ -198,12 +248,63 @@ fn first_of<'a, T: Test>(
     None
 }
 
-// The identifiers in the links of a span whose entries lie in the directory.
+// The same identifiers in order, each of them once.
+fn once_each(mut ids: Vec<Id>) -> Vec<Id>
+    ensures same { (id : IdValue) → Contains result.items id ↔ Contains ids.items id }
+    ensures rising { IsRisingBy (λ (id : IdValue). id) result.items }
+{
+    ids.sort_unstable();
+    ids.dedup();
+    ids
+}
+
+// The identifiers that a span notes whose entries pass the test.
+fn all_of<T: Test>(
+    entries: &Entries,
+    index: &Index,
+    span: Span,
+    test: &T,
+) -> Result<Vec<Id>, Memory>
+    requires { span.end ≤ length index.now }
+    ensures sound { IfOk result (λ ids. (id : IdValue) → Contains ids.items id
+        → HoldsSuch (T.Passes test.now) entries.now id) }
+    ensures complete { IfOk result (λ ids. (id : IdValue) → HoldsSuch (T.Passes test.now) entries.now id
+        → IsNotedWithin index.now span.start span.end id → Contains ids.items id) }
+{
+    let mut ids = Vec::new(entries.allocator());
+    for position in span.start..span.end {
+        let id = index.id_at(position);
+        if entries.holds_passing(id, test) {
+            ids.push(id)?;
+        }
+    }
+    Ok(ids)
+}
+
+// Whether one of the entries is live and leads to the object from another directory or under another name.
+fn any_other_name(entries: &InOrder<'_>, dir: Id, name: &Name, target: Id) -> bool
+    ensures { IsTrue result ↔ HasOtherName entries.now dir name.now target }
+{
+    for index in 0..entries.len() {
+        if is_other_name(entries.at(index), dir, name, target) {
+            return true;
+        }
+    }
+    false
+}
+
+fn is_other_name(entry: &Entry, dir: Id, name: &Name, target: Id) -> bool
+    ensures { IsTrue result ↔ IsOtherName dir name.now target entry.now }
+{
+    entry.is_live() && entry.target == target && !(entry.dir == dir && entry.name == *name)
+}
+
+// The identifiers that a span notes whose entries lie in the directory.
 fn noted_of(entries: &Entries, index: &Index, span: Span, dir: Id) -> Result<Vec<Id>, Memory>
     requires { span.end ≤ length index.now }
     ensures sound { IfOk result (λ ids. (id : IdValue) → Contains ids.items id → LiesInside entries.now dir id) }
     ensures complete { IfOk result (λ ids. (id : IdValue) → LiesInside entries.now dir id
-        → IsLinkedWithin index.now span.start span.end id → Contains ids.items id) }
+        → IsNotedWithin index.now span.start span.end id → Contains ids.items id) }
 {
     let mut ids = Vec::new(entries.allocator());
     for position in span.start..span.end {

@@ -5,12 +5,15 @@ mod entries;
 mod entry;
 mod in_order;
 mod inside;
+mod kill_laws;
+mod killing;
 mod laws;
-mod link;
+mod note;
 mod table;
 
 pub use entries::Entries;
 pub use entry::{Entry, State};
 pub use in_order::InOrder;
 pub use inside::Leading;
+pub use kill_laws::only_its_own;
 pub use laws::{one_entry, same_entries};

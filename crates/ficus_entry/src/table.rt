@@ -5,7 +5,7 @@ ghost use Rattle.ficus_entry.specs.Place.{AreNoted};
 
 use crate::Entry;
 use crate::entries::Changed;
-use crate::link::links;
+use crate::note::notes;
 use ficus_ids::{Id, Memory};
 use ficus_index::Index;
 use ficus_persistent::{Cut, Item, PersistentList};
@@ -41,7 +41,7 @@ impl Cut<Entry> for BeforeId {
 #[derive(Drop)]
 pub(crate) struct Table {
     pub(crate) list: PersistentList<Entry>,
-    /// A link for each entry.
+    /// The notes of the entries, each as often.
     pub(crate) index: Index,
     ghost rising: { IsRising list },
     ghost noted: { AreNoted list index },
@@ -63,8 +63,8 @@ impl Table {
         requires { IsRising entries.now }
         ensures { IfOk result (λ table. table.list ≡ entries.now) }
     {
-        let links = links(alloc, entries)?;
-        let index = Index::of(alloc, links)?;
+        let notes = notes(alloc, entries)?;
+        let index = Index::of(alloc, notes)?;
         let list = PersistentList::of(alloc, entries)?;
         Ok(Table { list, index })
     }
@@ -96,7 +96,7 @@ impl Table {
         requires { IsPlace self.now.list entry.id index }
         ensures { IfOk result (λ table. table.list ≡ insert self.now.list index entry) }
     {
-        let noted = self.index.with(alloc, entry.link())?;
+        let noted = self.index.with(alloc, entry.note())?;
         let list = self.list.insert(alloc, index, entry)?;
         Ok(Table { list, index: noted })
     }
@@ -111,13 +111,13 @@ impl Table {
         Ok(Table { list, index: noted })
     }
 
-    // The index with the link of this entry in place of that of the one at the index.
+    // The index with the note of this entry in place of that of the one at the index.
     fn renoted(&self, alloc: Global, index: usize, entry: &Entry) -> Result<Index, Memory>
         requires { IsFoundAt self.now.list entry.now.id index }
         ensures { IfOk result (λ noted. AreNoted (slice_set self.now.list index entry.now) noted) }
     {
-        let others = self.index.without(alloc, self.list.at(index).link())?;
-        others.with(alloc, entry.link())
+        let others = self.index.without(alloc, self.list.at(index).note())?;
+        others.with(alloc, entry.note())
     }
 
     /// With a changed entry in its place.

@@ -1,8 +1,8 @@
 -- Joins of the vectors of versions.
-use Rattle.std.proofs.Common.{◌≡◌, ℕ, ◌+◌, ◌<◌, List, [], ◌∷◌, ◌++◌, length, get_or, take, sym, ap, ◌∙◌}
+use Rattle.std.proofs.Common.{◌≡◌, ℕ, ◌+◌, ◌<◌, List, [], ◌∷◌, ◌++◌, length, get_or, take, refl, sym, ap, ◌∙◌, arith}
 use Rattle.std.proofs.lemmas.List.{take_more}
 use Rattle.ficus_vv.specs.Vector.{Counts, no_counts, join}
-use Rattle.ficus_vv.specs.VectorLaws.{join_comm, join_assoc, join_covered, none_joined, covers_itself}
+use Rattle.ficus_vv.specs.VectorLaws.{join_comm, join_assoc, join_covered, none_joined, join_with_none, covers_itself}
 use Rattle.ficus_file.specs.declared.version.Version.{Version}
 use Rattle.ficus_file.specs.declared.file.FileReplica.{FileReplica}
 use Rattle.ficus_file.specs.Version.{join_all}
@@ -33,3 +33,12 @@ pub covered_twice : (file : FileReplica) → covered_file (covered_file file) �
 covered_twice file =
     let all : Counts = join_all file.versions in
     ap (λ v. record file { covered = v }) (join_assoc file.covered all all ∙ ap (join file.covered) (join_covered all all (covers_itself all)))
+
+-- what has no versions is the same once it is covered
+pub nothing_covered : (file : FileReplica) → length file.versions ≡ 0 → covered_file file ≡ file
+nothing_covered file none =
+    ap (λ v. record file { covered = v }) (ap (join file.covered) (none_to_join file.versions none) ∙ join_with_none file.covered)
+  where
+    none_to_join : (versions : List Version) → length versions ≡ 0 → join_all versions ≡ no_counts
+    none_to_join [] is = refl
+    none_to_join (version ∷ versions) is = absurd (omega (arith, is))

@@ -4,7 +4,7 @@ ghost use Rattle.ficus_file.specs.declared.version.Version.{Version as VersionVa
 ghost use Rattle.ficus_file.specs.Version.{join_all, HasTwoTexts};
 ghost use Rattle.ficus_file.specs.File.{over_all, made_file, advanced, covered_file, IsWellFormed, MayAdvance, HasUncovered};
 
-use crate::versions::joined;
+use crate::versions::{are_same, joined};
 use crate::{Version, Versions};
 use ficus_ids::{Id, Kind, Listed, Memory};
 use ficus_vv::Vector;
@@ -63,6 +63,16 @@ impl FileReplica {
             versions: self.versions.into_shared(alloc)?,
             covered: self.covered,
         })
+    }
+
+    /// Whether the two are one.
+    pub fn is_same_as(&self, other: &FileReplica) -> bool
+        ensures { IsTrue result ↔ (self.now ≡ other.now) }
+    {
+        self.id == other.id
+            && self.kind == other.kind
+            && self.covered == other.covered
+            && are_same(self.versions.items(), other.versions.items())
     }
 
     /// One version in place of all: over them, by a replica from 1 to 8, and with these bytes. Takes no memory.

@@ -11,7 +11,14 @@ use std::rc::Rc;
 /// A file that copies share, and beside it what it is once it is covered.
 #[derive(Drop)]
 pub(crate) struct Held {
-    both: Rc<Both>,
+    twins: Twins,
+}
+
+// What has no versions is the same once it is covered, and needs no second file.
+#[derive(Drop)]
+enum Twins {
+    Same(Rc<FileReplica>),
+    Differ(Rc<Both>),
 }
 
 #[derive(Drop)]
@@ -25,11 +32,11 @@ impl Model for Held {
 
     ghost Value = { FileValue };
 
-    ghost use Rattle.ficus_file.specs.Both.{IsTwin};
+    ghost use Rattle.ficus_file.specs.Twins.{first_of, AreTwins};
 
-    ghost view = { λ h. h.both.value.file };
+    ghost view = { λ h. first_of h.twins };
 
-    ghost invariant = { λ h. IsTwin h.both.value };
+    ghost invariant = { λ h. AreTwins h.twins };
 }
 
 impl Held {
@@ -37,25 +44,55 @@ impl Held {
     pub(crate) fn of(alloc: Global, file: FileReplica) -> Result<Held, Memory>
         ensures { IfOk result (λ held. held ≡ file) }
     {
+        if file.versions.items().is_empty() {
+            Held::alone(alloc, file)
+        } else {
+            Held::beside(alloc, file)
+        }
+    }
+
+    // A file that needs no second one.
+    fn alone(alloc: Global, file: FileReplica) -> Result<Held, Memory>
+        requires { covered_file file ≡ file }
+        ensures { IfOk result (λ held. held ≡ file) }
+    {
+        let file = Rc::new(alloc, file)?;
+        Ok(Held {
+            twins: Twins::Same(file),
+        })
+    }
+
+    // A file beside what it is once it is covered.
+    fn beside(alloc: Global, file: FileReplica) -> Result<Held, Memory>
+        ensures { IfOk result (λ held. held ≡ file) }
+    {
         let file = file.into_shared(alloc)?;
         let mut covered = file.copy(alloc)?;
         covered.cover();
         let both = Rc::new(alloc, Both { file, covered })?;
-        Ok(Held { both })
+        Ok(Held {
+            twins: Twins::Differ(both),
+        })
     }
 
     /// The file.
     pub(crate) fn file(&self) -> &FileReplica
         ensures { result.now ≡ self.now }
     {
-        &self.both.as_ref().file
+        match &self.twins {
+            Twins::Same(file) => file.as_ref(),
+            Twins::Differ(both) => &both.as_ref().file,
+        }
     }
 
     /// The file, covered.
     pub(crate) fn covered(&self) -> &FileReplica
         ensures { result.now ≡ covered_file self.now }
     {
-        &self.both.as_ref().covered
+        match &self.twins {
+            Twins::Same(file) => file.as_ref(),
+            Twins::Differ(both) => &both.as_ref().covered,
+        }
     }
 }
 
@@ -63,7 +100,10 @@ impl Item for Held {
     fn copied(&self) -> Result<Held, Memory>
         ensures { IfOk result (λ held. held ≡ self.now) }
     {
-        let both = self.both.clone()?;
-        Ok(Held { both })
+        let twins = match &self.twins {
+            Twins::Same(file) => Twins::Same(file.clone()?),
+            Twins::Differ(both) => Twins::Differ(both.clone()?),
+        };
+        Ok(Held { twins })
     }
 }

@@ -24,6 +24,13 @@ impl Version {
         })
     }
 
+    /// Whether the two are one.
+    pub fn is_same_as(&self, other: &Version) -> bool
+        ensures { IsTrue result ↔ (self.now ≡ other.now) }
+    {
+        self.vector == other.vector && self.has_bytes_of(other)
+    }
+
     /// Whether the two have the same bytes.
     pub fn has_bytes_of(&self, other: &Version) -> bool
         ensures { IsTrue result ↔ (self.now.bytes ≡ other.now.bytes) }

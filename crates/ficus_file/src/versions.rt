@@ -1,4 +1,4 @@
-ghost use Rattle.std.specs.Prelude.{◌≡◌, [], ◌∷◌, IfOk};
+ghost use Rattle.std.specs.Prelude.{◌≡◌, ◌↔◌, [], ◌∷◌, IfOk, IsTrue};
 ghost use Rattle.ficus_vv.specs.Vector.{join};
 ghost use Rattle.ficus_file.specs.Version.{join_all};
 
@@ -101,6 +101,21 @@ impl Versions {
             kept => Ok(Versions { kept }),
         }
     }
+}
+
+/// Whether the two lists have the same versions.
+pub(crate) fn are_same(versions: &[Version], others: &[Version]) -> bool
+    ensures { IsTrue result ↔ (versions.now ≡ others.now) }
+{
+    if versions.len() != others.len() {
+        return false;
+    }
+    for index in 0..versions.len() {
+        if !versions[index].is_same_as(&others[index]) {
+            return false;
+        }
+    }
+    true
 }
 
 /// The join of a vector and those of versions.

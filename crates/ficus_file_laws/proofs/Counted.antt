@@ -4,7 +4,8 @@ use Rattle.std.proofs.lemmas.Bool.{cases_eq, eqb-true}
 use Rattle.ficus_vv.specs.Vector.{Counts, count_of, bump, join as join_counts}
 use Rattle.ficus_vv.specs.VectorLaws.{bump_other, count_of-bump, count_of-join, count_of-none}
 use Rattle.ficus_file.specs.declared.version.Version.{Version}
-use Rattle.ficus_file.specs.File.{over_all}
+use Rattle.ficus_file.specs.File.{over_all, covered_file}
+use Rattle.ficus_file.specs.declared.file.FileReplica.{FileReplica}
 use Rattle.ficus_file.specs.Version.{join_all}
 use Rattle.ficus_version_laws.specs.Compared as items
 use Rattle.ficus_version_laws.specs.Listed as listed
@@ -52,3 +53,10 @@ written_counts by bytes versions from to =
     bumped_counts by (join_all versions) replica from to
     ∙ ap (λ count. if replica == by then count + 1 else count) (joined_all versions replica)) in
     λ i. record { vector = vector i; bytes = bytes } ∷ []
+
+-- the cover of a file whose versions are covered, in the terms of both
+pub covered_counts : (file : FileReplica) →
+    count_of (covered_file file).covered ≡ items.join (count_of file.covered) (listed.join_all (items_of file.versions))
+covered_counts file = same_counts _ _ (λ replica.
+    count_of-join file.covered (join_all file.versions) replica
+    ∙ ap (max (count_of file.covered replica)) (joined_all file.versions replica))

@@ -1,3 +1,4 @@
 pub mod Digest
+pub mod NoteLaws
 pub mod Place
 pub mod PlaceLaws

@@ -1,31 +1,30 @@
-ghost use Rattle.std.specs.Prelude.{◌≡◌, ◌≢◌, ◌⊎◌, ◌↔◌, ◌<◌, [], length, IfOk, IfSome, Contains};
-ghost use Rattle.ficus_index.specs.Place.{AreOrdered, IsSpan, IsLinkAt};
-ghost use Rattle.ficus_index.specs.declared.place.Link.{Link as LinkValue};
+ghost use Rattle.std.specs.Prelude.{◌≡◌, ◌<◌, [], ◌∷◌, length, slice_get, IfOk, IfSome, IfNone, Contains, IsPermutation};
+ghost use Rattle.ficus_index.specs.Place.{AreOrdered, IsSpan, IsNoteAt, TakesOne};
 
 use crate::place::Before;
-use crate::{Link, Place};
+use crate::{Note, Place};
 use ficus_ids::{Id, Memory};
 use ficus_persistent::PersistentList;
 use std::alloc::Global;
 use std::marker::Model;
 
-/// Links. Contracts see them as a list in the order of places. A copy shares all with them, and a change takes time
+/// Notes. Contracts see them as a list in the order of places. A copy shares all with them, and a change takes time
 /// for a logarithm of them alone.
 #[derive(Drop)]
 pub struct Index {
-    links: PersistentList<Link>,
+    notes: PersistentList<Note>,
 }
 
 impl Model for Index {
     ghost use Rattle.std.specs.Prelude.{List};
     ghost use Rattle.ficus_index.specs.Place.{AreOrdered};
-    ghost use Rattle.ficus_index.specs.declared.place.Link.{Link as LinkValue};
+    ghost use Rattle.ficus_index.specs.declared.place.Note.{Note as NoteValue};
 
-    ghost Value = { List LinkValue };
+    ghost Value = { List NoteValue };
 
-    ghost view = { λ index. index.links };
+    ghost view = { λ index. index.notes };
 
-    ghost invariant = { λ index. AreOrdered index.links };
+    ghost invariant = { λ index. AreOrdered index.notes };
 }
 
 /// Positions in an index, from the start up to the end.
@@ -36,86 +35,84 @@ pub struct Span {
 }
 
 impl Index {
-    /// No links. Takes no memory.
+    /// No notes. Takes no memory.
     pub fn new() -> Index
         ensures { result ≡ [] }
     {
         Index {
-            links: PersistentList::new(),
+            notes: PersistentList::new(),
         }
     }
 
-    /// The same links once more, in the same nodes.
+    /// The same notes once more, in the same nodes.
     pub fn copy(&self) -> Result<Index, Memory>
         ensures { IfOk result (λ index. index ≡ self.now) }
     {
-        let links = self.links.copy()?;
-        Ok(Index { links })
+        let notes = self.notes.copy()?;
+        Ok(Index { notes })
     }
 
-    /// The identifier in the link at a position, which is below the count of links.
+    /// The identifier in the note at a position, which is below the count of notes.
     pub fn id_at(&self, position: usize) -> Id
         requires { position < length self.now }
-        ensures { IsLinkAt self.now result position }
+        ensures { IsNoteAt self.now result position }
     {
-        self.links.at(position).id
+        self.notes.at(position).id
     }
 
-    /// The positions of all links from one place up to another.
+    /// The positions of all notes from one place up to another.
     pub fn span(&self, from: Place, to: Place) -> Span
         ensures { IsSpan self.now from to result.start result.end }
     {
-        let start = self.links.partition_point(&Before { place: from });
-        let end = self.links.partition_point(&Before { place: to });
+        let start = self.notes.partition_point(&Before { place: from });
+        let end = self.notes.partition_point(&Before { place: to });
         Span { start, end }
     }
 
-    /// The links and this one.
-    pub fn with(&self, alloc: Global, link: Link) -> Result<Index, Memory>
-        ensures { IfOk result (λ more.
-            (other : LinkValue) → Contains more other ↔ (Contains self.now other ⊎ (other ≡ link))) }
+    /// The notes and this one.
+    pub fn with(&self, alloc: Global, note: Note) -> Result<Index, Memory>
+        ensures { IfOk result (λ more. IsPermutation (note ∷ self.now) more) }
     {
-        let position = self.links.partition_point(&Before { place: link.place });
-        let links = self.links.insert(alloc, position, link)?;
-        Ok(Index { links })
+        let position = self.notes.partition_point(&Before { place: note.place });
+        let notes = self.notes.insert(alloc, position, note)?;
+        Ok(Index { notes })
     }
 
-    /// The links without one with the identifier of this link at its place, if there is one. All with other
-    /// identifiers stay.
-    pub fn without(&self, alloc: Global, link: Link) -> Result<Index, Memory>
-        ensures { IfOk result (λ fewer. (other : LinkValue) → other.id ≢ link.id → Contains self.now other
-            → Contains fewer other) }
+    /// The notes without one that equals this one, or the same notes where none does.
+    pub fn without(&self, alloc: Global, note: Note) -> Result<Index, Memory>
+        ensures { IfOk result (λ fewer. TakesOne self.now note fewer) }
     {
-        match self.position(link) {
+        match self.position(note) {
             Some(position) => {
-                let links = self.links.remove(alloc, position)?;
-                Ok(Index { links })
+                let notes = self.notes.remove(alloc, position)?;
+                Ok(Index { notes })
             }
             None => self.copy(),
         }
     }
 
-    /// An index of these links.
-    pub fn of(alloc: Global, links: Vec<Link>) -> Result<Index, Memory>
-        ensures { IfOk result (λ index. (link : LinkValue) → Contains index link ↔ Contains links.items link) }
+    /// An index of these notes, in nodes of the least height.
+    pub fn of(alloc: Global, notes: Vec<Note>) -> Result<Index, Memory>
+        ensures { IfOk result (λ index. IsPermutation notes.items index) }
     {
-        let mut links = links;
-        sort(&mut links);
-        let links = PersistentList::of(alloc, &links)?;
-        Ok(Index { links })
+        let mut notes = notes;
+        sort(&mut notes);
+        let notes = PersistentList::of(alloc, &notes)?;
+        Ok(Index { notes })
     }
 
-    // A position at which a link has the identifier of this one.
-    fn position(&self, link: Link) -> Option<usize>
-        ensures { IfSome result (IsLinkAt self.now link.id) }
+    // The first position at which a note equals this one.
+    fn position(&self, note: Note) -> Option<usize>
+        ensures some { IfSome result (λ position. slice_get self.now position ≡ Some note) }
+        ensures none { IfNone result (Contains self.now note → ⊥) }
     {
-        let first = self.links.partition_point(&Before { place: link.place });
-        for position in first..self.links.len() {
-            let other = self.links.at(position);
-            if other.id == link.id {
+        let first = self.notes.partition_point(&Before { place: note.place });
+        for position in first..self.notes.len() {
+            let other = *self.notes.at(position);
+            if other == note {
                 return Some(position);
             }
-            if link.place.is_before(other.place) {
+            if note.place.is_before(other.place) {
                 return None;
             }
         }
@@ -123,10 +120,10 @@ impl Index {
     }
 }
 
-// Puts links into the order of their places.
-fn sort(links: &mut Vec<Link>)
-    ensures ordered { AreOrdered links.new.items }
-    ensures same { (link : LinkValue) → Contains links.new.items link ↔ Contains links.old.items link }
+// Puts notes into the order of their places.
+fn sort(notes: &mut Vec<Note>)
+    ensures ordered { AreOrdered notes.new.items }
+    ensures same { IsPermutation notes.old.items notes.new.items }
 {
-    links.sort_unstable_by_key(|link| link.place.order());
+    notes.sort_unstable_by_key(|note| note.place.order());
 }

@@ -7,5 +7,5 @@ mod place;
 mod rank;
 
 pub use index::{Index, Span};
-pub use place::{Link, Place};
+pub use place::{Note, Place};
 pub use rank::{REMOVED, digest};

@@ -5,15 +5,15 @@ use ficus_ids::{Id, Memory};
 use ficus_persistent::{Cut, Item};
 
 /// Where an identifier is noted: by directory, and there by rank.
-#[derive(Clone, Copy)]
+#[derive(Clone, Copy, PartialEq, Eq)]
 pub struct Place {
     pub dir: Id,
     pub rank: u64,
 }
 
 /// That an identifier is noted at a place.
-#[derive(Clone, Copy)]
-pub struct Link {
+#[derive(Clone, Copy, PartialEq, Eq)]
+pub struct Note {
     pub place: Place,
     pub id: Id,
 }
@@ -34,8 +34,8 @@ impl Place {
     }
 }
 
-impl Item for Link {
-    fn copied(&self) -> Result<Link, Memory>
+impl Item for Note {
+    fn copied(&self) -> Result<Note, Memory>
         ensures { result ≡ Ok self.now }
     {
         Ok(*self)
@@ -48,10 +48,10 @@ pub(crate) struct Before {
     pub(crate) place: Place,
 }
 
-impl Cut<Link> for Before {
-    ghost is_before = { λ cut link. nat_lt (order_of link.place) (order_of cut.place) };
+impl Cut<Note> for Before {
+    ghost is_before = { λ cut note. nat_lt (order_of note.place) (order_of cut.place) };
 
-    fn is_before(&self, link: &Link) -> bool {
-        link.place.is_before(self.place)
+    fn is_before(&self, note: &Note) -> bool {
+        note.place.is_before(self.place)
     }
 }

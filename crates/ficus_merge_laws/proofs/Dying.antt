@@ -14,10 +14,10 @@ use Rattle.ficus_model.specs.Known.{Knows}
 use Rattle.ficus_model.specs.Live.{IsRemoved}
 use Rattle.ficus_model.specs.Knowledge.{KnowsThatKnows, KnowsThatAllKnow}
 use Rattle.ficus_model.specs.Held.{IsDropped}
-use Rattle.ficus_removal_laws.specs.Marks.{IsEnteredAs}
+use Rattle.ficus_removal_laws.specs.Marks.{IsEnteredAs, IsMarked}
 use Rattle.ficus_removal_laws.proofs.Carrying.{all_one}
 use Rattle.ficus_removal_laws.proofs.Hearing.{one_from_last, one_at_last, two_from_last, two_at_last, one_of_itself, two_of_itself}
-use Rattle.ficus_merge_laws.specs.States.{IsMarked, StandsAs}
+use Rattle.ficus_merge_laws.specs.States.{StandsAs}
 
 pub with_itself : (set : ℕ → Bool) (replica : ℕ) → IsTrue (with set replica replica)
 with_itself set replica = or_right (set replica) (replica == replica) (eq-eqb replica replica refl)

@@ -18,14 +18,14 @@ use Rattle.ficus_model.specs.Lawful.{Volume}
 use Rattle.ficus_model.specs.Knowledge.{KnowsThatKnows, KnowsThatAllKnow}
 use Rattle.ficus_model.specs.Held.{IsDropped}
 use Rattle.ficus_laws.proofs.Lawful.{lawful_more, lawful_member}
-use Rattle.ficus_removal_laws.specs.Marks.{IsEnteredAs, IsAbsent, IsTwoFull}
+use Rattle.ficus_removal_laws.specs.Marks.{IsEnteredAs, IsAbsent, IsMarked, IsTwoFull}
 use Rattle.ficus_removal_laws.specs.Laws.{IsAnswer}
 use Rattle.ficus_removal_laws.proofs.Carrying.{one_more, one_removed, all_more, all_one}
 use Rattle.ficus_removal_laws.proofs.Hearing.{one_from_last, one_at_last, two_from_last, two_at_last, one_of_itself}
 use Rattle.ficus_removal_laws.proofs.Removing.{removed_entered}
 use Rattle.ficus_removal_laws.proofs.Dropping.{dropped_more, dropped_cases, dropped_two, dropped_removed}
 use Rattle.ficus_removal_laws.proofs.Answering as answers
-use Rattle.ficus_merge_laws.specs.States.{IsMarked, StandsAs}
+use Rattle.ficus_merge_laws.specs.States.{StandsAs}
 use Rattle.ficus_merge_laws.proofs.Dying.{IsSaid, said_stands, with_itself, with_more, with_other}
 
 everyone_member : (members replica : ℕ) → IsTrue (everyone members replica) → IsMember members replica

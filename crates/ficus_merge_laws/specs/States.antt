@@ -9,23 +9,13 @@ use Rattle.ficus_model.specs.declared.event.Event.TheVariants.{Update, Ask, Serv
 use Rattle.ficus_model.specs.declared.event.Op.{Op}
 use Rattle.ficus_model.specs.Known.{Knows}
 use Rattle.ficus_model.specs.Live.{ModelEntry, entered_by, removed_by, IsRemoved}
-use Rattle.ficus_model.specs.Knowledge.{IsInOne, IsInTwo}
-use Rattle.ficus_model.specs.Held.{IsDropped}
 use Rattle.ficus_laws.specs.Updates.{next_number}
-use Rattle.ficus_removal_laws.specs.Marks.{IsEnteredAs, IsAbsent}
+use Rattle.ficus_removal_laws.specs.Marks.{IsEnteredAs, IsAbsent, IsMarked}
 
 -- the entry is alive
 pub record IsAlive (H : List Event) (replica : ℕ) (id : Id) : Type 0 where
   pub entered : IsEnteredAs H (Knows H replica) id
   pub not_removed : IsRemoved H (Knows H replica) id → ⊥
-
--- the entry is removed and held, and these are exactly its two sets of marks
-pub record IsMarked (members : ℕ) (H : List Event) (replica : ℕ) (id : Id) (one two : ℕ) : Type 0 where
-  pub entered : IsEnteredAs H (Knows H replica) id
-  pub removed : IsRemoved H (Knows H replica) id
-  pub held : IsDropped members H replica id → ⊥
-  pub first : (peer : ℕ) → IsTrue (has one peer) ↔ IsInOne H replica peer id
-  pub second : (peer : ℕ) → IsTrue (has two peer) ↔ IsInTwo members H replica peer id
 
 -- the state is what the history gives: `None` stands for an entry that isn't held
 abbrev pub StandsAs : ℕ → List Event → ℕ → Id → Option State → Type 0

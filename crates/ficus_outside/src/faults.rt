@@ -36,7 +36,7 @@ impl Faults {
 
     /// What the write of a piece came to: its count, but an error is a fault, and so is nothing of a piece that isn't
     /// empty.
-    pub(crate) fn settle(
+    pub(crate) fn judge(
         &mut self,
         written: io::Result<usize>,
         piece: &[u8],

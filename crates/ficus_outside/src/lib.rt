@@ -18,5 +18,6 @@ pub use mem_sink::{MEM_SINK_ROOM, MemSink};
 pub use mem_source::MemSource;
 pub use sink::Sink;
 pub use source::Source;
-pub use std_sink::StdSink;
+pub use std_sink::{Output, StdSink};
 pub use std_source::StdSource;
+pub use writer_sink::{WriterSink, write_through};

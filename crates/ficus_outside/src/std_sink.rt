@@ -1,53 +1,25 @@
-ghost use Rattle.std.specs.Prelude.{◌≡◌, ◌<◌, ◌≤◌, ◌⊎◌, [], length, Ok, IfOk, OnErr};
-ghost use Rattle.std.specs.Io.KnownBytes.{WriteAppends};
-ghost use Rattle.ficus_outside.specs.Faults.{Rose};
-ghost use Rattle.ficus_outside.specs.Stream.{StreamState};
+ghost use Rattle.std.specs.Prelude.{◌≡◌};
 
 use crate::writer_sink::WriterSink;
-use crate::{Failed, Sink};
 use std::io;
 use std::io::{Print, Write};
-use std::marker::Model;
 
-/// The standard output of a runtime. It keeps no buffer, and tells nothing of what was put.
-#[derive(Drop)]
-pub struct StdSink<R: Print + Clone + Drop> {
-    sink: WriterSink<Output<R>>,
-}
+/// The standard output of a runtime as a sink. It keeps no buffer, and tells nothing of what was put.
+pub type StdSink<R> = WriterSink<Output<R>>;
 
-// Contracts see the count of faults.
-impl<R: Print + Clone + Drop> Model for StdSink<R> {
-    ghost Value = { StreamState };
-
-    ghost view = { λ s. s.sink };
-}
-
-impl<R: Print + Clone + Drop> StdSink<R> {
+impl<R: Print + Clone + Drop> WriterSink<Output<R>> {
     /// The standard output of `rt`, with no fault counted.
     pub fn new(rt: R) -> StdSink<R>
         ensures { result.faults ≡ 0 }
     {
-        StdSink {
-            sink: WriterSink::new(Output { rt }),
-        }
+        WriterSink::over(Output { rt })
     }
 }
 
-impl<R: Print + Clone + Drop> Sink for StdSink<R> {
-    ghost tells = { ⊥ };
-
-    ghost written = { λ _. [] };
-
-    ghost faults = { λ s. s.faults };
-
-    fn put(&mut self, bytes: &[u8]) -> Result<usize, Failed> {
-        self.sink.put(bytes)
-    }
-}
-
-// The output of a runtime as a writer that owns the runtime.
+/// The output of a runtime as a writer that owns the runtime. That its answers are the runtime's is tested alone, since
+/// no clause says what a runtime prints.
 #[derive(Drop)]
-struct Output<R: Print + Clone + Drop> {
+pub struct Output<R: Print + Clone + Drop> {
     rt: R,
 }
 

@@ -13,7 +13,7 @@ use std::marker::Model;
 
 /// A writer as a sink. It counts the writer's faults, keeps no buffer, and tells nothing of what was put.
 #[derive(Drop)]
-pub(crate) struct WriterSink<W: Write + Drop> {
+pub struct WriterSink<W: Write + Drop> {
     writer: W,
     faults: Faults,
 }
@@ -26,7 +26,7 @@ impl<W: Write + Drop> Model for WriterSink<W> {
 
 impl<W: Write + Drop> WriterSink<W> {
     /// The writer, with no fault counted.
-    pub(crate) fn new(writer: W) -> WriterSink<W>
+    pub(crate) fn over(writer: W) -> WriterSink<W>
         ensures { result ≡ record { known = W.contents writer; faults = 0 } }
     {
         WriterSink {
@@ -55,12 +55,12 @@ impl<W: Write + Drop> Sink for WriterSink<W> {
         ensures written { WriteAppends self.old.known self.new.known result bytes.now }
     {
         let written = write_through(&mut self.writer, bytes);
-        self.faults.settle(written, bytes)
+        self.faults.judge(written, bytes)
     }
 }
 
-// One write, tried again where it was interrupted.
-fn write_through<W: Write>(writer: &mut W, bytes: &[u8]) -> io::Result<usize>
+/// One write, tried again where it was interrupted.
+pub fn write_through<W: Write>(writer: &mut W, bytes: &[u8]) -> io::Result<usize>
     ensures within { WritesAtMost result bytes.now }
     ensures written { WriteAppends (W.contents writer.old) (W.contents writer.new) result bytes.now }
     ensures tried { IfErr result (λ error. error_kind error ≢ ErrorKind.Interrupted) }

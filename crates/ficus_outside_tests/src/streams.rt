@@ -151,6 +151,40 @@ fn shows(alloc: Global, row: &Put) -> bool {
     puts(&screen, row) && screen.shown.into_inner().as_slice() == row.shown.as_bytes()
 }
 
+/// What the runtime's call does with a piece of 70,000 bytes, and what the put of it answers.
+const LONG: [(&[Turn], Result<usize, Failed>); 4] = [
+    (&[], Ok(70_000)),
+    (&[Turn::Moves(65_537)], Ok(65_537)),
+    (&[Turn::Moves(0)], Err(Failed)),
+    (&[Turn::Fails], Err(Failed)),
+];
+
+// Whether the put of the piece answers so, and the screen then shows as much of it.
+fn shows_long(
+    alloc: Global,
+    turns: &'static [Turn],
+    piece: &[u8],
+    answer: Result<usize, Failed>,
+) -> bool {
+    let screen = Screen {
+        shown: RefCell::new(Vec::new(alloc)),
+        turns: Cell::new(turns),
+    };
+    let is_as_told = StdSink::new(&screen).put(piece) == answer;
+    let shown = answer.unwrap_or(0).min(piece.len());
+    is_as_told && screen.shown.into_inner().as_slice() == &piece[..shown]
+}
+
+#[test]
+fn a_sink_takes_long_pieces(rt: HostRuntime) -> Result<(), Fail> {
+    let piece = vec![in rt.alloc(); b'a'; 70_000]?;
+    for (row, (turns, answer)) in LONG.iter().enumerate() {
+        let is = shows_long(rt.alloc(), turns, &piece, *answer);
+        assert!(rt; is, "row {row}");
+    }
+    Ok(())
+}
+
 #[test]
 fn a_sink_takes_what_its_runtime_takes(rt: HostRuntime) -> Result<(), Fail> {
     for (row, put) in PUT.iter().enumerate() {

@@ -1,2 +1,3 @@
 pub mod Cut
 pub mod Node
+pub mod Shape

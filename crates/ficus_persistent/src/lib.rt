@@ -2,6 +2,11 @@
 //! a balanced tree anew.
 #![tactic(auto)]
 
+mod item;
+mod laws;
 mod list;
+mod tree;
 
-pub use list::{Cut, Item, PersistentList};
+pub use item::{Cut, Item};
+pub use laws::low_is_a_logarithm;
+pub use list::PersistentList;

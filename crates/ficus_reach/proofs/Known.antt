@@ -8,8 +8,8 @@ use Rattle.ficus_entry.specs.declared.entry.Entry.{Entry}
 use Rattle.ficus_entry.specs.declared.entry.State.TheVariants.{Live}
 use Rattle.ficus_reach.proofs.Taken.{Contains-take_more}
 use Rattle.ficus_reach.specs.Leads.{LeadsIn}
-use Rattle.ficus_reach.specs.Link.{Links}
-use Rattle.ficus_reach.specs.declared.link.Link.{Link}
+use Rattle.ficus_reach.specs.Edge.{Edges}
+use Rattle.ficus_reach.specs.declared.edge.Edge.{Edge}
 
 leads_in : {xs : List Entry} {dir object : Id} (known : LeadsIn xs dir object) (ys : List Entry) →
     Contains ys known.entry → LeadsIn ys dir object
@@ -24,9 +24,9 @@ leads_in known ys inside = record {
 pub leads_none : (entries : List Entry) (dir object : Id) → LeadsIn (take 0 entries) dir object → ⊥
 leads_none entries dir object known = absurd (omega (arith, known.inside.1))
 
--- the links are those of the live entries in front of the place
-abbrev pub AreLinks : List Link → List Entry → ℕ → Type 0
-AreLinks links entries index = (dir object : Id) → Links links dir object ↔ LeadsIn (take index entries) dir object
+-- the edges are those of the live entries in front of the place
+abbrev pub AreEdges : List Edge → List Entry → ℕ → Type 0
+AreEdges edges entries index = (dir object : Id) → Edges edges dir object ↔ LeadsIn (take index entries) dir object
 
 module _ (entries : List Entry) (index : ℕ) (entry : Entry) (at : slice_get entries index ≡ Some entry) where
   more : (other : Entry) → Contains (take (index + 1) entries) other ↔
@@ -48,27 +48,27 @@ module _ (entries : List Entry) (index : ℕ) (entry : Entry) (at : slice_get en
         | inr here ↦ inr (ap (λ e. e.state) (sym here) ∙ known.live, ap (λ e. e.dir) (sym here) ∙ known.in_dir, ap (λ e. e.target) (sym here) ∙ known.leads)
       ]
 
-  -- a live entry has a link
-  pub links_push : (links : List Link) → entry.state ≡ Live → AreLinks links entries index →
-      AreLinks (links ++ record { dir = entry.dir; target = entry.target } ∷ []) entries (index + 1)
-  links_push links live known dir object =
-      let pushed : Link = record { dir = entry.dir; target = entry.target } in (
-        λ inside. elim (Contains-push_cases links pushed (record { dir = dir; target = object }) inside) [
+  -- a live entry has an edge
+  pub edges_push : (edges : List Edge) → entry.state ≡ Live → AreEdges edges entries index →
+      AreEdges (edges ++ record { dir = entry.dir; target = entry.target } ∷ []) entries (index + 1)
+  edges_push edges live known dir object =
+      let pushed : Edge = record { dir = entry.dir; target = entry.target } in (
+        λ inside. elim (Contains-push_cases edges pushed (record { dir = dir; target = object }) inside) [
           | inl before ↦ leads_before ((known dir object).0 before)
           | inr same ↦ record { entry = entry; inside = (more entry).1 (inr refl); live = live; in_dir = ap (λ l. l.dir) same; leads = ap (λ l. l.target) same }
         ],
         λ leads. elim (leads_cases leads) [
-          | inl before ↦ Contains-append_left links (pushed ∷ []) (record { dir = dir; target = object }) ((known dir object).1 before)
+          | inl before ↦ Contains-append_left edges (pushed ∷ []) (record { dir = dir; target = object }) ((known dir object).1 before)
           | inr here ↦
               let same : pushed ≡ record { dir = dir; target = object } = λ i. record { dir = here.1 i; target = here.2 i } in
-              subst (Contains (links ++ pushed ∷ [])) same (Contains-push links pushed)
+              subst (Contains (edges ++ pushed ∷ [])) same (Contains-push edges pushed)
         ],
       )
 
   -- a dead one has none
-  pub links_stay : (links : List Link) → (entry.state ≡ Live → ⊥) → AreLinks links entries index →
-      AreLinks links entries (index + 1)
-  links_stay links dead known dir object = (
+  pub edges_stay : (edges : List Edge) → (entry.state ≡ Live → ⊥) → AreEdges edges entries index →
+      AreEdges edges entries (index + 1)
+  edges_stay edges dead known dir object = (
     λ inside. leads_before ((known dir object).0 inside),
     λ leads. elim (leads_cases leads) [
       | inl before ↦ (known dir object).1 before

@@ -1,4 +1,4 @@
--- The links out of one directory stand next to each other, where the directories don't fall.
+-- The edges out of one directory stand next to each other, where the directories don't fall.
 use Rattle.std.specs.Prelude.{◌≡◌, ◌↔◌, ℕ, ◌+◌, ◌-◌, ◌<◌, ◌≤◌, true, false, List, length, take, drop, Contains, nat_le, Some}
 use Rattle.std.specs.declared.cmp.Ordering.{Ordering}
 use Rattle.std.specs.declared.cmp.Ordering.TheVariants.{Less, Equal, Greater}
@@ -12,12 +12,12 @@ use Rattle.std.proofs.lemmas.List.Sorted.{searchable_from_sorted}
 use Rattle.ficus_ids.specs.declared.id.Id.{Id}
 use Rattle.ficus_ids.specs.Id.{id_cmp}
 use Rattle.ficus_ids.specs.IdLaws.{id_cmp_total, id_cmp-self, id_cmp-Equal, id_cmp-partial}
-use Rattle.ficus_reach.specs.Link.{IsSortedByDir}
-use Rattle.ficus_reach.specs.declared.link.Link.{Link}
+use Rattle.ficus_reach.specs.Edge.{IsSortedByDir}
+use Rattle.ficus_reach.specs.declared.edge.Edge.{Edge}
 
 -- where a directory stands to the one wanted: 0 below it, 1 at it, 2 above it
-abbrev pub standing : Id → Link → ℕ
-standing dir link = ordering_index (id_cmp link.dir dir)
+abbrev pub standing : Id → Edge → ℕ
+standing dir edge = ordering_index (id_cmp edge.dir dir)
 
 below_test : (answer : Ordering) → is_lt answer ≡ nat_le (ordering_index answer) 0
 below_test Less = refl
@@ -30,32 +30,32 @@ within_test Equal = refl
 within_test Greater = refl
 
 -- what `<` and `<=` answer at directories
-pub below_answers : (link dir : Id) →
+pub below_answers : (edge dir : Id) →
     is_some_and is_lt
-    (partial_ordering_then (Some (nat_cmp link.replica dir.replica)) (Some (nat_cmp link.number dir.number))) ≡
-    nat_le (ordering_index (id_cmp link dir)) 0
-below_answers link dir = id_cmp-partial is_lt link dir ∙ below_test (id_cmp link dir)
+    (partial_ordering_then (Some (nat_cmp edge.replica dir.replica)) (Some (nat_cmp edge.number dir.number))) ≡
+    nat_le (ordering_index (id_cmp edge dir)) 0
+below_answers edge dir = id_cmp-partial is_lt edge dir ∙ below_test (id_cmp edge dir)
 
-pub within_answers : (link dir : Id) →
+pub within_answers : (edge dir : Id) →
     is_some_and is_le
-    (partial_ordering_then (Some (nat_cmp link.replica dir.replica)) (Some (nat_cmp link.number dir.number))) ≡
-    nat_le (ordering_index (id_cmp link dir)) 1
-within_answers link dir = id_cmp-partial is_le link dir ∙ within_test (id_cmp link dir)
+    (partial_ordering_then (Some (nat_cmp edge.replica dir.replica)) (Some (nat_cmp edge.number dir.number))) ≡
+    nat_le (ordering_index (id_cmp edge dir)) 1
+within_answers edge dir = id_cmp-partial is_le edge dir ∙ within_test (id_cmp edge dir)
 
 is_equal : (answer : Ordering) → ordering_index answer ≡ 1 → answer ≡ Equal
 is_equal Less one = absurd (omega (arith, one))
 is_equal Equal one = refl
 is_equal Greater one = absurd (omega (arith, one))
 
--- the links out of the directory stand at 1
-pub at_dir : (dir : Id) (link : Link) → (standing dir link ≡ 1) ↔ (link.dir ≡ dir)
-at_dir dir link = (
-  λ one. id_cmp-Equal link.dir dir (is_equal (id_cmp link.dir dir) one),
+-- the edges out of the directory stand at 1
+pub at_dir : (dir : Id) (edge : Edge) → (standing dir edge ≡ 1) ↔ (edge.dir ≡ dir)
+at_dir dir edge = (
+  λ one. id_cmp-Equal edge.dir dir (is_equal (id_cmp edge.dir dir) one),
   λ same. ap ordering_index (ap (λ d. id_cmp d dir) same ∙ id_cmp-self dir),
 )
 
-pub standings_rise : (links : List Link) (dir : Id) → IsSortedByDir links → IsNonDecreasingBy (standing dir) links
-standings_rise links dir sorted = searchable_from_sorted id_cmp_total (λ link. link.dir) links dir sorted
+pub standings_rise : (edges : List Edge) (dir : Id) → IsSortedByDir edges → IsNonDecreasingBy (standing dir) edges
+standings_rise edges dir sorted = searchable_from_sorted id_cmp_total (λ edge. edge.dir) edges dir sorted
 
 module _ {X : Type 0} (n : X → ℕ) (xs : List X) (start end : ℕ)
     (first : IsPartitionPoint (λ x. nat_le (n x) 0 ≡ true) (λ x. nat_le (n x) 0 ≡ false) xs start)
@@ -105,13 +105,13 @@ Contains-between {X} n xs rest start end is_rest first second x =
     subst (λ l. Contains (take end l) x ↔ (Contains xs x × (n x ≡ 1))) (sym is_rest)
     (there n xs start end first point x, back n xs start end first point x)
 
--- the links between the two places are those out of the directory
-pub links_between : (links rest : List Link) (dir : Id) (start end : ℕ) → rest ≡ drop start links →
-    IsPartitionPoint (λ l. nat_le (standing dir l) 0 ≡ true) (λ l. nat_le (standing dir l) 0 ≡ false) links start →
+-- the edges between the two places are those out of the directory
+pub edges_between : (edges rest : List Edge) (dir : Id) (start end : ℕ) → rest ≡ drop start edges →
+    IsPartitionPoint (λ l. nat_le (standing dir l) 0 ≡ true) (λ l. nat_le (standing dir l) 0 ≡ false) edges start →
     IsPartitionPoint (λ l. nat_le (standing dir l) 1 ≡ true) (λ l. nat_le (standing dir l) 1 ≡ false) rest end →
-    (link : Link) → Contains (take end rest) link ↔ (Contains links link × (link.dir ≡ dir))
-links_between links rest dir start end is_rest first second link =
-    let between = Contains-between (standing dir) links rest start end is_rest first second link in (
-      λ inside. ((between.0 inside).0, (at_dir dir link).0 (between.0 inside).1),
-      λ out. between.1 (out.0, (at_dir dir link).1 out.1),
+    (edge : Edge) → Contains (take end rest) edge ↔ (Contains edges edge × (edge.dir ≡ dir))
+edges_between edges rest dir start end is_rest first second edge =
+    let between = Contains-between (standing dir) edges rest start end is_rest first second edge in (
+      λ inside. ((between.0 inside).0, (at_dir dir edge).0 (between.0 inside).1),
+      λ out. between.1 (out.0, (at_dir dir edge).1 out.1),
     )

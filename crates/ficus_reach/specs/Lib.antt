@@ -1,4 +1,4 @@
 pub mod Found
 pub mod Leads
-pub mod Link
+pub mod Edge
 pub mod ReachedLaws

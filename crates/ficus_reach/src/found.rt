@@ -1,10 +1,10 @@
-ghost use Rattle.std.specs.Prelude.{◌≡◌, ◌↔◌, [], Contains, IfOk, OnOk};
+ghost use Rattle.std.specs.Prelude.{◌≡◌, ◌↔◌, [], Contains, IsTrue, IfOk, OnOk};
 ghost use Rattle.ficus_ids.specs.Rising.{IsRisingBy};
 ghost use Rattle.ficus_ids.specs.declared.id.Id.{Id as IdValue};
 ghost use Rattle.ficus_reach.specs.Found.{IsTracked, Gains};
-ghost use Rattle.ficus_reach.specs.Link.{Links};
+ghost use Rattle.ficus_reach.specs.Edge.{Edges};
 
-use crate::link::Link;
+use crate::edge::Edge;
 use ficus_ids::{Id, Memory};
 use std::alloc::Global;
 use std::collections::BTreeSet;
@@ -40,15 +40,15 @@ impl Found {
         Ok(())
     }
 
-    /// Adds the objects to which the links lead.
-    pub fn add_targets(&mut self, links: &[Link]) -> Result<(), Memory>
+    /// Adds the objects to which the edges lead.
+    pub fn add_targets(&mut self, edges: &[Edge]) -> Result<(), Memory>
         requires { IsTracked self.old.set self.old.order.items }
         ensures tracked { OnOk result (IsTracked self.new.set self.new.order.items) }
         ensures gains { OnOk result (Gains self.old.order.items self.new.order.items
-            (λ gained. (dir : IdValue) × Links links.now dir gained)) }
+            (λ gained. (dir : IdValue) × Edges edges.now dir gained)) }
     {
-        for link in links {
-            self.add(link.target)?;
+        for edge in edges {
+            self.add(edge.target)?;
         }
         Ok(())
     }
@@ -63,6 +63,14 @@ impl Found {
             self.add(*object)?;
         }
         Ok(())
+    }
+
+    /// Whether the object was found.
+    pub fn has(&self, object: Id) -> bool
+        requires { IsTracked self.now.set self.now.order.items }
+        ensures { IsTrue result ↔ Contains self.now.order.items object }
+    {
+        self.set.contains(&object)
     }
 
     /// The objects, rising.

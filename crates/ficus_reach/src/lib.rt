@@ -1,8 +1,8 @@
 //! Which objects are reached along the live entries of a list.
 #![tactic(auto)]
 
+mod edge;
 mod found;
-mod link;
 mod search;
 
-pub use search::reached;
+pub use search::{below, reached};

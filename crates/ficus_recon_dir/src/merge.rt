@@ -4,7 +4,7 @@ ghost use Rattle.ficus_entry.specs.Entry.{IsRising};
 ghost use Rattle.ficus_recon_dir.specs.Merge.{MergesEntries, Replaces};
 
 use crate::rule::made_by;
-use crate::rules::{Change, Whole};
+use crate::rules::{Difference, Whole};
 use crate::table::Taker;
 use ficus_entry::{Entries, Entry};
 use ficus_ids::{Members, Memory};
@@ -25,7 +25,7 @@ pub fn merge_entries(
 {
     let my_entries = mine.in_order()?;
     let their_entries = theirs.in_order()?;
-    let rule = Change {
+    let rule = Difference {
         taker: Taker::new(me, members),
     };
     let changes = made_by(alloc, 0, &rule, &my_entries, &their_entries)?;

@@ -30,11 +30,11 @@ impl Rule for Whole {
 
 /// What the table makes, where it isn't what stands at the taker.
 #[derive(Clone, Copy)]
-pub(crate) struct Change {
+pub(crate) struct Difference {
     pub(crate) taker: Taker,
 }
 
-impl Rule for Change {
+impl Rule for Difference {
     ghost use Rattle.ficus_recon_dir.specs.MergeLaws.{nothing_merges, change_has_id};
 
     ghost Makes = { λ rule. Changes rule.taker.number rule.taker.members };

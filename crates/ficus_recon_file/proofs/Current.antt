@@ -24,7 +24,7 @@ not_same_vector versions i j d ordered before within same =
     not_before_itself (get_or versions j d).vector (subst (λ v. vector_cmp v (get_or versions j d).vector ≡ Less) same (ordered i j d before within))
 
 -- in an ordered list a vector stands once
-one_version : (versions : List Version) (a b : Version) → AreOrdered versions → Contains versions a →
+pub one_version : (versions : List Version) (a b : Version) → AreOrdered versions → Contains versions a →
     Contains versions b → a.vector ≡ b.vector → a ≡ b
 one_version versions a b ordered (i, within_i, is_a) (j, within_j, is_b) same =
     let at_b : get_or versions j a ≡ b = get_or_default versions j a b within_j ∙ is_b in

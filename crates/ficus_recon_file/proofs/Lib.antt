@@ -6,4 +6,5 @@ pub mod Determined
 pub mod FitSoFar
 pub mod Inserted
 pub mod Kept
+pub mod New
 pub mod Walk

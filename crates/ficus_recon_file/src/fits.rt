@@ -6,7 +6,7 @@ ghost use Rattle.ficus_recon_file.specs.Merge.{AgreeOnBytes, CanMerge, Fit};
 ghost use Rattle.ficus_recon_file.specs.Versions.{HasVector, IsLatest, AreOrdered, AreOfEither, HaveOneText};
 ghost use Rattle.ficus_recon_file.specs.Counts.{HaveSameVectors, Grows, MakeSoMany};
 
-use crate::SideBySide;
+use crate::News;
 use crate::versions::{has_vector, is_latest};
 use ficus_file::{FileReplica, Version};
 use ficus_ids::Kind;
@@ -108,13 +108,13 @@ fn can_merge(mine: &FileReplica, theirs: &FileReplica) -> bool
 
 /// Whether two lists of files can be merged: no object is in both with different kinds, no file of both has one
 /// vector with different bytes in the two, and no file of both would keep more than 8 versions. Takes no memory.
-pub fn merge_fits(sides: &SideBySide<'_>) -> bool
-    ensures { IsTrue result ↔ Fit sides.now.mine sides.now.theirs }
+pub fn merge_fits(news: &News<'_>) -> bool
+    ensures { IsTrue result ↔ Fit news.now.mine news.now.theirs }
 {
-    for index in 0..sides.len() {
-        let pair = sides.at(index);
-        if let Some(file) = pair.mine {
-            if !can_merge(file, pair.theirs) {
+    for index in 0..news.len() {
+        let new = news.at(index);
+        if let Some(file) = new.mine {
+            if !can_merge(file, new.theirs) {
                 return false;
             }
         }

@@ -4,12 +4,10 @@
 mod fits;
 mod laws;
 mod merge;
-mod pair;
-mod sides;
+mod news;
 mod versions;
 
 pub use fits::merge_fits;
 pub use laws::one_merge;
 pub use merge::merge_files;
-pub use pair::Pair;
-pub use sides::SideBySide;
+pub use news::{NewFile, News};

@@ -3,7 +3,7 @@ ghost use Rattle.ficus_ids.specs.Rising.{IsRisingBy};
 ghost use Rattle.ficus_file.specs.Files.{AreFiles, IsHeldFile, id_of, Puts};
 ghost use Rattle.ficus_recon_file.specs.Merge.{CanMerge, Fit, IsMergedFile, AreMergedFiles};
 
-use crate::SideBySide;
+use crate::News;
 use crate::versions::{is_whole, merged_versions};
 use ficus_file::{FileReplica, Files};
 use ficus_ids::{Id, Memory};
@@ -51,41 +51,36 @@ fn is_among(ids: &[Id], id: Id) -> bool
 /// What the files of two replicas make together. Every file of mine stays. A file of both has exactly the versions
 /// that no version of either is over, and the join of the covers. A file of theirs alone is taken exactly where its
 /// identifier is in `held`, the rising list of those that entries held afterwards name or lie in.
-pub fn merge_files(alloc: Global, sides: &SideBySide<'_>, held: &[Id]) -> Result<Files, Memory>
-    requires fit { Fit sides.now.mine sides.now.theirs }
+pub fn merge_files(alloc: Global, news: &News<'_>, held: &[Id]) -> Result<Files, Memory>
+    requires fit { Fit news.now.mine news.now.theirs }
     requires rising { IsRisingBy (λ id. id) held.now }
-    ensures merged { IfOk result (AreMergedFiles held.now sides.now.mine sides.now.theirs) }
+    ensures merged { IfOk result (AreMergedFiles held.now news.now.mine news.now.theirs) }
     ensures files { IfOk result AreFiles }
 {
-    let mut both = sides.mine().copy()?;
-    merge_into(&mut both, alloc, sides, held)?;
+    let mut both = news.mine().copy()?;
+    merge_into(&mut both, alloc, news, held)?;
     Ok(both)
 }
 
 // Puts what the peer's files add into a copy of mine.
-fn merge_into(
-    both: &mut Files,
-    alloc: Global,
-    sides: &SideBySide<'_>,
-    held: &[Id],
-) -> Result<(), Memory>
-    requires same { both.old ≡ sides.now.mine }
-    requires fit { Fit sides.now.mine sides.now.theirs }
+fn merge_into(both: &mut Files, alloc: Global, news: &News<'_>, held: &[Id]) -> Result<(), Memory>
+    requires same { both.old ≡ news.now.mine }
+    requires fit { Fit news.now.mine news.now.theirs }
     requires rising { IsRisingBy (λ id. id) held.now }
-    ensures merged { OnOk result (AreMergedFiles held.now sides.now.mine sides.now.theirs both.new) }
+    ensures merged { OnOk result (AreMergedFiles held.now news.now.mine news.now.theirs both.new) }
     ensures files { OnOk result (AreFiles both.new) }
 {
-    for index in 0..sides.len() {
-        let pair = sides.at(index);
-        match pair.mine {
+    for index in 0..news.len() {
+        let new = news.at(index);
+        match new.mine {
             Some(file) => {
-                if !adds_nothing(file, pair.theirs) {
-                    both.put(merged_file(alloc, file, pair.theirs)?)?;
+                if !adds_nothing(file, new.theirs) {
+                    both.put(merged_file(alloc, file, new.theirs)?)?;
                 }
             }
             None => {
-                if is_among(held, pair.theirs.id) {
-                    both.put(pair.theirs.copy(alloc)?)?;
+                if is_among(held, new.theirs.id) {
+                    both.put(new.theirs.copy(alloc)?)?;
                 }
             }
         }

@@ -1,11 +1,12 @@
 -- How the marks of an entry stand before and after an event.
-use Rattle.std.specs.Prelude.{◌≡◌, ◌↔◌, ◌⊎◌, ℕ, ◌≤◌, List, Contains}
+use Rattle.std.specs.Prelude.{◌≡◌, ◌↔◌, ◌⊎◌, ℕ, ◌≤◌, List, IsTrue, Contains}
+use Rattle.ficus_ids.specs.Marks.{has}
 use Rattle.ficus_ids.specs.Members.{IsMember}
 use Rattle.ficus_ids.specs.declared.id.Id.{Id}
 use Rattle.ficus_model.specs.declared.event.Event.{Event}
 use Rattle.ficus_model.specs.declared.event.Event.TheVariants.{Update, Ask, Serve, Accept, Collect, Restart}
 use Rattle.ficus_model.specs.Known.{Knows}
-use Rattle.ficus_model.specs.Live.{ModelEntry, removed_by, IsEntered}
+use Rattle.ficus_model.specs.Live.{ModelEntry, removed_by, IsEntered, IsRemoved}
 use Rattle.ficus_model.specs.Knowledge.{IsHeard, IsInOne, IsInTwo}
 use Rattle.ficus_model.specs.Held.{IsDropped, IsHeldEntry}
 use Rattle.ficus_laws.specs.Updates.{next_number}
@@ -41,6 +42,15 @@ pub record IsEnteredAs (H : List Event) (U : ℕ → Type 0) (id : Id) : Type 0 
 -- the replica holds nothing under this identifier: where it knows the entry, it has dropped it
 abbrev pub IsAbsent : ℕ → List Event → ℕ → Id → Type 0
 IsAbsent members H replica id = IsEnteredAs H (Knows H replica) id → IsDropped members H replica id
+
+-- the entry is removed and held, and these sets have exactly the members that are known to know of its removal, and those
+-- that are known to know that all know of it
+pub record IsMarked (members : ℕ) (H : List Event) (replica : ℕ) (id : Id) (one two : ℕ) : Type 0 where
+  pub entered : IsEnteredAs H (Knows H replica) id
+  pub removed : IsRemoved H (Knows H replica) id
+  pub held : IsDropped members H replica id → ⊥
+  pub first : (peer : ℕ) → IsTrue (has one peer) ↔ IsInOne H replica peer id
+  pub second : (peer : ℕ) → IsTrue (has two peer) ↔ IsInTwo members H replica peer id
 
 -- a removal begins: the replica holds the entry, is alone in its first set, and nobody is in the second
 pub record IsBegun (members : ℕ) (H : List Event) (replica : ℕ) (id : Id) : Type 0 where

@@ -33,10 +33,10 @@ use Rattle.ficus_laws.proofs.Places.{entered_in_place, entered_target}
 use Rattle.ficus_removal_laws.specs.Laws.{IsAnswer}
 use Rattle.ficus_held_laws.specs.Entries.{IsKeptEntry}
 use Rattle.ficus_held_laws.proofs.Keeping.{merged_kept}
-use Rattle.ficus_held_files.specs.Laws.{AreTouched}
-use Rattle.ficus_held_files.specs.Tables.{AreHeldEntries, AreHeldFiles}
-use Rattle.ficus_held_files.proofs.Files.{file_of_history}
-use Rattle.ficus_held_files.proofs.Merging.{files_fit, files_merged}
+use Rattle.ficus_held_file_laws.specs.Laws.{AreTouched}
+use Rattle.ficus_held_file_laws.specs.Tables.{AreHeldEntries, AreHeldFiles}
+use Rattle.ficus_held_file_laws.proofs.Files.{file_of_history}
+use Rattle.ficus_held_file_laws.proofs.Merging.{files_fit, files_merged}
 use Rattle.ficus_replica.specs.declared.replica.Asked.{Asked}
 use Rattle.ficus_replica.specs.declared.replica.Replica.{Replica}
 use Rattle.ficus_replica.specs.Accept.{IsOpen, MayTake, AreTablesMerged, Accepted, AcceptGives, IsServed, AcceptStands}

@@ -14,23 +14,26 @@ use Rattle.ficus_path.specs.declared.path.Path.{Path}
 use Rattle.ficus_codec.specs.Saved.{FitsImage}
 use Rattle.ficus_laws.proofs.Lawful.{lawful_more}
 use Rattle.ficus_commands.specs.declared.change.Change.{Change}
-use Rattle.ficus_commands.specs.declared.change.Change.TheVariants.{MkDir, Create, Write, Settle, Resolve}
+use Rattle.ficus_commands.specs.declared.change.Change.TheVariants.{MkDir, Create, Write, Settle, Resolve, Rm, Ln, Mv}
 use Rattle.ficus_rules.specs.Change.{ChangeRule}
 use Rattle.ficus_rules.specs.Limits.{LimitsRule}
+use Rattle.ficus_rules.specs.Link.{LinkRule}
 use Rattle.ficus_rules.specs.Make.{MakeRule}
+use Rattle.ficus_rules.specs.Remove.{RemoveRule}
+use Rattle.ficus_rules.specs.Rename.{RenameRule}
 use Rattle.ficus_rules.specs.Rule.{Gives}
 use Rattle.ficus_rules.specs.View.{history_view}
 use Rattle.ficus_rules.specs.Walk.{FileRule, last_name}
 pub use Rattle.ficus_rules.proofs.Changes.{change_once, change_along}
 use Rattle.ficus_rules.proofs.Rules.{memory_along}
-use Rattle.ficus_rules.proofs.Walks.{IsFileAt, file_walked, parent_walked}
+use Rattle.ficus_rules.proofs.Walks.{IsFileAt, entry_walked, file_walked, parent_walked}
 use Rattle.ficus_answers.specs.View.{tables_view}
 use Rattle.ficus_replica.specs.declared.replica.Next.{Next}
 use Rattle.ficus_replica.specs.declared.replica.Replica.{Replica}
 use Rattle.ficus_replica.specs.Change.{Changed, ChangeGives, ChangedAfter, ChangeStands}
 use Rattle.ficus_replica.specs.Effect.{Applied}
 use Rattle.ficus_replica.specs.SavedOf.{StandsFor}
-use Rattle.ficus_replica.proofs.Allowed.{MayBeDone, new_place, file_in_reach, file_named, bytes_left}
+use Rattle.ficus_replica.proofs.Allowed.{MayBeDone, new_place, file_in_reach, file_visible, bytes_left, may_link, may_remove, may_move}
 use Rattle.ficus_replica.proofs.Effects.{applied_stands}
 use Rattle.ficus_replica.proofs.OpenAsks.{open_kept}
 use Rattle.ficus_replica.proofs.Views.{stands_same}
@@ -64,6 +67,39 @@ module _ (volume : Volume) (H : List Event) (r : ℕ) (lawful : IsLawful volume 
   may_settle {file} conflict found =
       record { in_reach = file_in_reach volume H r lawful file found; conflict = conflict.1 }
 
+  remove_may : (path : Path) (op : Op) → RemoveRule (history_view volume H r) path (Ok op) → MayBeDone volume H r op
+  remove_may path op (found, walk, (keeps, (left, (entries, named, is)))) =
+      subst (MayBeDone volume H r) (sym is) (record {
+        left = omega arith;
+        bytes = tt;
+        allowed = may_remove volume H r path found entries (entry_walked (history_view volume H r) path found walk)
+            named keeps;
+      })
+
+  link_may : (from path : Path) (op : Op) → LinkRule (history_view volume H r) from path (Ok op) →
+      MayBeDone volume H r op
+  link_may from path op (found, walk, (dir, parent, (no_directory, (free, (left, is))))) =
+      subst (MayBeDone volume H r) (sym is) (record {
+        left = omega arith;
+        bytes = tt;
+        allowed = may_link volume H r lawful from found dir (last_name path)
+            (entry_walked (history_view volume H r) from found walk)
+            (new_place volume H r dir (last_name path) (parent_walked (history_view volume H r) path dir parent) free)
+            no_directory;
+      })
+
+  rename_may : (from path : Path) (op : Op) → RenameRule (history_view volume H r) from path (Ok op) →
+      MayBeDone volume H r op
+  rename_may from path op (found, walk, (dir, parent, (outside, (free, (left, (entries, named, is)))))) =
+      subst (MayBeDone volume H r) (sym is) (record {
+        left = omega arith;
+        bytes = tt;
+        allowed = may_move volume H r from found entries (entry_walked (history_view volume H r) from found walk) named
+            dir (last_name path)
+            (new_place volume H r dir (last_name path) (parent_walked (history_view volume H r) path dir parent) free)
+            outside;
+      })
+
   pub change_may : (change : Change) (op : Op) → ChangeRule (history_view volume H r) change (Ok op) →
       MayBeDone volume H r op
   change_may (MkDir path) op rule = make_may path Dir op rule
@@ -71,12 +107,15 @@ module _ (volume : Volume) (H : List Event) (r : ℕ) (lawful : IsLawful volume 
   change_may (Write path text) op (file, walk, (settled, limits)) =
       within_may path (λ fits. fits) (λ found. record {
         in_reach = file_in_reach volume H r lawful file found;
-        settled = λ conflict. settled (file_named volume H r found, conflict);
+        settled = λ conflict. settled (file_visible volume H r found, conflict);
       }) walk limits
   change_may (Settle path text) op (file, walk, (conflict, limits)) =
       within_may path (λ fits. fits) (may_settle conflict) walk limits
   change_may (Resolve path) op (file, walk, (conflict, (text, resolved, limits))) =
       within_may path (λ fits. fits) (may_settle conflict) walk limits
+  change_may (Rm path) op rule = remove_may path op rule
+  change_may (Ln from path) op rule = link_may from path op rule
+  change_may (Mv from path) op rule = rename_may from path op rule
 
 -- In each of these a replica stands for a lawful history.
 module _ {volume : Volume} {H : List Event} {r : ℕ} {old : Replica} (lawful : IsLawful volume H)

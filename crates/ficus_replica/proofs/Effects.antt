@@ -14,8 +14,8 @@ use Rattle.ficus_held_laws.specs.Entries.{AreEntriesStepped}
 use Rattle.ficus_held_laws.specs.Objects.{AreObjectsStepped}
 use Rattle.ficus_held_laws.proofs.Growing.{objects_stepped}
 use Rattle.ficus_held_laws.proofs.Listing.{list_stepped}
-use Rattle.ficus_held_files.specs.Tables.{objects_of}
-use Rattle.ficus_held_files.proofs.Merging.{well_ordered}
+use Rattle.ficus_held_file_laws.specs.Tables.{objects_of}
+use Rattle.ficus_held_file_laws.proofs.Merging.{well_ordered}
 use Rattle.ficus_replica.specs.Effect.{Applied, next_id}
 use Rattle.ficus_replica.specs.SavedOf.{IsSavedOf}
 use Rattle.ficus_replica.proofs.Saves.{saved_then, generation_saved, update_is_saved, written_more}

@@ -14,7 +14,7 @@ use Rattle.ficus_ids.specs.Members.{IsMember}
 use Rattle.ficus_codec.specs.declared.saved.Saved.{Saved}
 use Rattle.ficus_laws.proofs.Positions.{at_within}
 use Rattle.ficus_laws.proofs.Updates.{is_update_of_other}
-use Rattle.ficus_held_files.specs.Tables.{AreHeldEntries, AreHeldFiles}
+use Rattle.ficus_held_file_laws.specs.Tables.{AreHeldEntries, AreHeldFiles}
 use Rattle.ficus_replica.specs.declared.replica.Asked.{Asked}
 use Rattle.ficus_replica.specs.declared.replica.Replica.{Replica}
 use Rattle.ficus_replica.specs.SavedOf.{is_saved, generation_of, IsSavedOf, IsOpenAskOf, StandsFor, fresh_saved}

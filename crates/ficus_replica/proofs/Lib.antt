@@ -1,5 +1,6 @@
 pub mod Views
 pub mod Looking
+pub mod Telling
 pub mod Saves
 pub mod OpenAsks
 pub mod Allowed

@@ -16,4 +16,4 @@ pub look_stands : {volume : Volume} {H : List Event} {r : ℕ} {replica : Replic
     StandsFor volume H r replica → (look : Look) (result : Result Told Refusal) → LookGives replica look result →
     LookStands volume H r look result
 look_stands lawful stands look result gives =
-    memory_along (look_along (stands_same lawful stands.saved).shown look) result gives
+    memory_along (look_along (stands_same lawful stands.saved) look) result gives

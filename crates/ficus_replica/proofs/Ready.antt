@@ -1,5 +1,5 @@
 -- What a rule gives over the tables is ready to be done there.
-use Rattle.std.proofs.Common.{◌≡◌, ◌≢◌, ◌<◌, ℕ, List, length, Ok, sym, ap, subst, inl, inr, arith}
+use Rattle.std.proofs.Common.{◌≡◌, ◌≢◌, ◌<◌, ℕ, List, length, Ok, refl, sym, ap, subst, inl, inr, arith}
 use Rattle.std.specs.Prelude.{Contains}
 use Rattle.std.proofs.lemmas.List.Elements.{All-contains}
 use Rattle.ficus_ids.specs.declared.id.Id.{Id}
@@ -16,16 +16,20 @@ use Rattle.ficus_codec.specs.Saved.{FitsImage}
 use Rattle.ficus_codec.specs.Tables.{FitsFile, HasObjectsIn}
 use Rattle.ficus_codec.specs.declared.saved.Saved.{Saved}
 use Rattle.ficus_commands.specs.declared.change.Change.{Change}
-use Rattle.ficus_commands.specs.declared.change.Change.TheVariants.{MkDir, Create, Write, Settle, Resolve}
-use Rattle.ficus_rules.specs.Make.{MakeRule}
+use Rattle.ficus_commands.specs.declared.change.Change.TheVariants.{MkDir, Create, Write, Settle, Resolve, Rm, Ln, Mv}
 use Rattle.ficus_rules.specs.Change.{ChangeRule}
 use Rattle.ficus_rules.specs.Limits.{LimitsRule}
+use Rattle.ficus_rules.specs.Link.{LinkRule}
+use Rattle.ficus_rules.specs.Make.{MakeRule}
+use Rattle.ficus_rules.specs.Named.{AreNamedIn}
+use Rattle.ficus_rules.specs.Remove.{RemoveRule}
+use Rattle.ficus_rules.specs.Rename.{RenameRule}
 use Rattle.ficus_rules.specs.Rule.{Gives}
-use Rattle.ficus_rules.specs.View.{IsReachedIn}
-use Rattle.ficus_rules.specs.Walk.{FileRule}
-use Rattle.ficus_rules.proofs.Walks.{IsFileAt, file_walked, parent_walked}
-use Rattle.ficus_answers.specs.View.{held_live, tables_view}
-use Rattle.ficus_replica.specs.Effect.{IsPossible, IsReady, MayMake, MayWrite}
+use Rattle.ficus_rules.specs.View.{IsReachedIn, IsVisibleIn}
+use Rattle.ficus_rules.specs.Walk.{FileRule, Found, last_name}
+use Rattle.ficus_rules.proofs.Walks.{IsFileAt, IsEntryAt, entry_walked, file_walked, parent_walked}
+use Rattle.ficus_answers.specs.View.{IsVisibleBy, held_live, tables_view}
+use Rattle.ficus_replica.specs.Effect.{IsPossible, IsReady, MayMake, MayRemove, MayWrite}
 
 module _ {saved : Saved} (fits : FitsImage saved) where
   held_target : (entry : Entry) → Contains saved.entries entry → Holds saved.files entry.target
@@ -48,17 +52,26 @@ module _ {saved : Saved} (fits : FitsImage saved) where
       let held = subst (Holds saved.files) bound.leads (held_target (held_live bound.entry) bound.live) in
       record { place = inl held; no_attic = no_attic held }
 
+  -- what is visible is held
+  visible_held : {object : Id} → IsVisibleBy saved object → Holds saved.files object
+  visible_held (inl named) = subst (Holds saved.files) named.leads (held_target (held_live named.entry) named.inside)
+  visible_held (inr orphan) = record { item = orphan.file; inside = orphan.inside; has_id = orphan.has_id }
+
+  visible_by : {object : Id} → IsVisibleIn (tables_view saved) object → IsVisibleBy saved object
+  visible_by (inl named) = inl (record { entry = named.entry; inside = named.live; leads = named.leads })
+  visible_by (inr orphan) = inr orphan
+
   -- the file that a walk leads to
   file_held : {file : Id} → IsFileAt (tables_view saved) file → HoldsFile saved.files file (λ held. held.kind ≢ Dir)
   file_held {file} found =
-      let named = found.named in
-      let held = subst (Holds saved.files) named.leads (held_target (held_live named.entry) named.live) in
+      let visible = visible_by found.visible in
+      let held = visible_held visible in
       record {
         file = held.item;
         inside = held.inside;
         has_id = held.has_id;
         fit = λ dir. found.no_directory (inr (record {
-          named = record { entry = named.entry; inside = named.live; leads = named.leads };
+          visible = visible;
           file = held.item;
           inside = held.inside;
           has_id = held.has_id;
@@ -87,6 +100,49 @@ module _ {saved : Saved} (fits : FitsImage saved) where
     possible = reached_place (parent_walked (tables_view saved) path dir walk).reached;
   })
 
+  -- the object of an entry that a walk leads to is held
+  entry_held : {path : Path} {found : Found} → IsEntryAt (tables_view saved) path found →
+      Holds saved.files found.object
+  entry_held at = subst (Holds saved.files) at.bound.leads (held_target (held_live at.bound.entry) at.bound.live)
+
+  -- all entries of the name at a path may be removed
+  names_ready : {path : Path} {found : Found} {entries : List Id} → IsEntryAt (tables_view saved) path found →
+      AreNamedIn (tables_view saved) found.dir (last_name path) found.object entries →
+      MayRemove saved entries found.object
+  names_ready at named = record {
+    live = λ id inside.
+        let by = (named.all id).0 inside in
+        record { entry = held_live by.bound.entry; inside = by.bound.live; has_id = by.by; live = refl };
+    rising = named.rising;
+    held = entry_held at;
+  }
+
+  remove_ready : (path : Path) (op : Op) → RemoveRule (tables_view saved) path (Ok op) → IsReady saved op
+  remove_ready path op (found, walk, (keeps, (left, (entries, named, is)))) = subst (IsReady saved) (sym is) (record {
+    left = omega arith;
+    possible = names_ready (entry_walked (tables_view saved) path found walk) named;
+  })
+
+  link_ready : (from path : Path) (op : Op) → LinkRule (tables_view saved) from path (Ok op) → IsReady saved op
+  link_ready from path op (found, walk, (dir, parent, (no_directory, (free, (left, is))))) =
+      subst (IsReady saved) (sym is) (record {
+        left = omega arith;
+        possible = record {
+          lies = reached_place (parent_walked (tables_view saved) path dir parent).reached;
+          held = entry_held (entry_walked (tables_view saved) from found walk);
+        };
+      })
+
+  rename_ready : (from path : Path) (op : Op) → RenameRule (tables_view saved) from path (Ok op) → IsReady saved op
+  rename_ready from path op (found, walk, (dir, parent, (outside, (free, (left, (entries, named, is)))))) =
+      subst (IsReady saved) (sym is) (record {
+        left = omega arith;
+        possible = record {
+          removes = names_ready (entry_walked (tables_view saved) from found walk) named;
+          lies = reached_place (parent_walked (tables_view saved) path dir parent).reached;
+        };
+      })
+
   pub change_ready : (change : Change) (op : Op) → ChangeRule (tables_view saved) change (Ok op) → IsReady saved op
   change_ready (MkDir path) op rule = make_ready path Dir op rule
   change_ready (Create path kind) op rule = make_ready path kind op rule
@@ -94,3 +150,6 @@ module _ {saved : Saved} (fits : FitsImage saved) where
   change_ready (Settle path text) op (file, walk, (conflict, limits)) = within_ready path (λ may. may) walk limits
   change_ready (Resolve path) op (file, walk, (conflict, (text, resolved, limits))) =
       within_ready path (λ may. may) walk limits
+  change_ready (Rm path) op rule = remove_ready path op rule
+  change_ready (Ln from path) op rule = link_ready from path op rule
+  change_ready (Mv from path) op rule = rename_ready from path op rule

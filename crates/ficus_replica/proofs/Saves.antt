@@ -16,9 +16,9 @@ use Rattle.ficus_laws.proofs.Updates.{count_no_update}
 use Rattle.ficus_held_laws.specs.Entries.{IsIdle}
 use Rattle.ficus_held_laws.proofs.Leaving.{objects_kept}
 use Rattle.ficus_held_laws.proofs.Listing.{list_kept}
-use Rattle.ficus_held_files.specs.Tables.{AreHeldEntries, AreHeldFiles}
-use Rattle.ficus_held_files.proofs.Entries.{entries_once}
-use Rattle.ficus_held_files.proofs.Files.{files_once}
+use Rattle.ficus_held_file_laws.specs.Tables.{AreHeldEntries, AreHeldFiles}
+use Rattle.ficus_held_file_laws.proofs.Entries.{entries_once}
+use Rattle.ficus_held_file_laws.proofs.Files.{files_once}
 use Rattle.ficus_replica.specs.SavedOf.{is_saved, generation_of, IsSavedOf}
 
 pub saved_of_other : (r : ℕ) (event : Event) → actor event ≢ r → is_saved r event ≡ false

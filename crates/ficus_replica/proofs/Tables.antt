@@ -1,17 +1,21 @@
 -- What a replica saves next fits an image, by its counts and its tables; what an operation makes of its tables.
-use Rattle.std.proofs.Common.{◌≡◌, ◌↔◌, ◌⊎◌, ℕ, ◌+◌, ◌^◌, ◌<◌, ◌≤◌, List, Some, refl, sym, subst, ◌∙◌, inl, inr}
+use Rattle.std.proofs.Common.{◌≡◌, ◌↔◌, ◌⊎◌, ℕ, ◌+◌, ◌^◌, ◌<◌, ◌≤◌, List, Some, refl, sym, ap, subst, ◌∙◌, inl, inr}
 use Rattle.std.specs.Prelude.{Contains}
+use Rattle.std.proofs.lemmas.Bool.{eqb-true, eq-eqb, false≢true}
 use Rattle.std.proofs.lemmas.Option.{same_Some}
 use Rattle.ficus_ids.specs.declared.id.Id.{Id}
 use Rattle.ficus_entry.specs.Entry.{AddsEntry}
+use Rattle.ficus_entry.specs.Kill.{AreKilled, IsJustKilled, IsLeftAs}
 use Rattle.ficus_entry.specs.declared.entry.Entry.{Entry}
+use Rattle.ficus_entry.specs.declared.entry.State.{State}
+use Rattle.ficus_entry.specs.declared.entry.State.TheVariants.{Live, Dead}
 use Rattle.ficus_file.specs.declared.file.FileReplica.{FileReplica}
 use Rattle.ficus_model.specs.declared.event.Op.{Op}
 use Rattle.ficus_model.specs.Live.{ModelEntry, entered_by, removed_by}
 use Rattle.ficus_codec.specs.Laws.{FitsReplica}
 use Rattle.ficus_codec.specs.Saved.{FitsImage}
 use Rattle.ficus_codec.specs.declared.saved.Saved.{Saved}
-use Rattle.ficus_held_laws.specs.Entries.{place_of, AreEntriesStepped, IsNewEntry}
+use Rattle.ficus_held_laws.specs.Entries.{place_of, AreEntriesStepped, HasSteppedEntry, IsJustRemoved, IsNewEntry, IsSteppedTo}
 use Rattle.ficus_answers.specs.View.{held_live}
 
 pub tables_of : {saved : Saved} → FitsImage saved →
@@ -42,56 +46,98 @@ image_then fits next_at_least next_at_most used generation tables = record {
   past = tables.past;
 }
 
--- where an operation removes nothing, the list has the entries of before and the one that it enters
-module _ (by : ℕ) (number : Id) (op : Op) (removes_none : (id : Id) → Contains (removed_by number op) id → ⊥) where
-  pub entered_only : {entries after : List Entry} →
-      ((entry : Entry) → Contains after entry ↔ (Contains entries entry ⊎ IsNewEntry number op entry)) →
-      AreEntriesStepped by number op entries after
-  entered_only same = record {
-    from = λ entry inside. record {
-      entry = entry;
-      from = (same entry).0 inside;
-      stepped = record { same = refl; removed = λ removed. absurd (removes_none entry.id removed); left = λ _. refl };
-    };
-    all = λ entry there. record {
-      next = entry;
-      inside = (same entry).1 there;
-      stepped = record { same = refl; removed = λ removed. absurd (removes_none entry.id removed); left = λ _. refl };
-    };
+-- a removal that has just been done, in the terms of the laws
+just_removed : (by : ℕ) (state : State) → IsJustKilled by state → IsJustRemoved by state
+just_removed by (Dead one two) killed = record {
+  first = λ peer. (
+    λ inside. eqb-true peer by (sym (killed.0 peer) ∙ inside),
+    λ own. killed.0 peer ∙ eq-eqb peer by own,
+  );
+  second = λ peer inside. false≢true (sym (killed.1 peer) ∙ inside);
+}
+just_removed by Live killed = absurd killed
+
+-- what an operation makes of entries of which those are removed that it removes
+module _ (by : ℕ) (number : Id) (op : Op) where
+  abbrev removes : List Id
+  removes = removed_by number op
+
+  left_entry : {entry after : Entry} → IsLeftAs removes by entry after → IsSteppedTo by removes entry after
+  left_entry {entry} {after} is = record {
+    same = ap place_of is.same;
+    removed = λ inside. just_removed by after.state (is.removed inside);
+    left = is.left;
   }
 
-  -- and where it enters none, those of before
-  pub entered_none : (entries : List Entry) → ((entry : ModelEntry) → entered_by number op ≡ Some entry → ⊥) →
-      AreEntriesStepped by number op entries entries
-  entered_none entries none = entered_only {entries = entries} {after = entries} (λ entry. (λ inside. inl inside, λ there. was entry there))
-    where
-      was : (entry : Entry) → Contains entries entry ⊎ IsNewEntry number op entry → Contains entries entry
-      was entry (inl inside) = inside
-      was entry (inr new) = absurd (none (place_of entry) new.enters)
+  -- what it doesn't remove it leaves
+  stays : (entry : Entry) → (Contains removes entry.id → ⊥) → IsSteppedTo by removes entry entry
+  stays entry outside = record { same = refl; removed = λ inside. absurd (outside inside); left = λ _. refl }
 
-  -- and where it enters this one, it too
-  pub entered_one : {entries after : List Entry} (new : ModelEntry) → entered_by number op ≡ Some new →
-      AddsEntry entries after (held_live new) → AreEntriesStepped by number op entries after
-  entered_one {entries} {after} new enters adds =
-      entered_only {entries = entries} {after = after} (λ entry. (
-        λ inside. out entry ((adds entry).0 inside),
-        λ there. (adds entry).1 (into entry there),
-      ))
-    where
-      out : (entry : Entry) → Contains entries entry ⊎ (entry ≡ held_live new) →
-          Contains entries entry ⊎ IsNewEntry number op entry
-      out entry (inl inside) = inl inside
-      out entry (inr is) = inr (subst (IsNewEntry number op) (sym is) (record { enters = enters; alive = refl }))
+  module _ {entries left : List Entry} (killed : AreKilled entries left removes by) where
+    -- the list has what is left and the entry that it enters, which it doesn't remove
+    entered_only : {after : List Entry} →
+        ((entry : Entry) → IsNewEntry number op entry → Contains removes entry.id → ⊥) →
+        ((entry : Entry) → Contains after entry ↔ (Contains left entry ⊎ IsNewEntry number op entry)) →
+        AreEntriesStepped by number op entries after
+    entered_only {after} outside same = record {
+      from = λ entry inside. elim ((same entry).0 inside) [
+        | inl old ↦
+            let found = killed.from entry old in
+            record { entry = found.entry; from = inl found.inside; stepped = left_entry found.is }
+        | inr new ↦ record { entry = entry; from = inr new; stepped = stays entry (outside entry new) }
+      ];
+      all = λ entry there. becomes entry there;
+    }
+      where
+        becomes : (entry : Entry) → Contains entries entry ⊎ IsNewEntry number op entry →
+            HasSteppedEntry by number op entry after
+        becomes entry (inl old) =
+            let found = killed.all entry old in
+            record { next = found.after; inside = (same found.after).1 (inl found.inside); stepped = left_entry found.is }
+        becomes entry (inr new) =
+            record { next = entry; inside = (same entry).1 (inr new); stepped = stays entry (outside entry new) }
 
-      into : (entry : Entry) → Contains entries entry ⊎ IsNewEntry number op entry →
-          Contains entries entry ⊎ (entry ≡ held_live new)
-      into entry (inl inside) = inl inside
-      into entry (inr is_new) =
-          let place : place_of entry ≡ new = same_Some (place_of entry) new (sym is_new.enters ∙ enters) in
-          inr (λ i. record {
-            id = (place i).id;
-            dir = (place i).dir;
-            name = (place i).name;
-            target = (place i).target;
-            state = is_new.alive i;
-          })
+    -- where it enters none, what is left
+    pub entered_none : ((entry : ModelEntry) → entered_by number op ≡ Some entry → ⊥) →
+        AreEntriesStepped by number op entries left
+    entered_none none =
+        entered_only {after = left} (λ entry new. absurd (none (place_of entry) new.enters))
+        (λ entry. (λ inside. inl inside, λ there. was entry there))
+      where
+        was : (entry : Entry) → Contains left entry ⊎ IsNewEntry number op entry → Contains left entry
+        was entry (inl inside) = inside
+        was entry (inr new) = absurd (none (place_of entry) new.enters)
+
+    -- and where it enters this one, it too
+    pub entered_one : {after : List Entry} (new : ModelEntry) → entered_by number op ≡ Some new →
+        (Contains removes new.id → ⊥) → AddsEntry left after (held_live new) →
+        AreEntriesStepped by number op entries after
+    entered_one {after} new enters outside adds =
+        entered_only {after = after}
+        (λ entry is_new inside. outside
+        (subst (λ (e : ModelEntry). Contains removes e.id) (place_is entry is_new) inside))
+        (λ entry. (
+          λ inside. out entry ((adds entry).0 inside),
+          λ there. (adds entry).1 (into entry there),
+        ))
+      where
+        place_is : (entry : Entry) → IsNewEntry number op entry → place_of entry ≡ new
+        place_is entry is_new = same_Some (place_of entry) new (sym is_new.enters ∙ enters)
+
+        out : (entry : Entry) → Contains left entry ⊎ (entry ≡ held_live new) →
+            Contains left entry ⊎ IsNewEntry number op entry
+        out entry (inl inside) = inl inside
+        out entry (inr is) = inr (subst (IsNewEntry number op) (sym is) (record { enters = enters; alive = refl }))
+
+        into : (entry : Entry) → Contains left entry ⊎ IsNewEntry number op entry →
+            Contains left entry ⊎ (entry ≡ held_live new)
+        into entry (inl inside) = inl inside
+        into entry (inr is_new) =
+            let place : place_of entry ≡ new = place_is entry is_new in
+            inr (λ i. record {
+              id = (place i).id;
+              dir = (place i).dir;
+              name = (place i).name;
+              target = (place i).target;
+              state = is_new.alive i;
+            })

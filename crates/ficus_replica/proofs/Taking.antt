@@ -1,11 +1,11 @@
 -- Which files of a peer are taken: those of its own alone that an entry names or lies in.
 use Rattle.std.proofs.Common.{◌≡◌, ◌≢◌, ◌↔◌, ◌⊎◌, ℕ, ◌+◌, ◌<◌, ◌≤◌, Bool, true, false, List, [], ◌∷◌, ◌++◌, length, get_or, slice_get, take, set, Option, Some, None, refl, sym, ap, subst, ◌∙◌, inl, inr, arith, append_assoc}
-use Rattle.std.specs.Prelude.{Contains, replicate}
+use Rattle.std.specs.Prelude.{All, Contains, replicate}
 use Rattle.std.specs.declared.cmp.Ordering.TheVariants.{Less}
 use Rattle.std.proofs.lemmas.Bool.{cases_eq, cases_order}
 use Rattle.std.proofs.lemmas.Grind.{flat_map-append}
 use Rattle.std.proofs.lemmas.List.{take_all, get_or-take, length-take, length-set, get_or-set_same, get_or-set_other, length-replicate, get_or-replicate}
-use Rattle.std.proofs.lemmas.List.Elements.{Contains-append_cases, Contains-append_left, Contains-append_right, Contains-get_or, Contains-push, Contains-push_cases}
+use Rattle.std.proofs.lemmas.List.Elements.{All-contains, Contains-append_cases, Contains-append_left, Contains-append_right, Contains-get_or, Contains-push, Contains-push_cases}
 use Rattle.std.proofs.lemmas.List.Quantifiers.{all_pairs_push}
 use Rattle.std.proofs.lemmas.Option.{slice_get_within, get_or_from_slice_get, slice_get-get_or, same_Some}
 use Rattle.ficus_ids.specs.Id.{id_cmp}
@@ -17,6 +17,7 @@ use Rattle.ficus_entry.specs.declared.entry.Entry.{Entry}
 use Rattle.ficus_file.specs.Files.{Holds, HoldsUnder}
 use Rattle.ficus_file.specs.declared.file.FileReplica.{FileReplica}
 use Rattle.ficus_recon_file.specs.Merge.{Merges, AreMergedFiles}
+use Rattle.ficus_recon_file.specs.News.{AreNew}
 use Rattle.ficus_recon_file.proofs.Walk.{take_next}
 use Rattle.ficus_codec.specs.Tables.{touched_by}
 use Rattle.ficus_replica.specs.Taken.{IsAlone, IsTakenFrom, HasMark, AreMarked}
@@ -32,8 +33,10 @@ module _ (entries : List Entry) (mine theirs : List FileReplica) (taken : List I
   row id None None both here there is = is
   row id None (Some other) both none there is = record {
     named = λ touched. is.named ((are other.id).1 (record {
-      held = record { item = other; inside = there.0; has_id = refl };
-      not_held = λ held. none (subst (Holds mine) there.1 held);
+      alone = record {
+        held = record { item = other; inside = there.0; has_id = refl };
+        not_held = λ held. none (subst (Holds mine) there.1 held);
+      };
       touched = touched;
     }));
     unnamed = λ untouched. is.unnamed (λ inside. untouched ((are other.id).0 inside).touched);
@@ -169,13 +172,33 @@ module _ {X : Type 0} (id_of : X → Id) (IsKept : Id → Type 0) (items : List 
             (Contains-append_right kept (id_of item ∷ []) (id_of item) (here (id_of item) []))
 
 -- a file of theirs is one of theirs alone exactly where mine hold none with its identifier
-pub alone_is : (mine theirs : List FileReplica) (kept : List Id) →
-    ((id : Id) → Contains kept id ↔ (Holds theirs id × (Holds mine id → ⊥))) → (id : Id) →
+pub alone_is : (mine theirs new : List FileReplica) (kept : List Id) → AreNew mine theirs new →
+    ((id : Id) → Contains kept id ↔ (Holds new id × (Holds mine id → ⊥))) → (id : Id) →
     Contains kept id ↔ IsAlone mine theirs id
-alone_is mine theirs kept are id = (
-  λ inside. let is = (are id).0 inside in record { held = is.0; not_held = is.1 },
-  λ is. (are id).1 (is.held, is.not_held),
+alone_is mine theirs new kept news are id = (
+  λ inside. let is = (are id).0 inside in record {
+    held = record {
+      item = is.0.item;
+      inside = news.of_theirs is.0.item is.0.inside;
+      has_id = is.0.has_id;
+    };
+    not_held = is.1;
+  },
+  λ is. elim (news.all is.held.item is.held.inside) [
+    | inl is_new ↦ (are id).1 (record { item = is.held.item; inside = is_new; has_id = is.held.has_id }, is.not_held)
+    | inr is_mine ↦ absurd (is.not_held (record { item = is.held.item; inside = is_mine; has_id = is.held.has_id }))
+  ],
 )
+
+-- what is so of mine and of what is new is so of all of theirs
+pub all_of_theirs : (P : FileReplica → Type 0) (mine theirs new : List FileReplica) → AreNew mine theirs new →
+    All P mine → All P new → All P theirs
+all_of_theirs P mine theirs new news of_mine of_new k d within =
+    let file : FileReplica = get_or theirs k d in
+    elim (news.all file (Contains-get_or theirs k d within)) [
+      | inl is_new ↦ All-contains P new file of_new is_new
+      | inr is_mine ↦ All-contains P mine file of_mine is_mine
+    ]
 
 -- the place of an identifier in a rising list is one
 one_place : (ids : List Id) (i j : ℕ) (id : Id) → IsRisingBy (λ (other : Id). other) ids → slice_get ids i ≡ Some id →
@@ -330,12 +353,8 @@ pub taken_is : (entries : List Entry) (mine theirs : List FileReplica) (alone : 
     Contains kept id ↔ IsTakenFrom entries mine theirs id
 taken_is entries mine theirs alone marks kept are marked is id = (
   λ inside. let both = (marked.each id).0 ((is id).0 inside) in
-      let one = (are id).0 both.0 in
-      record { held = one.held; not_held = one.not_held; touched = both.1 },
-  λ one. (is id).1 ((marked.each id).1 (
-    (are id).1 (record { held = one.held; not_held = one.not_held }),
-    one.touched,
-  )),
+      record { alone = (are id).0 both.0; touched = both.1 },
+  λ one. (is id).1 ((marked.each id).1 ((are id).1 one.alone, one.touched)),
 )
 
 -- and where none is theirs alone, none is taken
@@ -344,5 +363,5 @@ pub none_taken : (entries : List Entry) (mine theirs : List FileReplica) (alone 
     Contains alone id ↔ IsTakenFrom entries mine theirs id
 none_taken entries mine theirs alone none are id = (
   λ inside. absurd (not_inside_none id (subst (λ l. Contains l id) none inside)),
-  λ one. (are id).1 (record { held = one.held; not_held = one.not_held }),
+  λ one. (are id).1 one.alone,
 )

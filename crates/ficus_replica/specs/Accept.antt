@@ -14,7 +14,7 @@ use Rattle.ficus_recon_dir.specs.Merge.{MergesEntries}
 use Rattle.ficus_recon_file.specs.Merge.{Fit, AreMergedFiles}
 use Rattle.ficus_codec.specs.Saved.{HasOwnPast}
 use Rattle.ficus_codec.specs.Tables.{touched_by}
-use Rattle.ficus_held_files.specs.Tables.{AreHeldEntries, AreHeldFiles}
+use Rattle.ficus_held_file_laws.specs.Tables.{AreHeldEntries, AreHeldFiles}
 use Rattle.ficus_replica.specs.declared.replica.Replica.{Replica}
 use Rattle.ficus_replica.specs.SavedOf.{StandsAfter, generation_of}
 

@@ -1,11 +1,13 @@
 -- What an operation makes of what a replica saves.
-use Rattle.std.specs.Prelude.{◌≡◌, ◌≢◌, ℕ, ◌+◌, ◌≤◌, List, length}
+use Rattle.std.specs.Prelude.{◌≡◌, ◌≢◌, ℕ, ◌+◌, ◌≤◌, List, length, Contains}
+use Rattle.ficus_ids.specs.Rising.{IsRisingBy}
 use Rattle.ficus_ids.specs.declared.id.Id.{Id}
 use Rattle.ficus_ids.specs.declared.id.TheConstants.{ATTIC}
 use Rattle.ficus_ids.specs.declared.kind.Kind.TheVariants.{Dir}
 use Rattle.ficus_entry.specs.Entry.{IsRising}
+use Rattle.ficus_entry.specs.Kill.{HoldsLive}
 use Rattle.ficus_entry.specs.declared.entry.Entry.{Entry}
-use Rattle.ficus_file.specs.Files.{AreFiles, HoldsFile}
+use Rattle.ficus_file.specs.Files.{AreFiles, Holds, HoldsFile}
 use Rattle.ficus_file.specs.declared.file.FileReplica.{FileReplica}
 use Rattle.ficus_model.specs.declared.event.Op.{Op}
 use Rattle.ficus_model.specs.declared.event.Op.TheVariants.{Make, Link, Remove, Move, Write, Settle, Resolve, Adopt, Discard}
@@ -13,10 +15,10 @@ use Rattle.ficus_model.specs.Versions.{bytes_of}
 use Rattle.ficus_codec.specs.Laws.{FitsReplica}
 use Rattle.ficus_codec.specs.Tables.{IsPlaceIn}
 use Rattle.ficus_codec.specs.declared.saved.Saved.{Saved}
-use Rattle.ficus_codec.specs.declared.saved.TheConstants.{FILE_LIMIT}
+use Rattle.ficus_codec.specs.Limits.{file_limit}
 use Rattle.ficus_held_laws.specs.Entries.{AreEntriesStepped}
 use Rattle.ficus_held_laws.specs.Objects.{AreObjectsStepped}
-use Rattle.ficus_held_files.specs.Tables.{objects_of}
+use Rattle.ficus_held_file_laws.specs.Tables.{objects_of}
 
 -- the number of the replica's next update
 abbrev pub next_id : Saved → Id
@@ -55,18 +57,34 @@ pub record MayMake (old : Saved) (dir : Id) : Type 0 where
 -- the file is held, and so many bytes fit it and are left to the replica
 pub record MayWrite (old : Saved) (file : Id) (bytes : List ℕ) : Type 0 where
   pub held : HoldsFile old.files file (λ held. held.kind ≢ Dir)
-  pub one_file : length bytes ≤ FILE_LIMIT
+  pub one_file : length bytes ≤ file_limit
   pub left : old.used + length bytes ≤ old.bytes
 
--- what is done is possible in the replica's tables; so far an operation makes an object or writes
+-- so may one in the directory that leads to an object, which is held
+pub record MayLink (old : Saved) (dir target : Id) : Type 0 where
+  pub lies : MayMake old dir
+  pub held : Holds old.files target
+
+-- each of the entries is live and named once, and what they lead to is held
+pub record MayRemove (old : Saved) (entries : List Id) (target : Id) : Type 0 where
+  pub live : (id : Id) → Contains entries id → HoldsLive old.entries id
+  pub rising : IsRisingBy (λ (id : Id). id) entries
+  pub held : Holds old.files target
+
+-- they may be removed, and a new entry may lie in the directory
+pub record MayMove (old : Saved) (entries : List Id) (dir target : Id) : Type 0 where
+  pub removes : MayRemove old entries target
+  pub lies : MayMake old dir
+
+-- what is done is possible in the replica's tables; so far no operation adopts an orphan or gives one up
 abbrev pub IsPossible : Saved → Op → Type 0
 IsPossible old (Make dir name kind) = MayMake old dir
 IsPossible old (Write file bytes) = MayWrite old file bytes
 IsPossible old (Settle file bytes) = MayWrite old file bytes
 IsPossible old (Resolve file bytes) = MayWrite old file bytes
-IsPossible old (Link dir name target) = ⊥
-IsPossible old (Remove entries target) = ⊥
-IsPossible old (Move entries dir name target) = ⊥
+IsPossible old (Link dir name target) = MayLink old dir target
+IsPossible old (Remove entries target) = MayRemove old entries target
+IsPossible old (Move entries dir name target) = MayMove old entries dir target
 IsPossible old (Adopt file dir name) = ⊥
 IsPossible old (Discard file) = ⊥
 

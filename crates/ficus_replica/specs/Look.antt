@@ -1,5 +1,5 @@
 -- What the looks at a replica give.
-use Rattle.std.specs.Prelude.{ℕ, List, Result}
+use Rattle.std.specs.Prelude.{ℕ, List, Result, Ok, Err}
 use Rattle.ficus_ids.specs.declared.refusal.Refusal.{Refusal}
 use Rattle.ficus_model.specs.declared.event.Event.{Event}
 use Rattle.ficus_model.specs.Lawful.{Volume}
@@ -14,6 +14,11 @@ use Rattle.ficus_replica.specs.declared.replica.Replica.{Replica}
 -- what a look gives, over what the replica holds
 abbrev pub LookGives : Replica → Look → Result Told Refusal → Type 0
 LookGives replica look result = UnlessMemory (LookRule (tables_view replica.saved) look) result
+
+-- what a look gives, told in this way
+abbrev pub LookGivesAs : {A : Type 0} → Replica → Look → (A → Told) → Result A Refusal → Type 0
+LookGivesAs replica look told_as (Ok a) = LookGives replica look (Ok (told_as a))
+LookGivesAs replica look told_as (Err refusal) = LookGives replica look (Err refusal)
 
 -- what a look at replica r gives after the history
 abbrev pub LookStands : Volume → List Event → ℕ → Look → Result Told Refusal → Type 0

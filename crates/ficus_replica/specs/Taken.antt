@@ -13,8 +13,7 @@ pub record IsAlone (mine theirs : List FileReplica) (id : Id) : Type 0 where
 
 -- one that an entry names or lies in
 pub record IsTakenFrom (entries : List Entry) (mine theirs : List FileReplica) (id : Id) : Type 0 where
-  pub held : Holds theirs id
-  pub not_held : Holds mine id → ⊥
+  pub alone : IsAlone mine theirs id
   pub touched : Contains (touched_by entries) id
 
 -- the identifier is one of these, and the mark at its place is set

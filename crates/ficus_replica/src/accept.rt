@@ -6,7 +6,7 @@ use ficus_entry::{Entries, Entry};
 use ficus_file::{FileReplica, Files, Version};
 use ficus_ids::{Id, Memory, Refusal};
 use ficus_recon_dir::merge_entries;
-use ficus_recon_file::{SideBySide, merge_files, merge_fits};
+use ficus_recon_file::{News, merge_files, merge_fits};
 use ficus_vv::Vector;
 use std::alloc::Global;
 
@@ -46,11 +46,11 @@ impl Replica {
         if self.ask != Some(Asked { to: from, number }) {
             return Err(Refusal::Stale);
         }
-        let sides = SideBySide::of(alloc, &self.saved.files, files)?;
-        if !self.fits(entries, &sides)? {
+        let news = News::of(alloc, &self.saved.files, files)?;
+        if !self.fits(entries, &news)? {
             return Err(Refusal::BadMessage);
         }
-        let (merged, both) = self.merged(alloc, entries, &sides)?;
+        let (merged, both) = self.merged(alloc, entries, &news)?;
         Ok(Replica {
             saved: self.saved_with(merged, both),
             ask: None,
@@ -62,26 +62,26 @@ impl Replica {
         &self,
         alloc: Global,
         entries: &Entries,
-        sides: &SideBySide<'_>,
+        news: &News<'_>,
     ) -> Result<(Entries, Files), Memory>
         requires fits { FitsImage self.now.saved }
-        requires mine { sides.now.mine ≡ self.now.saved.files }
-        requires fit { Fit self.now.saved.files sides.now.theirs }
-        ensures { IfOk result (λ tables. AreTablesMerged self.now entries.now tables.0 sides.now.theirs tables.1) }
+        requires mine { news.now.mine ≡ self.now.saved.files }
+        requires fit { Fit self.now.saved.files news.now.theirs }
+        ensures { IfOk result (λ tables. AreTablesMerged self.now entries.now tables.0 news.now.theirs tables.1) }
     {
         let saved = &self.saved;
         let merged = merge_entries(alloc, &saved.entries, entries, saved.me, saved.members)?;
-        let both = merged_files(alloc, &merged, sides)?;
+        let both = merged_files(alloc, &merged, news)?;
         Ok((merged, both))
     }
 
     // Whether the tables may be taken, where an answer is.
-    fn fits(&self, entries: &Entries, sides: &SideBySide<'_>) -> Result<bool, Memory>
+    fn fits(&self, entries: &Entries, news: &News<'_>) -> Result<bool, Memory>
         requires fits { FitsImage self.now.saved }
-        requires mine { sides.now.mine ≡ self.now.saved.files }
-        ensures { IfOk result (λ fits. IsTrue fits ↔ MayTake self.now entries.now sides.now.theirs) }
+        requires mine { news.now.mine ≡ self.now.saved.files }
+        ensures { IfOk result (λ fits. IsTrue fits ↔ MayTake self.now entries.now news.now.theirs) }
     {
-        Ok(self.has_issued_all(entries)? && self.has_issued_files(sides) && merge_fits(sides))
+        Ok(self.has_issued_all(entries)? && self.has_issued_files(news) && merge_fits(news))
     }
 
     // Whether it has issued each identifier of its own in the entries.
@@ -106,12 +106,13 @@ impl Replica {
     }
 
     // Whether it has issued each identifier and each count of its own in the files of theirs.
-    fn has_issued_files(&self, sides: &SideBySide<'_>) -> bool
-        requires { FitsImage self.now.saved }
-        ensures { IsTrue result ↔ All (IsFileOfPast self.now.saved.me self.now.saved.next) sides.now.theirs }
+    fn has_issued_files(&self, news: &News<'_>) -> bool
+        requires fits { FitsImage self.now.saved }
+        requires mine { news.now.mine ≡ self.now.saved.files }
+        ensures { IsTrue result ↔ All (IsFileOfPast self.now.saved.me self.now.saved.next) news.now.theirs }
     {
-        for index in 0..sides.len() {
-            if !self.has_issued_file(sides.at(index).theirs) {
+        for index in 0..news.len() {
+            if !self.has_issued_file(news.at(index).theirs) {
                 return false;
             }
         }
@@ -163,11 +164,11 @@ ghost use Rattle.ficus_file.specs.Files.{AreFiles};
 ghost use Rattle.ficus_recon_file.specs.Merge.{Fit as FilesFit, AreMergedFiles};
 
 // What its files and those of the peer make together, where it holds these entries afterwards.
-fn merged_files(alloc: Global, entries: &Entries, sides: &SideBySide<'_>) -> Result<Files, Memory>
-    requires { FilesFit sides.now.mine sides.now.theirs }
-    ensures merged { IfOk result (AreMergedFiles (touched_by entries.now) sides.now.mine sides.now.theirs) }
+fn merged_files(alloc: Global, entries: &Entries, news: &News<'_>) -> Result<Files, Memory>
+    requires { FilesFit news.now.mine news.now.theirs }
+    ensures merged { IfOk result (AreMergedFiles (touched_by entries.now) news.now.mine news.now.theirs) }
     ensures files { IfOk result AreFiles }
 {
-    let taken = taken(alloc, entries, sides)?;
-    merge_files(alloc, sides, &taken)
+    let taken = taken(alloc, entries, news)?;
+    merge_files(alloc, news, &taken)
 }

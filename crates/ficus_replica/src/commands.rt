@@ -6,13 +6,13 @@ use std::alloc::Global;
 impl Replica {
     ghost use Rattle.std.specs.Prelude.{◌-◌, ◌^◌, ◌<◌, IfOk};
     ghost use Rattle.ficus_codec.specs.Saved.{FitsImage};
-    ghost use Rattle.ficus_commands.specs.Change.{HasNewPath};
+    ghost use Rattle.ficus_commands.specs.Change.{HasFitPaths};
     ghost use Rattle.ficus_replica.specs.Change.{ChangeGives};
     ghost use Rattle.ficus_replica.specs.Look.{LookGives};
 
     /// The replica after the change, and which operation it is, or why it is refused.
     pub fn change(&self, alloc: Global, change: &Change) -> Result<Next, Refusal>
-        requires new { HasNewPath change.now }
+        requires new { HasFitPaths change.now }
         requires fits { FitsImage self.now.saved }
         requires generation { self.now.saved.generation < 2 ^ 63 - 1 }
         ensures gives { ChangeGives self.now change.now result }

@@ -11,15 +11,15 @@ use ficus_model::Op;
 use std::alloc::Global;
 
 impl Replica {
-    ghost use Rattle.std.specs.Prelude.{◌-◌, ◌^◌, ◌<◌, ◌≤◌};
+    ghost use Rattle.std.specs.Prelude.{◌-◌, ◌^◌, ◌<◌, ◌≤◌, OnOk};
     ghost use Rattle.ficus_answers.specs.View.{tables_view};
     ghost use Rattle.ficus_codec.specs.Saved.{FitsImage};
-    ghost use Rattle.ficus_entry.specs.Entry.{AddsEntry, IsRising};
+    ghost use Rattle.ficus_entry.specs.Entry.{AddsEntry, Holds, IsRising};
     ghost use Rattle.ficus_file.specs.File.{made_file};
     ghost use Rattle.ficus_file.specs.Files.{Adds, AreFiles};
-    ghost use Rattle.ficus_held_files.specs.Laws.{Overwrites};
+    ghost use Rattle.ficus_held_file_laws.specs.Laws.{Overwrites};
     ghost use Rattle.ficus_model.specs.declared.event.Op.{Op as Operation};
-    ghost use Rattle.ficus_model.specs.declared.event.Op.TheVariants.{Make as Makes};
+    ghost use Rattle.ficus_model.specs.declared.event.Op.TheVariants.{Link as Links, Make as Makes, Move as Moves, Remove as Removes};
     ghost use Rattle.ficus_replica.specs.Effect.{Applied, IsReady, IsStepped, MayWrite, next_id};
 
     /// The replica once the operation is done, and the operation.
@@ -52,7 +52,7 @@ impl Replica {
         })
     }
 
-    // The tables once the operation is done. So far it makes an object or writes a file.
+    // The tables once the operation is done. So far it adopts no orphan and gives none up.
     fn stepped(&self, alloc: Global, op: &Op) -> Result<(Entries, Files), Memory>
         requires ready { IsReady self.now.saved op.now }
         requires fits { FitsImage self.now.saved }
@@ -62,7 +62,15 @@ impl Replica {
             Op::Make { dir, name, kind } => self.made(alloc, *dir, name, *kind),
             Op::Write { file, bytes } | Op::Settle { file, bytes } | Op::Resolve { file, bytes } =>
                 self.written(alloc, *file, bytes.items()),
-            _ => unreachable!(),
+            Op::Link { dir, name, target } => self.linked(*dir, name, *target),
+            Op::Remove { entries, target } => self.removed(entries.items(), *target),
+            Op::Move {
+                entries,
+                dir,
+                name,
+                target,
+            } => self.moved(entries.items(), *dir, name, *target),
+            Op::Adopt { .. } | Op::Discard { .. } => unreachable!(),
         }
     }
 
@@ -78,23 +86,69 @@ impl Replica {
         requires fits { FitsImage self.now.saved }
         ensures { IfOk result (λ tables. IsStepped self.now.saved (Makes dir name.now kind) tables.0 tables.1) }
     {
-        let entries = self.entries_with(dir, name)?;
+        let mut entries = self.saved.entries.copy()?;
+        self.enter(&mut entries, dir, name, self.next_id())?;
         let files = self.files_with(alloc, kind)?;
         Ok((entries, files))
     }
 
-    // The entries with one for a new object.
-    fn entries_with(&self, dir: Id, name: &Name) -> Result<Entries, Memory>
-        requires { FitsImage self.now.saved }
-        ensures adds { IfOk result (λ entries. AddsEntry self.now.saved.entries entries (held_live (
-            record { id = next_id self.now.saved; dir = dir; name = name.now; target = next_id self.now.saved }))) }
-        ensures rising { IfOk result IsRising }
-        ensures name { IsName name.now }
+    // The tables with one more entry of an object.
+    fn linked(&self, dir: Id, name: &Name, target: Id) -> Result<(Entries, Files), Memory>
+        requires ready { IsReady self.now.saved (Links dir name.now target) }
+        requires fits { FitsImage self.now.saved }
+        ensures { IfOk result (λ tables. IsStepped self.now.saved (Links dir name.now target) tables.0 tables.1) }
     {
-        let entry = new_entry(self.next_id(), dir, name)?;
         let mut entries = self.saved.entries.copy()?;
+        self.enter(&mut entries, dir, name, target)?;
+        let files = self.saved.files.copy()?;
+        Ok((entries, files))
+    }
+
+    // The tables with these entries removed and what they lead to covered.
+    fn removed(&self, removed: &[Id], target: Id) -> Result<(Entries, Files), Memory>
+        requires ready { IsReady self.now.saved (Removes removed.now target) }
+        requires fits { FitsImage self.now.saved }
+        ensures { IfOk result (λ tables. IsStepped self.now.saved (Removes removed.now target) tables.0 tables.1) }
+    {
+        let mut entries = self.saved.entries.copy()?;
+        entries.kill_all(removed, self.saved.me);
+        let mut files = self.saved.files.copy()?;
+        files.cover(target);
+        Ok((entries, files))
+    }
+
+    // The tables with these entries removed and one entered in their place.
+    fn moved(
+        &self,
+        removed: &[Id],
+        dir: Id,
+        name: &Name,
+        target: Id,
+    ) -> Result<(Entries, Files), Memory>
+        requires ready { IsReady self.now.saved (Moves removed.now dir name.now target) }
+        requires fits { FitsImage self.now.saved }
+        ensures { IfOk result (λ tables.
+            IsStepped self.now.saved (Moves removed.now dir name.now target) tables.0 tables.1) }
+    {
+        let mut entries = self.saved.entries.copy()?;
+        entries.kill_all(removed, self.saved.me);
+        // Comes after the removals, which it folds into the table.
+        self.enter(&mut entries, dir, name, target)?;
+        let files = self.saved.files.copy()?;
+        Ok((entries, files))
+    }
+
+    // Adds the entry of its next update.
+    fn enter(&self, entries: &mut Entries, dir: Id, name: &Name, target: Id) -> Result<(), Memory>
+        requires { Holds entries.old (next_id self.now.saved) → ⊥ }
+        ensures adds { OnOk result (AddsEntry entries.old entries.new (held_live (
+            record { id = next_id self.now.saved; dir = dir; name = name.now; target = target }))) }
+        ensures rising { OnOk result (IsRising entries.new) }
+        ensures name { OnOk result (IsName name.now) }
+    {
+        let entry = new_entry(self.next_id(), dir, name, target)?;
         entries.insert(entry)?;
-        Ok(entries)
+        Ok(())
     }
 
     // The files with a new object.
@@ -156,10 +210,10 @@ fn written_by(op: &Op) -> usize
     }
 }
 
-// The entry of a new object.
-fn new_entry(id: Id, dir: Id, name: &Name) -> Result<Entry, Memory>
+// The live entry with these parts.
+fn new_entry(id: Id, dir: Id, name: &Name, target: Id) -> Result<Entry, Memory>
     ensures entry { IfOk result (λ entry.
-        entry ≡ held_live (record { id = id; dir = dir; name = name.now; target = id })) }
+        entry ≡ held_live (record { id = id; dir = dir; name = name.now; target = target })) }
     ensures name { IsName name.now }
 {
     // Tells that the name is one.
@@ -168,7 +222,7 @@ fn new_entry(id: Id, dir: Id, name: &Name) -> Result<Entry, Memory>
         id,
         dir,
         name: name.copy()?,
-        target: id,
+        target,
         state: State::Live,
     })
 }

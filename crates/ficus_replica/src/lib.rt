@@ -3,6 +3,7 @@
 
 mod accept;
 mod ask;
+mod calls;
 mod commands;
 mod effect;
 mod laws;

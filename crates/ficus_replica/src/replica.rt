@@ -33,7 +33,7 @@ pub struct Next {
 impl Replica {
     ghost use Rattle.ficus_ids.specs.Members.{IsMember};
     ghost use Rattle.ficus_codec.specs.Saved.{FitsImage};
-    ghost use Rattle.ficus_codec.specs.declared.saved.TheConstants.{UPDATE_LIMIT, BYTE_LIMIT};
+    ghost use Rattle.ficus_codec.specs.Limits.{update_limit, byte_limit};
     ghost use Rattle.ficus_model.specs.Lawful.{Volume};
     ghost use Rattle.ficus_model.specs.declared.event.Event.{Event};
     ghost use Rattle.ficus_model.specs.declared.event.Event.TheVariants.{Restart};
@@ -43,8 +43,8 @@ impl Replica {
     pub fn fresh(alloc: Global, me: u8, members: Members, ids: u32, bytes: u32) -> Replica
         requires me { IsMember members me }
         requires ids_at_least { 1 ≤ ids }
-        requires ids_at_most { ids ≤ UPDATE_LIMIT }
-        requires bytes { bytes ≤ BYTE_LIMIT }
+        requires ids_at_most { ids ≤ update_limit }
+        requires bytes { bytes ≤ byte_limit }
         ensures saved { result.saved ≡ fresh_saved (record { members = members; ids = ids; bytes = bytes }) me }
         ensures ask { result.ask ≡ None }
         ensures fits { FitsImage result.saved }
@@ -84,15 +84,10 @@ impl Replica {
         } }
     {
         Saved {
-            me: self.saved.me,
-            members: self.saved.members,
-            ids: self.saved.ids,
-            bytes: self.saved.bytes,
-            next: self.saved.next,
-            used: self.saved.used,
             generation: self.saved.generation + 1,
             entries,
             files,
+            ..self.saved
         }
     }
 }

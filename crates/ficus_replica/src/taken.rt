@@ -6,20 +6,16 @@ ghost use Rattle.ficus_replica.specs.Taken.{IsAlone, IsTakenFrom, HasMark, AreMa
 
 use ficus_entry::Entries;
 use ficus_ids::{Id, Memory};
-use ficus_recon_file::SideBySide;
+use ficus_recon_file::News;
 use std::alloc::Global;
 
 /// The identifiers of the files of theirs alone that an entry names or lies in, rising.
-pub(crate) fn taken(
-    alloc: Global,
-    entries: &Entries,
-    sides: &SideBySide<'_>,
-) -> Result<Vec<Id>, Memory>
+pub(crate) fn taken(alloc: Global, entries: &Entries, news: &News<'_>) -> Result<Vec<Id>, Memory>
     ensures rising { IfOk result (λ ids. IsRisingBy (λ id. id) ids.items) }
     ensures taken { IfOk result (λ ids. (id : IdValue) → Contains ids.items id ↔
-        IsTakenFrom entries.now sides.now.mine sides.now.theirs id) }
+        IsTakenFrom entries.now news.now.mine news.now.theirs id) }
 {
-    let alone = theirs_alone(alloc, sides)?;
+    let alone = theirs_alone(alloc, news)?;
     // Spares the walk along the entries, where nothing is new.
     if alone.is_empty() {
         return Ok(alone);
@@ -29,16 +25,16 @@ pub(crate) fn taken(
 }
 
 // The identifiers of the files of theirs alone, rising.
-fn theirs_alone(alloc: Global, sides: &SideBySide<'_>) -> Result<Vec<Id>, Memory>
+fn theirs_alone(alloc: Global, news: &News<'_>) -> Result<Vec<Id>, Memory>
     ensures rising { IfOk result (λ ids. IsRisingBy (λ id. id) ids.items) }
     ensures alone { IfOk result (λ ids. (id : IdValue) → Contains ids.items id ↔
-        IsAlone sides.now.mine sides.now.theirs id) }
+        IsAlone news.now.mine news.now.theirs id) }
 {
     let mut ids = Vec::new(alloc);
-    for index in 0..sides.len() {
-        let pair = sides.at(index);
-        if pair.mine.is_none() {
-            ids.push(pair.theirs.id)?;
+    for index in 0..news.len() {
+        let new = news.at(index);
+        if new.mine.is_none() {
+            ids.push(new.theirs.id)?;
         }
     }
     Ok(ids)

@@ -1,6 +1,6 @@
 ghost use Rattle.std.specs.Prelude.{◌-◌, ◌^◌, ◌<◌, IfOk, OnOk};
 ghost use Rattle.ficus_codec.specs.Saved.{FitsImage};
-ghost use Rattle.ficus_commands.specs.Change.{HasNewPath};
+ghost use Rattle.ficus_commands.specs.Change.{HasFitPaths};
 ghost use Rattle.ficus_path.specs.Path.{IsNew};
 
 use ficus_codec::{BYTE_LIMIT, UPDATE_LIMIT};
@@ -59,7 +59,7 @@ fn changed(alloc: Global, replica: &Replica, make: Make) -> Result<Replica, Fail
 }
 
 fn changed_by(alloc: Global, replica: &Replica, change: &Change) -> Result<Replica, Fail>
-    requires new { HasNewPath change.now }
+    requires new { HasFitPaths change.now }
     requires fits { FitsImage replica.now.saved }
     ensures { IfOk result (λ changed. FitsImage changed.saved) }
 {
@@ -82,7 +82,7 @@ pub(crate) fn why_not_changed(
 }
 
 fn change(alloc: Global, make: Make) -> Result<Change, Fail>
-    ensures { IfOk result HasNewPath }
+    ensures { IfOk result HasFitPaths }
 {
     match make {
         Make::Directory => {
@@ -98,7 +98,7 @@ fn change(alloc: Global, make: Make) -> Result<Change, Fail>
 }
 
 fn write_of(alloc: Global, length: usize) -> Result<Change, Fail>
-    ensures { IfOk result HasNewPath }
+    ensures { IfOk result HasFitPaths }
 {
     let path = read_path(alloc, b"/f")?;
     let text = Listed::of(vec![in alloc; b'n'; length]?);

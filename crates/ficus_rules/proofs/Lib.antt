@@ -2,6 +2,7 @@ pub mod Rules
 pub mod Views
 pub mod Sound
 pub mod Walks
+pub mod EntryWalks
 pub mod Limits
 pub mod Listings
 pub mod Lists
@@ -10,10 +11,15 @@ pub mod Texts
 pub mod Resolved
 pub mod Reading
 pub mod VersionLists
+pub mod Marks
 pub mod Makes
 pub mod Writes
 pub mod Settles
 pub mod Resolves
+pub mod Named
+pub mod Removes
+pub mod Links
+pub mod Renames
 pub mod Changes
 pub mod Looks
 pub mod Resolvers

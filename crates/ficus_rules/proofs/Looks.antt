@@ -1,10 +1,12 @@
--- The looks: each has one answer, and the same over views that show the same.
+-- The looks: each has one answer; those that tell of the view the same over views that show the same, and all of them
+-- over views that are the same.
 use Rattle.ficus_commands.specs.declared.look.Look.{Look}
-use Rattle.ficus_commands.specs.declared.look.Look.TheVariants.{Ls, Read, Versions, Tree}
-use Rattle.ficus_rules.specs.Look.{LookRule}
+use Rattle.ficus_commands.specs.declared.look.Look.TheVariants.{Ls, Read, Versions, Tree, Marks}
+use Rattle.ficus_rules.specs.Look.{LookRule, TellsOfView}
 use Rattle.ficus_rules.specs.Rule.{Once, Along}
-use Rattle.ficus_rules.specs.View.{View, SameShown}
+use Rattle.ficus_rules.specs.View.{View, SameShown, SameView}
 use Rattle.ficus_rules.proofs.Lists.{list_once, list_along}
+use Rattle.ficus_rules.proofs.Marks.{marks_once, marks_along}
 use Rattle.ficus_rules.proofs.Reading.{read_once, read_along}
 use Rattle.ficus_rules.proofs.Sound.{IsSound}
 use Rattle.ficus_rules.proofs.Trees.{tree_once, tree_along}
@@ -15,10 +17,20 @@ look_once view sound (Ls path) = list_once view sound path
 look_once view sound (Read path) = read_once view sound path
 look_once view sound (Versions path) = versions_once view sound path
 look_once view sound Tree = tree_once sound
+look_once view sound Marks = marks_once view
 
-pub look_along : {one other : View} → SameShown one other → (look : Look) →
+pub shown_along : {one other : View} → SameShown one other → (look : Look) → TellsOfView look →
     Along (LookRule one look) (LookRule other look)
-look_along same (Ls path) = list_along same path
-look_along same (Read path) = read_along same path
-look_along same (Versions path) = versions_along same path
-look_along same Tree = tree_along same
+shown_along same (Ls path) tells = list_along same path
+shown_along same (Read path) tells = read_along same path
+shown_along same (Versions path) tells = versions_along same path
+shown_along same Tree tells = tree_along same
+shown_along same Marks none = absurd none
+
+pub look_along : {one other : View} → SameView one other → (look : Look) →
+    Along (LookRule one look) (LookRule other look)
+look_along same (Ls path) = shown_along same.shown (Ls path) tt
+look_along same (Read path) = shown_along same.shown (Read path) tt
+look_along same (Versions path) = shown_along same.shown (Versions path) tt
+look_along same Tree = shown_along same.shown Tree tt
+look_along same Marks = marks_along same

@@ -35,7 +35,7 @@ then_goes first rest a (Err refusal) fa ra = inr (a, fa, ra)
 
 module _ {B : Type 0} {bad good : Type 0} (refusal : Refusal) {rest : Result B Refusal → Type 0}
     (not_both : bad → good → ⊥) (rest_once : Once rest) where
-  refused_once : Once (RefusedOr bad good refusal rest)
+  pub refused_once : Once (RefusedOr bad good refusal rest)
   refused_once (Ok b) (Ok c) (is, rb) (is_too, rc) = rest_once (Ok b) (Ok c) rb rc
   refused_once (Ok b) (Err r) (is, rb) (inl (isnt, e)) = absurd (not_both isnt is)
   refused_once (Ok b) (Err r) (is, rb) (inr (is_too, rr)) = rest_once (Ok b) (Err r) rb rr
@@ -74,7 +74,7 @@ module _ {A B : Type 0} {first other : Result A Refusal → Type 0} {rest more :
   then_along there next (Err r) (inr (a, fa, ra)) = inr (a, there (Ok a) fa, next a fa (Err r) ra)
 
 module _ {B : Type 0} {bad good bad_too good_too : Type 0} (refusal : Refusal) {rest more : Result B Refusal → Type 0} where
-  refused_along : (bad → bad_too) → (good → good_too) → Along rest more →
+  pub refused_along : (bad → bad_too) → (good → good_too) → Along rest more →
       Along (RefusedOr bad good refusal rest) (RefusedOr bad_too good_too refusal more)
   refused_along refused goes next (Ok b) (is, rb) = (goes is, next (Ok b) rb)
   refused_along refused goes next (Err r) (inl (isnt, e)) = inl (refused isnt, e)

@@ -1,9 +1,10 @@
 -- Views that show the same.
 use Rattle.std.proofs.Common.{◌↔◌, ℕ, List, refl, sym, inl, inr}
 use Rattle.ficus_ids.specs.declared.id.Id.{Id}
+use Rattle.ficus_ids.specs.declared.id.TheConstants.{ROOT}
 use Rattle.ficus_ids.specs.declared.kind.Kind.TheVariants.{Dir}
 use Rattle.ficus_laws.proofs.Shown.{reached_within}
-use Rattle.ficus_rules.specs.View.{View, SameShown, IsBoundIn, IsTakenIn, IsDirectoryIn, IsReachedIn}
+use Rattle.ficus_rules.specs.View.{View, SameShown, IsBoundIn, IsTakenIn, IsDirectoryIn, IsReachedFromIn, IsReachedIn}
 
 -- whatever is so is so, and where two things are so together, so they are the other way round
 itself : {A : Type 0} → A ↔ A
@@ -16,6 +17,7 @@ pub same_itself : (view : View) → SameShown view view
 same_itself view = record {
   members = refl;
   live = λ entry. itself;
+  orphans = λ object. itself;
   kinds = λ object kind. itself;
   conflicts = λ object. itself;
   versions = λ object versions. itself;
@@ -25,6 +27,7 @@ pub same_back : {one other : View} → SameShown one other → SameShown other o
 same_back same = record {
   members = sym same.members;
   live = λ entry. turned (same.live entry);
+  orphans = λ object. turned (same.orphans object);
   kinds = λ object kind. turned (same.kinds object kind);
   conflicts = λ object. turned (same.conflicts object);
   versions = λ object versions. turned (same.versions object versions);
@@ -56,8 +59,11 @@ module _ {one other : View} (same : SameShown one other) where
   pub directory_same : (object : Id) → IsDirectoryIn one object ↔ IsDirectoryIn other object
   directory_same object = (directory_there same object, directory_there (same_back same) object)
 
-  pub reached_same : (object : Id) → IsReachedIn one object ↔ IsReachedIn other object
-  reached_same object = (
+  pub reached_from_same : (start object : Id) → IsReachedFromIn one start object ↔ IsReachedFromIn other start object
+  reached_from_same start object = (
     λ reached. reached_within (λ from to leads. (leads.0, bound_there same leads.1)) reached,
     λ reached. reached_within (λ from to leads. (leads.0, bound_there (same_back same) leads.1)) reached,
   )
+
+  pub reached_same : (object : Id) → IsReachedIn one object ↔ IsReachedIn other object
+  reached_same object = reached_from_same ROOT object

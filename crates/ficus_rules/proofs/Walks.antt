@@ -3,7 +3,6 @@ use Rattle.std.proofs.Common.{◌≡◌, ℕ, List, [], ◌∷◌, Option, Some,
 use Rattle.ficus_ids.specs.declared.id.Id.{Id}
 use Rattle.ficus_ids.specs.declared.id.TheConstants.{ROOT}
 use Rattle.ficus_ids.specs.declared.refusal.Refusal.TheVariants.{NotDir, IsDir}
-use Rattle.ficus_model.specs.Live.{ModelEntry}
 use Rattle.ficus_model.specs.Reached.IsReached.{Base, Through}
 use Rattle.ficus_path.specs.declared.path.Base.{Base as PathBase}
 use Rattle.ficus_path.specs.declared.path.Base.TheVariants.{Root}
@@ -11,9 +10,9 @@ use Rattle.ficus_path.specs.declared.path.Part.{Part}
 use Rattle.ficus_path.specs.declared.path.Path.{Path}
 use Rattle.ficus_names.specs.Find.{FindAnswer}
 use Rattle.ficus_names.specs.FindLaws.{one_answer, FindAnswer-along}
-use Rattle.ficus_rules.specs.Rule.{Once, Along}
-use Rattle.ficus_rules.specs.View.{View, SameShown, IsBoundIn, IsDirectoryIn, IsReachedIn}
-use Rattle.ficus_rules.specs.Walk.{BaseRule, PartsRule, WalkRule, DirectoryRule, ParentRule, FileRule}
+use Rattle.ficus_rules.specs.Rule.{Then, Gives, Once, Along}
+use Rattle.ficus_rules.specs.View.{View, SameShown, IsBoundIn, IsNamedIn, IsVisibleIn, IsDirectoryIn, IsReachedIn}
+use Rattle.ficus_rules.specs.Walk.{BaseRule, PartsRule, WalkRule, DirectoryRule, ParentRule, FileRule, EntryRule, Found, last_name, last_target}
 use Rattle.ficus_rules.proofs.Rules.{then_once, unless_once, where_once, gives_once, then_along, unless_along, where_along, gives_along}
 use Rattle.ficus_rules.proofs.Views.{bound_same, directory_same}
 
@@ -33,8 +32,16 @@ directory_once view base parts = then_once (walk_once view base parts) (λ objec
 pub parent_once : (view : View) (path : Path) → Once (ParentRule view path)
 parent_once view path = directory_once view path.base _
 
+pub entry_once : (view : View) (path : Path) → Once (EntryRule view path)
+entry_once view path =
+    then_once (parent_once view path)
+    (λ dir. then_once (one_answer (IsBoundIn view dir) (last_name path) (last_target path)) (λ object. gives_once _))
+
 pub file_once : (view : View) (path : Path) → Once (FileRule view path)
 file_once view path = then_once (walk_once view path.base path.parts) (λ object. unless_once _ _ (gives_once _))
+
+abbrev pub found_at : Id → Id → Found
+found_at dir object = record { dir = dir; object = object }
 
 module _ {one other : View} (same : SameShown one other) where
   base_along : (base : PathBase) → Along (BaseRule one base) (BaseRule other base)
@@ -56,6 +63,17 @@ module _ {one other : View} (same : SameShown one other) where
 
   pub parent_along : (path : Path) → Along (ParentRule one path) (ParentRule other path)
   parent_along path = directory_along path.base _
+
+  pub entry_along : (path : Path) → Along (EntryRule one path) (EntryRule other path)
+  entry_along path =
+      then_along {rest = λ dir. Then (FindAnswer (IsBoundIn one dir) (last_name path) (last_target path))
+      (λ object. Gives (found_at dir object))}
+      {more = λ dir. Then (FindAnswer (IsBoundIn other dir) (last_name path) (last_target path))
+      (λ object. Gives (found_at dir object))} (parent_along path)
+      (λ dir walked. then_along {rest = λ object. Gives (found_at dir object)}
+      {more = λ object. Gives (found_at dir object)}
+      (FindAnswer-along (bound_same same dir) (last_name path) (last_target path))
+      (λ object found. gives_along (found_at dir object)))
 
   pub file_along : (path : Path) → Along (FileRule one path) (FileRule other path)
   file_along path = then_along (walk_along path.base path.parts) (λ object walked. unless_along IsDir (directory_same same object) (gives_along object))
@@ -96,19 +114,17 @@ module _ (view : View) where
   pub parent_walked : (path : Path) (dir : Id) → ParentRule view path (Ok dir) → IsWalkedTo dir
   parent_walked path dir walk = directory_walked path.base _ dir walk
 
-  -- a live entry leads to the object
-  pub record IsNamedIn (object : Id) : Type 0 where
-    pub entry : ModelEntry
-    pub live : view.live entry
-    pub leads : entry.target ≡ object
+  -- what is bound is named
+  bound_named : {dir object : Id} {name : List ℕ} → IsBoundIn view dir name object → IsNamedIn view object
+  bound_named bound = record { entry = bound.entry; live = bound.live; leads = bound.leads }
 
-  -- a walk ends where it begins, or at the target of a live entry
-  parts_named : (parts : List Part) (object target : Id) → PartsRule view parts object (Ok target) →
-      IsDirectoryIn view object ⊎ IsNamedIn object → IsDirectoryIn view target ⊎ IsNamedIn target
-  parts_named [] object target is ends = subst (λ end. IsDirectoryIn view end ⊎ IsNamedIn end) (sym is) ends
-  parts_named (part ∷ parts) object target (directory, (next, found, rest)) ends =
-      let bound = found_bound (IsBoundIn view object) part.name part.target next found in
-      parts_named parts next target rest (inr (record { entry = bound.entry; live = bound.live; leads = bound.leads }))
+  -- a walk ends where it begins, or at an object that is visible
+  parts_visible : (parts : List Part) (object target : Id) → PartsRule view parts object (Ok target) →
+      IsDirectoryIn view object ⊎ IsVisibleIn view object → IsDirectoryIn view target ⊎ IsVisibleIn view target
+  parts_visible [] object target is ends = subst (λ end. IsDirectoryIn view end ⊎ IsVisibleIn view end) (sym is) ends
+  parts_visible (part ∷ parts) object target (directory, (next, found, rest)) ends =
+      parts_visible parts next target rest
+      (inr (inl (bound_named (found_bound (IsBoundIn view object) part.name part.target next found))))
 
   base_directory : (base : PathBase) (object : Id) → BaseRule view base (Ok object) → IsDirectoryIn view object
   base_directory Root object is = inl is
@@ -117,15 +133,26 @@ module _ (view : View) where
   pub record IsFileAt (file : Id) : Type 0 where
     pub reached : IsReachedIn view file
     pub no_directory : IsDirectoryIn view file → ⊥
-    pub named : IsNamedIn file
+    pub visible : IsVisibleIn view file
 
   pub file_walked : (path : Path) (file : Id) → FileRule view path (Ok file) → IsFileAt file
   file_walked path file (object, walk, (no_directory, is)) =
       subst IsFileAt (sym is) (record {
         reached = walk_reached path.base path.parts object walk;
         no_directory = no_directory;
-        named = elim (parts_named path.parts walk.0 object walk.2 (inl (base_directory path.base walk.0 walk.1))) [
+        visible = elim (parts_visible path.parts walk.0 object walk.2 (inl (base_directory path.base walk.0 walk.1))) [
           | inl directory ↦ absurd (no_directory directory)
-          | inr named ↦ named
+          | inr visible ↦ visible
         ];
       })
+
+  -- an entry that is walked to: its directory is, and a live entry there has the name and leads to the object
+  pub record IsEntryAt (path : Path) (found : Found) : Type 0 where
+    pub walked : IsWalkedTo found.dir
+    pub bound : IsBoundIn view found.dir (last_name path) found.object
+
+  pub entry_walked : (path : Path) (found : Found) → EntryRule view path (Ok found) → IsEntryAt path found
+  entry_walked path found (dir, walk, (object, finds, is)) = subst (IsEntryAt path) (sym is) (record {
+    walked = parent_walked path dir walk;
+    bound = found_bound (IsBoundIn view dir) (last_name path) (last_target path) object finds;
+  })

@@ -1,5 +1,5 @@
--- The laws of resolvers, as the law functions state them.
-use Rattle.std.specs.Prelude.{◌≡◌, ◌↔◌, ℕ, List, [], ◌∷◌, ◌++◌, Result, Ok}
+-- The laws, as the law functions state them.
+use Rattle.std.specs.Prelude.{◌≡◌, ◌↔◌, ℕ, List, [], ◌∷◌, ◌++◌, Result, Ok, Err}
 use Rattle.ficus_ids.specs.declared.id.Id.{Id}
 use Rattle.ficus_ids.specs.declared.refusal.Refusal.{Refusal}
 use Rattle.ficus_file.specs.declared.version.Version.{Version}
@@ -10,10 +10,24 @@ use Rattle.ficus_model.specs.declared.event.Op.TheVariants.{Resolve}
 use Rattle.ficus_model.specs.Known.{Knows}
 use Rattle.ficus_model.specs.Lawful.{Volume}
 use Rattle.ficus_model.specs.Versions.{IsVersion}
+use Rattle.ficus_path.specs.Path.{IsEntry}
+use Rattle.ficus_path.specs.declared.path.Path.{Path}
 use Rattle.ficus_recon_file.specs.Versions.{AreMerged}
 use Rattle.ficus_file_laws.specs.Items.{AreVersionsOf}
 use Rattle.ficus_rules.specs.Resolved.{ResolvedRule}
 use Rattle.ficus_rules.specs.View.{history_view}
+use Rattle.ficus_rules.specs.Walk.{EntryRule, Found, WalkRule}
+
+-- the object that was found, or why none was
+abbrev pub object_of : Result Found Refusal → Result Id Refusal
+object_of (Ok found) = Ok found.object
+object_of (Err refusal) = Err refusal
+
+-- the walk to an entry finds what the walk along the whole path finds, and is refused as it is
+abbrev pub EntriesAreWalked : Type 0
+EntriesAreWalked = (volume : Volume) (H : List Event) (replica : ℕ) (path : Path) (answer : Result Found Refusal) →
+    let view = history_view volume H replica in
+    IsEntry path → EntryRule view path answer → WalkRule view path.base path.parts (object_of answer)
 
 -- the one knows the same version events of the file as the other
 abbrev pub KnowSameVersions : List Event → (ℕ → Type 0) → (ℕ → Type 0) → Id → Type 0

@@ -9,10 +9,15 @@ pub mod Make
 pub mod Write
 pub mod Settle
 pub mod Resolve
+pub mod Named
+pub mod Remove
+pub mod Link
+pub mod Rename
 pub mod List
 pub mod Tree
 pub mod Read
 pub mod Versions
+pub mod Marks
 pub mod Change
 pub mod Look
 pub mod Laws

@@ -44,6 +44,20 @@ FileRule view path =
     Then (WalkRule view path.base path.parts) (λ object.
     Unless (IsDirectoryIn view object) IsDir (Gives object))
 
+-- the directory of an entry, and the object to which the entry leads
+pub record Found : Type 0 where
+  pub dir : Id
+  pub object : Id
+
+-- the target of the part, where it has one
+abbrev pub target_of : Option Part → Option Id
+target_of None = None
+target_of (Some part) = part.target
+
+-- the target of the last part
+abbrev pub last_target : Path → Option Id
+last_target path = target_of (last_or None path.parts)
+
 -- the name of the part, where there is one
 abbrev pub name_of : Option Part → List ℕ
 name_of None = []
@@ -52,3 +66,10 @@ name_of (Some part) = part.name
 -- the name of the last part
 abbrev pub last_name : Path → List ℕ
 last_name path = name_of (last_or None path.parts)
+
+-- the entry at a path: the walk without the last part, which is then looked up in the directory
+abbrev pub EntryRule : View → Path → Result Found Refusal → Type 0
+EntryRule view path =
+    Then (ParentRule view path) (λ dir.
+    Then (FindAnswer (IsBoundIn view dir) (last_name path) (last_target path)) (λ object.
+    Gives (record { dir = dir; object = object })))

@@ -4,5 +4,6 @@
 mod laws;
 
 pub use laws::{
-    one_change, one_look, resolvers_agree, same_shown_same_look, same_view_same_change,
+    entries_are_walked, one_change, one_look, resolvers_agree, same_shown_same_look,
+    same_view_same_change,
 };

@@ -20,7 +20,7 @@ use Rattle.ficus_path.specs.Spelling.{path_text, parts_text}
 use Rattle.ficus_path.specs.Text.{quoted_text}
 use Rattle.ficus_path.proofs.TextLaws.{quoted_text_injective}
 use Rattle.ficus_script.specs.declared.arguments.Arguments.{Arguments}
-use Rattle.ficus_script.specs.declared.arguments.Arguments.TheVariants.{Nothing, OnePath, PathAndKind, PathAndText, TwoReplicas}
+use Rattle.ficus_script.specs.declared.arguments.Arguments.TheVariants.{Nothing, OnePath, PathAndKind, PathAndText, TwoPaths, TwoReplicas}
 use Rattle.ficus_script.specs.Arguments.{AreArguments, Begins, IsReadingBehind, IsReadingWords, BeginsPath, BeginsText, argument_words, left_of}
 use Rattle.ficus_script.specs.declared.line.LineFault.{LineFault}
 use Rattle.ficus_script.specs.declared.line.LineFault.TheVariants.{NotCommand, Memory as OutOfMemory}
@@ -35,10 +35,11 @@ shape_of (OnePath path) = 1
 shape_of (TwoReplicas first second) = 2
 shape_of (PathAndText path text) = 3
 shape_of (PathAndKind path kind) = 4
+shape_of (TwoPaths one two) = 5
 
 abbrev behind_path : Option (List ℕ) → ℕ
 behind_path None = 1
-behind_path (Some last) = if get_or last 0 0 == 34 then 3 else 4
+behind_path (Some last) = if get_or last 0 0 == 34 then 3 else if get_or last 0 0 == 47 then 5 else 4
 
 abbrev shape_at : List ℕ → Option (List ℕ) → ℕ
 shape_at first rest = if get_or first 0 0 == 47 then behind_path rest else 2
@@ -59,12 +60,15 @@ path_words_shape path first rest same =
 number_shape : (first : List ℕ) (rest : Option (List ℕ)) → (BeginsPath first → ⊥) → shape_at first rest ≡ 2
 number_shape first rest other = rw (ne_eqb (get_or first 0 0) 47 other) refl
 
--- a text begins with a quotation mark, and the word of a kind doesn't
+-- a text begins with a quotation mark, a second path as the first one, and the word of a kind with neither
 text_shape : (last : List ℕ) → BeginsText last → behind_path (Some last) ≡ 3
-text_shape last begins = ap (λ (byte : ℕ). if byte == 34 then 3 else 4) begins
+text_shape last begins = ap (λ (byte : ℕ). if byte == 34 then 3 else if byte == 47 then 5 else 4) begins
 
-kind_shape : (last : List ℕ) → (BeginsText last → ⊥) → behind_path (Some last) ≡ 4
-kind_shape last other = rw (ne_eqb (get_or last 0 0) 34 other) refl
+second_path_shape : (last : List ℕ) → BeginsPath last → behind_path (Some last) ≡ 5
+second_path_shape last begins = ap (λ (byte : ℕ). if byte == 34 then 3 else if byte == 47 then 5 else 4) begins
+
+kind_shape : (last : List ℕ) → (BeginsText last → ⊥) → (BeginsPath last → ⊥) → behind_path (Some last) ≡ 4
+kind_shape last no_text no_path = rw (ne_eqb (get_or last 0 0) 34 no_text, ne_eqb (get_or last 0 0) 47 no_path) refl
 
 kind_word_shape : (kind : Kind) → behind_path (Some (kind_word kind)) ≡ 4
 kind_word_shape Dir = refl
@@ -81,6 +85,9 @@ shape_is (PathAndText path text) first rest are words =
     path_words_shape path first rest words.0 ∙ ap behind_path words.1
 shape_is (PathAndKind path kind) first rest are words =
     path_words_shape path first rest words.0 ∙ ap behind_path words.1 ∙ kind_word_shape kind
+shape_is (TwoPaths one other) first rest are words =
+    path_words_shape one first rest words.0 ∙ ap behind_path words.1
+    ∙ second_path_shape (path_text other) (path_begins other.parts)
 shape_is (TwoReplicas one other) first rest are words =
     number_shape first rest (λ slash. omega (arith, slash, ap (λ (word : List ℕ). get_or word 0 0) words.0, first_digit one are.0))
 
@@ -115,6 +122,10 @@ one_of_words (PathAndKind path kind) (PathAndKind other another) first rest are 
     let spelled : Some (kind_word kind) ≡ Some (kind_word another) = sym words.1 ∙ same.1 in
     ap (λ (path : Path). PathAndKind path kind) (path_text_injective path other are.0 also.0 (sym words.0 ∙ same.0))
     ∙ ap (λ (kind : Kind). PathAndKind other kind) (kind_word_injective kind another (cc))
+one_of_words (TwoPaths one two) (TwoPaths other another) first rest are also words same =
+    let seconds : Some (path_text two) ≡ Some (path_text another) = sym words.1 ∙ same.1 in
+    ap (λ (path : Path). TwoPaths path two) (path_text_injective one other are.0 also.0 (sym words.0 ∙ same.0))
+    ∙ ap (λ (path : Path). TwoPaths other path) (path_text_injective two another are.1 also.1 (cc))
 one_of_words (TwoReplicas one two) (TwoReplicas other another) first rest are also words same =
     let seconds : Some (decimal two) ≡ Some (decimal another) = sym words.1 ∙ same.1 in
     ap (λ (n : ℕ). TwoReplicas n two) (same_replica one other are.0 also.0 (sym words.0 ∙ same.0))
@@ -136,6 +147,7 @@ first_free Nothing first rest are words = absurd words
 first_free (OnePath path) first rest are words = rw words.0 (IsFreeOf-path path are)
 first_free (PathAndText path text) first rest are words = rw words.0 (IsFreeOf-path path are)
 first_free (PathAndKind path kind) first rest are words = rw words.0 (IsFreeOf-path path are.0)
+first_free (TwoPaths one two) first rest are words = rw words.0 (IsFreeOf-path one are.0)
 first_free (TwoReplicas one two) first rest are words = rw words.0 (IsFreeOf-replica one are.0)
 
 -- words that are joined again are the first one and what is left
@@ -203,6 +215,7 @@ no_path first rest path_fault.NotPath begins none = go
     go (OnePath path) are words = none refl path are words.0
     go (PathAndText path text) are words = none refl path are words.0
     go (PathAndKind path kind) are words = none refl path are.0 words.0
+    go (TwoPaths one two) are words = none refl one are.0 words.0
     go (TwoReplicas one two) are words =
         omega (arith, begins, ap (λ (word : List ℕ). get_or word 0 0) words.0, first_digit one are.0)
 
@@ -226,11 +239,24 @@ no_text path last text_fault.NotText begins none = go
         none refl text (let spelled : Some last ≡ Some (quoted_text text) = words.1 in cc)
     go arguments are words = omega (arith, last_shape path last arguments are words, text_shape last begins)
 
--- what is no word of a kind, and doesn't begin as a text, ends no arguments
-pub no_kind : (path : Path) (last : List ℕ) → (BeginsText last → ⊥) →
+-- what begins as a path and is none ends no arguments
+pub no_second_path : (path : Path) (last : List ℕ) (fault : PathFault) → BeginsPath last →
+    (IsErrOf {T = Path} (Err fault) path_fault.NotPath → (second : Path) → IsPath second → last ≡ path_text second → ⊥) →
+    IsReadingWords (path_text path) (Some last) (Err (fault_of fault))
+no_second_path path last path_fault.Memory begins none = tt
+no_second_path path last path_fault.NotPath begins none = go
+  where
+    go : (arguments : Arguments) → AreArguments arguments →
+        Begins (path_text path) (Some last) (argument_words arguments) → ⊥
+    go (TwoPaths one two) are words =
+        none refl two are.1 (let spelled : Some last ≡ Some (path_text two) = words.1 in cc)
+    go arguments are words = omega (arith, last_shape path last arguments are words, second_path_shape last begins)
+
+-- what is no word of a kind, and begins neither as a text nor as a path, ends no arguments
+pub no_kind : (path : Path) (last : List ℕ) → (BeginsText last → ⊥) → (BeginsPath last → ⊥) →
     ((kind : Kind) → kind ≢ Dir → last ≡ kind_word kind → ⊥) → (arguments : Arguments) → AreArguments arguments →
     Begins (path_text path) (Some last) (argument_words arguments) → ⊥
-no_kind path last other none (PathAndKind another kind) are words =
+no_kind path last no_text no_path none (PathAndKind another kind) are words =
     none kind are.1 (let spelled : Some last ≡ Some (kind_word kind) = words.1 in cc)
-no_kind path last other none arguments are words =
-    omega (arith, last_shape path last arguments are words, kind_shape last other)
+no_kind path last no_text no_path none arguments are words =
+    omega (arith, last_shape path last arguments are words, kind_shape last no_text no_path)

@@ -7,10 +7,10 @@ use Rattle.std.specs.Str.{bytes_eq}
 use Rattle.std.proofs.lemmas.Bool.Decides.{leb_tells}
 use Rattle.std.proofs.lemmas.List.Elements.{All-from_recursion}
 use Rattle.ficus_path.proofs.CutLaws.{IsFreeOf}
-use Rattle.ficus_commands.specs.declared.change.Change.TheVariants.{MkDir, Create, Write, Settle, Resolve}
-use Rattle.ficus_commands.specs.declared.look.Look.TheVariants.{Ls, Read, Versions, Tree}
+use Rattle.ficus_commands.specs.declared.change.Change.TheVariants.{MkDir, Create, Write, Settle, Resolve, Rm, Ln, Mv}
+use Rattle.ficus_commands.specs.declared.look.Look.TheVariants.{Ls, Read, Versions, Tree, Marks}
 use Rattle.ficus_script.specs.declared.arguments.Arguments.{Arguments}
-use Rattle.ficus_script.specs.declared.arguments.Arguments.TheVariants.{Nothing, OnePath, PathAndKind, PathAndText, TwoReplicas}
+use Rattle.ficus_script.specs.declared.arguments.Arguments.TheVariants.{Nothing, OnePath, PathAndKind, PathAndText, TwoPaths, TwoReplicas}
 use Rattle.ficus_script.specs.declared.command.Command.{Command}
 use Rattle.ficus_script.specs.declared.command.Command.TheVariants as command
 use Rattle.ficus_script.specs.declared.line.LineFault.{LineFault}
@@ -24,19 +24,22 @@ use Rattle.ficus_script.proofs.Numbers.{IsFreeOf-replica, first_digit}
 
 -- the commands with these before and behind their verbs
 abbrev commands_with : Option ℕ → Arguments → List Command
-commands_with (Some by) Nothing = command.Look by Tree ∷ []
+commands_with (Some by) Nothing = command.Look by Tree ∷ command.Look by Marks ∷ []
 commands_with (Some by) (OnePath path) =
-    command.Change by (MkDir path) ∷ command.Change by (Resolve path) ∷ command.Look by (Ls path)
-    ∷ command.Look by (Read path) ∷ command.Look by (Versions path) ∷ []
+    command.Change by (MkDir path) ∷ command.Change by (Rm path) ∷ command.Change by (Resolve path)
+    ∷ command.Look by (Ls path) ∷ command.Look by (Read path) ∷ command.Look by (Versions path) ∷ []
 commands_with (Some by) (PathAndKind path kind) = command.Change by (Create path kind) ∷ []
 commands_with (Some by) (PathAndText path text) =
     command.Change by (Write path text) ∷ command.Change by (Settle path text) ∷ []
+commands_with (Some by) (TwoPaths from path) =
+    command.Change by (Ln from path) ∷ command.Change by (Mv from path) ∷ []
 commands_with None (TwoReplicas by to) = command.Pull by to ∷ []
 commands_with (Some by) (TwoReplicas first second) = []
 commands_with None Nothing = []
 commands_with None (OnePath path) = []
 commands_with None (PathAndKind path kind) = []
 commands_with None (PathAndText path text) = []
+commands_with None (TwoPaths from path) = []
 
 -- the verb of the command
 abbrev verb_of : Command → List ℕ
@@ -68,10 +71,14 @@ listed (command.Change by (Create path kind)) = record { letters = refl; found =
 listed (command.Change by (Write path text)) = record { letters = refl; found = refl }
 listed (command.Change by (Settle path text)) = record { letters = refl; found = refl }
 listed (command.Change by (Resolve path)) = record { letters = refl; found = refl }
+listed (command.Change by (Rm path)) = record { letters = refl; found = refl }
+listed (command.Change by (Ln from path)) = record { letters = refl; found = refl }
+listed (command.Change by (Mv from path)) = record { letters = refl; found = refl }
 listed (command.Look by (Ls path)) = record { letters = refl; found = refl }
 listed (command.Look by (Read path)) = record { letters = refl; found = refl }
 listed (command.Look by (Versions path)) = record { letters = refl; found = refl }
 listed (command.Look by Tree) = record { letters = refl; found = refl }
+listed (command.Look by Marks) = record { letters = refl; found = refl }
 listed (command.Pull by to) = record { letters = refl; found = refl }
 
 -- the table has one command for a spelling

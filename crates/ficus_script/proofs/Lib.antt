@@ -5,3 +5,4 @@ pub mod Numbers
 pub mod ScriptLaws
 pub mod Scripts
 pub mod VectorTexts
+pub mod SetTexts

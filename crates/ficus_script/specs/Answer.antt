@@ -1,17 +1,22 @@
 -- How answers are written.
 use Rattle.std.specs.Prelude.{ℕ, if◌then◌else◌, List, [], ◌∷◌, ◌++◌, length, take, map, codes}
-use Rattle.std.specs.List.{flat_map, join_with_byte}
+use Rattle.std.specs.List.{flat_map, join_with_byte, range_with_len}
 use Rattle.std.specs.Fmt.{decimal}
+use Rattle.ficus_entry.specs.declared.entry.Entry.{Entry}
+use Rattle.ficus_entry.specs.declared.entry.State.{State}
+use Rattle.ficus_entry.specs.declared.entry.State.TheVariants.{Live, Dead}
 use Rattle.ficus_file.specs.declared.version.Version.{Version}
 use Rattle.ficus_ids.specs.Id.{id_text}
 use Rattle.ficus_ids.specs.Kind.{kind_word}
+use Rattle.ficus_ids.specs.Marks.{has}
 use Rattle.ficus_ids.specs.Refusal.{refusal_word}
 use Rattle.ficus_names.specs.declared.listing.Line.{Line}
 use Rattle.ficus_names.specs.Text.{shown_text_of}
+use Rattle.ficus_path.specs.Spelling.{name_text}
 use Rattle.ficus_path.specs.Text.{quoted_text}
 use Rattle.ficus_vv.specs.Vector.{Counts, in_order}
 use Rattle.ficus_commands.specs.declared.told.Told.{Told}
-use Rattle.ficus_commands.specs.declared.told.Told.TheVariants.{Text, Names, Tree, Versions}
+use Rattle.ficus_commands.specs.declared.told.Told.TheVariants.{Text, Names, Tree, Versions, Marks}
 use Rattle.ficus_script.specs.declared.answer.Answer.{Answer}
 use Rattle.ficus_script.specs.declared.answer.Answer.TheVariants as answer
 
@@ -38,6 +43,34 @@ vector_text members vector =
 abbrev pub version_line : ℕ → Version → List ℕ
 version_line members version = vector_text members version.vector ++ 32 ∷ quoted_text version.bytes ++ 10 ∷ []
 
+-- the digit of the replica, where it is in the set
+abbrev pub digit_in : ℕ → ℕ → List ℕ
+digit_in set replica = if has set replica then decimal replica else []
+
+-- the text, or `-` in place of none
+abbrev pub or_dash : List ℕ → List ℕ
+or_dash [] = codes "-"
+or_dash (byte ∷ bytes) = byte ∷ bytes
+
+-- the digits of the replicas from 1 to 8 that are in the set, rising, or `-` for nobody
+abbrev pub set_text : ℕ → List ℕ
+set_text set = or_dash (flat_map (digit_in set) (range_with_len 1 8))
+
+-- who is known to know of the removal, and who is known to know that all know of it; nothing of a live entry
+abbrev pub known_text : State → List ℕ
+known_text Live = []
+known_text (Dead knowing knowing_all_know) =
+    codes " one=" ++ set_text knowing ++ codes " two=" ++ set_text knowing_all_know
+
+-- the identifier, the directory, the plain name and the target
+abbrev pub place_text : Entry → List ℕ
+place_text entry =
+    id_text entry.id ++ 32 ∷ id_text entry.dir ++ 32 ∷ name_text entry.name ++ 32 ∷ id_text entry.target
+
+-- these, what is known of the removal, and byte 10
+abbrev pub mark_line : Entry → List ℕ
+mark_line entry = place_text entry ++ known_text entry.state ++ 10 ∷ []
+
 -- how many lines there are, and each of them
 abbrev pub counted_lines : {Item : Type 0} → (Item → List ℕ) → List Item → List ℕ
 counted_lines line_text items = count_line (length items) ++ flat_map line_text items
@@ -48,6 +81,7 @@ told_text_of (Text text) = codes "ok " ++ quoted_text text ++ 10 ∷ []
 told_text_of (Names lines) = counted_lines name_line lines
 told_text_of (Tree lines) = counted_lines tree_line lines
 told_text_of (Versions members list) = counted_lines (version_line members) list
+told_text_of (Marks entries) = counted_lines mark_line entries
 
 -- the text of each answer
 abbrev pub answer_text_of : Answer → List ℕ

@@ -9,7 +9,7 @@ use Rattle.ficus_path.specs.Path.{IsPath}
 use Rattle.ficus_path.specs.Spelling.{path_text}
 use Rattle.ficus_path.specs.Text.{quoted_text}
 use Rattle.ficus_script.specs.declared.arguments.Arguments.{Arguments}
-use Rattle.ficus_script.specs.declared.arguments.Arguments.TheVariants.{Nothing, OnePath, PathAndKind, PathAndText, TwoReplicas}
+use Rattle.ficus_script.specs.declared.arguments.Arguments.TheVariants.{Nothing, OnePath, PathAndKind, PathAndText, TwoPaths, TwoReplicas}
 use Rattle.ficus_script.specs.declared.line.LineFault.{LineFault}
 use Rattle.ficus_script.specs.declared.line.LineFault.TheVariants.{NotCommand, Memory as OutOfMemory}
 
@@ -24,6 +24,7 @@ AreArguments Nothing = Unit {0}
 AreArguments (OnePath path) = IsPath path
 AreArguments (PathAndKind path kind) = IsPath path × (kind ≢ Dir)
 AreArguments (PathAndText path text) = IsPath path
+AreArguments (TwoPaths first second) = IsPath first × IsPath second
 AreArguments (TwoReplicas first second) = IsReplicaNumber first × IsReplicaNumber second
 
 -- the words that spell them, in order; a text is the last one, and spaces may stand in it
@@ -32,6 +33,7 @@ argument_words Nothing = []
 argument_words (OnePath path) = path_text path ∷ []
 argument_words (PathAndKind path kind) = path_text path ∷ kind_word kind ∷ []
 argument_words (PathAndText path text) = path_text path ∷ quoted_text text ∷ []
+argument_words (TwoPaths first second) = path_text first ∷ path_text second ∷ []
 argument_words (TwoReplicas first second) = decimal first ∷ decimal second ∷ []
 
 -- what stands behind a word and a space, where these words follow it, or nothing

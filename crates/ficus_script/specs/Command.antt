@@ -2,11 +2,11 @@
 use Rattle.std.specs.Prelude.{◌≡◌, ℕ, List, [], ◌∷◌, ◌++◌, Option, Some, None, IfSome, codes}
 use Rattle.std.specs.List.{join_with_byte}
 use Rattle.std.specs.Fmt.{decimal}
-use Rattle.ficus_commands.specs.Change.{HasNewPath}
-use Rattle.ficus_commands.specs.declared.change.Change.TheVariants.{MkDir, Create, Write, Settle, Resolve}
-use Rattle.ficus_commands.specs.declared.look.Look.TheVariants.{Ls, Read, Versions, Tree}
+use Rattle.ficus_commands.specs.Change.{HasFitPaths}
+use Rattle.ficus_commands.specs.declared.change.Change.TheVariants.{MkDir, Create, Write, Settle, Resolve, Rm, Ln, Mv}
+use Rattle.ficus_commands.specs.declared.look.Look.TheVariants.{Ls, Read, Versions, Tree, Marks}
 use Rattle.ficus_script.specs.declared.arguments.Arguments.{Arguments}
-use Rattle.ficus_script.specs.declared.arguments.Arguments.TheVariants.{Nothing, OnePath, PathAndKind, PathAndText, TwoReplicas}
+use Rattle.ficus_script.specs.declared.arguments.Arguments.TheVariants.{Nothing, OnePath, PathAndKind, PathAndText, TwoPaths, TwoReplicas}
 use Rattle.ficus_script.specs.declared.command.Command.{Command}
 use Rattle.ficus_script.specs.declared.command.Command.TheVariants as command
 use Rattle.ficus_script.specs.Arguments.{AreArguments, IsReplicaNumber, argument_words}
@@ -32,22 +32,27 @@ spelling_of (command.Change by (Create path kind)) = of_replica by (codes "creat
 spelling_of (command.Change by (Write path text)) = of_replica by (codes "write") (PathAndText path text)
 spelling_of (command.Change by (Settle path text)) = of_replica by (codes "settle") (PathAndText path text)
 spelling_of (command.Change by (Resolve path)) = of_replica by (codes "resolve") (OnePath path)
+spelling_of (command.Change by (Rm path)) = of_replica by (codes "rm") (OnePath path)
+spelling_of (command.Change by (Ln from path)) = of_replica by (codes "ln") (TwoPaths from path)
+spelling_of (command.Change by (Mv from path)) = of_replica by (codes "mv") (TwoPaths from path)
 spelling_of (command.Look by (Ls path)) = of_replica by (codes "ls") (OnePath path)
 spelling_of (command.Look by (Read path)) = of_replica by (codes "read") (OnePath path)
 spelling_of (command.Look by (Versions path)) = of_replica by (codes "versions") (OnePath path)
 spelling_of (command.Look by Tree) = of_replica by (codes "tree") Nothing
+spelling_of (command.Look by Marks) = of_replica by (codes "marks") Nothing
 spelling_of (command.Pull by to) = of_none (codes "pull") (TwoReplicas by to)
 
--- what is to be made has a new path
-abbrev pub IsNewWhereMade : Command → Type 0
-IsNewWhereMade (command.Change by change) = HasNewPath change
-IsNewWhereMade other = Unit {0}
+-- the paths are of the sort that the command takes: those of a change are, and others may be any
+abbrev pub TakesPaths : Command → Type 0
+TakesPaths (command.Change by change) = HasFitPaths change
+TakesPaths (command.Look by look) = Unit {0}
+TakesPaths (command.Pull by to) = Unit {0}
 
--- the numbers are those of replicas, the arguments are such, and what is to be made has a new path
+-- the numbers are those of replicas, the arguments are such, and the paths are of the sort that the command takes
 pub record IsCommand (command : Command) : Type 0 where
   pub number : IfSome (spelling_of command).by IsReplicaNumber
   pub behind : AreArguments (spelling_of command).behind
-  pub new : IsNewWhereMade command
+  pub paths : TakesPaths command
 
 -- the number of a replica is a word, and none is no word
 abbrev pub replica_words : Option ℕ → List (List ℕ)

@@ -6,7 +6,8 @@ use ficus_ids::{Id, Refusal};
 pub enum Answer {
     /// It was done.
     Done,
-    /// It was done, and the update of this number made the object.
+    /// It was done, and an object got a name by the update of this number, which is the number of the entry, and that of
+    /// the object where it was made.
     Made(Id),
     /// What the look told.
     Told(Told),

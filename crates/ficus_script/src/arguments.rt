@@ -25,6 +25,8 @@ pub(crate) enum Arguments {
     PathAndKind(Path, Kind),
     /// A path and a text. The text is all that stands behind the path and a space, to the end of the line.
     PathAndText(Path, Listed<u8>),
+    /// Two paths.
+    TwoPaths(Path, Path),
     /// The numbers of two replicas.
     TwoReplicas(u8, u8),
 }
@@ -70,6 +72,9 @@ fn path_and_last(alloc: Global, path: Path, last: &[u8]) -> Result<Arguments, Li
     if begins_text(last) {
         let text = read_text(alloc, last)?;
         Ok(Arguments::PathAndText(path, Listed::of(text)))
+    } else if begins_path(last) {
+        let second = read_path(alloc, last)?;
+        Ok(Arguments::TwoPaths(path, second))
     } else {
         let Some(kind) = read_kind(last) else {
             return Err(LineFault::NotCommand);

@@ -4,9 +4,10 @@ use ficus_commands::{Change, Look};
 /// no member. A text may have any length; a world refuses one that is too long for a file.
 #[derive(Drop)]
 pub enum Command {
-    /// A change by replica `by`: `R mkdir N`, `R create N KIND`, `R write P TEXT`, `R settle P TEXT`, `R resolve P`.
+    /// A change by replica `by`: `R mkdir N`, `R create N KIND`, `R write P TEXT`, `R settle P TEXT`, `R resolve P`,
+    /// `R rm E`, `R ln E N`, `R mv E N`.
     Change { by: u8, change: Change },
-    /// A look at replica `by`: `R ls P`, `R read P`, `R versions P`, `R tree`.
+    /// A look at replica `by`: `R ls P`, `R read P`, `R versions P`, `R tree`, `R marks`.
     Look { by: u8, look: Look },
     /// `pull R S`: replica `by` takes over what replica `to` knows.
     Pull { by: u8, to: u8 },

@@ -8,6 +8,7 @@ mod cut;
 mod fault;
 mod laws;
 mod line;
+mod marks;
 mod replica;
 mod script;
 mod verbs;

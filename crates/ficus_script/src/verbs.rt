@@ -4,7 +4,7 @@ ghost use Rattle.ficus_path.specs.Path.{IsPath};
 ghost use Rattle.ficus_script.specs.Arguments.{AreArguments, IsReplicaNumber};
 ghost use Rattle.ficus_script.specs.Command.{Spelling, IsCommandOf, of_none, of_replica};
 ghost use Rattle.ficus_script.specs.declared.command.Command.TheVariants as command;
-ghost use Rattle.ficus_script.specs.declared.arguments.Arguments.TheVariants.{Nothing, OnePath, PathAndKind, PathAndText, TwoReplicas};
+ghost use Rattle.ficus_script.specs.declared.arguments.Arguments.TheVariants.{Nothing, OnePath, PathAndKind, PathAndText, TwoPaths, TwoReplicas};
 
 use crate::Command;
 use crate::arguments::Arguments;
@@ -23,6 +23,7 @@ pub(crate) fn command_of(by: Option<u8>, verb: &[u8], behind: Arguments) -> Opti
         (Some(by), Arguments::OnePath(path)) => with_path(by, verb, path),
         (Some(by), Arguments::PathAndKind(path, kind)) => with_kind(by, verb, path, kind),
         (Some(by), Arguments::PathAndText(path, text)) => with_text(by, verb, path, text),
+        (Some(by), Arguments::TwoPaths(from, path)) => with_paths(by, verb, from, path),
         (None, Arguments::TwoReplicas(first, second)) => with_replicas(verb, first, second),
         _ => None,
     }
@@ -34,6 +35,7 @@ fn with_nothing(by: u8, verb: &[u8]) -> Option<Command>
 {
     match verb {
         _ if verb == b"tree".as_slice() => look(by, Look::Tree),
+        _ if verb == b"marks".as_slice() => look(by, Look::Marks),
         _ => None,
     }
 }
@@ -45,6 +47,7 @@ fn with_path(by: u8, verb: &[u8], path: Path) -> Option<Command>
 {
     match verb {
         _ if verb == b"mkdir".as_slice() && path.is_new() => change(by, Change::MkDir { path }),
+        _ if verb == b"rm".as_slice() && path.is_entry() => change(by, Change::Rm { path }),
         _ if verb == b"resolve".as_slice() => change(by, Change::Resolve { path }),
         _ if verb == b"ls".as_slice() => look(by, Look::Ls { path }),
         _ if verb == b"read".as_slice() => look(by, Look::Read { path }),
@@ -76,6 +79,22 @@ fn with_text(by: u8, verb: &[u8], path: Path, text: Listed<u8>) -> Option<Comman
     match verb {
         _ if verb == b"write".as_slice() => change(by, Change::Write { path, text }),
         _ if verb == b"settle".as_slice() => change(by, Change::Settle { path, text }),
+        _ => None,
+    }
+}
+
+fn with_paths(by: u8, verb: &[u8], from: Path, path: Path) -> Option<Command>
+    requires replica { IsReplicaNumber by }
+    requires from { IsPath from }
+    requires path { IsPath path }
+    ensures { IsCommandOf (of_replica by verb.now (TwoPaths from path)) result }
+{
+    if !from.is_entry() || !path.is_new() {
+        return None;
+    }
+    match verb {
+        _ if verb == b"ln".as_slice() => change(by, Change::Ln { from, path }),
+        _ if verb == b"mv".as_slice() => change(by, Change::Mv { from, path }),
         _ => None,
     }
 }

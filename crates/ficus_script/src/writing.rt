@@ -1,10 +1,12 @@
 ghost use Rattle.std.specs.Prelude.{◌≡◌, [], ◌∷◌, ◌++◌, codes, IfOk, OnOk};
 ghost use Rattle.ficus_path.specs.Text.{quoted_text};
-ghost use Rattle.ficus_script.specs.Answer.{answer_text_of, told_text_of, count_line, counted_lines, name_line, tree_line};
+ghost use Rattle.ficus_script.specs.Answer.{answer_text_of, told_text_of, count_line, counted_lines, mark_line, name_line, tree_line};
 ghost use Rattle.ficus_script.specs.Answer.{vector_text, version_line};
 
 use crate::Answer;
+use crate::marks::append_mark_line;
 use ficus_commands::Told;
+use ficus_entry::Entry;
 use ficus_file::Version;
 use ficus_ids::{Members, Memory};
 use ficus_names::{Line, shown_text};
@@ -35,6 +37,7 @@ fn told_text(alloc: Global, told: &Told) -> Result<Vec<u8>, Memory>
         Told::Names(lines) => names_text(alloc, lines.items()),
         Told::Tree(lines) => tree_text(alloc, lines.items()),
         Told::Versions { members, list } => versions_text(alloc, *members, list.items()),
+        Told::Marks(entries) => marks_text(alloc, entries.items()),
     }
 }
 
@@ -73,6 +76,16 @@ fn versions_text(alloc: Global, members: Members, list: &[Version]) -> Result<Ve
     let mut text = count_text(alloc, list.len())?;
     for version in list {
         append_version_line(alloc, &mut text, members, version)?;
+    }
+    Ok(text)
+}
+
+fn marks_text(alloc: Global, entries: &[Entry]) -> Result<Vec<u8>, Memory>
+    ensures { IfOk result (λ text. text.items ≡ counted_lines mark_line entries.now) }
+{
+    let mut text = count_text(alloc, entries.len())?;
+    for entry in entries {
+        append_mark_line(alloc, &mut text, entry)?;
     }
     Ok(text)
 }

@@ -40,24 +40,53 @@ impl Order {
     }
 }
 
-// The height of a list after so many insertions.
-fn height(alloc: Global, order: Order, count: u32) -> Result<u8, Memory> {
-    let mut list = PersistentList::new();
+// A list of so many items, built at once.
+fn built(alloc: Global, count: u32) -> Result<PersistentList<Number>, Memory> {
+    let mut items = Vec::with_capacity(alloc, count as usize)?;
+    for value in 0..count {
+        items.push(Number { value })?;
+    }
+    PersistentList::of(alloc, &items)
+}
+
+// A list after so many insertions.
+fn extended(
+    alloc: Global,
+    list: PersistentList<Number>,
+    order: Order,
+    count: u32,
+) -> Result<PersistentList<Number>, Memory> {
+    let mut list = list;
     let mut state: u32 = 1;
     for value in 0..count {
         state = state.wrapping_mul(1664525).wrapping_add(1013904223);
         let index = order.place(list.len(), state);
         list = list.insert(alloc, index, Number { value })?;
     }
-    Ok(list.height())
+    Ok(list)
+}
+
+// A list after so many removals of its first item.
+fn shortened(
+    alloc: Global,
+    list: PersistentList<Number>,
+    count: u32,
+) -> Result<PersistentList<Number>, Memory> {
+    let mut list = list;
+    for _ in 0..count {
+        if !list.is_empty() {
+            list = list.remove(alloc, 0)?;
+        }
+    }
+    Ok(list)
 }
 
 // The greatest height of a list after so many insertions in one of the orders.
 fn greatest_height(alloc: Global, count: u32) -> Result<u8, Memory> {
     let mut greatest = 0;
     for order in [Order::Rising, Order::Falling, Order::Random] {
-        let height = height(alloc, order, count)?;
-        greatest = height.max(greatest);
+        let list = extended(alloc, PersistentList::new(), order, count)?;
+        greatest = list.height().max(greatest);
     }
     Ok(greatest)
 }
@@ -69,5 +98,18 @@ fn the_height_is_a_logarithm(rt: HostRuntime) -> Result<(), Fail> {
         let height = greatest_height(rt.alloc(), count)?;
         assert!(rt; height <= most, "{height} for {count}");
     }
+    Ok(())
+}
+
+// 500,000 has 19 binary digits.
+#[test]
+fn a_long_list_stays_low(rt: HostRuntime) -> Result<(), Fail> {
+    let list = built(rt.alloc(), 500_000)?;
+    assert_eq!(rt; list.height(), 19);
+    let list = extended(rt.alloc(), list, Order::Rising, 2_000)?;
+    let list = extended(rt.alloc(), list, Order::Falling, 2_000)?;
+    let list = shortened(rt.alloc(), list, 8_000)?;
+    assert_eq!(rt; list.len(), 496_000);
+    assert!(rt; list.height() <= 20);
     Ok(())
 }

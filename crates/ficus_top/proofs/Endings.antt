@@ -53,7 +53,7 @@ within_code script left (Err (Answering NoMemory)) takes code = elim code
 within_code script left (Err (Answering Sink)) takes code = takes.all.within
 
 -- where the words are right and the source has more bytes than a script may have, it is too long, it has failed, or
--- memory was refused
+-- memory was wanted
 pub too_long_code : {Done : Type 0} (words : List (List ℕ)) (members : ℕ) (script left : List ℕ) (before after : ℕ)
     (ended : Result Done Fault) → AreWords words members → (IsErrOf ended Usage → AreNoWords words)
     → TakesAsEnded script left ended → (IsErrOf ended (Reading Source) → Rose before after) → (Rose before after → ⊥)
@@ -77,7 +77,7 @@ too_long_code words members script left before after (Err (Answering Sink)) are 
 
 module _ (words : List (List ℕ)) (script left : List ℕ) (before after : ℕ) (members : ℕ)
     (read : IsRead words members script before after) where
-  -- where the words are right, a script was read, the source has failed, or memory was refused
+  -- where the words are right, a script was read, the source has failed, or memory was wanted
   not_too_long : GivesCount script (script_limit + 1) left → ⊥
   not_too_long gives = omega (arith, read.within)
 

@@ -2,3 +2,5 @@ mod Faults
 mod Lines
 mod Serves
 mod Endings
+mod Fronts
+mod Returning

@@ -21,7 +21,7 @@ run_append : {volume : Volume} {W M N : ModelWorld} {commands others : List Comm
 run_append End behind = behind
 run_append (Then first rest) behind = Then first (run_append rest behind)
 
-texts_append : (old : List ℕ) (answers more : List Answer)
+pub texts_append : (old : List ℕ) (answers more : List Answer)
     → (old ++ texts_of answers) ++ texts_of more ≡ old ++ texts_of (answers ++ more)
 texts_append old answers more =
     append_assoc old (texts_of answers) (texts_of more)

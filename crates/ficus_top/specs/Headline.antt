@@ -1,35 +1,44 @@
 -- What the program promises of one run.
-use Rattle.std.specs.Prelude.{◌≡◌, ◌⊎◌, ℕ, ◌≤◌, List, length}
+use Rattle.std.specs.Prelude.{◌≡◌, ◌⊎◌, ℕ, ◌≤◌, List, length, take}
+use Rattle.ficus_model.specs.Known.{Knows}
+use Rattle.ficus_model.specs.Lawful.{IsLawful}
+use Rattle.ficus_model.specs.Live.{ModelEntry, IsLive, IsRemoved}
+use Rattle.ficus_model.specs.declared.event.Event.{Event}
 use Rattle.ficus_outside.specs.Faults.{Rose}
 use Rattle.ficus_script.specs.declared.command.Command.{Command}
-use Rattle.ficus_script.specs.declared.answer.Answer.{Answer}
 use Rattle.ficus_script.specs.Script.{IsScript}
-use Rattle.ficus_world.specs.ModelWorld.{ModelWorld, Outcome}
-use Rattle.ficus_world.specs.Run.{Run}
+use Rattle.ficus_world.specs.ModelWorld.{ModelWorld}
 use Rattle.ficus_world.specs.Start.{default_volume, start}
 use Rattle.ficus_top.specs.Serving.{Serves, ServesFront}
 use Rattle.ficus_top.specs.Words.{AreWords}
 
--- The commands, over a fresh volume with so many members and with these outcomes, are answered with these answers, and
--- leave this world.
-abbrev pub Replay : ℕ → List Command → List Outcome → List Answer → ModelWorld → Type 0
-Replay members commands outcomes answers W = Run (default_volume members) (start members) commands outcomes answers W
+-- what a replica knew to be removed after some first events of the history isn't alive there at its end
+abbrev pub NothingReturns : List Event → Type 0
+NothingReturns H =
+    (first replica : ℕ) (entry : ModelEntry) → IsRemoved (take first H) (Knows (take first H) replica) entry.id →
+    IsLive H (Knows H replica) entry → ⊥
 
 -- The source's bytes are a script, and the run over its commands was served: over a sink that tells, what was put are
--- the texts of its answers, in order, and nothing else.
+-- the texts of its answers, in order, and nothing else. The history that the run leaves is lawful, and nothing removed
+-- returns in it.
 pub record Answers (tells : Type 0) (members : ℕ) (script old new : List ℕ) : Type 0 where
   pub commands : List Command
   pub read : IsScript script commands
   pub after : ModelWorld
   pub serves : Serves tells (default_volume members) (start members) commands after old new
+  pub lawful : IsLawful (default_volume members) after.events
+  pub no_return : NothingReturns after.events
 
 -- The source's bytes are a script, and the run over some first ones of its commands was served: over a sink that tells,
--- what was put is a front of the texts of its answers, which ends in the last of them at the earliest.
+-- what was put is a front of the texts of its answers, which ends in the last of them at the earliest. The history that
+-- the run leaves is lawful, and nothing removed returns in it.
 pub record AnswersFront (tells : Type 0) (members : ℕ) (script old new : List ℕ) : Type 0 where
   pub commands : List Command
   pub read : IsScript script commands
   pub after : ModelWorld
   pub serves : ServesFront tells (default_volume members) (start members) commands after old new
+  pub lawful : IsLawful (default_volume members) after.events
+  pub no_return : NothingReturns after.events
 
 -- the code is one of those that the program ends with
 abbrev pub IsCode : ℕ → Type 0

@@ -1,5 +1,5 @@
 -- What commands are answered with, from a world of the model on, and what is put of it.
-use Rattle.std.specs.Prelude.{◌≡◌, ℕ, ◌≤◌, List, ◌++◌, length, take}
+use Rattle.std.specs.Prelude.{◌≡◌, ℕ, ◌-◌, ◌≤◌, List, ◌++◌, length, take}
 use Rattle.std.specs.List.{flat_map}
 use Rattle.ficus_model.specs.Lawful.{Volume}
 use Rattle.ficus_script.specs.declared.command.Command.{Command}
@@ -40,6 +40,19 @@ pub record ServesFront (tells : Type 0) (volume : Volume) (W : ModelWorld) (comm
   pub at_most_one : length last ≤ 1
   pub run : Run volume W (take count commands) outcomes (whole ++ last) after
   pub put : tells → PutsFront (old ++ texts_of whole) (texts_of last) new
+
+-- From the world W on these are the answers to some first commands, one each, and lead to the world after them. The
+-- texts of all of them but the last were put, then maybe more, and with what is missing it is the texts of all.
+pub record PutsAllButLast (volume : Volume) (W : ModelWorld) (commands : List Command) (after : ModelWorld)
+    (old new : List ℕ) : Type 0 where
+  pub outcomes : List Outcome
+  pub answers : List Answer
+  pub within : length answers ≤ length commands
+  pub run : Run volume W (take (length answers) commands) outcomes answers after
+  pub more : List ℕ
+  pub put : new ≡ old ++ texts_of (take (length answers - 1) answers) ++ more
+  pub missing : List ℕ
+  pub goes_on : new ++ missing ≡ old ++ texts_of answers
 
 -- the commands were served, and the world stands for what they led to
 pub record ServesWorld (tells : Type 0) (volume : Volume) (W : ModelWorld) (commands : List Command) (world : Whole)

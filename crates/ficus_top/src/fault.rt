@@ -39,7 +39,7 @@ impl From<AnsweringFault> for Fault {
 pub(crate) enum ReadingFault {
     /// The line of this number, counted from 1, is the first that may stand in no script.
     BadLine(u32),
-    /// Memory was refused.
+    /// Want of memory.
     Memory,
     /// The source failed.
     Source,
@@ -61,7 +61,7 @@ impl From<Failed> for ReadingFault {
 /// Why not every command was answered.
 #[derive(Clone, Copy)]
 pub(crate) enum AnsweringFault {
-    /// Memory was refused.
+    /// Want of memory.
     Memory,
     /// The sink failed.
     Sink,

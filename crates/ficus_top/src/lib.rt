@@ -2,6 +2,7 @@
 #![tactic(auto)]
 
 mod fault;
+mod laws;
 mod put;
 mod read;
 mod replay;
@@ -9,6 +10,7 @@ mod serving;
 mod status;
 mod words;
 
+pub use laws::{all_but_the_last_are_put, fronts_go_on, idle_codes, read_codes};
 pub use replay::ficus;
 pub use serving::serve;
 pub use status::{Status, status_text};

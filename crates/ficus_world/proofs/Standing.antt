@@ -11,10 +11,10 @@ use Rattle.ficus_laws.proofs.Lawful.{lawful_more}
 use Rattle.ficus_replica.specs.declared.replica.Replica.{Replica}
 use Rattle.ficus_replica.specs.SavedOf.{StandsFor}
 use Rattle.ficus_world.specs.declared.member.Member.{Member}
-use Rattle.ficus_world.specs.declared.member.Standing.{Standing as MemberStanding}
-use Rattle.ficus_world.specs.declared.member.Standing.TheVariants.{Up as IsUp}
+use Rattle.ficus_world.specs.declared.member.MemberState.{MemberState}
+use Rattle.ficus_world.specs.declared.member.MemberState.TheVariants.{Up}
 use Rattle.ficus_world.specs.Actions.{happened}
-use Rattle.ficus_world.specs.ModelWorld.{Standing, Up, ModelWorld}
+use Rattle.ficus_world.specs.ModelWorld.{ModelWorld}
 use Rattle.ficus_world.specs.Moves.{advanced}
 use Rattle.ficus_world.specs.World.{Whole, IsNumbered, MemberStandsFor, WorldStandsFor}
 use Rattle.ficus_replica.proofs.Events.{quiet_stands}
@@ -22,16 +22,16 @@ use Rattle.ficus_world.proofs.LastPart.{length_part, part_more}
 use Rattle.ficus_world.proofs.Replaced.{number_read, replaced}
 
 -- so far each member is up
-is_up : (standing : MemberStanding) → standing ≡ IsUp
-is_up IsUp = refl
+is_up : (state : MemberState) → state ≡ Up
+is_up Up = refl
 
-up_stands : (volume : Volume) (H : List Event) (r : ℕ) (member : Member) (standing : Standing)
-    → MemberStandsFor volume H r member standing → StandsFor volume H r member.replica
+up_stands : (volume : Volume) (H : List Event) (r : ℕ) (member : Member) (state : MemberState)
+    → MemberStandsFor volume H r member state → StandsFor volume H r member.replica
 up_stands volume H r member Up stands = stands.1
 
-pub stands_up : (volume : Volume) (H : List Event) (r : ℕ) (member : Member) (standing : Standing)
-    → StandsFor volume H r member.replica → MemberStandsFor volume H r member standing
-stands_up volume H r member Up stands = (is_up member.standing, stands)
+pub stands_up : (volume : Volume) (H : List Event) (r : ℕ) (member : Member) (state : MemberState)
+    → StandsFor volume H r member.replica → MemberStandsFor volume H r member state
+stands_up volume H r member Up stands = (is_up member.state, stands)
 
 module _ (volume : Volume) (W : ModelWorld) (old : Whole) (stands : WorldStandsFor volume W old) where
   pub member_of : (r : ℕ) → IsMember (length old.members) r → IsMember volume.members r
@@ -43,11 +43,11 @@ module _ (volume : Volume) (W : ModelWorld) (old : Whole) (stands : WorldStandsF
   pub replica_stands : (r : ℕ) (member : Member) → IsNumbered old.members r member
       → StandsFor volume W.events r member.replica
   replica_stands r member is =
-      let standing = get_or W.standings (r - 1) Up in
-      let same : length old.members ≡ length W.standings = stands.members ∙ sym stands.standings in
-      up_stands volume W.events r member standing
-      (stands.each r member standing is
-      (number_read W.standings r standing Up (subst (λ n. IsMember n r) same is.member) refl))
+      let state = get_or W.states (r - 1) Up in
+      let same : length old.members ≡ length W.states = stands.members ∙ sym stands.states in
+      up_stands volume W.events r member state
+      (stands.each r member state is
+      (number_read W.states r state Up (subst (λ n. IsMember n r) same is.member) refl))
 
   -- where a stored event is raised by the events before the stored ones
   abbrev pub raise : ℕ
@@ -66,11 +66,11 @@ module _ (volume : Volume) (W : ModelWorld) (old : Whole) (stands : WorldStandsF
     next_stands members count each = record {
       count = stands.count;
       members = count ∙ stands.members;
-      standings = stands.standings;
+      states = stands.states;
       lawful = lawful_more volume W.events event stands.lawful may;
       stored = part_more old.events W.events stands.stored stored event raises;
-      each = λ r member standing is standing_is.
-          stands_up volume (W.events ++ event ∷ []) r member standing (each r member is);
+      each = λ r member state is state_is.
+          stands_up volume (W.events ++ event ∷ []) r member state (each r member is);
     }
 
     -- it is a member's own, and that member alone changes

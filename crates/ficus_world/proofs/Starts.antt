@@ -89,14 +89,14 @@ pub fresh_world_stands : (count : ℕ) (world : Whole) → IsCount count → wor
 fresh_world_stands count world counted events fresh = record {
   count = counted;
   members = fresh.counted;
-  standings = length-replicate count _;
+  states = length-replicate count _;
   lawful = start_lawful count;
   stored = record {
     earlier = [];
     is = restarts_raised (range_with_len 1 count) ∙ ap (λ (stored : List Event). map (raised 0) stored) (sym events);
   };
-  each = λ r member standing is standing_is.
-      stands_up (default_volume count) (restarts count) r member standing
+  each = λ r member state is state_is.
+      stands_up (default_volume count) (restarts count) r member state
       (restarted_stands (default_volume count) (restarts count) r member.replica
       (restarts_alone (range_with_len 1 count)) (fresh.each r member is).stands);
 }

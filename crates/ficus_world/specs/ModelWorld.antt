@@ -1,15 +1,12 @@
 -- Worlds of the model.
 use Rattle.std.specs.Prelude.{List}
 use Rattle.ficus_model.specs.declared.event.Event.{Event}
+use Rattle.ficus_world.specs.declared.member.MemberState.{MemberState}
 
--- how a member stands
-pub data Standing : Type 0 where
-  Up : Standing
-
--- all that has happened, and how each member stands
+-- all that has happened, and the state of each member
 pub record ModelWorld : Type 0 where
   pub events : List Event
-  pub standings : List Standing
+  pub states : List MemberState
 
 -- what the outside does in a step
 pub data Outcome : Type 0 where

@@ -7,13 +7,13 @@ use Rattle.ficus_model.specs.Lawful.{Volume}
 use Rattle.ficus_codec.specs.Saved.{FitsImage}
 use Rattle.ficus_replica.specs.SavedOf.{StandsFor}
 use Rattle.ficus_world.specs.declared.member.Member.{Member}
-use Rattle.ficus_world.specs.declared.world.TheConstants.{DEFAULT_IDS, DEFAULT_BYTES}
-use Rattle.ficus_world.specs.ModelWorld.{ModelWorld, Up}
+use Rattle.ficus_world.specs.declared.member.MemberState.TheVariants.{Up}
+use Rattle.ficus_world.specs.ModelWorld.{ModelWorld}
 use Rattle.ficus_world.specs.World.{IsNumbered}
 
--- a volume with the default limits
+-- a volume with the default limits: a replica makes 100,000 updates over its life, and writes 4 MiB
 abbrev pub default_volume : ℕ → Volume
-default_volume members = record { members = members; ids = DEFAULT_IDS; bytes = DEFAULT_BYTES }
+default_volume members = record { members = members; ids = 100000; bytes = 4194304 }
 
 -- one restart of each member, in rising order
 abbrev pub restarts : ℕ → List Event
@@ -21,7 +21,7 @@ restarts members = map (λ r. Restart r) (range_with_len 1 members)
 
 -- the members have restarted, and all are up
 abbrev pub start : ℕ → ModelWorld
-start members = record { events = restarts members; standings = replicate members Up }
+start members = record { events = restarts members; states = replicate members Up }
 
 -- member r has heard of nothing
 pub record IsFresh (volume : Volume) (r : ℕ) (member : Member) : Type 0 where

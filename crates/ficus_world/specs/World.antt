@@ -8,8 +8,9 @@ use Rattle.ficus_codec.specs.Saved.{FitsImage}
 use Rattle.ficus_replica.specs.declared.replica.Replica.{Replica}
 use Rattle.ficus_replica.specs.SavedOf.{StandsFor}
 use Rattle.ficus_world.specs.declared.member.Member.{Member}
-use Rattle.ficus_world.specs.declared.member.Standing.TheVariants.{Up as IsUp}
-use Rattle.ficus_world.specs.ModelWorld.{Standing, Up, ModelWorld}
+use Rattle.ficus_world.specs.declared.member.MemberState.{MemberState}
+use Rattle.ficus_world.specs.declared.member.MemberState.TheVariants.{Up}
+use Rattle.ficus_world.specs.ModelWorld.{ModelWorld}
 
 -- the members, and the events of this run
 pub record Whole : Type 0 where
@@ -52,16 +53,16 @@ pub record IsLastPart (events H : List Event) : Type 0 where
   pub is : H ≡ earlier ++ map (raised (length earlier)) events
 
 -- a member that is up in the model is up, and its replica stands for the history
-abbrev pub MemberStandsFor : Volume → List Event → ℕ → Member → Standing → Type 0
-MemberStandsFor volume H r member Up = (member.standing ≡ IsUp) × StandsFor volume H r member.replica
+abbrev pub MemberStandsFor : Volume → List Event → ℕ → Member → MemberState → Type 0
+MemberStandsFor volume H r member Up = (member.state ≡ Up) × StandsFor volume H r member.replica
 
 -- The world stands for one of the model: what happened there is lawful, and ends with the stored events; there are as
--- many members, 2 to 8, and each stands as the model says.
+-- many members, 2 to 8, and each is in the state that the model says.
 pub record WorldStandsFor (volume : Volume) (W : ModelWorld) (world : Whole) : Type 0 where
   pub count : IsCount volume.members
   pub members : length world.members ≡ volume.members
-  pub standings : length W.standings ≡ volume.members
+  pub states : length W.states ≡ volume.members
   pub lawful : IsLawful volume W.events
   pub stored : IsLastPart world.events W.events
-  pub each : (r : ℕ) (member : Member) (standing : Standing) → IsNumbered world.members r member
-      → IsNumbered W.standings r standing → MemberStandsFor volume W.events r member standing
+  pub each : (r : ℕ) (member : Member) (state : MemberState) → IsNumbered world.members r member
+      → IsNumbered W.states r state → MemberStandsFor volume W.events r member state

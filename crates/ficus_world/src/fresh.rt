@@ -2,7 +2,7 @@ ghost use Rattle.std.specs.Prelude.{◌≡◌, IfOk};
 ghost use Rattle.ficus_ids.specs.Members.{IsCount};
 ghost use Rattle.ficus_world.specs.Start.{default_volume, restarts, AreFresh};
 
-use crate::member::{Member, Standing};
+use crate::member::{Member, MemberState};
 use crate::world::{DEFAULT_BYTES, DEFAULT_IDS};
 use ficus_ids::{Members, Memory};
 use ficus_model::{Event, History};
@@ -21,7 +21,7 @@ pub(crate) fn fresh_members(alloc: Global, members: Members) -> Result<Vec<Membe
         let replica = Replica::fresh(alloc, me, members, DEFAULT_IDS, DEFAULT_BYTES);
         list.push(Member {
             replica,
-            standing: Standing::Up,
+            state: MemberState::Up,
         })?;
     }
     Ok(list)

@@ -1,10 +1,17 @@
-ghost use Rattle.std.specs.Prelude.{◌≡◌, ℕ, List, Result, Err};
+ghost use Rattle.std.specs.Prelude.{◌≡◌, ◌↔◌, ℕ, List, ◌++◌, Result, Err, Contains};
 ghost use Rattle.ficus_ids.specs.declared.refusal.Refusal.{Refusal};
 ghost use Rattle.ficus_ids.specs.declared.refusal.Refusal.TheVariants.{Stale};
 ghost use Rattle.ficus_laws.specs.Laws.{KnowSameUpdates};
+ghost use Rattle.ficus_model.specs.Held.{IsHeldEntry};
+ghost use Rattle.ficus_model.specs.Known.{Knows};
 ghost use Rattle.ficus_model.specs.Lawful.{Volume, IsLawful};
+ghost use Rattle.ficus_model.specs.Live.{ModelEntry, IsLive, IsRemoved};
 ghost use Rattle.ficus_model.specs.declared.event.Event.{Event};
+ghost use Rattle.ficus_removal_laws.specs.Marks.{IsMarked};
 ghost use Rattle.ficus_commands.specs.declared.look.Look.{Look};
+ghost use Rattle.ficus_answers.specs.View.{held_dead};
+ghost use Rattle.ficus_replica.specs.declared.replica.Replica.{Replica};
+ghost use Rattle.ficus_rules.specs.Look.{TellsOfView};
 ghost use Rattle.ficus_rules.specs.View.{history_view};
 ghost use Rattle.ficus_script.specs.declared.answer.Answer.{Answer};
 ghost use Rattle.ficus_script.specs.declared.command.Command.{Command};
@@ -13,6 +20,7 @@ ghost use Rattle.ficus_world.specs.Run.{Does, Run};
 ghost use Rattle.ficus_world.specs.Answers.{LookAnswer};
 ghost use Rattle.ficus_script.specs.declared.command.Command.TheVariants.{Pull as Pulls};
 ghost use Rattle.ficus_world.specs.Start.{default_volume, start};
+ghost use Rattle.ficus_world.specs.World.{Whole, IsReplica, WorldStandsFor};
 
 /// Commands leave a lawful history, whatever they are.
 pub fn runs_are_lawful()
@@ -35,10 +43,36 @@ pub fn pulls_are_never_stale()
         → Does volume (Pulls by to) W (Err Stale) left → ⊥ }
 {}
 
-/// Replicas that know the same updates answer looks alike.
+/// Replicas that know the same updates answer looks alike that tell of the view.
 pub fn same_updates_answer_same()
     ensures { (volume : Volume) (H : List Event) (replica other : ℕ) (look : Look)
         (answer again : Result Answer Refusal) → KnowSameUpdates H replica other
-        → LookAnswer (history_view volume H replica) look answer
+        → TellsOfView look → LookAnswer (history_view volume H replica) look answer
         → LookAnswer (history_view volume H other) look again → answer ≡ again }
+{}
+
+/// Commands only add to what has happened.
+pub fn runs_extend()
+    ensures { (volume : Volume) (W after : ModelWorld) (commands : List Command) (outcomes : List Outcome)
+        (answers : List Answer) → Run volume W commands outcomes answers after
+        → (later : List Event) × (after.events ≡ W.events ++ later) }
+{}
+
+/// What a member knows to be removed is alive for it after no later command.
+pub fn removed_stays_removed()
+    ensures { (volume : Volume) (W after : ModelWorld) (commands : List Command) (outcomes : List Outcome)
+        (answers : List Answer) (replica : ℕ) (entry : ModelEntry) → Run volume W commands outcomes answers after
+        → IsRemoved W.events (Knows W.events replica) entry.id
+        → IsLive after.events (Knows after.events replica) entry → ⊥ }
+{}
+
+/// In a world that stands for one of the model a replica holds a removed entry with two sets exactly where by the
+/// history it holds the entry, the first set has exactly the members of which it knows that they know of the removal,
+/// and the second exactly those of which it knows that they know that all know.
+pub fn knowledge_is_held()
+    ensures { (volume : Volume) (W : ModelWorld) (world : Whole) (number : ℕ) (replica : Replica) (entry : ModelEntry)
+        (knowing knowing_all_know : ℕ) → WorldStandsFor volume W world → IsReplica world.members number replica
+        → Contains replica.saved.entries (held_dead entry knowing knowing_all_know)
+        ↔ (IsHeldEntry volume.members W.events number entry
+        × IsMarked volume.members W.events number entry.id knowing knowing_all_know) }
 {}

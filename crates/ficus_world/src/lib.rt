@@ -7,5 +7,8 @@ mod member;
 mod step;
 mod world;
 
-pub use laws::{one_run, pulls_are_never_stale, runs_are_lawful, same_updates_answer_same};
+pub use laws::{
+    knowledge_is_held, one_run, pulls_are_never_stale, removed_stays_removed, runs_are_lawful,
+    runs_extend, same_updates_answer_same,
+};
 pub use world::World;

@@ -5,21 +5,21 @@ ghost use Rattle.ficus_world.specs.declared.member.Member.{Member as MemberValue
 
 use ficus_replica::Replica;
 
-/// How a member stands.
+/// Whether a member takes commands.
 #[derive(Clone, Copy)]
-pub enum Standing {
+pub enum MemberState {
     /// It takes commands.
     Up,
 }
 
-/// A member of a volume: the replica that it holds, and how it stands.
+/// A member of a volume: the replica that it holds, and its state.
 #[derive(Drop)]
 pub struct Member {
     pub(crate) replica: Replica,
-    pub(crate) standing: Standing,
+    pub(crate) state: MemberState,
 }
 
-/// Has the member of this number hold the replica, and stand as it did.
+/// Has the member of this number hold the replica, in the state in which it was.
 pub(crate) fn hold(members: &mut Vec<Member>, number: u8, replica: Replica)
     requires { IsMember (length members.old.items) number }
     ensures { (was : MemberValue) → IsNumbered members.old.items number was

@@ -1,5 +1,5 @@
-ghost use Rattle.std.specs.Prelude.{◌≡◌, ◌≢◌, ◌↔◌, ◌+◌, ◌<◌, ◌≤◌, ◌++◌, ◌∷◌, [], Err, length, IsTrue, IfOk, OnErr, IsErrOf};
-ghost use Rattle.ficus_ids.specs.declared.refusal.Refusal.TheVariants.{Memory as OutOfMemory};
+ghost use Rattle.std.specs.Prelude.{◌≡◌, ◌≢◌, ◌↔◌, ◌+◌, ◌<◌, ◌≤◌, ◌++◌, ◌∷◌, [], Err, length, IsTrue, IfOk, OnOk, OnErr, IsErrOf};
+ghost use Rattle.ficus_ids.specs.declared.refusal.Refusal.TheVariants.{Member as NoMember, Memory as OutOfMemory};
 ghost use Rattle.ficus_model.specs.declared.event.Event.TheVariants.{Ask, Serve};
 ghost use Rattle.ficus_world.specs.Answers.{answer_as, answer_to};
 ghost use Rattle.ficus_world.specs.World.{event_limit};
@@ -15,7 +15,7 @@ use std::alloc::Global;
 impl World {
     ghost use Rattle.ficus_model.specs.Lawful.{Volume};
     ghost use Rattle.ficus_rules.specs.Rule.{UnlessMemory};
-    ghost use Rattle.ficus_commands.specs.Change.{HasNewPath};
+    ghost use Rattle.ficus_commands.specs.Change.{HasFitPaths};
     ghost use Rattle.ficus_script.specs.Command.{IsCommand};
     ghost use Rattle.ficus_script.specs.declared.command.Command.TheVariants.{Change as Changes, Look as Looks, Pull as Pulls};
     ghost use Rattle.ficus_world.specs.ModelWorld.{ModelWorld};
@@ -56,11 +56,11 @@ impl World {
 
     // All memory is taken before anything changes.
     fn change(&mut self, alloc: Global, by: u8, change: &Change) -> Result<Answer, Refusal>
-        requires new { HasNewPath change.now }
+        requires new { HasFitPaths change.now }
         requires room { length self.old.events < event_limit }
         ensures moves { UnlessMemory (λ answer. CarriesOut (Changes by change.now) self.old answer self.new) result }
-        ensures grows { length self.new.events ≤ length self.old.events + 1 }
-        ensures memory { IsErrOf result OutOfMemory → self.new ≡ self.old }
+        ensures stored { OnOk result (length self.new.events ≡ length self.old.events + 1) }
+        ensures refused { OnErr result (self.new ≡ self.old) }
     {
         if !self.has(by) {
             return Err(Refusal::Member);
@@ -100,7 +100,9 @@ impl World {
     fn pull(&mut self, alloc: Global, by: u8, to: u8) -> Result<Answer, Refusal>
         requires room { length self.old.events < event_limit }
         ensures moves { UnlessMemory (λ answer. CarriesOut (Pulls by to) self.old answer self.new) result }
-        ensures grows { length self.new.events ≤ length self.old.events + 3 }
+        ensures stored { OnOk result (length self.new.events ≡ length self.old.events + 3) }
+        ensures refused { OnErr result (length self.new.events ≤ length self.old.events + 2) }
+        ensures no_peers { IsErrOf result NoMember → self.new ≡ self.old }
         ensures memory { IsErrOf result OutOfMemory → self.new ≡ self.old }
     {
         if !self.are_peers(by, to) {

@@ -5,3 +5,9 @@ returns-in-Write c = rw (c.in-Write.is, ← c.items.ensures) c.write.ensures
 
 pub returns-in-Settle : goal.returns-in-Settle
 returns-in-Settle c = rw (c.in-Settle.is, ← c.items-in-Settle.ensures) c.settle.ensures
+
+pub returns-in-Ln : goal.returns-in-Ln
+returns-in-Ln c = rw c.in-Ln.is c.link.ensures
+
+pub returns-in-Mv : goal.returns-in-Mv
+returns-in-Mv c = rw c.in-Mv.is c.rename.ensures

@@ -6,7 +6,7 @@ use Rattle.ficus_answers.proofs.lines.add_lines.Goals as goal
 pub loop-shown-init : goal.loop-shown-init
 loop-shown-init c =
     let all : into_iter_items c.into_iter-shown-iterator.result ≡ c.args.names.items = search rules in
-    rw all (added_none c.args.saved.now c.args.dir c.args.names.items c.args.lines.now.items c.requires.named)
+    rw all (added_none c.args.saved.now c.args.dir c.args.names.items c.args.lines.now.items c.requires.visible)
 
 pub loop-shown-preserved : goal.loop-shown-preserved
 loop-shown-preserved c =

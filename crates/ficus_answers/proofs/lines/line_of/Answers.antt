@@ -5,9 +5,9 @@ use Rattle.ficus_answers.proofs.lines.line_of.Goals as goal
 
 pub returns-clause-object : goal.returns-clause-object
 returns-clause-object c =
-    let told = so_of_file c.requires.fits c.named-file.ensures in
+    let told = so_of_file c.requires.fits c.visible-file.ensures in
     let conflict = told (λ file. HasTwoTexts file.versions) in
     record {
-      kind = (told (λ file. file.kind ≡ c.named-file.result.now.kind)).0 refl;
+      kind = (told (λ file. file.kind ≡ c.visible-file.result.now.kind)).0 refl;
       conflict = (λ flag. conflict.0 (c.is_conflict.ensures.0 flag), λ has. c.is_conflict.ensures.1 (conflict.1 has));
     }

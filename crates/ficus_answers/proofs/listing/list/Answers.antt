@@ -3,12 +3,12 @@ use Rattle.ficus_names.specs.ListingLaws.{IsListing-along}
 use Rattle.ficus_commands.specs.declared.told.Told.TheVariants.{Names}
 use Rattle.ficus_rules.proofs.Listings.{lines_of_one}
 use Rattle.ficus_answers.specs.View.{tables_view}
-use Rattle.ficus_answers.proofs.Tables.{tables_bound, shown_named}
+use Rattle.ficus_answers.proofs.Tables.{tables_bound, shown_visible}
 use Rattle.ficus_answers.proofs.listing.list.Goals as goal
 
-pub add_lines-requires-clause-named : goal.add_lines-requires-clause-named
-add_lines-requires-clause-named c =
-    shown_named c.args.saved.now (IsListing-along (tables_bound c.args.saved.now c.in_ok-dir.dir) c.in_ok-names.ensures)
+pub add_lines-requires-clause-visible : goal.add_lines-requires-clause-visible
+add_lines-requires-clause-visible c =
+    shown_visible c.args.saved.now (IsListing-along (tables_bound c.args.saved.now c.in_ok-dir.dir) c.in_ok-names.ensures)
 
 pub returns : goal.returns
 returns c =

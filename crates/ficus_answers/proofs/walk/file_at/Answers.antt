@@ -11,11 +11,11 @@ returns-then-is_directory-clause-rule c =
 pub returns-clause-rule : goal.returns-clause-rule
 returns-clause-rule c =
     let led = rw c.items.ensures at c.in_ok-object.ensures.rule in
-    let is = ap id_of (sym c.named.ensures.so) ∙ c.named.ensures.has_id in
+    let is = ap id_of (sym c.visible.ensures.so) ∙ c.visible.ensures.has_id in
     (c.in_ok-object.object, led, (isnt c.if-is_directory.ensures, is))
 
-pub named-requires-clause-named : goal.named-requires-clause-named
-named-requires-clause-named c = elim c.in_ok-object.ensures.shown [
+pub visible-requires-clause-visible : goal.visible-requires-clause-visible
+visible-requires-clause-visible c = elim c.in_ok-object.ensures.shown [
   | inl root ↦ absurd (isnt c.if-is_directory.ensures (inl root))
-  | inr named ↦ named
+  | inr visible ↦ visible
 ]

@@ -1,5 +1,5 @@
 use Rattle.std.proofs.Common.{refl}
-use Rattle.ficus_answers.proofs.WalkSteps.{stepped, found_named}
+use Rattle.ficus_answers.proofs.WalkSteps.{stepped, found_visible}
 use Rattle.ficus_answers.proofs.walk.go_on.Goals as goal
 
 pub returns-clause-rule : goal.returns-clause-rule
@@ -7,4 +7,4 @@ returns-clause-rule c =
     stepped c.args.saved.now c.args.object c.args.part.now c.find.result (c.if-not-is_directory.ensures.0 refl) c.find.ensures
 
 pub returns-clause-shown : goal.returns-clause-shown
-returns-clause-shown c = found_named c.args.saved.now c.args.object c.args.part.now c.find.result c.find.ensures
+returns-clause-shown c = found_visible c.args.saved.now c.args.object c.args.part.now c.find.result c.find.ensures

@@ -4,13 +4,13 @@ use Rattle.ficus_ids.specs.declared.id.Id.{Id}
 use Rattle.ficus_commands.specs.declared.told.Told.TheVariants.{Tree}
 use Rattle.ficus_names.specs.ListingLaws.{IsListing-along}
 use Rattle.ficus_answers.specs.View.{tables_view}
-use Rattle.ficus_answers.proofs.Tables.{tables_bound, shown_named}
+use Rattle.ficus_answers.proofs.Tables.{tables_bound, shown_visible}
 use Rattle.ficus_answers.proofs.Trees.{AreFirst, first_more, first_all}
 use Rattle.ficus_answers.proofs.whole_tree.tree.Goals as goal
 
-pub add_lines-requires-clause-named : goal.add_lines-requires-clause-named
-add_lines-requires-clause-named c =
-    shown_named c.args.saved.now (IsListing-along (tables_bound c.args.saved.now _)
+pub add_lines-requires-clause-visible : goal.add_lines-requires-clause-visible
+add_lines-requires-clause-visible c =
+    shown_visible c.args.saved.now (IsListing-along (tables_bound c.args.saved.now _)
     (IsListing-along (λ name target. c.in_ok-directories.ensures _ target name) c.in_ok-shown.ensures))
 
 pub loop-dir-preserved : goal.loop-dir-preserved

@@ -10,7 +10,7 @@ use Rattle.ficus_entry.proofs.inside.noted_of.Goals.{then-lies_inside+in_ok-push
 
 pub loop-position-preserved : goal.loop-position-preserved
 loop-position-preserved c =
-    let links = c.args.index.now in
+    let notes = c.args.index.now in
     let start = c.args.span.start in
     let n = c.loop-position.position in
     let here = c.id_at-id.result in
@@ -23,7 +23,7 @@ loop-position-preserved c =
               | inl old ↦ c.loop-position.invariant.sound id old
               | inr is ↦ subst (LiesInside c.args.entries.now c.args.dir) is (w.if-lies_inside.ensures.0 refl)
             ];
-            complete = λ id lies linked. elim (one_within links start n here id c.id_at-id.ensures linked) [
+            complete = λ id lies noted. elim (one_within notes start n here id c.id_at-id.ensures noted) [
               | inl earlier ↦ Contains-append_left ids (here ∷ []) id
                   (c.loop-position.invariant.complete id lies earlier)
               | inr same ↦ subst (Contains (ids ++ here ∷ [])) (sym same) (Contains-push ids here)
@@ -33,7 +33,7 @@ loop-position-preserved c =
           let same : c.if-lies_inside.ids.items ≡ ids = grind (arith, common_steps) in
           rw same (record {
             sound = c.loop-position.invariant.sound;
-            complete = λ id lies linked. elim (one_within links start n here id c.id_at-id.ensures linked) [
+            complete = λ id lies noted. elim (one_within notes start n here id c.id_at-id.ensures noted) [
               | inl earlier ↦ c.loop-position.invariant.complete id lies earlier
               | inr is ↦ absurd (false≢true
                   (w.if-lies_inside.ensures.1 (subst (LiesInside c.args.entries.now c.args.dir) is lies)))
@@ -42,12 +42,12 @@ loop-position-preserved c =
     ]
 
 pub returns-clause-complete : goal.returns-clause-complete
-returns-clause-complete c = λ id lies linked.
+returns-clause-complete c = λ id lies noted.
     c.loop-position.invariant.complete id lies
     (record {
-      position = linked.position;
-      from = linked.from;
+      position = noted.position;
+      from = noted.from;
       to =
-          omega (arith, linked.to, c.loop-position-test.false);
-      at = linked.at;
+          omega (arith, noted.to, c.loop-position-test.false);
+      at = noted.at;
     })

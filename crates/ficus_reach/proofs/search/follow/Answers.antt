@@ -4,7 +4,7 @@ use Rattle.ficus_reach.proofs.Followed.{following_none, following_more, found_fi
 use Rattle.ficus_reach.proofs.search.follow.Goals as goal
 
 pub loop-next-init : goal.loop-next-init
-loop-next-init c = following_none c.args.links.now c.args.found.now.order.items c.args.found.now.set c.requires.tracked
+loop-next-init c = following_none c.args.edges.now c.args.found.now.order.items c.args.found.now.set c.requires.tracked
 
 pub loop-next-smaller : goal.loop-next-smaller
 loop-next-smaller c =
@@ -18,9 +18,9 @@ loop-next-preserved c =
     let within : c.loop-next.next < length order = grind (arith, common_steps) in
     let dir = c.index-dir.result.now in
     let here : dir ≡ get_or order c.loop-next.next dir = c.index-dir.ensures in
-    following_more c.args.links.now c.links_from.result.now c.args.found.now.order.items c.loop-next.found.set
+    following_more c.args.edges.now c.edges_from.result.now c.args.found.now.order.items c.loop-next.found.set
     c.add_targets.new.self.set order c.add_targets.new.self.order.items c.loop-next.next dir within here
-    c.links_from.ensures c.in_ok-add_targets.ensures.gains c.in_ok-add_targets.ensures.tracked
+    c.edges_from.ensures c.in_ok-add_targets.ensures.gains c.in_ok-add_targets.ensures.tracked
     c.loop-next.invariant
 
 pub returns-clause-reached : goal.returns-clause-reached

@@ -3,4 +3,4 @@ use Rattle.ficus_recon_file.specs.Merge.{Fit}
 use Rattle.ficus_recon_file.proofs.fits.merge_fits.Given as goal
 
 abbrev pub invariant-loop-index : goal.invariant-loop-index
-invariant-loop-index l = Fit l.sides.mine (take l.index l.sides.theirs)
+invariant-loop-index l = Fit l.news.mine (take l.index l.news.new)

@@ -4,8 +4,8 @@ use Rattle.ficus_replica.proofs.accept.merged_files.Goals as goal
 
 pub returns-clause-merged : goal.returns-clause-merged
 returns-clause-merged c =
-    let mine = c.args.sides.now.mine in
-    let theirs = c.args.sides.now.theirs in
+    let mine = c.args.news.now.mine in
+    let theirs = c.args.news.now.theirs in
     IfOk-weaker c.merge_files.result _ _ (λ both is.
     merged_by_touched c.args.entries.now mine theirs c.in_ok-taken.taken.items c.in_ok-taken.ensures.taken
     (rw c.deref.ensures.value at is)) c.merge_files.ensures.merged

@@ -11,6 +11,6 @@ returns-clause-taken c =
     let marked : AreMarked (touched_by c.args.entries.now) alone marks =
     rw c.deref.ensures.value at c.in_ok-marks.ensures in
     IfOk-weaker c.marked.result _ _
-    (λ kept is. taken_is c.args.entries.now c.args.sides.now.mine c.args.sides.now.theirs alone marks kept.items
+    (λ kept is. taken_is c.args.entries.now c.args.news.now.mine c.args.news.now.theirs alone marks kept.items
     c.in_ok-alone.ensures.alone marked (rw (c.deref-2.ensures.value, c.deref-3.ensures.value) at is))
     c.marked.ensures.marked

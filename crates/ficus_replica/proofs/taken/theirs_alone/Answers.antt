@@ -19,29 +19,29 @@ is_held mine id (Some file) none is so under = record { item = file.now; inside 
 
 pub loop-index-preserved : goal.loop-index-preserved
 loop-index-preserved c =
-    let mine = c.args.sides.now.mine in
-    let theirs = c.args.sides.now.theirs in
-    let file : FileReplica = c.at-pair.result.theirs.now in
-    let rising = c.len-index-end.ensures.theirs.rising in
+    let mine = c.args.news.now.mine in
+    let new = c.args.news.now.new in
+    let file : FileReplica = c.at-new.result.theirs.now in
+    let rising = c.len-index-end.ensures.new.rising in
     elim c.if-is_none.branch [
       | then-is_none+in_ok-push w ↦ rw (w.ids-is, w.in_ok-push.ensures.items)
-          (one_more id_of (λ (id : Id). Holds mine id → ⊥) theirs c.loop-index.index file rising
-          c.at-pair.ensures.theirs c.loop-index.ids.items
-          (not_held mine file.id c.at-pair.result.mine c.is_none.result c.is_none.ensures w.if-is_none.true
-          c.at-pair.ensures.mine)
+          (one_more id_of (λ (id : Id). Holds mine id → ⊥) new c.loop-index.index file rising
+          c.at-new.ensures.theirs c.loop-index.ids.items
+          (not_held mine file.id c.at-new.result.mine c.is_none.result c.is_none.ensures w.if-is_none.true
+          c.at-new.ensures.mine)
           c.loop-index.invariant)
       | else-is_none w ↦ rw w.ids-is
-          (none_more id_of (λ (id : Id). Holds mine id → ⊥) theirs c.loop-index.index file rising
-          c.at-pair.ensures.theirs c.loop-index.ids.items
-          (λ none. none (is_held mine file.id c.at-pair.result.mine c.is_none.result c.is_none.ensures
-          w.if-is_none.false c.at-pair.ensures.mine))
+          (none_more id_of (λ (id : Id). Holds mine id → ⊥) new c.loop-index.index file rising
+          c.at-new.ensures.theirs c.loop-index.ids.items
+          (λ none. none (is_held mine file.id c.at-new.result.mine c.is_none.result c.is_none.ensures
+          w.if-is_none.false c.at-new.ensures.mine))
           c.loop-index.invariant)
     ]
 
 pub returns-clause-alone : goal.returns-clause-alone
 returns-clause-alone c =
-    let mine = c.args.sides.now.mine in
-    let theirs = c.args.sides.now.theirs in
-    alone_is mine theirs c.loop-index.ids.items
-    (all_kept id_of (λ (id : Id). Holds mine id → ⊥) theirs c.loop-index.index c.loop-index.ids.items
+    let mine = c.args.news.now.mine in
+    let new = c.args.news.now.new in
+    alone_is mine c.args.news.now.theirs new c.loop-index.ids.items c.len-index-end.ensures.new
+    (all_kept id_of (λ (id : Id). Holds mine id → ⊥) new c.loop-index.index c.loop-index.ids.items
     (omega (arith, c.len-index-end.ensures.value)) c.loop-index.invariant)

@@ -4,4 +4,4 @@ use Rattle.ficus_replica.proofs.taken.theirs_alone.Given as goal
 
 abbrev pub invariant-loop-index : goal.invariant-loop-index
 invariant-loop-index l =
-    AreKeptSoFar id_of (λ id. Holds l.sides.mine id → ⊥) l.sides.theirs l.index l.ids.items
+    AreKeptSoFar id_of (λ id. Holds l.news.mine id → ⊥) l.news.new l.index l.ids.items

@@ -3,7 +3,6 @@ use Rattle.ficus_top.specs.declared.status.Status.{Status}
 use Rattle.ficus_top.specs.Headline.{IsReadCode, IsBadLineCode}
 use Rattle.ficus_top.specs.Status.{code_of}
 use Rattle.ficus_top.specs.Words.{texts}
-use Rattle.ficus_world.proofs.Runs.{run_lawful, start_lawful}
 use Rattle.ficus_top.proofs.Endings.{usage_of_code, within_code, too_long_code, bad_line_code, complete_code}
 use Rattle.ficus_top.proofs.replay.ficus.Goals as goal
 
@@ -42,6 +41,3 @@ returns-clause-complete g c = λ tells members commands read is_script no_fault.
     (complete_code (texts c.args.words.now.items) _ _ _ _ members read c.run.result commands _ _
     c.run.ensures.usage.0 (c.run.ensures.takes tells) c.run.ensures.read_fault c.run.ensures.write_fault is_script
     no_fault)
-
-pub returns-clause-lawful : goal.returns-clause-lawful
-returns-clause-lawful g c = λ members commands outcomes answers W run. run_lawful run (start_lawful members)

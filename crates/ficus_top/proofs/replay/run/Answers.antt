@@ -6,11 +6,19 @@ use Rattle.ficus_script.specs.declared.command.Command.{Command}
 use Rattle.ficus_script.specs.Script.{IsScript}
 use Rattle.ficus_world.specs.ModelWorld.{ModelWorld}
 use Rattle.ficus_world.specs.Start.{default_volume, start}
+use Rattle.ficus_world.proofs.Runs.{run_lawful, start_lawful}
 use Rattle.ficus_top.specs.Headline.{Answers, AnswersFront}
 use Rattle.ficus_top.specs.Serving.{Serves, ServesFront}
 use Rattle.ficus_top.specs.Words.{texts, AreWords, AreNoWords}
 use Rattle.ficus_top.proofs.Endings.{one_members}
+use Rattle.ficus_top.proofs.Returning.{nothing_returns}
 use Rattle.ficus_top.proofs.replay.run.Goals as goal
+
+-- what holds of the words and the commands that were read, holds of these
+moved : {words : List (List ℕ)} {read members : ℕ} {some commands : List Command} → AreWords words read
+    → AreWords words members → some ≡ commands → (P : ℕ → List Command → Type 0) → P read some → P members commands
+moved {read = read} {commands = commands} are also same P holds =
+    subst (λ (n : ℕ). P n commands) (one_members are also) (subst (λ (cs : List Command). P read cs) same holds)
 
 -- what was answered over a fresh volume, from the words and the script that were read
 module _ {tells : Type 0} {words : List (List ℕ)} {read members : ℕ} (are : AreWords words read)
@@ -18,23 +26,30 @@ module _ {tells : Type 0} {words : List (List ℕ)} {read members : ℕ} (are : 
     (is_script : IsScript script commands) (same : some ≡ commands) (after : ModelWorld) where
   answers_front : ServesFront tells (default_volume read) (start read) some after old new
       → AnswersFront tells members script old new
-  answers_front serves = record {
-    commands = commands;
-    read = is_script;
-    after = after;
-    serves = subst (λ (n : ℕ). ServesFront tells (default_volume n) (start n) commands after old new)
-        (one_members are also) (subst (λ (cs : List Command). ServesFront tells (default_volume read) (start read) cs
-        after old new) same serves);
-  }
+  answers_front serves =
+      let served : ServesFront tells (default_volume members) (start members) commands after old new =
+      moved are also same (λ n cs. ServesFront tells (default_volume n) (start n) cs after old new) serves in
+      record {
+        commands = commands;
+        read = is_script;
+        after = after;
+        serves = served;
+        lawful = run_lawful served.run (start_lawful members);
+        no_return = nothing_returns after.events;
+      }
 
   answers : Serves tells (default_volume read) (start read) some after old new → Answers tells members script old new
-  answers serves = record {
-    commands = commands;
-    read = is_script;
-    after = after;
-    serves = subst (λ (n : ℕ). Serves tells (default_volume n) (start n) commands after old new) (one_members are also)
-        (subst (λ (cs : List Command). Serves tells (default_volume read) (start read) cs after old new) same serves);
-  }
+  answers serves =
+      let served : Serves tells (default_volume members) (start members) commands after old new =
+      moved are also same (λ n cs. Serves tells (default_volume n) (start n) cs after old new) serves in
+      record {
+        commands = commands;
+        read = is_script;
+        after = after;
+        serves = served;
+        lawful = run_lawful served.run (start_lawful members);
+        no_return = nothing_returns after.events;
+      }
 
 pub returns-in_default-clause-usage : goal.returns-in_default-clause-usage
 returns-in_default-clause-usage g c = (

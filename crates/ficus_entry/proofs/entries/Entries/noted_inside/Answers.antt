@@ -2,7 +2,7 @@ use Rattle.std.specs.Prelude.{Contains}
 use Rattle.std.proofs.Common.{◌≡◌, ◌∙◌, ap, sym, subst, arith}
 use Rattle.ficus_entry.specs.declared.entry.Entry.{Entry}
 use Rattle.ficus_entry.specs.Changes.{overlaid}
-use Rattle.ficus_index.specs.Place.{IsLinkedWithin}
+use Rattle.ficus_index.specs.Place.{IsNotedWithin}
 use Rattle.ficus_entry.proofs.Killed.{later_view}
 use Rattle.ficus_entry.proofs.Later.{entry_before}
 use Rattle.ficus_entry.proofs.Within.{IfOk-both, held_where_not_missing, entry_within, between_ranks, rank_small}
@@ -26,5 +26,5 @@ returns c =
           (λ missing. entry_within table.list table.index _ _ span.result.start span.result.end old table.noted
           span.ensures before.1 (between_ranks c.args.dir 0 4294967297 old in_dir (omega arith) (rank_small old))
           (λ within. missing (complete id lies
-          (subst (IsLinkedWithin table.index span.result.start span.result.end) has_id within)))),
+          (subst (IsNotedWithin table.index span.result.start span.result.end) has_id within)))),
     )) c.noted_of.ensures.sound c.noted_of.ensures.complete

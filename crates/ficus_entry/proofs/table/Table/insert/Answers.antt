@@ -1,5 +1,6 @@
 use Rattle.ficus_ids.specs.RisingLaws.{IsRisingBy-insert}
-use Rattle.ficus_entry.proofs.Noted.{insert_noted}
+use Rattle.ficus_index.specs.NoteLaws.{notes_with}
+use Rattle.ficus_entry.specs.Place.{note_of}
 use Rattle.ficus_entry.proofs.table.Table.insert.Goals as goal
 
 pub invariant_of-result : goal.invariant_of-result
@@ -9,6 +10,6 @@ invariant_of-result c =
       rising = rw c.in_ok-list.ensures
           (IsRisingBy-insert (λ entry. entry.id) table.list c.args.entry c.args.index table.rising c.requires);
       noted = rw c.in_ok-list.ensures
-          (insert_noted table.list table.index c.in_ok-noted.noted c.args.index c.args.entry table.noted
-          (λ other. rw c.link.ensures at (c.in_ok-noted.ensures other).1));
+          (notes_with note_of table.list c.args.index c.args.entry table.index c.in_ok-noted.noted table.noted
+          (rw c.note.ensures at c.in_ok-noted.ensures));
     }

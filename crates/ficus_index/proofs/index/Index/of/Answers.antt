@@ -1,4 +1,4 @@
 use Rattle.ficus_index.proofs.index.Index.of.Goals as goal
 
 pub returns : goal.returns
-returns c = λ link. rw (c.in_ok-links.ensures, c.deref.ensures.value) (c.sort.ensures.same link)
+returns c = rw (c.in_ok-notes.ensures, c.deref.ensures.value) c.sort.ensures.same

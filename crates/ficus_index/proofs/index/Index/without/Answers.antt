@@ -1,19 +1,15 @@
-use Rattle.ficus_index.specs.Place.{IsLinkAt}
-use Rattle.ficus_index.proofs.Links.{remove_ordered, remove_keeps}
+use Rattle.std.proofs.lemmas.Option.{slice_get_within}
+use Rattle.ficus_index.proofs.Notes.{remove_ordered, takes_at}
 use Rattle.ficus_index.proofs.index.Index.without.Goals as goal
-use Rattle.ficus_index.proofs.index.Index.without.Goals.{In-Some}
-
-found : (c : In-Some) → IsLinkAt c.self.inside.links c.args.link.id c.in-Some.position
-found c = rw c.self.view_is c.in-Some.ensures
 
 pub invariant_of-result : goal.invariant_of-result
 invariant_of-result c =
-    rw c.in_ok-links-in-Some.ensures
-    (remove_ordered c.self.inside.links c.self.invariant c.in-Some.position
-    (found (goal.at.invariant_of-result c).In-Some).0)
+    let notes = c.self.inside.notes in
+    rw c.in_ok-notes-in-Some.ensures
+    (remove_ordered notes c.self.invariant c.in-Some.position
+    (slice_get_within notes c.in-Some.position c.args.note (rw c.self.view_is c.in-Some.ensures.some)))
 
-pub returns-in_ok-links-in-Some : goal.returns-in_ok-links-in-Some
-returns-in_ok-links-in-Some c = λ other differs inside.
-    rw c.in_ok-links-in-Some.ensures
-    (remove_keeps c.self.inside.links c.in-Some.position c.args.link.id other
-    (found (goal.at.returns-in_ok-links-in-Some c).In-Some) differs (rw c.self.view_is inside))
+pub returns-in_ok-notes-in-Some : goal.returns-in_ok-notes-in-Some
+returns-in_ok-notes-in-Some c =
+    rw (c.in_ok-notes-in-Some.ensures, c.self.view_is)
+    (takes_at c.args.self.now c.in-Some.position c.args.note c.in-Some.ensures.some)

@@ -4,4 +4,4 @@ use Rattle.ficus_codec.specs.Saved.{IsFileOfPast}
 use Rattle.ficus_replica.proofs.replica.Replica.has_issued_files.Given as goal
 
 abbrev pub invariant-loop-index : goal.invariant-loop-index
-invariant-loop-index l = All (IsFileOfPast l.self.saved.me l.self.saved.next) (take l.index l.sides.theirs)
+invariant-loop-index l = All (IsFileOfPast l.self.saved.me l.self.saved.next) (take l.index l.news.new)

@@ -1,6 +1,6 @@
 use Rattle.std.proofs.Common.{inl, inr}
-use Rattle.ficus_held_files.specs.Laws.{Overwrites}
-use Rattle.ficus_held_files.specs.Laws.Overwrites.{Writes, Settles, Resolves}
+use Rattle.ficus_held_file_laws.specs.Laws.{Overwrites}
+use Rattle.ficus_held_file_laws.specs.Laws.Overwrites.{Writes, Settles, Resolves}
 use Rattle.ficus_replica.proofs.replica.Replica.stepped.Goals as goal
 
 pub returns-in-Write : goal.returns-in-Write
@@ -11,4 +11,4 @@ returns-in-Write c =
       | inr (inl is) ↦ rw is Settles
       | inr (inr is) ↦ rw is Resolves
     ] in
-    c.written.ensures c.args.op.now (rw c.items.ensures overwrites)
+    c.written.ensures c.args.op.now (rw c.items-in-Write.ensures overwrites)

@@ -1,5 +1,0 @@
-pub mod Lists
-pub mod Entries
-pub mod Files
-pub mod Stepping
-pub mod Merging

@@ -1,6 +1,0 @@
-use Rattle.ficus_held_files.proofs.Merging.{files_fit}
-use Rattle.ficus_held_files.proofs.accepts.answers_fit.Goals as goal
-
-pub returns : goal.returns
-returns c = λ volume H replica served server mine theirs answer here there fits.
-    files_fit volume H replica served server answer here there fits

@@ -1,0 +1,195 @@
+use crate::{Next, Replica};
+use ficus_commands::{Change, Look, Told};
+use ficus_entry::{Entries, Entry};
+use ficus_file::{Files, Version};
+use ficus_ids::{Kind, Listed, Memory, Refusal};
+use ficus_names::Line;
+use ficus_path::Path;
+use std::alloc::Global;
+
+// The calls of a replica, one for each change and each look, with a path and bytes that the caller lends. What each of
+// them gives is what `change` or `look` gives of the same: the rule that stands in the row of that command.
+impl Replica {
+    ghost use Rattle.std.specs.Prelude.{◌≡◌, ◌-◌, ◌^◌, ◌<◌, IfOk, Ok};
+    ghost use Rattle.ficus_codec.specs.Saved.{FitsImage};
+    ghost use Rattle.ficus_commands.specs.declared.change.Change.TheVariants.{Create as Creates, Write as Writes, Settle as Settles, Resolve as Resolves, Rm as Removes, Ln as Links, Mv as Moves};
+    ghost use Rattle.ficus_commands.specs.declared.look.Look.TheVariants.{Ls as Lists, Read as Reads, Versions as TellsVersions, Tree as TellsTree, Marks as TellsMarks};
+    ghost use Rattle.ficus_commands.specs.declared.told.Told.TheVariants.{Text as ToldText, Names as ToldNames, Tree as ToldTree, Versions as ToldVersions, Marks as ToldMarks};
+    ghost use Rattle.ficus_path.specs.Path.{IsEntry, IsNew};
+    ghost use Rattle.ficus_replica.specs.Change.{ChangeGives};
+    ghost use Rattle.ficus_replica.specs.Look.{LookGives, LookGivesAs};
+
+    /// Makes an object of the kind, a directory or a file without bytes, at the new path. Refused as the walk to the
+    /// parent is; with `Exists` exactly where a live entry of the parent has the name; with `Spent` exactly where the
+    /// replica has made all its updates.
+    pub fn make(&self, alloc: Global, path: &Path, kind: Kind) -> Result<Next, Refusal>
+        requires new { IsNew path.now }
+        requires fits { FitsImage self.now.saved }
+        requires generation { self.now.saved.generation < 2 ^ 63 - 1 }
+        ensures gives { ChangeGives self.now (Creates path.now kind) result }
+        ensures fits { IfOk result (λ next. FitsImage next.replica.saved) }
+    {
+        let path = path.copy(alloc)?;
+        self.change(alloc, &Change::Create { path, kind })
+    }
+
+    /// Gives the file at the path these bytes. Refused as the walk is; with `IsDir` exactly where the object is a
+    /// directory; with `Conflict` exactly where the file is in conflict; with `TooLong` exactly where there are more
+    /// than 16,384 bytes; with `Spent` as `make` is; with `Quota` exactly where the replica may not write so many
+    /// bytes more.
+    pub fn write(&self, alloc: Global, path: &Path, bytes: &[u8]) -> Result<Next, Refusal>
+        requires fits { FitsImage self.now.saved }
+        requires generation { self.now.saved.generation < 2 ^ 63 - 1 }
+        ensures gives { ChangeGives self.now (Writes path.now bytes.now) result }
+        ensures fits { IfOk result (λ next. FitsImage next.replica.saved) }
+    {
+        let path = path.copy(alloc)?;
+        let text = Listed::of(bytes.to_vec(alloc)?);
+        self.change(alloc, &Change::Write { path, text })
+    }
+
+    /// Ends the conflict of the file at the path by these bytes. Refused as `write` is, but with `NoConflict` exactly
+    /// where the file isn't in conflict in place of `Conflict`.
+    pub fn settle(&self, alloc: Global, path: &Path, bytes: &[u8]) -> Result<Next, Refusal>
+        requires fits { FitsImage self.now.saved }
+        requires generation { self.now.saved.generation < 2 ^ 63 - 1 }
+        ensures gives { ChangeGives self.now (Settles path.now bytes.now) result }
+        ensures fits { IfOk result (λ next. FitsImage next.replica.saved) }
+    {
+        let path = path.copy(alloc)?;
+        let text = Listed::of(bytes.to_vec(alloc)?);
+        self.change(alloc, &Change::Settle { path, text })
+    }
+
+    /// Ends the conflict of the file at the path by what the resolver of its kind makes of its versions. Refused as
+    /// `settle` is by that text, and before the limits with `Declined` exactly where the resolver declines.
+    pub fn resolve(&self, alloc: Global, path: &Path) -> Result<Next, Refusal>
+        requires fits { FitsImage self.now.saved }
+        requires generation { self.now.saved.generation < 2 ^ 63 - 1 }
+        ensures gives { ChangeGives self.now (Resolves path.now) result }
+        ensures fits { IfOk result (λ next. FitsImage next.replica.saved) }
+    {
+        let path = path.copy(alloc)?;
+        self.change(alloc, &Change::Resolve { path })
+    }
+
+    /// Removes the name at the path from its object: all live entries of the directory that have this name and lead to
+    /// this object. Refused as the walk is; with `NotEmpty` exactly where the object is a directory with a live entry in
+    /// it, and every live name of it is the one to be removed; with `Spent` as `make` is.
+    pub fn remove(&self, alloc: Global, path: &Path) -> Result<Next, Refusal>
+        requires entry { IsEntry path.now }
+        requires fits { FitsImage self.now.saved }
+        requires generation { self.now.saved.generation < 2 ^ 63 - 1 }
+        ensures gives { ChangeGives self.now (Removes path.now) result }
+        ensures fits { IfOk result (λ next. FitsImage next.replica.saved) }
+    {
+        let path = path.copy(alloc)?;
+        self.change(alloc, &Change::Rm { path })
+    }
+
+    /// Gives the file at the path `from` the new path `path` as a further name. Refused as the walk along `from` is; as
+    /// the walk to the parent of `path` is; with `IsDir` exactly where the object is a directory; with `Exists` and
+    /// `Spent` as `make` is.
+    pub fn link(&self, alloc: Global, from: &Path, path: &Path) -> Result<Next, Refusal>
+        requires entry { IsEntry from.now }
+        requires new { IsNew path.now }
+        requires fits { FitsImage self.now.saved }
+        requires generation { self.now.saved.generation < 2 ^ 63 - 1 }
+        ensures gives { ChangeGives self.now (Links from.now path.now) result }
+        ensures fits { IfOk result (λ next. FitsImage next.replica.saved) }
+    {
+        let from = from.copy(alloc)?;
+        let path = path.copy(alloc)?;
+        self.change(alloc, &Change::Ln { from, path })
+    }
+
+    /// Gives the object at the path `from` the new path `path` in place of this name: it stays the same object, with
+    /// what lies in it and with its versions. Refused as the walk along `from` is; as the walk to the parent of `path`
+    /// is; with `IntoSelf` exactly where the object is a directory, and the new parent is it or lies below it; with
+    /// `Exists` and `Spent` as `make` is.
+    pub fn rename(&self, alloc: Global, from: &Path, path: &Path) -> Result<Next, Refusal>
+        requires entry { IsEntry from.now }
+        requires new { IsNew path.now }
+        requires fits { FitsImage self.now.saved }
+        requires generation { self.now.saved.generation < 2 ^ 63 - 1 }
+        ensures gives { ChangeGives self.now (Moves from.now path.now) result }
+        ensures fits { IfOk result (λ next. FitsImage next.replica.saved) }
+    {
+        let from = from.copy(alloc)?;
+        let path = path.copy(alloc)?;
+        self.change(alloc, &Change::Mv { from, path })
+    }
+
+    /// The names that the directory at the path shows, by name, then by object. Refused as the walk is; with `NotDir`
+    /// exactly where the object is a file.
+    pub fn list(&self, alloc: Global, path: &Path) -> Result<Vec<Line>, Refusal>
+        requires { FitsImage self.now.saved }
+        ensures { LookGivesAs self.now (Lists path.now) (λ lines. ToldNames lines.items) result }
+    {
+        let path = path.copy(alloc)?;
+        match self.look(alloc, &Look::Ls { path })? {
+            Told::Names(lines) => Ok(lines.into_vec()),
+            _ => unreachable!(),
+        }
+    }
+
+    /// The bytes of the file at the path. Refused as the walk is; with `IsDir` exactly where the object is a directory;
+    /// with `Conflict` exactly where the file is in conflict.
+    pub fn read(&self, alloc: Global, path: &Path) -> Result<Vec<u8>, Refusal>
+        requires { FitsImage self.now.saved }
+        ensures { LookGivesAs self.now (Reads path.now) (λ bytes. ToldText bytes.items) result }
+    {
+        let path = path.copy(alloc)?;
+        match self.look(alloc, &Look::Read { path })? {
+            Told::Text(bytes) => Ok(bytes.into_vec()),
+            _ => unreachable!(),
+        }
+    }
+
+    /// The versions of the file at the path, in the order of vectors. Refused as the walk is; with `IsDir` exactly
+    /// where the object is a directory.
+    pub fn versions(&self, alloc: Global, path: &Path) -> Result<Vec<Version>, Refusal>
+        requires { FitsImage self.now.saved }
+        ensures { LookGivesAs self.now (TellsVersions path.now)
+            (λ list. ToldVersions self.now.saved.members list.items) result }
+    {
+        let path = path.copy(alloc)?;
+        match self.look(alloc, &Look::Versions { path })? {
+            Told::Versions { list, .. } => Ok(list.into_vec()),
+            _ => unreachable!(),
+        }
+    }
+
+    /// The names in each directory that is reached from the root, by directory, then as `list` has them.
+    pub fn tree(&self, alloc: Global) -> Result<Vec<Line>, Memory>
+        requires { FitsImage self.now.saved }
+        ensures { IfOk result (λ lines. LookGives self.now TellsTree (Ok (ToldTree lines.items))) }
+    {
+        match self.look(alloc, &Look::Tree) {
+            Ok(Told::Tree(lines)) => Ok(lines.into_vec()),
+            Err(Refusal::Memory) => Err(Memory),
+            _ => unreachable!(),
+        }
+    }
+
+    /// The removed entries that it holds, by identifier, each with the members that are known to know of the removal and
+    /// those that are known to know that all know of it.
+    pub fn marks(&self, alloc: Global) -> Result<Vec<Entry>, Memory>
+        requires { FitsImage self.now.saved }
+        ensures { IfOk result (λ marks. LookGives self.now TellsMarks (Ok (ToldMarks marks.items))) }
+    {
+        match self.look(alloc, &Look::Marks) {
+            Ok(Told::Marks(marks)) => Ok(marks.into_vec()),
+            Err(Refusal::Memory) => Err(Memory),
+            _ => unreachable!(),
+        }
+    }
+
+    /// What it holds: its entries, live and removed, and its files. This is what it serves to a peer that asks.
+    pub fn tables(&self) -> (&Entries, &Files)
+        ensures entries { result.0.now ≡ self.now.saved.entries }
+        ensures files { result.1.now ≡ self.now.saved.files }
+    {
+        (&self.saved.entries, &self.saved.files)
+    }
+}
