@@ -1,9 +1,15 @@
 pub mod ChangedTables
 pub mod CountFits
+pub mod CountFormats
+pub mod Current
+pub mod EntryFormats
 pub mod FileFits
-pub mod KilledTables
+pub mod FilesOf
 pub mod Held
+pub mod KilledTables
 pub mod MergeFits
 pub mod MergedFiles
 pub mod MergedTables
+pub mod RowsPut
+pub mod TableFormats
 pub mod Touched

@@ -1,6 +1,4 @@
-pub mod Killed
+pub mod Found
 pub mod KilledAll
-pub mod Later
 pub mod Noted
-pub mod Search
 pub mod Within

@@ -1,89 +1,205 @@
--- What an edit of the entries keeps.
-use Rattle.std.proofs.Common.{◌≡◌, ◌≢◌, ◌⊎◌, ℕ, ◌<◌, List, length, get_or, set, Some, slice_get, ◌∙◌, refl, sym, ap, subst, inl, inr}
-use Rattle.std.specs.Prelude.{Contains}
+-- What the index notes through removals, and once they are folded in.
+use Rattle.std.proofs.Common.{◌≡◌, ◌⊎◌, ◌↔◌, ℕ, ◌+◌, ◌<◌, false, List, [], ◌∷◌, length, get_or, set, drop, Some, slice_get, ◌∙◌, refl, sym, ap, subst, arith, inl, inr}
+use Rattle.std.specs.Prelude.{AllPairs, Contains}
 use Rattle.std.specs.List.{insert}
-use Rattle.std.specs.declared.cmp.Ordering.TheVariants.{Less}
-use Rattle.std.proofs.lemmas.Bool.{cases_eq, cases_order}
-use Rattle.std.proofs.lemmas.List.{length-set, get_or-set_same, get_or-set_other}
-use Rattle.std.proofs.lemmas.Option.{get_or_from_slice_get}
-use Rattle.ficus_ids.specs.declared.id.Id.{Id}
-use Rattle.ficus_ids.specs.Id.{id_cmp}
-use Rattle.ficus_ids.specs.IdLaws.{not_below_itself}
-use Rattle.ficus_ids.specs.RisingLaws.{Contains-insert, none_at_place}
+use Rattle.std.specs.List.Sorted.{IsPermutation}
+use Rattle.std.proofs.lemmas.Bool.{cases_eq}
+use Rattle.std.proofs.lemmas.List.{ext_get_or, length-set, get_or-set_same, get_or-set_other, get_or-drop, length-drop}
+use Rattle.std.proofs.lemmas.List.Elements.{Contains-get_or}
+use Rattle.std.proofs.lemmas.Option.{get_or_from_slice_get, slice_get_within}
+use Rattle.ficus_ids.specs.ListLaws.{here, there, here_or_there, not_inside_none}
+use Rattle.ficus_ids.specs.RisingLaws.{item_at, same_items, set_puts, insert_puts, IsRisingBy-set, IsRisingBy-insert}
+use Rattle.ficus_ids.specs.Rising.{IsFoundAtBy, IsPlaceBy}
+use Rattle.ficus_index.specs.declared.place.Note.{Note}
+use Rattle.ficus_index.specs.NoteLaws.{notes_set, notes_with}
 use Rattle.ficus_entry.specs.declared.entry.Entry.{Entry}
-use Rattle.ficus_entry.specs.Entry.{IsRising, IsPlace, IsFoundAt, PutsEntry}
+use Rattle.ficus_entry.specs.declared.entry.State.{State}
+use Rattle.ficus_entry.specs.declared.entry.State.TheVariants.{Live}
+use Rattle.ficus_entry.specs.Entry.{IsRising, PutsEntry}
+use Rattle.ficus_entry.specs.Kill.{is_live}
+use Rattle.ficus_entry.specs.Place.{note_of, alive, AreNoted, IsNotedAs, AreNotedBut, ReplacesNote}
 
-module _ (entries : List Entry) (entry : Entry) (index : ℕ) (found : IsFoundAt entries entry.id index) where
-  same_at : (k : ℕ) (d : Entry) → (get_or (set entries index entry) k d).id ≡ (get_or entries k d).id
-  same_at k d =
-      elim (cases_eq k index) [
-        | inl here ↦ rw (here, get_or-set_same entries index entry d found.0) (sym (found.1 d))
-        | inr elsewhere ↦ rw (get_or-set_other entries index k entry d elsewhere) refl
-      ]
+dead_not_live : (entry : Entry) → is_live entry ≡ false → entry.state ≡ Live → ⊥
+dead_not_live entry dead live = let passes : is_live entry ≡ is_live (record entry { state = Live }) =
+    ap (λ (s : State). is_live (record entry { state = s })) live in cc (passes, dead)
 
-  pub set_rises : IsRising entries → IsRising (set entries index entry)
-  set_rises rising = record {
-    each = λ j k d before within. rw (same_at j d, same_at k d)
-        (rising.each j k d before (rw length-set at within));
-  }
+-- entries that are noted as they are
+pub noted_whole : (entries : List Entry) (notes : List Note) → AreNoted entries notes → AreNotedBut entries [] notes
+noted_whole entries notes noted = record {
+  before = entries;
+  noted = noted;
+  lengths = refl;
+  within = λ index inside. absurd (not_inside_none index inside);
+  each = λ index d _. record {
+    dead = λ inside. absurd (not_inside_none index inside);
+    earlier = λ inside. absurd (not_inside_none index inside);
+    same = λ _. refl;
+  };
+}
 
-  other_id : IsRising entries → (k : ℕ) (d : Entry) → k < length entries → (k ≡ index → ⊥) →
-      (get_or entries k d).id ≢ entry.id
-  other_id rising k d within elsewhere is =
-      let one : (get_or entries k d).id ≡ (get_or entries index d).id = is ∙ sym (found.1 d) in
-      elim (cases_order k index) [
-        | inl here ↦ elsewhere here
-        | inr (inl before) ↦ not_below_itself (get_or entries index d).id
-            (subst (λ id. id_cmp id (get_or entries index d).id ≡ Less) one (rising.each k index d before found.0))
-        | inr (inr behind) ↦ not_below_itself (get_or entries index d).id
-            (subst (λ id. id_cmp (get_or entries index d).id id ≡ Less) one (rising.each index k d behind within))
-      ]
+pub whole_noted : (entries : List Entry) (notes : List Note) → AreNotedBut entries [] notes → AreNoted entries notes
+whole_noted [] notes noted = by noted.before noted.lengths noted.noted
+  where
+    by : (before : List Entry) → length before ≡ 0 → AreNoted before notes → AreNoted [] notes
+    by [] none is = is
+    by (_ ∷ _) some is = absurd (omega (arith, some))
+whole_noted (entry ∷ rest) notes noted =
+    subst (λ (l : List Entry). AreNoted l notes)
+    (ext_get_or entry noted.before (entry ∷ rest) noted.lengths
+    (λ i within. (noted.each i entry (rw (← noted.lengths) within)).same (not_inside_none i)))
+    noted.noted
 
-  from_set : IsRising entries → (other : Entry) → Contains (set entries index entry) other →
-      (Contains entries other × (other.id ≢ entry.id)) ⊎ (other ≡ entry)
-  from_set rising other (k, within, is) =
-      elim (cases_eq k index) [
-        | inl here ↦ inr (sym is ∙ rw here (get_or-set_same entries index entry other found.0))
-        | inr elsewhere ↦
-            let old : get_or entries k other ≡ other =
-            rw (get_or-set_other entries index k entry other elsewhere) at is in
-            let inside : k < length entries = rw length-set at within in
-            inl (
-              (k, inside, old),
-              subst (λ (x : Entry). x.id ≢ entry.id) old
-                  (other_id rising k other inside elsewhere),
-            )
-      ]
+module _ (entries : List Entry) (edited : List ℕ) (notes : List Note) (noted : AreNotedBut entries edited notes) where
+  not_edited : (index : ℕ) (entry : Entry) → index < length entries → get_or entries index entry ≡ entry →
+      entry.state ≡ Live → Contains edited index → ⊥
+  not_edited index entry within is live inside =
+      dead_not_live entry (rw is at ((noted.each index entry within).dead inside)) live
 
-  into_set : (other : Entry) → (Contains entries other × (other.id ≢ entry.id)) ⊎ (other ≡ entry) →
-      Contains (set entries index entry) other
-  into_set other (inl kept) =
-      let k = kept.0.0 in
-      let elsewhere : k ≡ index → ⊥ =
-      λ here. kept.1 (ap (λ (e : Entry). e.id) (sym kept.0.2) ∙ rw here (found.1 other)) in
-      (k, rw length-set kept.0.1, rw (get_or-set_other entries index k entry other elsewhere) kept.0.2)
-  into_set other (inr is) = (index, rw length-set found.0, get_or-set_same entries index entry other found.0 ∙ sym is)
+  was_same : (index : ℕ) (entry : Entry) → index < length entries → get_or entries index entry ≡ entry →
+      entry.state ≡ Live → get_or noted.before index entry ≡ entry
+  was_same index entry within is live =
+      (noted.each index entry within).same (not_edited index entry within is live) ∙ is
 
-  pub set_puts : IsRising entries → PutsEntry entries (set entries index entry) entry
-  set_puts rising other = (from_set rising other, into_set other)
+  -- an edited entry is one of the entries
+  pub edit_within : (place index : ℕ) → slice_get edited place ≡ Some index → index < length entries
+  edit_within place index at =
+      noted.within index
+      (place, slice_get_within edited place index at, get_or_from_slice_get edited place index index at)
 
-pub insert_puts : (entries : List Entry) (entry : Entry) (index : ℕ) → IsPlace entries entry.id index →
-    PutsEntry entries (insert entries index entry) entry
-insert_puts entries entry index place other =
-    let both = Contains-insert entries index entry other in (
-      λ inside. elim (both.0 inside) [
-        | inl old ↦ inl (
-          old,
-          λ is. none_at_place (λ (e : Entry). e.id) entries entry.id index place
-              (record { item = other; inside = old; has_id = is }),
-        )
-        | inr is ↦ inr is
-      ],
-      λ either. both.1 (elim either [ inl kept ↦ inl kept.0 | inr is ↦ inr is ]),
-    )
+  -- a live entry is noted as itself
+  pub live_noted : (entry : Entry) → Contains entries entry → entry.state ≡ Live → Contains noted.before entry
+  live_noted entry (k, within, is) live = (k, rw noted.lengths within, was_same k entry within is live)
 
--- what stands at the index has the identifier
-pub id_of_found : (entries : List Entry) (id : Id) (index : ℕ) (entry : Entry) → IsFoundAt entries id index →
-    slice_get entries index ≡ Some entry → entry.id ≡ id
-id_of_found entries id index entry found at =
-    ap (λ (e : Entry). e.id) (sym (get_or_from_slice_get entries index entry entry at)) ∙ found.1 entry
+  -- each entry is noted in its directory under its identifier
+  pub entry_noted : (entry : Entry) → Contains entries entry →
+      ((was : Entry) → Contains noted.before was → was.dir ≡ entry.dir → was.id ≡ entry.id → ⊥) → ⊥
+  entry_noted entry (k, within, is) never =
+      let was : Entry = get_or noted.before k entry in
+      let inside : Contains noted.before was = Contains-get_or noted.before k entry (rw noted.lengths within) in
+      let how = noted.each k entry within in
+      let here_edited : Contains edited k → ⊥ =
+      λ edits. never was inside (ap (λ (e : Entry). e.dir) (how.earlier edits) ∙ ap (λ (e : Entry). e.dir) is)
+      (ap (λ (e : Entry). e.id) (how.earlier edits) ∙ ap (λ (e : Entry). e.id) is) in
+      never was inside (ap (λ (e : Entry). e.dir) (how.same here_edited ∙ is))
+      (ap (λ (e : Entry). e.id) (how.same here_edited ∙ is))
+
+  -- a live entry that becomes dead is noted as while it lived
+  pub noted_edited : (more : List ℕ) (index : ℕ) (was dead : Entry) → slice_get entries index ≡ Some was →
+      was.state ≡ Live → is_live dead ≡ false → was ≡ alive dead →
+      ((other : ℕ) → Contains more other ↔ (Contains edited other ⊎ (other ≡ index))) →
+      AreNotedBut (set entries index dead) more notes
+  noted_edited more index was dead at live is_dead is_alive edits =
+      let inside : index < length entries = slice_get_within entries index was at in
+      record {
+        before = noted.before;
+        noted = noted.noted;
+        lengths = noted.lengths ∙ sym (length-set entries index dead);
+        within = λ k held. rw (length-set entries index dead) (elim ((edits k).0 held) [
+          | inl earlier ↦ noted.within k earlier
+          | inr is ↦ rw is inside
+        ]);
+        each = λ k d within. elim (cases_eq k index) [
+          | inl is ↦ rw (is, get_or-set_same entries index dead d inside) (edited_here d inside)
+          | inr elsewhere ↦ rw (get_or-set_other entries index k dead d elsewhere)
+              (edited_elsewhere k d (rw (length-set entries index dead) at within) elsewhere)
+        ];
+      }
+    where
+      edited_here : (d : Entry) → index < length entries → IsNotedAs more index dead (get_or noted.before index d)
+      edited_here d inside =
+          let stands : get_or entries index d ≡ was = get_or_from_slice_get entries index was d at in
+          let itself : get_or entries index was ≡ was = get_or_from_slice_get entries index was was at in
+          record {
+            dead = λ _. is_dead;
+            earlier = λ _. (noted.each index d inside).same (not_edited index was inside itself live) ∙ stands ∙ is_alive;
+            same = λ missing. absurd (missing ((edits index).1 (inr refl)));
+          }
+
+      edited_elsewhere : (k : ℕ) (d : Entry) → k < length entries → (k ≡ index → ⊥) →
+          IsNotedAs more k (get_or entries k d) (get_or noted.before k d)
+      edited_elsewhere k d within elsewhere =
+          let how = noted.each k d within in
+          let back : Contains more k → Contains edited k = λ held. elim ((edits k).0 held) [
+            | inl earlier ↦ earlier
+            | inr is ↦ absurd (elsewhere is)
+          ] in
+          record {
+            dead = λ held. how.dead (back held);
+            earlier = λ held. how.earlier (back held);
+            same = λ missing. how.same (λ held. missing ((edits k).1 (inl held)));
+          }
+
+-- once an edited entry is noted as it is, fewer edits are left
+pub noted_folded : (entries : List Entry) (index : ℕ) (later : List ℕ) (notes more : List Note) (entry : Entry) →
+    AreNotedBut entries (index ∷ later) notes → (Contains later index → ⊥) → slice_get entries index ≡ Some entry →
+    ReplacesNote notes (note_of (alive entry)) (note_of entry) more → AreNotedBut entries later more
+noted_folded entries index later notes more entry noted once at is =
+    let inside : index < length entries = slice_get_within entries index entry at in
+    let stands : index < length noted.before = rw noted.lengths inside in
+    let was : get_or noted.before index (alive entry) ≡ alive entry =
+    (noted.each index (alive entry) inside).earlier (here index later)
+    ∙ ap alive (get_or_from_slice_get entries index entry (alive entry) at) in
+    record {
+      before = set noted.before index entry;
+      noted = notes_set note_of noted.before index (alive entry) notes is.others stands was is.taken entry more
+          noted.noted is.added;
+      lengths = length-set noted.before index entry ∙ noted.lengths;
+      within = λ k held. noted.within k (there index k later held);
+      each = λ k d within. elim (cases_eq k index) [
+        | inl same ↦ rw (
+          same,
+          get_or-set_same noted.before index entry d stands,
+          get_or_from_slice_get entries index entry d at,
+        ) (record {
+          dead = λ held. absurd (once held);
+          earlier = λ held. absurd (once held);
+          same = λ _. refl;
+        })
+        | inr elsewhere ↦ rw (get_or-set_other noted.before index k entry d elsewhere)
+            (let how = noted.each k d within in record {
+              dead = λ held. how.dead (there index k later held);
+              earlier = λ held. how.earlier (there index k later held);
+              same = λ missing. how.same (λ held. elim (here_or_there index k later held) [
+                | inl is_it ↦ elsewhere is_it
+                | inr behind ↦ missing behind
+              ]);
+            })
+      ];
+    }
+
+-- of different numbers none comes again
+pub none_again : (numbers : List ℕ) (n number : ℕ) → AllPairs (λ one other. one ≡ other → ⊥) numbers →
+    n < length numbers → get_or numbers n number ≡ number → Contains (drop (n + 1) numbers) number → ⊥
+none_again numbers n number once within is (k, inside, again) =
+    let there_too : n + 1 + k < length numbers = omega (arith, inside, length-drop (n + 1) numbers) in
+    once n (n + 1 + k) number (omega arith) there_too
+    (is ∙ sym again ∙ get_or-drop (n + 1) numbers k number)
+
+-- the notes with that of an entry in place of the one with its identifier
+pub noted_put : (entries more : List Entry) (index : ℕ) (old entry : Entry) (notes noted : List Note) →
+    IsRising entries → AreNoted entries notes → IsFoundAtBy (λ (e : Entry). e.id) entries entry.id index →
+    slice_get entries index ≡ Some old → ReplacesNote notes (note_of old) (note_of entry) noted → IsRising more →
+    PutsEntry entries more entry → AreNoted more noted
+noted_put entries more index old entry notes noted rising are found at is rises puts =
+    let id_of : Entry → _ = λ e. e.id in
+    let same : set entries index entry ≡ more =
+    same_items (λ (e : Entry). e.id) (set entries index entry) more
+    (IsRisingBy-set (λ (e : Entry). e.id) entries entry index rising found) rises
+    (λ other. let one = set_puts (λ (e : Entry). e.id) entries entry index rising found other in
+    (λ inside. (puts other).1 (one.0 inside), λ inside. one.1 ((puts other).0 inside))) in
+    subst (λ (l : List Entry). AreNoted l noted) same
+    (notes_set note_of entries index old notes is.others found.0
+    (get_or_from_slice_get entries index old old at) is.taken entry noted are is.added)
+
+-- the notes with that of an entry whose identifier none has
+pub noted_insert : (entries more : List Entry) (index : ℕ) (entry : Entry) (notes noted : List Note) →
+    IsRising entries → AreNoted entries notes → IsPlaceBy (λ (e : Entry). e.id) entries entry.id index →
+    IsPermutation (note_of entry ∷ notes) noted → IsRising more → PutsEntry entries more entry → AreNoted more noted
+noted_insert entries more index entry notes noted rising are place is rises puts =
+    let same : insert entries index entry ≡ more =
+    same_items (λ (e : Entry). e.id) (insert entries index entry) more
+    (IsRisingBy-insert (λ (e : Entry). e.id) entries entry index rising place) rises
+    (λ other. let one = insert_puts (λ (e : Entry). e.id) entries entry index place other in
+    (λ inside. (puts other).1 (one.0 inside), λ inside. one.1 ((puts other).0 inside))) in
+    subst (λ (l : List Entry). AreNoted l noted) same
+    (notes_with note_of entries index entry notes noted are is)

@@ -1,8 +1,7 @@
 -- Lists of directory entries.
-use Rattle.std.specs.Prelude.{◌≡◌, ◌≢◌, ◌⊎◌, ◌↔◌, ℕ, ◌<◌, List, length, Option, Contains}
-use Rattle.std.specs.List.{HoldsAt}
+use Rattle.std.specs.Prelude.{List, Option}
 use Rattle.ficus_ids.specs.declared.id.Id.{Id}
-use Rattle.ficus_ids.specs.Rising.{IsRisingBy, HoldsBy, HoldsUnderBy, IsPlaceBy}
+use Rattle.ficus_ids.specs.Rising.{IsRisingBy, HoldsBy, HoldsUnderBy, Adds, PutsBy}
 use Rattle.ficus_entry.specs.declared.entry.Entry.{Entry}
 
 -- the identifiers rise strictly
@@ -17,19 +16,10 @@ Holds entries id = HoldsBy (λ entry. entry.id) entries id
 abbrev pub HoldsUnder : List Entry → Id → Option Entry → Type 0
 HoldsUnder entries id found = HoldsUnderBy (λ entry. entry.id) entries id found
 
--- a new entry with the identifier goes in front of the entry at this index
-abbrev pub IsPlace : List Entry → Id → ℕ → Type 0
-IsPlace entries id index = IsPlaceBy (λ entry. entry.id) entries id index
-
 -- the new list holds the old entries and this one
 abbrev pub AddsEntry : List Entry → List Entry → Entry → Type 0
-AddsEntry old new entry = (other : Entry) → Contains new other ↔ (Contains old other ⊎ (other ≡ entry))
-
--- the entry at this index has the identifier
-abbrev pub IsFoundAt : List Entry → Id → ℕ → Type 0
-IsFoundAt entries id index = (index < length entries) × HoldsAt (λ entry. entry.id ≡ id) entries index
+AddsEntry old new entry = Adds old new entry
 
 -- the new list holds this entry, and those old ones that have other identifiers
 abbrev pub PutsEntry : List Entry → List Entry → Entry → Type 0
-PutsEntry old new entry = (other : Entry) →
-    Contains new other ↔ ((Contains old other × (other.id ≢ entry.id)) ⊎ (other ≡ entry))
+PutsEntry old new entry = PutsBy (λ entry. entry.id) old new entry

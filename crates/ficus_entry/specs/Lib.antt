@@ -1,4 +1,3 @@
-pub mod Changes
 pub mod Entry
 pub mod Inside
 pub mod Kill

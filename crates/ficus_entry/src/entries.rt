@@ -1,32 +1,25 @@
-ghost use Rattle.std.specs.Prelude.{◌≡◌, ◌↔◌, ◌≤◌, ◌<◌, ◌==◌, [], length, slice_get, vec_len, vec_capacity, Some, IsTrue, IfOk, IfErr, OnOk, OnErr};
+ghost use Rattle.std.specs.Prelude.{◌≡◌, ◌↔◌, ◌≤◌, ◌<◌, ◌==◌, [], length, slice_get, List, Some, IsTrue, IfOk, OnOk, OnErr};
 ghost use Rattle.std.specs.Option.{option_copied};
-ghost use Rattle.ficus_entry.specs.Entry.{IsRising, Holds, HoldsUnder, IsFoundAt, IsPlace, AddsEntry, PutsEntry};
+ghost use Rattle.ficus_entry.specs.declared.entry.Entry.{Entry as EntryValue};
+ghost use Rattle.ficus_entry.specs.Entry.{IsRising, Holds, HoldsUnder, AddsEntry, PutsEntry};
 ghost use Rattle.ficus_entry.specs.Kill.{HoldsLive, IsKilled};
+ghost use Rattle.ficus_entry.specs.Place.{AreNoted};
 
-use crate::table::Table;
+use crate::note::{notes, renoted};
 use crate::{Entry, State};
 use ficus_ids::{Id, Marks, Memory};
+use ficus_index::Index;
+use ficus_table::Table;
 use std::alloc::Global;
 use std::marker::Model;
 
-// The room for changes is a multiple of this, so that an insert into a copy finds room, and one block serves after
-// the other.
-const ROOM: usize = 4096;
-
-/// What has become of the entry at an index of a table since it was made.
-#[derive(Drop)]
-pub(crate) struct Changed {
-    pub(crate) index: usize,
-    pub(crate) entry: Entry,
-}
-
 /// Entries with different identifiers. Contracts see them as a list in which the identifiers rise strictly. A copy
-/// shares what it has with them, and a change takes time for a logarithm of them alone. What changes without memory
-/// stands beside the table, in room that an earlier call reserved, until the next copy or insert.
+/// shares what it has with them, and a change takes time for a logarithm of them alone. A removal takes no memory: until
+/// the next copy or insert the index notes what was removed as while it lived.
 #[derive(Drop)]
 pub struct Entries {
-    pub(crate) table: Table,
-    pub(crate) changed: Vec<Changed>,
+    pub(crate) table: Table<Entry>,
+    pub(crate) index: Index,
 }
 
 impl Model for Entries {
@@ -35,12 +28,11 @@ impl Model for Entries {
 
     ghost Value = { List EntryValue };
 
-    ghost use Rattle.ficus_entry.specs.Changes.{overlaid, IsSound};
-    ghost use Rattle.std.specs.Prelude.{vec_len, vec_capacity};
+    ghost use Rattle.ficus_entry.specs.Place.{AreNotedBut};
 
-    ghost view = { λ e. overlaid e.changed.items e.table.list };
+    ghost view = { λ e. e.table.items };
 
-    ghost invariant = { λ e. IsSound e.changed.items e.table.list (vec_len e.changed) (vec_capacity e.changed) };
+    ghost invariant = { λ e. AreNotedBut e.table.items e.table.edited e.index };
 }
 
 impl Entries {
@@ -49,8 +41,8 @@ impl Entries {
         ensures { result ≡ [] }
     {
         Entries {
-            table: Table::new(),
-            changed: Vec::new(alloc),
+            table: Table::new(alloc),
+            index: Index::new(),
         }
     }
 
@@ -59,9 +51,10 @@ impl Entries {
         requires { IsRising entries.now }
         ensures { IfOk result (λ built. built ≡ entries.now) }
     {
+        let notes = notes(alloc, entries)?;
+        let index = Index::of(alloc, notes)?;
         let table = Table::of(alloc, entries)?;
-        let changed = room_for(alloc, table.list.len())?;
-        Ok(Entries { table, changed })
+        Ok(Entries { table, index })
     }
 
     /// How many entries there are.
@@ -69,7 +62,7 @@ impl Entries {
         ensures value { result ≡ length self.now }
         ensures rising { IsRising self.now }
     {
-        self.table.list.len()
+        self.table.len()
     }
 
     /// Whether there are no entries.
@@ -84,15 +77,7 @@ impl Entries {
         requires { index < length self.now }
         ensures { slice_get self.now index ≡ Some result.now }
     {
-        let mut left = self.changed.len();
-        while left > 0 {
-            left -= 1;
-            let changed = &self.changed[left];
-            if changed.index == index {
-                return &changed.entry;
-            }
-        }
-        self.table.list.at(index)
+        self.table.at(index)
     }
 
     /// The entry with an identifier, or `None` exactly where no entry has it.
@@ -100,19 +85,16 @@ impl Entries {
         ensures found { HoldsUnder self.now id (option_copied result) }
         ensures rising { IsRising self.now }
     {
-        match self.search(id) {
-            Ok(index) => Some(self.at(index)),
-            Err(_) => None,
-        }
+        self.table.get(id)
     }
 
     /// The same entries once more, with memory from where these have theirs.
     pub fn copy(&self) -> Result<Entries, Memory>
         ensures { IfOk result (λ entries. entries ≡ self.now) }
     {
-        let table = self.whole()?;
-        let changed = room_for(self.allocator(), table.list.len())?;
-        Ok(Entries { table, changed })
+        let index = self.folded()?;
+        let table = self.table.copy()?;
+        Ok(Entries { table, index })
     }
 
     /// Adds an entry whose identifier no entry has. After `Memory` the entries are as before.
@@ -122,8 +104,7 @@ impl Entries {
         ensures kept { OnErr result (self.new ≡ self.old) }
         ensures rising { IsRising self.new }
     {
-        let table = self.putting(entry)?;
-        self.hold(table)
+        self.put(entry)
     }
 
     /// Adds an entry, in place of the one with its identifier if there is one. After `Memory` the entries are as
@@ -133,8 +114,12 @@ impl Entries {
         ensures kept { OnErr result (self.new ≡ self.old) }
         ensures rising { IsRising self.new }
     {
-        let table = self.putting(entry)?;
-        self.hold(table)
+        // Tells that the identifiers rise.
+        let _count = self.table.len();
+        let index = self.index_with(&entry)?;
+        self.table.put(entry)?;
+        self.index = index;
+        Ok(())
     }
 
     /// Whether a live entry has the identifier.
@@ -156,90 +141,47 @@ impl Entries {
         ensures killed { IsKilled self.old self.new id by }
         ensures rising { IsRising self.new }
     {
-        let Ok(index) = self.search(id) else {
+        let Ok(index) = self.table.search(id) else {
             unreachable!()
         };
-        let Ok(mut entry) = self.at(index).copy() else {
+        let Ok(mut entry) = self.table.at(index).copy() else {
             unreachable!()
         };
         entry.state = State::Dead {
             one: Marks::empty().with(by),
             two: Marks::empty(),
         };
-        self.changed.push_reserved(Changed { index, entry });
+        self.table.edit(index, entry);
     }
 
     /// From where these have their memory.
     pub(crate) fn allocator(&self) -> Global {
-        *self.changed.allocator()
+        self.table.allocator()
     }
 
-    // The entries in a table of their own.
-    fn whole(&self) -> Result<Table, Memory>
-        ensures same { IfOk result (λ table. table.list ≡ self.now) }
-        ensures rising { IsRising self.now }
+    // An index that notes each entry as it is.
+    fn folded(&self) -> Result<Index, Memory>
+        ensures { IfOk result (λ index. AreNoted self.now index) }
     {
         let alloc = self.allocator();
-        let mut table = self.table.copy()?;
-        for change in &self.changed {
-            table = table.changed(alloc, change)?;
+        let mut index = self.index.copy()?;
+        for place in 0..self.table.edit_count() {
+            let entry = self.table.at(self.table.edited_at(place));
+            index = renoted(alloc, &index, entry.live_note(), entry.note())?;
         }
-        Ok(table)
+        Ok(index)
     }
 
-    // Holds these entries from now on.
-    fn hold(&mut self, table: Table) -> Result<(), Memory>
-        ensures held { OnOk result (self.new ≡ table.list) }
-        ensures kept { OnErr result (self.new ≡ self.old) }
-        ensures rising { IsRising self.new }
+    // The index of the entries with this one, in place of the one with its identifier if there is one.
+    fn index_with(&self, entry: &Entry) -> Result<Index, Memory>
+        ensures { IfOk result (λ index. (more : List EntryValue) → IsRising more → PutsEntry self.now more entry.now
+            → AreNoted more index) }
     {
-        if table.list.len() > self.changed.capacity() {
-            return self.hold_afresh(table);
+        let folded = self.folded()?;
+        let alloc = self.allocator();
+        match self.table.search(entry.id) {
+            Ok(at) => renoted(alloc, &folded, self.table.at(at).note(), entry.note()),
+            Err(_) => folded.with(alloc, entry.note()),
         }
-        self.changed.clear();
-        self.table = table;
-        Ok(())
     }
-
-    // The same, with room that is made for it. Room that grew would be copied, and so take memory although nothing is
-    // in it.
-    fn hold_afresh(&mut self, table: Table) -> Result<(), Memory>
-        ensures held { OnOk result (self.new ≡ table.list) }
-        ensures kept { OnErr result (self.new ≡ self.old) }
-        ensures rising { IsRising self.new }
-    {
-        let changed = room_for(self.allocator(), table.list.len())?;
-        self.changed = changed;
-        self.table = table;
-        Ok(())
-    }
-
-    // The entries with this one, in place of the one with its identifier if there is one.
-    fn putting(&self, entry: Entry) -> Result<Table, Memory>
-        ensures puts { IfOk result (λ table. PutsEntry self.now table.list entry) }
-        ensures rising { IsRising self.now }
-    {
-        let table = self.whole()?;
-        table.putting(self.allocator(), entry)
-    }
-
-    // Where the entry with the identifier is, or where one with it would go.
-    fn search(&self, id: Id) -> Result<usize, usize>
-        ensures found { IfOk result (IsFoundAt self.now id) }
-        ensures place { IfErr result (IsPlace self.now id) }
-        ensures rising { IsRising self.now }
-    {
-        self.table.search(id)
-    }
-}
-
-// Room for so many changes, and some more.
-fn room_for(alloc: Global, count: usize) -> Result<Vec<Changed>, Memory>
-    ensures items { IfOk result (λ changed. changed.items ≡ []) }
-    ensures len { IfOk result (λ changed. vec_len changed ≡ 0) }
-    ensures capacity { IfOk result (λ changed. count ≤ vec_capacity changed) }
-{
-    let room = (count / ROOM).saturating_add(1).saturating_mul(ROOM);
-    let changed = Vec::with_capacity(alloc, room.max(count))?;
-    Ok(changed)
 }

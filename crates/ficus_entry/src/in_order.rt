@@ -1,8 +1,6 @@
-ghost use Rattle.std.specs.Prelude.{◌≡◌, ◌<◌, ◌==◌, All, length, map, slice_get, Some, IfOk};
-ghost use Rattle.ficus_entry.specs.Changes.{overlaid};
+ghost use Rattle.std.specs.Prelude.{◌≡◌, ◌<◌, ◌==◌, length, slice_get, Some, IfOk};
 ghost use Rattle.ficus_entry.specs.Entry.{IsRising};
 
-use crate::entries::Changed;
 use crate::{Entries, Entry};
 use ficus_ids::Memory;
 use std::marker::Model;
@@ -11,19 +9,16 @@ use std::marker::Model;
 /// stands, however many there are.
 #[derive(Drop)]
 pub struct InOrder<'a> {
-    entries: Vec<&'a Entry>,
+    rows: ficus_table::InOrder<'a, Entry>,
 }
 
 impl<'a> Model for InOrder<'a> {
-    ghost use Rattle.std.specs.Prelude.{List, map};
-    ghost use Rattle.ficus_entry.specs.Entry.{IsRising};
+    ghost use Rattle.std.specs.Prelude.{List};
     ghost use Rattle.ficus_entry.specs.declared.entry.Entry.{Entry as EntryValue};
 
     ghost Value = { List EntryValue };
 
-    ghost view = { λ o. map (λ entry. entry.now) o.entries.items };
-
-    ghost invariant = { λ o. IsRising (map (λ entry. entry.now) o.entries.items) };
+    ghost view = { λ o. o.rows };
 }
 
 impl<'a> InOrder<'a> {
@@ -32,14 +27,14 @@ impl<'a> InOrder<'a> {
         ensures value { result ≡ length self.now }
         ensures rising { IsRising self.now }
     {
-        self.entries.len()
+        self.rows.len()
     }
 
     /// Whether there are no entries.
     pub fn is_empty(&self) -> bool
         ensures { result ≡ (length self.now == 0) }
     {
-        self.entries.is_empty()
+        self.rows.is_empty()
     }
 
     /// The entry at a place, from 0. The place is below the length.
@@ -47,7 +42,7 @@ impl<'a> InOrder<'a> {
         requires { index < length self.now }
         ensures { slice_get self.now index ≡ Some result.now }
     {
-        self.entries[index]
+        self.rows.at(index)
     }
 }
 
@@ -56,20 +51,7 @@ impl Entries {
     pub fn in_order(&self) -> Result<InOrder<'_>, Memory>
         ensures { IfOk result (λ entries. entries ≡ self.now) }
     {
-        let mut entries = Vec::with_capacity(self.allocator(), self.len())?;
-        self.table.list.gather(&mut entries)?;
-        overlay(&mut entries, &self.changed);
-        Ok(InOrder { entries })
-    }
-}
-
-// Has the changed entries stand in place of those that they were.
-fn overlay<'a>(entries: &mut Vec<&'a Entry>, changes: &'a [Changed])
-    requires { All (λ change. change.index < length entries.old.items) changes.now }
-    ensures { map (λ entry. entry.now) entries.new.items
-        ≡ overlaid changes.now (map (λ entry. entry.now) entries.old.items) }
-{
-    for change in changes {
-        entries[change.index] = &change.entry;
+        let rows = self.table.in_order()?;
+        Ok(InOrder { rows })
     }
 }

@@ -121,8 +121,8 @@ impl Entries {
         let leading = Leading::To(target);
         all_of(
             self,
-            &self.table.index,
-            self.table.index.span(from, to),
+            &self.index,
+            self.index.span(from, to),
             &Named { dir, name, leading },
         )
     }
@@ -156,12 +156,7 @@ impl Entries {
     {
         let from = Place { dir, rank: 0 };
         let to = Place { dir, rank: REMOVED };
-        noted_of(
-            self,
-            &self.table.index,
-            self.table.index.span(from, to),
-            dir,
-        )
+        noted_of(self, &self.index, self.index.span(from, to), dir)
     }
 
     // The same as `inside`, in the order of the index, perhaps some twice.
@@ -173,12 +168,7 @@ impl Entries {
             dir,
             rank: REMOVED + 1,
         };
-        noted_of(
-            self,
-            &self.table.index,
-            self.table.index.span(from, to),
-            dir,
-        )
+        noted_of(self, &self.index, self.index.span(from, to), dir)
     }
 
     // Whether the entry with the identifier lies in the directory.
@@ -197,12 +187,7 @@ impl Entries {
         ensures none { IfNone result ((entry : EntryValue) → Contains self.now entry
             → T.Passes test.now entry → LiesBetween from to entry → ⊥) }
     {
-        first_of(
-            self,
-            &self.table.index,
-            self.table.index.span(from, to),
-            test,
-        )
+        first_of(self, &self.index, self.index.span(from, to), test)
     }
 
     // Whether an entry has the identifier and passes the test.

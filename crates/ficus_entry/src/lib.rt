@@ -9,7 +9,7 @@ mod kill_laws;
 mod killing;
 mod laws;
 mod note;
-mod table;
+mod row;
 
 pub use entries::Entries;
 pub use entry::{Entry, State};

@@ -1,9 +1,9 @@
 ghost use Rattle.std.specs.Prelude.{◌≡◌, IfOk, map};
-ghost use Rattle.ficus_entry.specs.Place.{note_of};
+ghost use Rattle.ficus_entry.specs.Place.{note_of, alive, ReplacesNote};
 
 use crate::{Entry, State};
 use ficus_ids::Memory;
-use ficus_index::{Note, Place, REMOVED, digest};
+use ficus_index::{Index, Note, Place, REMOVED, digest};
 use std::alloc::Global;
 
 impl Entry {
@@ -15,6 +15,22 @@ impl Entry {
             State::Live => digest(&self.name),
             State::Dead { .. } => REMOVED,
         };
+        self.note_at(rank)
+    }
+
+    /// What the index notes of the entry while it lives.
+    pub(crate) fn live_note(&self) -> Note
+        ensures { result ≡ note_of (alive self.now) }
+    {
+        self.note_at(digest(&self.name))
+    }
+
+    // That the entry is noted in its directory at this rank.
+    fn note_at(&self, rank: u64) -> Note
+        ensures dir { result.place.dir ≡ self.now.dir }
+        ensures rank { result.place.rank ≡ rank }
+        ensures id { result.id ≡ self.now.id }
+    {
         Note {
             place: Place {
                 dir: self.dir,
@@ -34,4 +50,12 @@ pub(crate) fn notes(alloc: Global, entries: &[Entry]) -> Result<Vec<Note>, Memor
         notes.push(entry.note())?;
     }
     Ok(notes)
+}
+
+/// The index with one note in place of another one.
+pub(crate) fn renoted(alloc: Global, index: &Index, was: Note, note: Note) -> Result<Index, Memory>
+    ensures { IfOk result (λ more. ReplacesNote index.now was note more) }
+{
+    let others = index.without(alloc, was)?;
+    others.with(alloc, note)
 }

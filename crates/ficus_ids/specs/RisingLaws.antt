@@ -5,9 +5,9 @@ use Rattle.std.specs.List.Sorted.{IsBinarySearchResult, IsNonDecreasingBy, IsSea
 use Rattle.std.specs.Ordering.{is_lt, is_gt, ordering_index}
 use Rattle.std.specs.declared.cmp.Ordering.{Ordering}
 use Rattle.std.specs.declared.cmp.Ordering.TheVariants.{Less, Equal, Greater}
-use Rattle.std.proofs.Common.{zero, suc, arith, ap, sym, ◌∙◌, subst, inl, inr}
-use Rattle.std.proofs.lemmas.Bool.{cases_order, cases_lt}
-use Rattle.std.proofs.lemmas.List.{take-append-drop}
+use Rattle.std.proofs.Common.{zero, suc, set, arith, ap, sym, ◌∙◌, subst, inl, inr}
+use Rattle.std.proofs.lemmas.Bool.{cases_order, cases_lt, cases_eq}
+use Rattle.std.proofs.lemmas.List.{take-append-drop, length-set, get_or-set_same, get_or-set_other}
 use Rattle.std.proofs.lemmas.List.Edits.{length-insert, get_or-insert_below, get_or-insert_at, get_or-insert_above}
 use Rattle.std.proofs.lemmas.List.Elements.{Contains-get_or, Contains-append_left, Contains-append_right, Contains-append_cases}
 use Rattle.std.proofs.lemmas.Option.{get_or_from_slice_get, slice_get-get_or}
@@ -16,7 +16,7 @@ use Rattle.ficus_ids.specs.declared.id.Id.{Id}
 use Rattle.ficus_ids.specs.Id.{id_cmp}
 use Rattle.ficus_ids.specs.IdLaws.{id_cmp_total, id_cmp-Equal, not_below_itself, id_cmp-flip, id_cmp-flip_back, same_id_or_not}
 use Rattle.ficus_ids.specs.ListLaws.{here, there, here_or_there, not_inside_none, first_below, rest_rises, same_rising}
-use Rattle.ficus_ids.specs.Rising.{IsRisingBy, HoldsBy, HoldsUnderBy, IsPlaceBy}
+use Rattle.ficus_ids.specs.Rising.{IsRisingBy, HoldsBy, HoldsUnderBy, IsPlaceBy, IsFoundAtBy, PutsBy}
 
 inside_parts : {X : Type 0} (xs : List X) (index : ℕ) (x : X) → Contains xs x →
     Contains (take index xs) x ⊎ Contains (drop index xs) x
@@ -52,7 +52,8 @@ pub Contains-insert : {X : Type 0} (xs : List X) (index : ℕ) (y x : X) →
     Contains (insert xs index y) x ↔ (Contains xs x ⊎ (x ≡ y))
 Contains-insert xs index y x = (from_insert xs index y x, into_insert xs index y x)
 
-item_at : {X : Type 0} (xs : List X) (i : ℕ) → i < length xs → (x : X) × (get_or xs i x ≡ x)
+-- something stands at each place of a list
+pub item_at : {X : Type 0} (xs : List X) (i : ℕ) → i < length xs → (x : X) × (get_or xs i x ≡ x)
 item_at [] i within = absurd (omega arith)
 item_at (x ∷ xs) zero within = (x, refl)
 item_at (x ∷ xs) (suc i) within = item_at xs i (omega arith)
@@ -266,3 +267,74 @@ module _ {X : Type 0} (id_of : X → Id) where
       | inr is ↦ inr is
     ]),
   )
+
+  module _ (items : List X) (item : X) (i : ℕ) where
+    same_at : IsFoundAtBy id_of items (id_of item) i → (k : ℕ) (d : X) →
+        id_of (get_or (set items i item) k d) ≡ id_of (get_or items k d)
+    same_at found k d =
+        elim (cases_eq k i) [
+          | inl here ↦ rw (here, get_or-set_same items i item d found.0) (sym (found.1 d))
+          | inr elsewhere ↦ rw (get_or-set_other items i k item d elsewhere) refl
+        ]
+
+    -- a list with another item in place of the one with its identifier still rises
+    pub IsRisingBy-set : IsRisingBy id_of items → IsFoundAtBy id_of items (id_of item) i →
+        IsRisingBy id_of (set items i item)
+    IsRisingBy-set rising found = record {
+      each = λ j k d before within. rw (same_at found j d, same_at found k d)
+          (rising.each j k d before (rw length-set at within));
+    }
+
+    other_id : IsRisingBy id_of items → IsFoundAtBy id_of items (id_of item) i → (k : ℕ) (d : X) → k < length items →
+        (k ≡ i → ⊥) → id_of (get_or items k d) ≢ id_of item
+    other_id rising found k d within elsewhere is =
+        let one : id_of (get_or items k d) ≡ id_of (get_or items i d) = is ∙ sym (found.1 d) in
+        elim (cases_order k i) [
+          | inl here ↦ elsewhere here
+          | inr (inl before) ↦ not_below_itself (id_of (get_or items i d))
+              (subst (λ id. id_cmp id (id_of (get_or items i d)) ≡ Less) one (rising.each k i d before found.0))
+          | inr (inr behind) ↦ not_below_itself (id_of (get_or items i d))
+              (subst (λ id. id_cmp (id_of (get_or items i d)) id ≡ Less) one (rising.each i k d behind within))
+        ]
+
+    from_set : IsRisingBy id_of items → IsFoundAtBy id_of items (id_of item) i → (other : X) →
+        Contains (set items i item) other → (Contains items other × (id_of other ≢ id_of item)) ⊎ (other ≡ item)
+    from_set rising found other (k, within, is) =
+        elim (cases_eq k i) [
+          | inl here ↦ inr (sym is ∙ rw here (get_or-set_same items i item other found.0))
+          | inr elsewhere ↦
+              let old : get_or items k other ≡ other = rw (get_or-set_other items i k item other elsewhere) at is in
+              let inside : k < length items = rw length-set at within in
+              inl (
+                (k, inside, old),
+                subst (λ x. id_of x ≢ id_of item) old (other_id rising found k other inside elsewhere),
+              )
+        ]
+
+    into_set : IsFoundAtBy id_of items (id_of item) i → (other : X) →
+        (Contains items other × (id_of other ≢ id_of item)) ⊎ (other ≡ item) → Contains (set items i item) other
+    into_set found other (inl kept) =
+        let k = kept.0.0 in
+        let elsewhere : k ≡ i → ⊥ = λ here. kept.1 (ap id_of (sym kept.0.2) ∙ rw here (found.1 other)) in
+        (k, rw length-set kept.0.1, rw (get_or-set_other items i k item other elsewhere) kept.0.2)
+    into_set found other (inr is) =
+        (i, rw length-set found.0, get_or-set_same items i item other found.0 ∙ sym is)
+
+    -- what a list holds with another item in place of the one with its identifier, and with one more
+    pub set_puts : IsRisingBy id_of items → IsFoundAtBy id_of items (id_of item) i →
+        PutsBy id_of items (set items i item) item
+    set_puts rising found other = (from_set rising found other, into_set found other)
+
+    pub insert_puts : IsPlaceBy id_of items (id_of item) i → PutsBy id_of items (insert items i item) item
+    insert_puts place other =
+        let both = Contains-insert items i item other in (
+          λ inside. elim (both.0 inside) [
+            | inl old ↦ inl (
+              old,
+              λ is. none_at_place items (id_of item) i place
+                  (record { item = other; inside = old; has_id = is }),
+            )
+            | inr is ↦ inr is
+          ],
+          λ either. both.1 (elim either [ inl kept ↦ inl kept.0 | inr is ↦ inr is ]),
+        )

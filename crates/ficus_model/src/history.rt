@@ -1,5 +1,8 @@
-ghost use Rattle.std.specs.Prelude.{◌≡◌, ◌+◌, ◌-◌, ◌^◌, ◌<◌, ◌==◌, ◌≤◌, [], ◌∷◌, ◌++◌, length, slice_get, vec_len, vec_capacity, OnOk, OnErr};
+ghost use Rattle.std.specs.Prelude.{◌≡◌, ◌↔◌, ℕ, ◌+◌, ◌-◌, ◌^◌, ◌<◌, ◌==◌, ◌≤◌, [], ◌∷◌, ◌++◌, length, slice_get, vec_len, vec_capacity, All, IsTrue, OnOk, OnErr};
 ghost use Rattle.std.specs.Option.{option_copied};
+ghost use Rattle.ficus_model.specs.declared.event.Event.{Event as EventValue};
+ghost use Rattle.ficus_model.specs.Events.{IsAt};
+ghost use Rattle.ficus_model.specs.Lawful.{AnswersOpenAsk, IsOpenAsk, ClosesAsk};
 
 use crate::Event;
 use ficus_ids::Memory;
@@ -72,5 +75,61 @@ impl History {
         ensures { option_copied result ≡ slice_get self.now.events position }
     {
         self.events.get(position as usize)
+    }
+
+    /// Whether what was served at the position `serve` answers the open ask of replica `by`. It does exactly where
+    /// there stands a `Serve` of an `Ask` that `by` sent to the replica that served, and `by` has asked nothing, taken
+    /// no answer and not restarted since.
+    pub fn fresh(&self, by: u8, serve: u32) -> bool
+        ensures { IsTrue result ↔ AnswersOpenAsk self.now.events serve by }
+    {
+        match self.get(serve) {
+            Some(Event::Serve { by: server, ask }) => self.is_open(*ask, by, *server),
+            _ => false,
+        }
+    }
+
+    // Whether the ask that `by` sent to `to` stands at the position, and is open.
+    fn is_open(&self, ask: u32, by: u8, to: u8) -> bool
+        ensures { IsTrue result ↔ IsOpenAsk self.now.events ask by to }
+    {
+        match self.get(ask) {
+            Some(
+                Event::Ask {
+                    by: asker,
+                    to: asked,
+                },
+            ) => { *asker == by && *asked == to && stays_open(&self.events, ask, by) }
+            _ => false,
+        }
+    }
+}
+
+// Whether no event behind the position closes the ask of the replica.
+fn stays_open(events: &[Event], ask: u32, by: u8) -> bool
+    requires { ask < length events.now }
+    ensures { IsTrue result
+        ↔ ((later : ℕ) (event : EventValue) → ask < later → IsAt events.now later event → ClosesAsk by event → ⊥) }
+{
+    let (_, behind) = events.split_at(ask as usize + 1);
+    close_none(behind, by)
+}
+
+// Whether after none of the events an answer to an earlier ask of the replica is no longer taken.
+fn close_none(events: &[Event], by: u8) -> bool
+    ensures { IsTrue result ↔ All (λ event. ClosesAsk by event → ⊥) events.now }
+{
+    events.iter().all(|event| !closes_ask(event, by))
+}
+
+// Whether an answer to an earlier ask of the replica is no longer taken after the event.
+fn closes_ask(event: &Event, by: u8) -> bool
+    ensures { IsTrue result ↔ ClosesAsk by event.now }
+{
+    match event {
+        Event::Ask { by: asker, .. } => *asker == by,
+        Event::Accept { by: taker, .. } => *taker == by,
+        Event::Restart { by: starter } => *starter == by,
+        Event::Update { .. } | Event::Serve { .. } | Event::Collect { .. } => false,
     }
 }

@@ -1,4 +1,4 @@
--- The calls of a source or a sink in memory, of which some fail.
+-- The calls of a source, a sink or a link in memory, of which some fail.
 use Rattle.std.specs.Prelude.{ℕ, ◌+◌, ◌-◌, ◌^◌, min, List, Contains}
 use Rattle.ficus_outside.specs.Faults.{next_fault}
 

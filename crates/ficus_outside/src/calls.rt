@@ -6,7 +6,7 @@ use crate::Failed;
 use crate::faults::Faults;
 use std::marker::Model;
 
-/// The calls of a source or a sink in memory: which of them fail, how many were made, and how many failed.
+/// The calls of a source, a sink or a link in memory: which of them fail, how many were made, and how many failed.
 #[derive(Drop)]
 pub(crate) struct Calls {
     fail: Vec<u32>,

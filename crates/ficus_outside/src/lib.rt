@@ -1,9 +1,12 @@
-//! The outside as the program sees it: where bytes come from, and where they go.
+//! The outside as the program sees it: where bytes come from, where they go, and the line between replicas.
 #![tactic(auto)]
 
 mod calls;
+mod fail_link;
 mod failed;
 mod faults;
+mod link;
+mod mem_link;
 mod mem_sink;
 mod mem_source;
 mod reader_source;
@@ -13,7 +16,10 @@ mod std_sink;
 mod std_source;
 mod writer_sink;
 
+pub use fail_link::FailLink;
 pub use failed::Failed;
+pub use link::{FetchFault, Link};
+pub use mem_link::MemLink;
 pub use mem_sink::{MEM_SINK_ROOM, MemSink};
 pub use mem_source::MemSource;
 pub use sink::Sink;

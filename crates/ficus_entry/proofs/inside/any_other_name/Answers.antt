@@ -2,7 +2,7 @@ use Rattle.std.proofs.Common.{refl, sym, subst, ◌∙◌, arith, inl, inr}
 use Rattle.std.proofs.lemmas.Bool.{false≢true, cases_eq}
 use Rattle.std.proofs.lemmas.Option.{get_or_from_slice_get}
 use Rattle.ficus_entry.specs.Inside.{IsOtherName}
-use Rattle.ficus_entry.proofs.Killed.{contains_at}
+use Rattle.ficus_entry.proofs.Found.{contains_at}
 use Rattle.ficus_entry.proofs.inside.any_other_name.Goals as goal
 
 pub loop-index-preserved : goal.loop-index-preserved

@@ -5,6 +5,5 @@ use Rattle.ficus_entry.proofs.entries.Entries.insert.Goals as goal
 
 pub returns-clause-added : goal.returns-clause-added
 returns-clause-added c =
-    on_ok_weaker c.hold.result
-    (λ is. rw is (put_adds (λ (e : Entry). e.id) c.args.self.now _ c.args.entry c.requires c.in_ok-table.ensures.puts))
-    c.hold.ensures.held
+    on_ok_weaker c.put.result
+    (λ puts. put_adds (λ (e : Entry). e.id) c.args.self.now _ c.args.entry c.requires puts) c.put.ensures.put

@@ -1,19 +1,17 @@
 use Rattle.std.specs.Prelude.{Contains}
 use Rattle.std.proofs.Common.{◌≡◌, ◌+◌, ◌∙◌, ap, sym, subst, arith}
-use Rattle.ficus_entry.specs.Changes.{overlaid}
 use Rattle.ficus_entry.specs.Place.{rank_of}
 use Rattle.ficus_index.specs.Digest.{digest_of}
 use Rattle.ficus_index.specs.Place.{IsNotedWithin}
-use Rattle.ficus_entry.proofs.Killed.{later_view}
-use Rattle.ficus_entry.proofs.Later.{live_stays}
+use Rattle.ficus_entry.proofs.Noted.{live_noted}
 use Rattle.ficus_entry.proofs.Within.{IfOk-both, held_where_not_missing, entry_within, between_ranks, rank_live}
 use Rattle.ficus_entry.proofs.entries.Entries.noted_names_of.Goals as goal
 
 pub returns : goal.returns
 returns c =
-    let table = c.self.inside.table in
-    let view = overlaid c.self.inside.changed.items table.list in
-    let later = later_view c.self.inside.changed.items table.list _ _ c.self.invariant in
+    let notes = c.self.inside.index in
+    let view = c.self.inside.table.items in
+    let noted = c.self.invariant in
     let span = c.span in
     let rank = c.digest-rank.result in
     IfOk-both c.all_of.result _ _ _ (λ ids sound complete id. (
@@ -27,14 +25,15 @@ returns c =
       λ such.
           let is = such.so.named in
           let viewed : Contains view such.entry = rw c.self.view_is such.inside in
-          let old : Contains table.list such.entry = live_stays table.list view later such.entry viewed is.live in
+          let old : Contains noted.before such.entry =
+          live_noted view c.self.inside.table.edited notes noted such.entry viewed is.live in
           let ranked : rank_of such.entry ≡ rank =
           rank_live such.entry is.live ∙ ap digest_of is.named ∙ sym c.digest-rank.ensures.value in
           held_where_not_missing ids.items id
-          (λ missing. entry_within table.list table.index _ _ span.result.start span.result.end such.entry table.noted
+          (λ missing. entry_within noted.before notes _ _ span.result.start span.result.end such.entry noted.noted
           span.ensures old
           (between_ranks c.args.dir rank (rank + 1) such.entry is.in_dir (omega (arith, ranked)) (omega (arith, ranked)))
           (λ within. missing (complete id
           (record { entry = such.entry; inside = such.inside; has_id = such.has_id; so = (is, such.so.leads) })
-          (subst (IsNotedWithin table.index span.result.start span.result.end) such.has_id within)))),
+          (subst (IsNotedWithin notes span.result.start span.result.end) such.has_id within)))),
     )) c.all_of.ensures.sound c.all_of.ensures.complete

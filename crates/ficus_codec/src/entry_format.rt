@@ -1,0 +1,146 @@
+ghost use Rattle.std.specs.Prelude.{◌≡◌, ◌↔◌, ◌++◌, IsTrue, OnOk};
+ghost use Rattle.ficus_ids.specs.Name.{IsName};
+ghost use Rattle.ficus_formats.specs.Format.{Reads};
+ghost use Rattle.ficus_codec.specs.Formats.{name, marks, dead, state, state_bytes, entry, entry_fields};
+ghost use Rattle.ficus_codec.specs.FormatsUnique.{unique-entry};
+ghost use Rattle.ficus_codec.specs.Tables.{IsIssuable, MayHoldEntries, FitsState, FitsEntry};
+
+use crate::UPDATE_LIMIT;
+use ficus_entry::{Entry, State};
+use ficus_formats::{ReadFault, Reader, RowSpelling, Spelling, put_id, put_short_string, put_u8};
+use ficus_ids::{ATTIC, Id, Marks, Members, Memory, Name, NameFault, ROOT};
+use std::alloc::Global;
+
+// Whether some member may have issued the identifier.
+pub(crate) fn is_issuable(id: Id, members: Members) -> bool
+    ensures { IsTrue result ↔ IsIssuable members id }
+{
+    members.has(id.replica) && (1..=UPDATE_LIMIT).contains(&id.number)
+}
+
+// Whether entries may lie in the directory.
+fn may_hold_entries(dir: Id, members: Members) -> bool
+    ensures { IsTrue result ↔ MayHoldEntries members dir }
+{
+    dir == ROOT || dir == ATTIC || is_issuable(dir, members)
+}
+
+// Whether the entry, with a name and marks that may be, may stand in tables.
+fn fits_entry(entry: &Entry, members: Members) -> bool
+    requires name { IsName entry.now.name }
+    requires state { FitsState members entry.now.state }
+    ensures { IsTrue result ↔ FitsEntry members entry.now }
+{
+    is_issuable(entry.id, members)
+        && may_hold_entries(entry.dir, members)
+        && is_issuable(entry.target, members)
+        && !(entry.dir == ATTIC && entry.is_live())
+}
+
+fn read_name(reader: &mut Reader<'_>) -> Result<Name, ReadFault>
+    ensures { Reads name reader.old result reader.new }
+{
+    let bytes = reader.short_string()?;
+    match Name::new(bytes) {
+        Ok(name) => Ok(name),
+        Err(NameFault::NotName) => Err(ReadFault::Unspelled),
+        Err(NameFault::Memory) => Err(ReadFault::Memory),
+    }
+}
+
+fn read_marks(reader: &mut Reader<'_>, members: Members) -> Result<Marks, ReadFault>
+    ensures { Reads (marks members) reader.old result reader.new }
+{
+    let bits = reader.byte()?;
+    Marks::from_bits(bits, members).ok_or(ReadFault::Unspelled)
+}
+
+fn read_dead(reader: &mut Reader<'_>, members: Members) -> Result<(Marks, Marks), ReadFault>
+    ensures { Reads (dead members) reader.old result reader.new }
+{
+    let one = read_marks(reader, members)?;
+    let two = read_marks(reader, members)?;
+    if one.bits() == 0 {
+        return Err(ReadFault::Unspelled);
+    }
+    Ok((one, two))
+}
+
+fn read_state(reader: &mut Reader<'_>, members: Members) -> Result<State, ReadFault>
+    ensures { Reads (state members) reader.old result reader.new }
+{
+    match reader.byte()? {
+        0 => Ok(State::Live),
+        1 => {
+            let (one, two) = read_dead(reader, members)?;
+            Ok(State::Dead { one, two })
+        }
+        _ => Err(ReadFault::Unspelled),
+    }
+}
+
+fn put_state(out: &mut Vec<u8>, value: State) -> Result<(), Memory>
+    ensures { OnOk result (out.new.items ≡ out.old.items ++ state_bytes value) }
+{
+    match value {
+        State::Live => put_u8(out, 0),
+        State::Dead { one, two } => {
+            put_u8(out, 1)?;
+            put_u8(out, one.bits())?;
+            put_u8(out, two.bits())
+        }
+    }
+}
+
+// The fields of an entry, each by itself.
+fn read_fields(reader: &mut Reader<'_>, members: Members) -> Result<Entry, ReadFault>
+    ensures { Reads (entry_fields members) reader.old result reader.new }
+{
+    Ok(Entry {
+        id: reader.id()?,
+        dir: reader.id()?,
+        name: read_name(reader)?,
+        target: reader.id()?,
+        state: read_state(reader, members)?,
+    })
+}
+
+/// How entries are spelled in a volume of so many members.
+#[derive(Drop)]
+pub(crate) struct EntrySpelling {
+    pub(crate) members: Members,
+}
+
+impl Spelling for EntrySpelling {
+    type Value = Entry;
+
+    ghost format = { λ s. entry s.members };
+
+    ghost unique = { λ s. unique-entry s.members };
+
+    fn read(&self, _: Global, reader: &mut Reader<'_>) -> Result<Entry, ReadFault> {
+        let entry = read_fields(reader, self.members)?;
+        if fits_entry(&entry, self.members) {
+            Ok(entry)
+        } else {
+            Err(ReadFault::Unspelled)
+        }
+    }
+
+    fn put(&self, out: &mut Vec<u8>, value: &Entry) -> Result<(), Memory> {
+        put_id(out, value.id)?;
+        put_id(out, value.dir)?;
+        put_short_string(out, value.name.bytes())?;
+        put_id(out, value.target)?;
+        put_state(out, value.state)?;
+        Ok(())
+    }
+}
+
+impl RowSpelling for EntrySpelling {
+    ghost id_of = { λ e. e.id };
+
+    fn id(value: &Entry) -> Id {
+        value.id
+    }
+}

@@ -1,0 +1,3 @@
+pub mod Adjacent
+pub mod Reading
+pub mod Runs

@@ -1,0 +1,18 @@
+//! Formats of bytes that are exact both ways, how values are read by them and written.
+#![tactic(auto)]
+
+mod fault;
+mod reader;
+mod rising;
+mod spelling;
+mod taking;
+mod writing;
+
+pub use fault::ReadFault;
+pub use reader::Reader;
+pub use rising::{RowSpelling, read_rising};
+pub use spelling::{Spelling, put_run, read_run};
+pub use taking::{take_id, take_u8, take_u16, take_u32, take_u64};
+pub use writing::{
+    put_bytes, put_id, put_long_string, put_short_string, put_u8, put_u16, put_u32, put_u64,
+};

@@ -1,0 +1,61 @@
+ghost use Rattle.std.specs.Prelude.{◌≡◌, ◌++◌, OnOk};
+ghost use Rattle.std.specs.List.{flat_map, AllByRecursion};
+ghost use Rattle.ficus_formats.specs.Format.{Format, IsUnique, Reads, times};
+
+use crate::{ReadFault, Reader};
+use ficus_ids::{Listed, Memory};
+use std::alloc::Global;
+
+/// A way to spell values as bytes, which reads and writes them.
+pub trait Spelling {
+    type Value;
+
+    /// Which values have a spelling, and which bytes it is.
+    ghost format: { Self → Format Self.Value };
+
+    /// Each has one, and none begins another.
+    ghost unique: { (spelling : Self) → IsUnique (format spelling) };
+
+    /// Reads the value with whose spelling the bytes begin that are left.
+    fn read(&self, alloc: Global, reader: &mut Reader<'_>) -> Result<Self::Value, ReadFault>
+        ensures { Reads (format self.now) reader.old result reader.new };
+
+    /// Appends the spelling of a value.
+    fn put(&self, out: &mut Vec<u8>, value: &Self::Value) -> Result<(), Memory>
+        requires { (format self.now).fits value.now }
+        ensures { OnOk result (out.new.items ≡ out.old.items ++ (format self.now).spell value.now) };
+}
+
+/// Appends the spellings of the values, one after the other.
+pub fn put_run<S: Spelling>(
+    spelling: &S,
+    out: &mut Vec<u8>,
+    values: &[S::Value],
+) -> Result<(), Memory>
+    requires { AllByRecursion (S.format spelling.now).fits values.now }
+    ensures { OnOk result (out.new.items ≡ out.old.items ++ flat_map (S.format spelling.now).spell values.now) }
+{
+    for value in values {
+        spelling.put(out, value)?;
+    }
+    Ok(())
+}
+
+/// Reads as many values as said, one after the other.
+#[tactic(auto, using(crate::proofs::Runs::run_begins, crate::proofs::Runs::run_goes_on))]
+pub fn read_run<S: Spelling>(
+    spelling: &S,
+    alloc: Global,
+    reader: &mut Reader<'_>,
+    count: u32,
+) -> Result<Listed<S::Value>, ReadFault>
+where
+    S::Value: Drop,
+    ensures { Reads (times count (S.format spelling.now)) reader.old result reader.new }
+{
+    let mut values = Vec::new(alloc);
+    for _ in 0..count {
+        values.push(spelling.read(alloc, reader)?)?;
+    }
+    Ok(Listed::of(values))
+}

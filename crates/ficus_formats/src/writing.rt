@@ -1,0 +1,67 @@
+ghost use Rattle.std.specs.Prelude.{◌≡◌, ◌<◌, ◌++◌, ◌^◌, length, OnOk};
+ghost use Rattle.ficus_formats.specs.Format.{byte, number16, number32, number64, string, id};
+
+use ficus_ids::{Id, Memory};
+
+/// Appends bytes as they are.
+pub fn put_bytes(out: &mut Vec<u8>, bytes: &[u8]) -> Result<(), Memory>
+    ensures { OnOk result (out.new.items ≡ out.old.items ++ bytes.now) }
+{
+    out.extend_from_slice(bytes)?;
+    Ok(())
+}
+
+/// Appends a byte.
+pub fn put_u8(out: &mut Vec<u8>, value: u8) -> Result<(), Memory>
+    ensures { OnOk result (out.new.items ≡ out.old.items ++ byte.spell value) }
+{
+    out.push(value)?;
+    Ok(())
+}
+
+/// Appends a number in two bytes, the high one first.
+pub fn put_u16(out: &mut Vec<u8>, value: u16) -> Result<(), Memory>
+    ensures { OnOk result (out.new.items ≡ out.old.items ++ number16.spell value) }
+{
+    put_bytes(out, &value.to_be_bytes())
+}
+
+/// Appends a number in four bytes, the highest one first.
+pub fn put_u32(out: &mut Vec<u8>, value: u32) -> Result<(), Memory>
+    ensures { OnOk result (out.new.items ≡ out.old.items ++ number32.spell value) }
+{
+    put_bytes(out, &value.to_be_bytes())
+}
+
+/// Appends a number in eight bytes, the highest one first.
+pub fn put_u64(out: &mut Vec<u8>, value: u64) -> Result<(), Memory>
+    ensures { OnOk result (out.new.items ≡ out.old.items ++ number64.spell value) }
+{
+    put_bytes(out, &value.to_be_bytes())
+}
+
+/// Appends an identifier: the replica in one byte, the number in four.
+pub fn put_id(out: &mut Vec<u8>, value: Id) -> Result<(), Memory>
+    ensures { OnOk result (out.new.items ≡ out.old.items ++ id.spell value) }
+{
+    put_u8(out, value.replica)?;
+    put_u32(out, value.number)
+}
+
+/// Appends bytes, fewer than 2^8, behind their length in one byte.
+pub fn put_short_string(out: &mut Vec<u8>, bytes: &[u8]) -> Result<(), Memory>
+    requires { length bytes.now < 2 ^ 8 }
+    ensures { OnOk result (out.new.items ≡ out.old.items ++ (string byte).spell bytes.now) }
+{
+    put_u8(out, bytes.len() as u8)?;
+    put_bytes(out, bytes)
+}
+
+/// Appends bytes, fewer than 2^16, behind their length in two bytes.
+pub fn put_long_string(out: &mut Vec<u8>, bytes: &[u8]) -> Result<(), Memory>
+    requires { length bytes.now < 2 ^ 16 }
+    ensures { OnOk result (out.new.items ≡ out.old.items ++ (string number16).spell bytes.now) }
+{
+    put_u16(out, bytes.len() as u16)?;
+    put_bytes(out, bytes)
+}

@@ -1,0 +1,4 @@
+pub mod Edits
+pub mod SideBySide
+pub mod Table
+pub mod Walk

@@ -1,0 +1,22 @@
+-- What a table holds, and what becomes of it without memory.
+use Rattle.std.specs.Prelude.{◌≡◌, ◌≢◌, ◌⊎◌, ◌↔◌, ℕ, List, Option, Some, slice_get, slice_set, Contains, AllPairs}
+use Rattle.ficus_ids.specs.declared.id.Id.{Id}
+use Rattle.ficus_table.specs.Edits.{shown}
+
+-- what the rows show, and the indices of those that were edited
+pub record Rows (S : Type 0) : Type 0 where
+  pub items : List S
+  pub edited : List ℕ
+
+-- a row with the identifier of what stands at the index keeps it when this becomes of it
+abbrev pub KeepsId : {F R S : Type 0} → (S → Id) → (R → S) → (F → R → S) → List S → ℕ → F → Type 0
+KeepsId id_of seen formed items index form = (row : _) (was : _) → slice_get items index ≡ Some was →
+    id_of (seen row) ≡ id_of was → id_of (formed form row) ≡ id_of was
+
+-- the row at the index, which had the earlier form if there was one, has this form, and all others stay
+pub record IsEdited {F R S : Type 0} (seen : R → S) (formed : F → R → S) (old new : Rows S) (index : ℕ) (form : F)
+    (earlier : Option F) : Type 0 where
+  pub row : R
+  pub was : slice_get old.items index ≡ Some (shown formed seen earlier row)
+  pub is : new.items ≡ slice_set old.items index (formed form row)
+  pub edited : (other : ℕ) → Contains new.edited other ↔ (Contains old.edited other ⊎ (other ≡ index))

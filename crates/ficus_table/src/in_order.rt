@@ -1,0 +1,105 @@
+ghost use Rattle.std.specs.Prelude.{◌≡◌, ◌<◌, ◌==◌, length, map, slice_get, Some, IfOk};
+ghost use Rattle.ficus_ids.specs.Rising.{IsRisingBy};
+ghost use Rattle.ficus_table.specs.Edits.{overlaid, AreBelow};
+
+use crate::edit::Edit;
+use crate::{Row, Table};
+use ficus_ids::Memory;
+use ficus_persistent::PersistentList;
+use std::alloc::Global;
+use std::marker::Model;
+
+/// What all rows of a table show, in the order of their identifiers, found in one walk: a look at one takes the same
+/// time wherever it stands, however many there are.
+#[derive(Drop)]
+pub struct InOrder<'a, R: Row> {
+    seen: Vec<&'a R::Seen>,
+}
+
+impl<'a, R: Row> Model for InOrder<'a, R> {
+    ghost use Rattle.std.specs.Prelude.{List, map};
+    ghost use Rattle.ficus_ids.specs.Rising.{IsRisingBy};
+
+    ghost Value = { List R.Seen };
+
+    ghost view = { λ o. map (λ seen. seen.now) o.seen.items };
+
+    ghost invariant = { λ o. IsRisingBy R.id_of (map (λ seen. seen.now) o.seen.items) };
+}
+
+impl<'a, R: Row> InOrder<'a, R> {
+    /// How many rows there are.
+    pub fn len(&self) -> usize
+        ensures value { result ≡ length self.now }
+        ensures rising { IsRisingBy R.id_of self.now }
+    {
+        self.seen.len()
+    }
+
+    /// Whether there are no rows.
+    pub fn is_empty(&self) -> bool
+        ensures { result ≡ (length self.now == 0) }
+    {
+        self.seen.is_empty()
+    }
+
+    /// What the row at a place shows, from 0. The place is below the length.
+    pub fn at(&self, index: usize) -> &'a R::Seen
+        requires { index < length self.now }
+        ensures { slice_get self.now index ≡ Some result.now }
+    {
+        self.seen[index]
+    }
+}
+
+impl<R: Row> Table<R> {
+    /// What the rows show, in order.
+    pub fn in_order(&self) -> Result<InOrder<'_, R>, Memory>
+        ensures { IfOk result (λ rows. rows ≡ self.now.items) }
+    {
+        let mut seen = gathered(self.allocator(), &self.list)?;
+        overlay(&mut seen, &self.list, &self.edits);
+        Ok(InOrder { seen })
+    }
+}
+
+// What the rows of a list show, in order.
+fn gathered<'a, R: Row>(
+    alloc: Global,
+    list: &'a PersistentList<R>,
+) -> Result<Vec<&'a R::Seen>, Memory>
+    ensures { IfOk result (λ seen. map (λ one. one.now) seen.items ≡ map R.seen list.now) }
+{
+    let mut rows = Vec::with_capacity(alloc, list.len())?;
+    list.gather(&mut rows)?;
+    looks_at(alloc, &rows)
+}
+
+// What each of the rows shows.
+fn looks_at<'a, R: Row>(alloc: Global, rows: &[&'a R]) -> Result<Vec<&'a R::Seen>, Memory>
+    ensures { IfOk result (λ seen. map (λ one. one.now) seen.items ≡ map R.seen (map (λ row. row.now) rows.now)) }
+{
+    let mut seen = Vec::with_capacity(alloc, rows.len())?;
+    for row in rows {
+        seen.push(row.look())?;
+    }
+    Ok(seen)
+}
+
+// Has what was edited stand in place of what it was.
+fn overlay<'a, R: Row>(
+    seen: &mut Vec<&'a R::Seen>,
+    list: &'a PersistentList<R>,
+    edits: &'a [Edit<R::Form>],
+)
+    requires list { map (λ one. one.now) seen.old.items ≡ map R.seen list.now }
+    requires within { AreBelow edits.now (length list.now) }
+    ensures { map (λ one. one.now) seen.new.items ≡ overlaid R.formed R.seen edits.now list.now }
+{
+    let mut left = edits.len();
+    while left > 0 {
+        left -= 1;
+        let edit = &edits[left];
+        seen[edit.index] = list.at(edit.index).formed(&edit.form);
+    }
+}

@@ -1,0 +1,12 @@
+//! What replicas send to each other, and how it is spelled.
+#![tactic(auto)]
+
+mod decoding;
+mod encoding;
+mod message;
+mod wire_fault;
+
+pub use decoding::{decode, one_message};
+pub use encoding::encode;
+pub use message::Message;
+pub use wire_fault::WireFault;
