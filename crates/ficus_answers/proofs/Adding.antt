@@ -8,7 +8,7 @@ use Rattle.ficus_ids.specs.declared.id.Id.{Id}
 use Rattle.ficus_names.specs.declared.listing.Line.{Line}
 use Rattle.ficus_names.specs.declared.listing.ShownName.{ShownName}
 use Rattle.ficus_rules.specs.Lines.{AreLinesOf, TellsObject}
-use Rattle.ficus_codec.specs.declared.saved.Saved.{Saved}
+use Rattle.ficus_saved.specs.declared.saved.Saved.{Saved}
 use Rattle.ficus_answers.specs.View.{IsVisibleBy, tables_view}
 
 -- the line of a shown name

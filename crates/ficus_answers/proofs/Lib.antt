@@ -1,7 +1,11 @@
 pub mod Tables
+pub mod Sound
 pub mod Refusals
 pub mod WalkSteps
 pub mod NamedEntries
 pub mod RemovedEntries
 pub mod Adding
 pub mod Trees
+pub mod ChosenFiles
+pub mod Orphanages
+pub mod AlikeTables

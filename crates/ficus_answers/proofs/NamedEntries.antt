@@ -1,9 +1,9 @@
 -- What tables hold of the names of an object is what they show of them.
-use Rattle.std.proofs.Common.{◌≡◌, ◌↔◌, ℕ, List, refl, subst}
+use Rattle.std.proofs.Common.{◌↔◌, ℕ, List, refl, subst}
 use Rattle.std.specs.Prelude.{Contains}
 use Rattle.ficus_ids.specs.declared.id.Id.{Id}
 use Rattle.ficus_entry.specs.Inside.{HasLiveInside, HasOtherName, HoldsSuch, IsNameOf}
-use Rattle.ficus_codec.specs.declared.saved.Saved.{Saved}
+use Rattle.ficus_saved.specs.declared.saved.Saved.{Saved}
 use Rattle.ficus_rules.specs.Marks.{without_state}
 use Rattle.ficus_rules.specs.Named.{IsBoundByIn, HasOtherNameIn}
 use Rattle.ficus_rules.specs.Remove.{IsFullIn}

@@ -1,5 +1,5 @@
 -- The removed entries of tables are those that they show, with the same marks.
-use Rattle.std.proofs.Common.{◌≡◌, ◌↔◌, ℕ, ◌+◌, ◌<◌, List, [], ◌∷◌, ◌++◌, length, take, Some, Bool, true, false, if◌then◌else◌, refl, sym, ap, subst, ◌∙◌, inl, inr}
+use Rattle.std.proofs.Common.{◌≡◌, ℕ, ◌+◌, ◌<◌, List, [], ◌∷◌, ◌++◌, length, take, Some, Bool, true, false, if◌then◌else◌, refl, sym, ap, subst, ◌∙◌, inl, inr}
 use Rattle.std.specs.Prelude.{Contains, filter, slice_get}
 use Rattle.std.proofs.lemmas.Bool.{true≢false}
 use Rattle.std.proofs.lemmas.List.Elements.{All-contains, All-contains_itself, All-filter, filter_more, filter_passes}
@@ -8,17 +8,16 @@ use Rattle.std.proofs.lemmas.Option.{get_or_from_slice_get}
 use Rattle.std.proofs.lemmas.List.Kept.{AllPairs-filter}
 use Rattle.std.specs.declared.cmp.Ordering.TheVariants.{Less}
 use Rattle.ficus_ids.specs.Id.{id_cmp}
-use Rattle.ficus_ids.specs.ListLaws.{here, there, here_or_there, not_inside_none}
+use Rattle.ficus_ids.specs.ListLaws.{here, there, here_or_there}
 use Rattle.ficus_entry.specs.Entry.{IsRising}
 use Rattle.ficus_entry.specs.declared.entry.Entry.{Entry}
 use Rattle.ficus_entry.specs.declared.entry.State.{State}
 use Rattle.ficus_entry.specs.declared.entry.State.TheVariants.{Live, Dead}
 use Rattle.ficus_model.specs.Live.{ModelEntry}
-use Rattle.ficus_codec.specs.declared.saved.Saved.{Saved}
+use Rattle.ficus_saved.specs.declared.saved.Saved.{Saved}
 use Rattle.ficus_rules.specs.Marks.{IsMarkedIn, AreMarksIn, without_state}
 use Rattle.ficus_answers.specs.Entries.{is_removed}
 use Rattle.ficus_answers.specs.View.{held_as, tables_view}
-use Rattle.ficus_answers.proofs.Tables.{held_in_state}
 
 -- what passes is kept
 kept_with : {X : Type 0} (p : X → Bool) (y x : X) (xs : List X) (kept : Bool) → p y ≡ kept → p x ≡ true →

@@ -12,12 +12,13 @@ use Rattle.ficus_file.specs.declared.file.FileReplica.{FileReplica}
 use Rattle.ficus_names.specs.Binds.{BindsIn}
 use Rattle.ficus_names.specs.Listing.{IsListing}
 use Rattle.ficus_names.specs.declared.listing.ShownName.{ShownName}
-use Rattle.ficus_codec.specs.Saved.{FitsImage}
-use Rattle.ficus_codec.specs.Tables.{FitsFile, HasObjectsIn}
-use Rattle.ficus_codec.specs.declared.saved.Saved.{Saved}
-use Rattle.ficus_rules.specs.View.{IsBoundIn}
+use Rattle.ficus_saved.specs.Saved.{FitsImage}
+use Rattle.ficus_saved.specs.Tables.{FitsFile, HasObjectsIn}
+use Rattle.ficus_saved.specs.declared.saved.Saved.{Saved}
+use Rattle.ficus_orphan.specs.Orphan.{IsKept, IsNamedBy, IsOrphanBy, IsOrphanIn}
+use Rattle.ficus_rules.specs.View.{IsBoundIn, IsNamedIn}
 use Rattle.ficus_rules.specs.Marks.{without_state}
-use Rattle.ficus_answers.specs.View.{HasObject, IsNamedBy, IsVisibleBy, held_as, held_live, tables_view}
+use Rattle.ficus_answers.specs.View.{HasObject, IsVisibleBy, held_as, held_live, tables_view}
 
 -- an entry is what tables hold of it in its state
 pub held_in_state : (entry : Entry) (state : State) → entry.state ≡ state → entry ≡ held_as (without_state entry) state
@@ -50,7 +51,19 @@ module _ (saved : Saved) where
   -- what is bound is named
   pub bound_named : {dir object : Id} {name : List ℕ} → IsBoundIn (tables_view saved) dir name object →
       IsNamedBy saved.entries object
-  bound_named bound = record { entry = bound.entry; inside = bound.live; leads = bound.leads }
+  bound_named bound =
+      record { entry = held_live bound.entry; inside = bound.live; live = refl; leads = bound.leads }
+
+  -- what the tables name, they show as named
+  pub tables_named : (object : Id) → IsNamedBy saved.entries object ↔ IsNamedIn (tables_view saved) object
+  tables_named object = (
+    λ named. record {
+      entry = without_state named.entry;
+      live = subst (Contains saved.entries) (held_as_live named.entry named.live) named.inside;
+      leads = named.leads;
+    },
+    λ named. record { entry = held_live named.entry; inside = named.live; live = refl; leads = named.leads },
+  )
 
   -- and so visible
   pub bound_visible : {dir object : Id} {name : List ℕ} → IsBoundIn (tables_view saved) dir name object →
@@ -66,7 +79,7 @@ module _ {saved : Saved} (fits : FitsImage saved) where
   -- what is named is among the files
   pub named_held : {object : Id} → IsNamedBy saved.entries object → Holds saved.files object
   named_held named =
-      let objects = All-contains (HasObjectsIn saved.files) saved.entries (held_live named.entry) fits.tables.objects
+      let objects = All-contains (HasObjectsIn saved.files) saved.entries named.entry fits.tables.objects
       named.inside in
       subst (Holds saved.files) named.leads objects.target
 
@@ -74,6 +87,25 @@ module _ {saved : Saved} (fits : FitsImage saved) where
   pub visible_held : {object : Id} → IsVisibleBy saved object → Holds saved.files object
   visible_held (inl named) = named_held named
   visible_held (inr orphan) = record { item = orphan.file; inside = orphan.inside; has_id = orphan.has_id }
+
+  -- the file under an identifier is an orphan exactly where the object is
+  pub orphan_under : {object : Id} {file : FileReplica} → Contains saved.files file → file.id ≡ object →
+      IsOrphanBy saved.entries file ↔ IsOrphanIn saved.entries saved.files object
+  orphan_under {object} {file} inside has_id = (
+    λ orphan. record {
+      nameless = λ named. orphan.nameless (subst (IsNamedBy saved.entries) (sym has_id) named);
+      file = file;
+      inside = inside;
+      has_id = has_id;
+      kept = orphan.kept;
+    },
+    λ orphan. record {
+      nameless = λ named. orphan.nameless (subst (IsNamedBy saved.entries) has_id named);
+      kept = subst (IsKept saved.entries)
+          (one_item id_of saved.files orphan.file file fits.tables.rising_files orphan.inside inside
+          (orphan.has_id ∙ sym has_id)) orphan.kept;
+    },
+  )
 
   module _ {object : Id} {file : FileReplica} (has : HasObject saved object (λ held. held ≡ file)) where
     -- a file is one with what the tables hold under its identifier

@@ -15,7 +15,7 @@ use Rattle.ficus_names.specs.declared.listing.Line.{Line}
 use Rattle.ficus_names.specs.declared.listing.ShownName.{ShownName}
 use Rattle.ficus_reach.specs.Leads.{LeadsIn}
 use Rattle.ficus_reach.specs.ReachedLaws.{IsReached-along}
-use Rattle.ficus_codec.specs.declared.saved.Saved.{Saved}
+use Rattle.ficus_saved.specs.declared.saved.Saved.{Saved}
 use Rattle.ficus_rules.specs.Lines.{AreLines, AreLinesOf}
 use Rattle.ficus_rules.specs.View.{View, IsBoundIn, LeadsWithin, IsReachedIn}
 use Rattle.ficus_answers.specs.View.{held_live, tables_view}

@@ -15,7 +15,7 @@ use Rattle.ficus_path.specs.Path.{IsNew}
 use Rattle.ficus_names.specs.Binds.{BindsIn}
 use Rattle.ficus_names.specs.Find.{FindsOnly, FindAnswer}
 use Rattle.ficus_names.specs.FindLaws.{FindAnswer-along}
-use Rattle.ficus_codec.specs.declared.saved.Saved.{Saved}
+use Rattle.ficus_saved.specs.declared.saved.Saved.{Saved}
 use Rattle.ficus_rules.specs.View.{IsBoundIn, IsTakenIn, IsDirectoryIn}
 use Rattle.ficus_answers.specs.View.{IsRootOrVisible, IsVisibleBy, tables_view}
 use Rattle.ficus_rules.specs.Walk.{BaseRule, PartsRule, WalkRule, last_name, last_target, name_of, target_of}

@@ -1,3 +1,5 @@
 pub mod View
 pub mod Entries
 pub mod Files
+pub mod Chosen
+pub mod Alike

@@ -1,17 +1,15 @@
 -- What a replica's tables show.
-use Rattle.std.specs.Prelude.{◌≡◌, ◌⊎◌, ℕ, ◌+◌, ◌<◌, List, Contains}
+use Rattle.std.specs.Prelude.{◌≡◌, ◌⊎◌, ℕ, ◌+◌, ◌<◌, Contains}
 use Rattle.ficus_ids.specs.declared.id.Id.{Id}
 use Rattle.ficus_ids.specs.declared.id.TheConstants.{ROOT}
-use Rattle.ficus_ids.specs.declared.kind.Kind.TheVariants.{Dir}
 use Rattle.ficus_entry.specs.declared.entry.Entry.{Entry}
 use Rattle.ficus_entry.specs.declared.entry.State.{State}
 use Rattle.ficus_entry.specs.declared.entry.State.TheVariants.{Live, Dead}
-use Rattle.ficus_entry.specs.Inside.{HasLiveInside}
-use Rattle.ficus_file.specs.File.{HasUncovered}
 use Rattle.ficus_file.specs.Version.{HasTwoTexts}
 use Rattle.ficus_file.specs.declared.file.FileReplica.{FileReplica}
 use Rattle.ficus_model.specs.Live.{ModelEntry}
-use Rattle.ficus_codec.specs.declared.saved.Saved.{Saved}
+use Rattle.ficus_orphan.specs.Orphan.{IsNamedBy, IsOrphanIn}
+use Rattle.ficus_saved.specs.declared.saved.Saved.{Saved}
 pub use Rattle.ficus_rules.specs.View.{View, SameShown, SameView, history_view}
 
 -- an entry, as tables hold it in a state
@@ -26,27 +24,9 @@ held_live entry = held_as entry Live
 abbrev pub held_dead : ModelEntry → ℕ → ℕ → Entry
 held_dead entry knowing knowing_all_know = held_as entry (Dead knowing knowing_all_know)
 
--- a live entry of the list leads to the object
-pub record IsNamedBy (entries : List Entry) (object : Id) : Type 0 where
-  pub entry : ModelEntry
-  pub inside : Contains entries (held_live entry)
-  pub leads : entry.target ≡ object
-
--- a directory in which a live entry lies, or a file with a version that isn't covered
-abbrev pub IsKept : List Entry → FileReplica → Type 0
-IsKept entries file = ((file.kind ≡ Dir) × HasLiveInside entries file.id) ⊎ HasUncovered file
-
--- no live entry leads to the object, and it stands among the files as one that is kept
-pub record IsOrphanIn (saved : Saved) (object : Id) : Type 0 where
-  pub nameless : IsNamedBy saved.entries object → ⊥
-  pub file : FileReplica
-  pub inside : Contains saved.files file
-  pub has_id : file.id ≡ object
-  pub kept : IsKept saved.entries file
-
 -- a live entry leads to the object, or it is an orphan
 abbrev pub IsVisibleBy : Saved → Id → Type 0
-IsVisibleBy saved object = IsNamedBy saved.entries object ⊎ IsOrphanIn saved object
+IsVisibleBy saved object = IsNamedBy saved.entries object ⊎ IsOrphanIn saved.entries saved.files object
 
 -- the root, or a visible object
 abbrev pub IsRootOrVisible : Saved → Id → Type 0
@@ -65,7 +45,7 @@ abbrev pub tables_view : Saved → View
 tables_view saved = record {
   members = saved.members;
   live = λ entry. Contains saved.entries (held_live entry);
-  orphans = IsOrphanIn saved;
+  orphans = IsOrphanIn saved.entries saved.files;
   kinds = λ object kind. HasObject saved object (λ file. file.kind ≡ kind);
   conflicts = λ object. HasObject saved object (λ file. HasTwoTexts file.versions);
   versions = λ object versions. HasObject saved object (λ file. file.versions ≡ versions);

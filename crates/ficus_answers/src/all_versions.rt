@@ -1,19 +1,19 @@
 ghost use Rattle.std.specs.Prelude.{◌≡◌, IfOk};
-ghost use Rattle.ficus_codec.specs.Saved.{FitsImage};
+ghost use Rattle.ficus_saved.specs.Saved.{FitsImage};
 ghost use Rattle.ficus_rules.specs.Rule.{UnlessMemory};
 ghost use Rattle.ficus_rules.specs.Versions.{VersionsRule};
 ghost use Rattle.ficus_answers.specs.View.{tables_view};
 
 use crate::walk::file_at;
-use ficus_codec::Saved;
 use ficus_commands::Told;
 use ficus_file::Version;
 use ficus_ids::{Listed, Memory, Refusal};
 use ficus_path::Path;
+use ficus_saved::Saved;
 use std::alloc::Global;
 
 /// The versions of the file at a path, in the order of vectors.
-pub(crate) fn versions(alloc: Global, saved: &Saved, path: &Path) -> Result<Told, Refusal>
+pub fn versions(alloc: Global, saved: &Saved, path: &Path) -> Result<Told, Refusal>
     requires { FitsImage saved.now }
     ensures { UnlessMemory (VersionsRule (tables_view saved.now) path.now) result }
 {

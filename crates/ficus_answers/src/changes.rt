@@ -1,9 +1,10 @@
-ghost use Rattle.ficus_codec.specs.Saved.{FitsImage};
+ghost use Rattle.ficus_saved.specs.Saved.{FitsImage};
 ghost use Rattle.ficus_commands.specs.Change.{HasFitPaths};
-ghost use Rattle.ficus_rules.specs.Change.{ChangeRule};
-ghost use Rattle.ficus_rules.specs.Rule.{UnlessMemory};
+ghost use Rattle.ficus_rules.specs.Change.{ChangeAnswer};
 ghost use Rattle.ficus_answers.specs.View.{tables_view};
 
+use crate::adopting::adopt;
+use crate::discarding::discard;
 use crate::linking::link;
 use crate::making::make;
 use crate::removing::remove;
@@ -11,17 +12,17 @@ use crate::renaming::rename;
 use crate::resolving::resolve;
 use crate::settling::settle;
 use crate::writing::write;
-use ficus_codec::Saved;
 use ficus_commands::Change;
 use ficus_ids::{Kind, Refusal};
 use ficus_model::Op;
+use ficus_saved::Saved;
 use std::alloc::Global;
 
 /// Which operation the change is, or why it is refused.
 pub fn change(alloc: Global, saved: &Saved, change: &Change) -> Result<Op, Refusal>
     requires fits { FitsImage saved.now }
     requires paths { HasFitPaths change.now }
-    ensures { UnlessMemory (ChangeRule (tables_view saved.now) change.now) result }
+    ensures { ChangeAnswer (tables_view saved.now) change.now result }
 {
     match change {
         Change::MkDir { path } => make(saved, path, Kind::Dir),
@@ -32,5 +33,7 @@ pub fn change(alloc: Global, saved: &Saved, change: &Change) -> Result<Op, Refus
         Change::Rm { path } => remove(saved, path),
         Change::Ln { from, path } => link(saved, from, path),
         Change::Mv { from, path } => rename(alloc, saved, from, path),
+        Change::Adopt { orphan, path } => adopt(alloc, saved, *orphan, path),
+        Change::Discard { orphan } => discard(saved, *orphan),
     }
 }

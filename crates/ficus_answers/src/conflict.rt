@@ -1,10 +1,10 @@
 ghost use Rattle.std.specs.Prelude.{◌↔◌, IsTrue};
-ghost use Rattle.ficus_codec.specs.Saved.{FitsImage};
+ghost use Rattle.ficus_saved.specs.Saved.{FitsImage};
 ghost use Rattle.ficus_answers.specs.Files.{IsFileIn};
 ghost use Rattle.ficus_answers.specs.View.{tables_view};
 
-use ficus_codec::Saved;
 use ficus_file::FileReplica;
+use ficus_saved::Saved;
 
 /// Whether the file is in conflict.
 pub(crate) fn is_conflict(saved: &Saved, file: &FileReplica) -> bool

@@ -1,11 +1,11 @@
 ghost use Rattle.std.specs.Prelude.{◌↔◌, IsTrue};
-ghost use Rattle.ficus_codec.specs.Saved.{FitsImage};
+ghost use Rattle.ficus_saved.specs.Saved.{FitsImage};
 ghost use Rattle.ficus_rules.specs.Limits.{LimitsRule};
 ghost use Rattle.ficus_rules.specs.Rule.{Gives};
 ghost use Rattle.ficus_answers.specs.View.{tables_view};
 
-use ficus_codec::{FILE_LIMIT, Saved};
 use ficus_ids::Refusal;
+use ficus_saved::{FILE_LIMIT, Saved};
 
 /// Whether the replica has made all the updates that it may make.
 pub(crate) fn is_spent(saved: &Saved) -> bool

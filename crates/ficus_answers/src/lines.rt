@@ -1,13 +1,13 @@
 ghost use Rattle.std.specs.Prelude.{◌≡◌, ◌++◌, List, map, All, OnOk};
-ghost use Rattle.ficus_codec.specs.Saved.{FitsImage};
+ghost use Rattle.ficus_saved.specs.Saved.{FitsImage};
 ghost use Rattle.ficus_names.specs.declared.listing.Line.{Line as LineValue};
 ghost use Rattle.ficus_rules.specs.Lines.{AreLinesOf, TellsObject};
 ghost use Rattle.ficus_answers.specs.View.{tables_view, IsVisibleBy};
 
 use crate::walk::visible;
-use ficus_codec::Saved;
 use ficus_ids::{Id, Memory};
 use ficus_names::{Line, ShownName};
+use ficus_saved::Saved;
 
 /// Adds the lines of a directory. What is left after `Memory` is of no use.
 pub(crate) fn add_lines(

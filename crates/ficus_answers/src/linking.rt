@@ -1,29 +1,28 @@
-ghost use Rattle.ficus_codec.specs.Saved.{FitsImage};
+ghost use Rattle.ficus_saved.specs.Saved.{FitsImage};
 ghost use Rattle.ficus_path.specs.Path.{IsEntry, IsNew};
 ghost use Rattle.ficus_rules.specs.Link.{LinkRule};
 ghost use Rattle.ficus_rules.specs.Rule.{UnlessMemory};
 ghost use Rattle.ficus_answers.specs.View.{tables_view};
 
 use crate::limits::is_spent;
-use crate::walk::{entry_at, is_directory, is_taken, last_name, parent_of};
-use ficus_codec::Saved;
+use crate::walk::{is_directory, is_taken, last_name, places_of};
 use ficus_ids::Refusal;
 use ficus_model::Op;
 use ficus_path::Path;
+use ficus_saved::Saved;
 
 /// A further name, at a new path, for the file at a path.
-pub(crate) fn link(saved: &Saved, from: &Path, path: &Path) -> Result<Op, Refusal>
+pub fn link(saved: &Saved, from: &Path, path: &Path) -> Result<Op, Refusal>
     requires fits { FitsImage saved.now }
     requires entry { IsEntry from.now }
     requires new { IsNew path.now }
     ensures { UnlessMemory (LinkRule (tables_view saved.now) from.now path.now) result }
 {
-    let found = entry_at(saved, from)?;
-    let dir = parent_of(saved, path)?;
-    if is_directory(saved, found.object) {
+    let places = places_of(saved, from, path)?;
+    if is_directory(saved, places.found.object) {
         return Err(Refusal::IsDir);
     }
-    if is_taken(saved, dir, path) {
+    if is_taken(saved, places.dir, path) {
         return Err(Refusal::Exists);
     }
     if is_spent(saved) {
@@ -31,8 +30,8 @@ pub(crate) fn link(saved: &Saved, from: &Path, path: &Path) -> Result<Op, Refusa
     }
     let name = last_name(path).copy()?;
     Ok(Op::Link {
-        dir,
+        dir: places.dir,
         name,
-        target: found.object,
+        target: places.found.object,
     })
 }

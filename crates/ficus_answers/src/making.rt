@@ -1,4 +1,4 @@
-ghost use Rattle.ficus_codec.specs.Saved.{FitsImage};
+ghost use Rattle.ficus_saved.specs.Saved.{FitsImage};
 ghost use Rattle.ficus_path.specs.Path.{IsNew};
 ghost use Rattle.ficus_rules.specs.Make.{MakeRule};
 ghost use Rattle.ficus_rules.specs.Rule.{UnlessMemory};
@@ -6,13 +6,13 @@ ghost use Rattle.ficus_answers.specs.View.{tables_view};
 
 use crate::limits::is_spent;
 use crate::walk::{is_taken, last_name, parent_of};
-use ficus_codec::Saved;
 use ficus_ids::{Kind, Refusal};
 use ficus_model::Op;
 use ficus_path::Path;
+use ficus_saved::Saved;
 
 /// The making of an object at a new path.
-pub(crate) fn make(saved: &Saved, path: &Path, kind: Kind) -> Result<Op, Refusal>
+pub fn make(saved: &Saved, path: &Path, kind: Kind) -> Result<Op, Refusal>
     requires fits { FitsImage saved.now }
     requires new { IsNew path.now }
     ensures { UnlessMemory (MakeRule (tables_view saved.now) path.now kind) result }

@@ -2,8 +2,8 @@ ghost use Rattle.std.specs.Prelude.{◌↔◌, IsTrue, IfOk};
 ghost use Rattle.ficus_rules.specs.Named.{AreNamedIn, HasOtherNameIn};
 ghost use Rattle.ficus_answers.specs.View.{tables_view};
 
-use ficus_codec::Saved;
 use ficus_ids::{Id, Memory, Name};
+use ficus_saved::Saved;
 
 /// All live entries of the directory that have the name and lead to the object, rising.
 pub(crate) fn named_entries(

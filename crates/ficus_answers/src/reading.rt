@@ -1,4 +1,4 @@
-ghost use Rattle.ficus_codec.specs.Saved.{FitsImage};
+ghost use Rattle.ficus_saved.specs.Saved.{FitsImage};
 ghost use Rattle.ficus_rules.specs.Read.{ReadRule};
 ghost use Rattle.ficus_rules.specs.Rule.{UnlessMemory};
 ghost use Rattle.ficus_answers.specs.View.{tables_view};
@@ -6,14 +6,14 @@ ghost use Rattle.ficus_answers.specs.View.{tables_view};
 use crate::conflict::is_conflict;
 use crate::text::text_of;
 use crate::walk::file_at;
-use ficus_codec::Saved;
 use ficus_commands::Told;
 use ficus_ids::{Listed, Refusal};
 use ficus_path::Path;
+use ficus_saved::Saved;
 use std::alloc::Global;
 
 /// The bytes of the file at a path.
-pub(crate) fn read(alloc: Global, saved: &Saved, path: &Path) -> Result<Told, Refusal>
+pub fn read(alloc: Global, saved: &Saved, path: &Path) -> Result<Told, Refusal>
     requires { FitsImage saved.now }
     ensures { UnlessMemory (ReadRule (tables_view saved.now) path.now) result }
 {

@@ -1,13 +1,13 @@
 ghost use Rattle.std.specs.Prelude.{◌≡◌, filter, Ok, IfOk};
-ghost use Rattle.ficus_codec.specs.Saved.{FitsImage};
+ghost use Rattle.ficus_saved.specs.Saved.{FitsImage};
 ghost use Rattle.ficus_rules.specs.Marks.{MarksRule};
 ghost use Rattle.ficus_answers.specs.Entries.{is_removed};
 ghost use Rattle.ficus_answers.specs.View.{tables_view};
 
-use ficus_codec::Saved;
 use ficus_commands::Told;
 use ficus_entry::{Entry, InOrder};
 use ficus_ids::{Listed, Memory};
+use ficus_saved::Saved;
 use std::alloc::Global;
 
 /// The removed entries, in order, with what is known of their removals.

@@ -1,24 +1,25 @@
-ghost use Rattle.std.specs.Prelude.{◌≡◌, ◌↔◌, false, IsTrue, IfOk};
-ghost use Rattle.ficus_codec.specs.Saved.{FitsImage};
+ghost use Rattle.std.specs.Prelude.{◌≡◌, ◌↔◌, false, IsTrue, IfOk, OnErr};
+ghost use Rattle.ficus_saved.specs.Saved.{FitsImage};
 ghost use Rattle.ficus_path.specs.Path.{IsEntry};
+ghost use Rattle.ficus_commands.specs.declared.change.Change.TheVariants.{Rm};
+ghost use Rattle.ficus_rules.specs.Change.{ChangeAnswer};
 ghost use Rattle.ficus_rules.specs.Named.{HasOtherNameIn};
-ghost use Rattle.ficus_rules.specs.Remove.{IsFullIn, RemoveRule};
-ghost use Rattle.ficus_rules.specs.Rule.{UnlessMemory};
+ghost use Rattle.ficus_rules.specs.Remove.{IsFullIn};
 ghost use Rattle.ficus_answers.specs.View.{tables_view, IsVisibleBy};
 
 use crate::limits::is_spent;
 use crate::names::{has_other_name, named_entries};
 use crate::walk::{Found, entry_at, is_directory, last_name};
-use ficus_codec::Saved;
 use ficus_ids::{Id, Listed, Memory, Name, Refusal};
 use ficus_model::Op;
 use ficus_path::Path;
+use ficus_saved::Saved;
 
 /// The removal of the name at a path from its object.
-pub(crate) fn remove(saved: &Saved, path: &Path) -> Result<Op, Refusal>
+pub fn remove(saved: &Saved, path: &Path) -> Result<Op, Refusal>
     requires fits { FitsImage saved.now }
     requires entry { IsEntry path.now }
-    ensures { UnlessMemory (RemoveRule (tables_view saved.now) path.now) result }
+    ensures { ChangeAnswer (tables_view saved.now) (Rm path.now) result }
 {
     let found = entry_at(saved, path)?;
     let name = last_name(path);
@@ -43,6 +44,7 @@ fn may_lose(saved: &Saved, found: Found, name: &Name) -> Result<bool, Memory>
         → HasOtherNameIn (tables_view saved.now) found.dir name.now found.object) }
     ensures may_not { IfOk result (λ may. may ≡ false → IsFullIn (tables_view saved.now) found.object
         × (HasOtherNameIn (tables_view saved.now) found.dir name.now found.object → ⊥)) }
+    ensures memory { OnErr result (IsFullIn (tables_view saved.now) found.object) }
 {
     if !is_full(saved, found.object) {
         return Ok(true);

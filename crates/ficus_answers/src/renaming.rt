@@ -1,29 +1,31 @@
-ghost use Rattle.std.specs.Prelude.{◌↔◌, IsTrue, IfOk};
-ghost use Rattle.ficus_codec.specs.Saved.{FitsImage};
+ghost use Rattle.std.specs.Prelude.{◌↔◌, IsTrue, IfOk, OnErr};
+ghost use Rattle.ficus_saved.specs.Saved.{FitsImage};
 ghost use Rattle.ficus_path.specs.Path.{IsEntry, IsNew};
-ghost use Rattle.ficus_rules.specs.Rename.{IsWithinIn, RenameRule};
-ghost use Rattle.ficus_rules.specs.Rule.{UnlessMemory};
+ghost use Rattle.ficus_commands.specs.declared.change.Change.TheVariants.{Mv};
+ghost use Rattle.ficus_rules.specs.Change.{ChangeAnswer};
+ghost use Rattle.ficus_rules.specs.View.{IsDirectoryIn, IsWithinIn};
 ghost use Rattle.ficus_answers.specs.View.{tables_view, IsVisibleBy};
 
 use crate::limits::is_spent;
 use crate::names::named_entries;
-use crate::walk::{entry_at, is_directory, is_taken, last_name, parent_of};
-use ficus_codec::Saved;
+use crate::walk::{is_directory, is_taken, last_name, places_of};
 use ficus_ids::{Id, Listed, Memory, Refusal};
 use ficus_model::Op;
 use ficus_path::Path;
 use ficus_reach::below;
+use ficus_saved::Saved;
 use std::alloc::Global;
 
 /// A new path for the object at a path, in place of this name.
-pub(crate) fn rename(alloc: Global, saved: &Saved, from: &Path, path: &Path) -> Result<Op, Refusal>
+pub fn rename(alloc: Global, saved: &Saved, from: &Path, path: &Path) -> Result<Op, Refusal>
     requires fits { FitsImage saved.now }
     requires entry { IsEntry from.now }
     requires new { IsNew path.now }
-    ensures { UnlessMemory (RenameRule (tables_view saved.now) from.now path.now) result }
+    ensures { ChangeAnswer (tables_view saved.now) (Mv from.now path.now) result }
 {
-    let found = entry_at(saved, from)?;
-    let dir = parent_of(saved, path)?;
+    let places = places_of(saved, from, path)?;
+    let found = places.found;
+    let dir = places.dir;
     if is_within(alloc, saved, found.object, dir)? {
         return Err(Refusal::IntoSelf);
     }
@@ -44,11 +46,12 @@ pub(crate) fn rename(alloc: Global, saved: &Saved, from: &Path, path: &Path) -> 
     })
 }
 
-// Whether the object is a directory, and the other is it or lies below it.
-fn is_within(alloc: Global, saved: &Saved, object: Id, other: Id) -> Result<bool, Memory>
+/// Whether the object is a directory, and the other is it or lies below it.
+pub(crate) fn is_within(alloc: Global, saved: &Saved, object: Id, other: Id) -> Result<bool, Memory>
     requires fits { FitsImage saved.now }
     requires visible { IsVisibleBy saved.now object }
-    ensures { IfOk result (λ within. IsTrue within ↔ IsWithinIn (tables_view saved.now) object other) }
+    ensures within { IfOk result (λ within. IsTrue within ↔ IsWithinIn (tables_view saved.now) object other) }
+    ensures memory { OnErr result (IsDirectoryIn (tables_view saved.now) object) }
 {
     if !is_directory(saved, object) {
         return Ok(false);

@@ -1,13 +1,13 @@
 ghost use Rattle.std.specs.Prelude.{◌≡◌, map, IfOk};
-ghost use Rattle.ficus_codec.specs.Saved.{FitsImage};
-ghost use Rattle.ficus_rules.specs.Rule.{UnlessMemory};
+ghost use Rattle.ficus_saved.specs.Saved.{FitsImage};
+ghost use Rattle.ficus_rules.specs.Rule.{UnlessMemoryFirst};
 ghost use Rattle.ficus_answers.specs.Files.{IsFileIn, ResolvedWithin};
 ghost use Rattle.ficus_answers.specs.View.{tables_view};
 
-use ficus_codec::Saved;
 use ficus_file::{FileReplica, Version};
 use ficus_ids::{Listed, Memory, Refusal};
 use ficus_resolve::ResolveFault;
+use ficus_saved::Saved;
 use std::alloc::Global;
 
 /// What the resolver of the file's kind makes of its contents. `TooLong` where that is more than a file may have.
@@ -18,7 +18,7 @@ pub(crate) fn resolved(
 ) -> Result<Listed<u8>, Refusal>
     requires fits { FitsImage saved.now }
     requires file { IsFileIn saved.now file.now }
-    ensures { UnlessMemory (ResolvedWithin (tables_view saved.now) file.now.id) result }
+    ensures { UnlessMemoryFirst (ResolvedWithin (tables_view saved.now) file.now.id) result }
 {
     let contents = contents_of(alloc, file.versions.items())?;
     match ficus_resolve::resolve(alloc, file.kind, &contents) {

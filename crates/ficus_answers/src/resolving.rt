@@ -1,22 +1,22 @@
-ghost use Rattle.ficus_codec.specs.Saved.{FitsImage};
-ghost use Rattle.ficus_rules.specs.Resolve.{ResolveRule};
-ghost use Rattle.ficus_rules.specs.Rule.{UnlessMemory};
+ghost use Rattle.ficus_saved.specs.Saved.{FitsImage};
+ghost use Rattle.ficus_commands.specs.declared.change.Change.TheVariants.{Resolve};
+ghost use Rattle.ficus_rules.specs.Change.{ChangeAnswer};
 ghost use Rattle.ficus_answers.specs.View.{tables_view};
 
 use crate::conflict::is_conflict;
 use crate::limits::within_limits;
 use crate::resolved::resolved;
 use crate::walk::file_at;
-use ficus_codec::Saved;
 use ficus_ids::Refusal;
 use ficus_model::Op;
 use ficus_path::Path;
+use ficus_saved::Saved;
 use std::alloc::Global;
 
 /// The end of the conflict of the file at a path, by what the resolver of its kind makes of its contents.
-pub(crate) fn resolve(alloc: Global, saved: &Saved, path: &Path) -> Result<Op, Refusal>
+pub fn resolve(alloc: Global, saved: &Saved, path: &Path) -> Result<Op, Refusal>
     requires { FitsImage saved.now }
-    ensures { UnlessMemory (ResolveRule (tables_view saved.now) path.now) result }
+    ensures { ChangeAnswer (tables_view saved.now) (Resolve path.now) result }
 {
     let file = file_at(saved, path)?;
     if !is_conflict(saved, file) {

@@ -1,4 +1,4 @@
-ghost use Rattle.ficus_codec.specs.Saved.{FitsImage};
+ghost use Rattle.ficus_saved.specs.Saved.{FitsImage};
 ghost use Rattle.ficus_rules.specs.Rule.{UnlessMemory};
 ghost use Rattle.ficus_rules.specs.Settle.{SettleRule};
 ghost use Rattle.ficus_answers.specs.View.{tables_view};
@@ -6,14 +6,14 @@ ghost use Rattle.ficus_answers.specs.View.{tables_view};
 use crate::conflict::is_conflict;
 use crate::limits::within_limits;
 use crate::walk::file_at;
-use ficus_codec::Saved;
 use ficus_ids::{Listed, Refusal};
 use ficus_model::Op;
 use ficus_path::Path;
+use ficus_saved::Saved;
 use std::alloc::Global;
 
 /// The end of the conflict of the file at a path, by these bytes.
-pub(crate) fn settle(alloc: Global, saved: &Saved, path: &Path, bytes: &[u8]) -> Result<Op, Refusal>
+pub fn settle(alloc: Global, saved: &Saved, path: &Path, bytes: &[u8]) -> Result<Op, Refusal>
     requires { FitsImage saved.now }
     ensures { UnlessMemory (SettleRule (tables_view saved.now) path.now bytes.now) result }
 {

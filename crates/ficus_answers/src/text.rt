@@ -1,12 +1,12 @@
 ghost use Rattle.std.specs.Prelude.{◌≢◌};
-ghost use Rattle.ficus_codec.specs.Saved.{FitsImage};
+ghost use Rattle.ficus_saved.specs.Saved.{FitsImage};
 ghost use Rattle.ficus_ids.specs.declared.kind.Kind.TheVariants.{Dir};
 ghost use Rattle.ficus_rules.specs.Text.{IsTextOf};
 ghost use Rattle.ficus_answers.specs.Files.{IsFileIn};
 ghost use Rattle.ficus_answers.specs.View.{tables_view};
 
-use ficus_codec::Saved;
 use ficus_file::FileReplica;
+use ficus_saved::Saved;
 
 /// The text of a file that isn't in conflict.
 pub(crate) fn text_of<'a>(saved: &Saved, file: &'a FileReplica) -> &'a [u8]

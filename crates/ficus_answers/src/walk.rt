@@ -1,19 +1,21 @@
 ghost use Rattle.std.specs.Prelude.{◌≡◌, ◌↔◌, IsTrue, IfOk, Some, None};
 ghost use Rattle.std.specs.List.{last_or};
-ghost use Rattle.ficus_codec.specs.Saved.{FitsImage};
+ghost use Rattle.ficus_saved.specs.Saved.{FitsImage};
 ghost use Rattle.ficus_path.specs.Path.{IsEntry, IsNew};
 ghost use Rattle.ficus_names.specs.Find.{FindAnswer};
+ghost use Rattle.ficus_orphan.specs.Orphan.{IsOrphanIn};
 ghost use Rattle.ficus_rules.specs.Rule.{Where};
 ghost use Rattle.ficus_rules.specs.View.{IsBoundIn, IsDirectoryIn, IsTakenIn};
-ghost use Rattle.ficus_rules.specs.Walk.{BaseRule, WalkRule, DirectoryRule, ParentRule, FileRule, EntryRule, last_name, last_target};
-ghost use Rattle.ficus_answers.specs.Files.{as_found, id_found, IsFileIn};
+ghost use Rattle.ficus_rules.specs.Walk.{BaseRule, WalkRule, DirectoryRule, ParentRule, FileRule, EntryRule, PlacesRule, last_name, last_target};
+ghost use Rattle.ficus_answers.specs.Files.{as_found, as_places, id_found, IsFileIn};
 ghost use Rattle.ficus_answers.specs.View.{tables_view, HasObject, IsRootOrVisible, IsVisibleBy};
 
-use ficus_codec::Saved;
 use ficus_file::FileReplica;
 use ficus_ids::{Id, Kind, Name, ROOT, Refusal};
 use ficus_names::find;
+use ficus_orphan::is_orphan;
 use ficus_path::{Base, Part, Path};
+use ficus_saved::Saved;
 
 // The object to which the parts lead from the base, or the refusal that comes first.
 fn walk(saved: &Saved, base: Base, parts: &[Part]) -> Result<Id, Refusal>
@@ -30,11 +32,25 @@ fn walk(saved: &Saved, base: Base, parts: &[Part]) -> Result<Id, Refusal>
 
 // The object at which a walk begins.
 fn begin(saved: &Saved, base: Base) -> Result<Id, Refusal>
+    requires { FitsImage saved.now }
     ensures rule { BaseRule (tables_view saved.now) base result }
     ensures shown { IfOk result (IsRootOrVisible saved.now) }
 {
     match base {
         Base::Root => Ok(ROOT),
+        Base::Orphan(id) if is_orphan_here(saved, id) => Ok(id),
+        Base::Orphan(_) => Err(Refusal::NotOrphan),
+    }
+}
+
+/// Whether an orphan has this identifier. Takes no memory, and one walk over the entries.
+pub(crate) fn is_orphan_here(saved: &Saved, id: Id) -> bool
+    requires { FitsImage saved.now }
+    ensures { IsTrue result ↔ IsOrphanIn saved.now.entries saved.now.files id }
+{
+    match saved.files.get(id) {
+        Some(file) => is_orphan(&saved.entries, file),
+        None => false,
     }
 }
 
@@ -131,6 +147,26 @@ fn found_in(saved: &Saved, dir: Id, path: &Path) -> Result<Id, Refusal>
     ensures visible { IfOk result (IsVisibleBy saved.now) }
 {
     find(&saved.entries, dir, last_part(path))
+}
+
+/// Where an object that gets a new path is found, and the directory of that path.
+#[derive(Clone, Copy)]
+pub(crate) struct Places {
+    pub(crate) found: Found,
+    pub(crate) dir: Id,
+}
+
+/// The entry at the one path, and the directory of the new one.
+pub(crate) fn places_of(saved: &Saved, from: &Path, path: &Path) -> Result<Places, Refusal>
+    requires fits { FitsImage saved.now }
+    requires entry { IsEntry from.now }
+    requires new { IsNew path.now }
+    ensures rule { PlacesRule (tables_view saved.now) from.now path.now (as_places result) }
+    ensures visible { IfOk result (λ places. IsVisibleBy saved.now places.found.object) }
+{
+    let found = entry_at(saved, from)?;
+    let dir = parent_of(saved, path)?;
+    Ok(Places { found, dir })
 }
 
 /// The file at a path.

@@ -1,14 +1,14 @@
 ghost use Rattle.std.specs.Prelude.{Ok, IfOk};
-ghost use Rattle.ficus_codec.specs.Saved.{FitsImage};
+ghost use Rattle.ficus_saved.specs.Saved.{FitsImage};
 ghost use Rattle.ficus_rules.specs.Tree.{TreeRule};
 ghost use Rattle.ficus_answers.specs.View.{tables_view};
 
 use crate::lines::add_lines;
-use ficus_codec::Saved;
 use ficus_commands::Told;
 use ficus_ids::{Listed, Memory, ROOT};
 use ficus_names::Directories;
 use ficus_reach::reached;
+use ficus_saved::Saved;
 use std::alloc::Global;
 
 /// The shown names of every directory that is reached from the root, by directory, then as in `list`.

@@ -24,7 +24,7 @@ use Rattle.ficus_codec.specs.declared.take_fault.TakeFault.{TakeFault}
 use Rattle.ficus_codec.specs.declared.take_fault.TakeFault.TheVariants.{NotTables}
 use Rattle.ficus_codec.specs.TakeFault.{taken}
 use Rattle.ficus_formats.proofs.Reading.{begins-then, fails-first, fails-second, fails-meeting, fails-unmet}
-use Rattle.ficus_codec.specs.Tables.{IsIssuable, FitsEntry, FitsFile, HasObjectsIn, FitsTables}
+use Rattle.ficus_saved.specs.Tables.{IsIssuable, FitsEntry, FitsFile, HasObjectsIn, FitsTables}
 use Rattle.ficus_codec.specs.Formats.{entry, file, entries, files, tables, tables_bytes}
 use Rattle.ficus_codec.specs.FormatsUnique.{unique-entry, unique-file}
 

@@ -3,7 +3,7 @@ ghost use Rattle.ficus_ids.specs.Name.{IsName};
 ghost use Rattle.ficus_formats.specs.Format.{Reads};
 ghost use Rattle.ficus_codec.specs.Formats.{name, marks, dead, state, state_bytes, entry, entry_fields};
 ghost use Rattle.ficus_codec.specs.FormatsUnique.{unique-entry};
-ghost use Rattle.ficus_codec.specs.Tables.{IsIssuable, MayHoldEntries, FitsState, FitsEntry};
+ghost use Rattle.ficus_saved.specs.Tables.{IsIssuable, MayHoldEntries, FitsState, FitsEntry};
 
 use crate::UPDATE_LIMIT;
 use ficus_entry::{Entry, State};

@@ -5,7 +5,7 @@ ghost use Rattle.ficus_formats.specs.Format.{Reads};
 ghost use Rattle.ficus_codec.specs.Checks.{MayPrecede, IsBare, IsWhole};
 ghost use Rattle.ficus_codec.specs.Formats.{kind, kind_number, count, counts, content, version, version_fields, versions, file, file_fields};
 ghost use Rattle.ficus_codec.specs.FormatsUnique.{unique-version, unique-file};
-ghost use Rattle.ficus_codec.specs.Tables.{FitsCounts, FitsVersion, FitsFile};
+ghost use Rattle.ficus_saved.specs.Tables.{FitsCounts, FitsVersion, FitsFile};
 
 use crate::entry_format::is_issuable;
 use crate::{FILE_LIMIT, UPDATE_LIMIT};

@@ -1,10 +1,8 @@
-//! What a replica saves, what an image asks of it, and which bytes are tables.
+//! Which bytes are tables, both ways. What a replica saves, and what tables have to meet, stands in `ficus_saved`.
 #![tactic(auto)]
 
 mod entry_format;
 mod file_format;
-mod laws;
-mod saved;
 mod tables;
 mod take_fault;
 
@@ -13,7 +11,6 @@ pub use ficus_formats::{
     put_short_string, put_u8, put_u16, put_u32, put_u64, read_rising, read_run, take_id, take_u8,
     take_u16, take_u32, take_u64,
 };
-pub use laws::{changed_tables_fit, limits, merged_tables_fit};
-pub use saved::{BYTE_LIMIT, FILE_LIMIT, Saved, UPDATE_LIMIT};
+pub use ficus_saved::{BYTE_LIMIT, FILE_LIMIT, Saved, UPDATE_LIMIT};
 pub use tables::{put_tables, read_all_tables, read_tables, take_tables};
 pub use take_fault::TakeFault;

@@ -2,11 +2,11 @@ ghost use Rattle.std.specs.Prelude.{◌≡◌, ◌↔◌, ◌≤◌, ◌<◌, �
 ghost use Rattle.std.specs.List.{AllByRecursion};
 ghost use Rattle.ficus_ids.specs.declared.id.Id.{Id as IdValue};
 ghost use Rattle.ficus_entry.specs.declared.entry.Entry.{Entry as EntryValue};
-ghost use Rattle.ficus_file.specs.Files.{AreFiles, IsRising, Holds};
+ghost use Rattle.ficus_file.specs.Files.{IsRising, Holds};
 ghost use Rattle.ficus_file.specs.declared.file.FileReplica.{FileReplica as FileValue};
 ghost use Rattle.ficus_formats.specs.Format.{Reads, ReadsAll, counted, number32};
 ghost use Rattle.ficus_codec.specs.Formats.{entries, files, entry, file, tables, tables_bytes};
-ghost use Rattle.ficus_codec.specs.Tables.{IsPlaceIn, HasObjectsIn, FitsTables};
+ghost use Rattle.ficus_saved.specs.Tables.{IsPlaceIn, HasObjectsIn, FitsTables};
 
 use crate::TakeFault;
 use crate::entry_format::EntrySpelling;
@@ -60,19 +60,6 @@ fn read_lists(
     }
 }
 
-// The files in a table.
-fn files_of(alloc: Global, files: Vec<FileReplica>) -> Result<Files, Memory>
-    requires { AreFiles files.items }
-    ensures { IfOk result (λ of. of ≡ files.items) }
-{
-    let mut left = files;
-    let mut held = Files::new(alloc);
-    while let Some(file) = left.pop() {
-        held.insert(file)?;
-    }
-    Ok(held)
-}
-
 /// Reads the tables with whose spelling the bytes begin that are left.
 pub fn read_tables(
     alloc: Global,
@@ -83,7 +70,7 @@ pub fn read_tables(
 {
     let (entries, files) = read_lists(alloc, reader, members)?;
     let entries = Entries::of(alloc, entries.items())?;
-    let files = files_of(alloc, files.into_vec())?;
+    let files = Files::of(alloc, files.into_vec())?;
     Ok((entries, files))
 }
 

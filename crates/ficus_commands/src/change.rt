@@ -1,4 +1,4 @@
-use ficus_ids::{Kind, Listed};
+use ficus_ids::{Id, Kind, Listed};
 use ficus_path::Path;
 
 /// A change for which a replica may be asked. Each is one operation, or is refused; the refusals come in the order in
@@ -35,4 +35,12 @@ pub enum Change {
     /// is; with `IntoSelf` exactly where the object is a directory, and the new parent is it or lies below it; with
     /// `Exists` and `Spent` as `MkDir` is.
     Mv { from: Path, path: Path },
+    /// Gives the orphan the new path `path` as its name. Refused with `NotOrphan` exactly where no orphan has this
+    /// identifier; as the walk to the parent of `path` is; with `IntoSelf` exactly where the orphan is a directory, and
+    /// the new parent is it or lies below it; with `Exists` and `Spent` as `MkDir` is.
+    Adopt { orphan: Id, path: Path },
+    /// Gives up the orphan, a file: all its versions are covered. Refused with `NotOrphan` as `Adopt` is; with `IsDir`
+    /// exactly where the orphan is a directory, which stops being one when the entries in it are removed; with `Spent`
+    /// as `MkDir` is.
+    Discard { orphan: Id },
 }

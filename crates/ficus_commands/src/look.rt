@@ -15,6 +15,14 @@ pub enum Look {
     Versions { path: Path },
     /// The names in each directory that is reached from the root. Never refused.
     Tree,
+    /// What is in conflict: each name under which a directory has several objects, and each file in conflict that has a
+    /// live name or is an orphan. Never refused.
+    Conflicts,
+    /// The orphans: the objects without a live name that are directories with something in them or files with a version
+    /// that no removal covers. Never refused.
+    Orphans,
+    /// The directories with a live name that are reached neither from the root nor from an orphan. Never refused.
+    Detached,
     /// The removed entries that the replica holds, each with what is known of its removal. Never refused. It tells of
     /// the replica and isn't part of its view: two that have heard of the same may hold different ones.
     Marks,

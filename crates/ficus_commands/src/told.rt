@@ -1,7 +1,7 @@
 use ficus_entry::Entry;
-use ficus_file::Version;
-use ficus_ids::{Listed, Members};
-use ficus_names::Line;
+use ficus_file::{Orphan, Version};
+use ficus_ids::{Id, Listed, Members};
+use ficus_names::{Clashes, Line};
 
 /// What a look tells.
 #[derive(Drop)]
@@ -17,6 +17,12 @@ pub enum Told {
         members: Members,
         list: Listed<Version>,
     },
+    /// What is in conflict.
+    Conflicts(Clashes),
+    /// The orphans, by identifier.
+    Orphans(Listed<Orphan>),
+    /// The detached directories, rising.
+    Detached(Listed<Id>),
     /// The removed entries, in the order of their identifiers. Of each, `one` has the members that are known to know of
     /// the removal, and `two` those that are known to know that all know of it.
     Marks(Listed<Entry>),

@@ -1,5 +1,5 @@
 -- Removals, one after the other.
-use Rattle.std.proofs.Common.{◌≡◌, ◌≢◌, ◌⊎◌, ℕ, ◌+◌, ◌<◌, List, [], ◌∷◌, ◌++◌, length, get_or, take, ◌∙◌, refl, sym, ap, subst, arith, inl, inr}
+use Rattle.std.proofs.Common.{◌≡◌, ◌≢◌, ℕ, ◌<◌, List, [], ◌∷◌, ◌++◌, length, get_or, take, ◌∙◌, refl, sym, ap, subst, arith, inl, inr}
 use Rattle.std.specs.Prelude.{Contains}
 use Rattle.std.specs.declared.cmp.Ordering.TheVariants.{Less}
 use Rattle.std.proofs.lemmas.List.{length-take, get_or-take, get_or_default}
@@ -13,7 +13,7 @@ use Rattle.ficus_ids.specs.declared.id.Id.{Id}
 use Rattle.ficus_entry.specs.declared.entry.Entry.{Entry}
 use Rattle.ficus_entry.specs.declared.entry.State.TheVariants.{Dead}
 use Rattle.ficus_entry.specs.Entry.{IsRising}
-use Rattle.ficus_entry.specs.Kill.{HoldsLive, IsKilled, IsJustKilled, IsLeftAs, IsFromList, HasLeft, AreKilled}
+use Rattle.ficus_entry.specs.Kill.{HoldsLive, IsKilled, IsLeftAs, HasLeft, AreKilled}
 
 module _ (by : ℕ) where
   pub killed_none : (entries : List Entry) → AreKilled entries entries [] by

@@ -1,4 +1,5 @@
 pub mod Found
 pub mod KilledAll
 pub mod Noted
+pub mod Scanned
 pub mod Within

@@ -2,15 +2,14 @@
 use Rattle.std.proofs.Common.{◌≡◌, ◌⊎◌, ◌↔◌, ℕ, ◌+◌, ◌<◌, false, List, [], ◌∷◌, length, get_or, set, drop, Some, slice_get, ◌∙◌, refl, sym, ap, subst, arith, inl, inr}
 use Rattle.std.specs.Prelude.{AllPairs, Contains}
 use Rattle.std.specs.List.{insert}
-use Rattle.std.specs.List.Sorted.{IsPermutation}
 use Rattle.std.proofs.lemmas.Bool.{cases_eq}
 use Rattle.std.proofs.lemmas.List.{ext_get_or, length-set, get_or-set_same, get_or-set_other, get_or-drop, length-drop}
-use Rattle.std.proofs.lemmas.List.Elements.{Contains-get_or}
 use Rattle.std.proofs.lemmas.Option.{get_or_from_slice_get, slice_get_within}
 use Rattle.ficus_ids.specs.ListLaws.{here, there, here_or_there, not_inside_none}
-use Rattle.ficus_ids.specs.RisingLaws.{item_at, same_items, set_puts, insert_puts, IsRisingBy-set, IsRisingBy-insert}
+use Rattle.ficus_ids.specs.RisingLaws.{same_items, set_puts, insert_puts, IsRisingBy-set, IsRisingBy-insert}
 use Rattle.ficus_ids.specs.Rising.{IsFoundAtBy, IsPlaceBy}
 use Rattle.ficus_index.specs.declared.place.Note.{Note}
+use Rattle.ficus_index.specs.Place.{TakesOne, AddsRow}
 use Rattle.ficus_index.specs.NoteLaws.{notes_set, notes_with}
 use Rattle.ficus_entry.specs.declared.entry.Entry.{Entry}
 use Rattle.ficus_entry.specs.declared.entry.State.{State}
@@ -70,19 +69,6 @@ module _ (entries : List Entry) (edited : List ℕ) (notes : List Note) (noted :
   pub live_noted : (entry : Entry) → Contains entries entry → entry.state ≡ Live → Contains noted.before entry
   live_noted entry (k, within, is) live = (k, rw noted.lengths within, was_same k entry within is live)
 
-  -- each entry is noted in its directory under its identifier
-  pub entry_noted : (entry : Entry) → Contains entries entry →
-      ((was : Entry) → Contains noted.before was → was.dir ≡ entry.dir → was.id ≡ entry.id → ⊥) → ⊥
-  entry_noted entry (k, within, is) never =
-      let was : Entry = get_or noted.before k entry in
-      let inside : Contains noted.before was = Contains-get_or noted.before k entry (rw noted.lengths within) in
-      let how = noted.each k entry within in
-      let here_edited : Contains edited k → ⊥ =
-      λ edits. never was inside (ap (λ (e : Entry). e.dir) (how.earlier edits) ∙ ap (λ (e : Entry). e.dir) is)
-      (ap (λ (e : Entry). e.id) (how.earlier edits) ∙ ap (λ (e : Entry). e.id) is) in
-      never was inside (ap (λ (e : Entry). e.dir) (how.same here_edited ∙ is))
-      (ap (λ (e : Entry). e.id) (how.same here_edited ∙ is))
-
   -- a live entry that becomes dead is noted as while it lived
   pub noted_edited : (more : List ℕ) (index : ℕ) (was dead : Entry) → slice_get entries index ≡ Some was →
       was.state ≡ Live → is_live dead ≡ false → was ≡ alive dead →
@@ -132,17 +118,20 @@ module _ (entries : List Entry) (edited : List ℕ) (notes : List Note) (noted :
 -- once an edited entry is noted as it is, fewer edits are left
 pub noted_folded : (entries : List Entry) (index : ℕ) (later : List ℕ) (notes more : List Note) (entry : Entry) →
     AreNotedBut entries (index ∷ later) notes → (Contains later index → ⊥) → slice_get entries index ≡ Some entry →
-    ReplacesNote notes (note_of (alive entry)) (note_of entry) more → AreNotedBut entries later more
-noted_folded entries index later notes more entry noted once at is =
+    TakesOne notes (note_of entry) more → AreNotedBut entries later more
+noted_folded entries index later notes more entry noted once at taken =
     let inside : index < length entries = slice_get_within entries index entry at in
     let stands : index < length noted.before = rw noted.lengths inside in
     let was : get_or noted.before index (alive entry) ≡ alive entry =
     (noted.each index (alive entry) inside).earlier (here index later)
     ∙ ap alive (get_or_from_slice_get entries index entry (alive entry) at) in
+    let dead : is_live entry ≡ false =
+    subst (λ (e : Entry). is_live e ≡ false) (get_or_from_slice_get entries index entry entry at)
+    ((noted.each index entry inside).dead (here index later)) in
     record {
       before = set noted.before index entry;
-      noted = notes_set note_of noted.before index (alive entry) notes is.others stands was is.taken entry more
-          noted.noted is.added;
+      noted = notes_set is_live note_of noted.before index (alive entry) notes more stands was taken entry more
+          noted.noted (rw dead refl);
       lengths = length-set noted.before index entry ∙ noted.lengths;
       within = λ k held. noted.within k (there index k later held);
       each = λ k d within. elim (cases_eq k index) [
@@ -178,7 +167,7 @@ none_again numbers n number once within is (k, inside, again) =
 -- the notes with that of an entry in place of the one with its identifier
 pub noted_put : (entries more : List Entry) (index : ℕ) (old entry : Entry) (notes noted : List Note) →
     IsRising entries → AreNoted entries notes → IsFoundAtBy (λ (e : Entry). e.id) entries entry.id index →
-    slice_get entries index ≡ Some old → ReplacesNote notes (note_of old) (note_of entry) noted → IsRising more →
+    slice_get entries index ≡ Some old → ReplacesNote notes old entry noted → IsRising more →
     PutsEntry entries more entry → AreNoted more noted
 noted_put entries more index old entry notes noted rising are found at is rises puts =
     let id_of : Entry → _ = λ e. e.id in
@@ -188,13 +177,13 @@ noted_put entries more index old entry notes noted rising are found at is rises 
     (λ other. let one = set_puts (λ (e : Entry). e.id) entries entry index rising found other in
     (λ inside. (puts other).1 (one.0 inside), λ inside. one.1 ((puts other).0 inside))) in
     subst (λ (l : List Entry). AreNoted l noted) same
-    (notes_set note_of entries index old notes is.others found.0
+    (notes_set is_live note_of entries index old notes is.others found.0
     (get_or_from_slice_get entries index old old at) is.taken entry noted are is.added)
 
 -- the notes with that of an entry whose identifier none has
 pub noted_insert : (entries more : List Entry) (index : ℕ) (entry : Entry) (notes noted : List Note) →
     IsRising entries → AreNoted entries notes → IsPlaceBy (λ (e : Entry). e.id) entries entry.id index →
-    IsPermutation (note_of entry ∷ notes) noted → IsRising more → PutsEntry entries more entry → AreNoted more noted
+    AddsRow is_live note_of notes entry noted → IsRising more → PutsEntry entries more entry → AreNoted more noted
 noted_insert entries more index entry notes noted rising are place is rises puts =
     let same : insert entries index entry ≡ more =
     same_items (λ (e : Entry). e.id) (insert entries index entry) more
@@ -202,4 +191,4 @@ noted_insert entries more index entry notes noted rising are place is rises puts
     (λ other. let one = insert_puts (λ (e : Entry). e.id) entries entry index place other in
     (λ inside. (puts other).1 (one.0 inside), λ inside. one.1 ((puts other).0 inside))) in
     subst (λ (l : List Entry). AreNoted l noted) same
-    (notes_with note_of entries index entry notes noted are is)
+    (notes_with is_live note_of entries index entry notes noted are is)

@@ -1,5 +1,5 @@
 -- Where what lies in a directory is noted.
-use Rattle.std.proofs.Common.{◌≡◌, ℕ, ◌<◌, ◌≤◌, List, refl, ap, arith, Some, None, Ok, Err, Bool, ◌↔◌, subst}
+use Rattle.std.proofs.Common.{◌≡◌, ℕ, ◌<◌, ◌≤◌, List, refl, ap, arith, Some, None, Ok, Err, Bool, true, ◌↔◌, subst}
 use Rattle.std.specs.Prelude.{Contains, Option, Result, IfOk, IfSome, IfNone, IsTrue}
 use Rattle.std.specs.Option.{MatchOption, is_some}
 use Rattle.std.proofs.lemmas.Bool.{both_ways}
@@ -8,26 +8,31 @@ use Rattle.ficus_ids.specs.Rising.{HoldsUnderBy}
 use Rattle.ficus_ids.specs.RisingLaws.{held_or_not}
 use Rattle.ficus_entry.specs.declared.entry.Entry.{Entry}
 use Rattle.ficus_entry.specs.declared.entry.State.{State}
-use Rattle.ficus_entry.specs.declared.entry.State.TheVariants.{Live, Dead}
+use Rattle.ficus_entry.specs.declared.entry.State.TheVariants.{Live}
 use Rattle.ficus_index.specs.declared.place.Note.{Note}
 use Rattle.ficus_index.specs.declared.place.Place.{Place}
 use Rattle.ficus_index.specs.Digest.{digest_of}
 use Rattle.ficus_index.specs.Place.{IsSpan, IsNotedWithin}
 use Rattle.ficus_index.specs.NoteLaws.{row_noted}
-use Rattle.ficus_index.specs.PlaceLaws.{noted_within, digest_small}
+use Rattle.ficus_index.specs.PlaceLaws.{noted_within}
 use Rattle.ficus_entry.specs.Inside.{LiesBetween}
-use Rattle.ficus_entry.specs.Place.{rank_of, note_of, AreNoted}
+use Rattle.ficus_entry.specs.Kill.{is_live}
+use Rattle.ficus_entry.specs.Place.{note_of, AreNoted}
 
--- an entry between two places is noted in their span
+live_passes : (entry : Entry) → entry.state ≡ Live → is_live entry ≡ true
+live_passes entry live = ap (λ (s : State). is_live (record entry { state = s })) live
+
+-- a live entry between two places is noted in their span
 pub entry_within : (entries : List Entry) (notes : List Note) (from to : Place) (start end : ℕ) (entry : Entry) →
-    AreNoted entries notes → IsSpan notes from to start end → Contains entries entry → LiesBetween from to entry →
-    (IsNotedWithin notes start end entry.id → ⊥) → ⊥
-entry_within entries notes from to start end entry noted span inside between never =
-    row_noted note_of entries notes noted entry inside (λ there. never
+    AreNoted entries notes → IsSpan notes from to start end → Contains entries entry → entry.state ≡ Live →
+    LiesBetween from to entry → (IsNotedWithin notes start end entry.id → ⊥) → ⊥
+entry_within entries notes from to start end entry noted span inside live between never =
+    row_noted is_live note_of entries notes noted entry inside (live_passes entry live) (λ there. never
     (noted_within notes from to start end (note_of entry) span there between.at_least between.below))
 
-pub between_ranks : (dir : Id) (low high : ℕ) (entry : Entry) → entry.dir ≡ dir → low ≤ rank_of entry →
-    rank_of entry < high → LiesBetween (record { dir = dir; rank = low }) (record { dir = dir; rank = high }) entry
+pub between_ranks : (dir : Id) (low high : ℕ) (entry : Entry) → entry.dir ≡ dir → low ≤ digest_of entry.name →
+    digest_of entry.name < high →
+    LiesBetween (record { dir = dir; rank = low }) (record { dir = dir; rank = high }) entry
 between_ranks dir low high entry in_dir at_least below =
     let replica : entry.dir.replica ≡ dir.replica = ap (λ (i : Id). i.replica) in_dir in
     let number : entry.dir.number ≡ dir.number = ap (λ (i : Id). i.number) in_dir in
@@ -36,16 +41,6 @@ between_ranks dir low high entry in_dir at_least below =
       below =
           rw (replica, number) (omega (arith, below));
     }
-
-pub rank_live : (entry : Entry) → entry.state ≡ Live → rank_of entry ≡ digest_of entry.name
-rank_live entry live = ap (λ (s : State). rank_of (record entry { state = s })) live
-
-pub rank_small : (entry : Entry) → rank_of entry < 4294967297
-rank_small entry = by_state entry.state
-  where
-    by_state : (state : State) → rank_of (record entry { state = state }) < 4294967297
-    by_state Live = let small = digest_small entry.name in omega (arith, small)
-    by_state (Dead one two) = omega arith
 
 pub MatchOption-weaker : {X P P' : Type 0} {Q Q' : X → Type 0} (o : Option X) → MatchOption o P Q → (P → P') →
     ((x : X) → Q x → Q' x) → MatchOption o P' Q'

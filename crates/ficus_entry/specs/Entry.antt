@@ -1,7 +1,7 @@
 -- Lists of directory entries.
 use Rattle.std.specs.Prelude.{List, Option}
 use Rattle.ficus_ids.specs.declared.id.Id.{Id}
-use Rattle.ficus_ids.specs.Rising.{IsRisingBy, HoldsBy, HoldsUnderBy, Adds, PutsBy}
+use Rattle.ficus_ids.specs.Rising.{IsRisingBy, HoldsBy, HoldsUnderBy, Adds, PutsBy, ReplacesBy}
 use Rattle.ficus_entry.specs.declared.entry.Entry.{Entry}
 
 -- the identifiers rise strictly
@@ -23,3 +23,7 @@ AddsEntry old new entry = Adds old new entry
 -- the new list holds this entry, and those old ones that have other identifiers
 abbrev pub PutsEntry : List Entry → List Entry → Entry → Type 0
 PutsEntry old new entry = PutsBy (λ entry. entry.id) old new entry
+
+-- under each identifier the new list holds the other entry, or where there is none what the old list holds
+abbrev pub ReplacesEntries : List Entry → List Entry → List Entry → Type 0
+ReplacesEntries old others new = ReplacesBy (λ entry. entry.id) old others new

@@ -5,8 +5,8 @@ ghost use Rattle.ficus_entry.specs.Entry.{IsRising, Holds, HoldsUnder, AddsEntry
 ghost use Rattle.ficus_entry.specs.Kill.{HoldsLive, IsKilled};
 ghost use Rattle.ficus_entry.specs.Place.{AreNoted};
 
-use crate::note::{notes, renoted};
-use crate::{Entry, State};
+use crate::note::{notes, noting, renoted};
+use crate::{Entry, SharedEntry, State};
 use ficus_ids::{Id, Marks, Memory};
 use ficus_index::Index;
 use ficus_table::Table;
@@ -18,7 +18,7 @@ use std::marker::Model;
 /// the next copy or insert the index notes what was removed as while it lived.
 #[derive(Drop)]
 pub struct Entries {
-    pub(crate) table: Table<Entry>,
+    pub(crate) table: Table<SharedEntry>,
     pub(crate) index: Index,
 }
 
@@ -51,10 +51,9 @@ impl Entries {
         requires { IsRising entries.now }
         ensures { IfOk result (λ built. built ≡ entries.now) }
     {
-        let notes = notes(alloc, entries)?;
-        let index = Index::of(alloc, notes)?;
-        let table = Table::of(alloc, entries)?;
-        Ok(Entries { table, index })
+        let rows = shared(alloc, entries)?;
+        let table = Table::of(alloc, &rows)?;
+        Entries::indexed(table)
     }
 
     /// How many entries there are.
@@ -88,6 +87,16 @@ impl Entries {
         self.table.get(id)
     }
 
+    /// The entry with an identifier, for another list to share, or `None` exactly where no entry has it.
+    pub fn shared(&self, id: Id) -> Result<Option<SharedEntry>, Memory>
+        ensures { IfOk result (HoldsUnder self.now id) }
+    {
+        match self.table.search(id) {
+            Ok(index) => Ok(Some(self.table.row(index)?)),
+            Err(_) => Ok(None),
+        }
+    }
+
     /// The same entries once more, with memory from where these have theirs.
     pub fn copy(&self) -> Result<Entries, Memory>
         ensures { IfOk result (λ entries. entries ≡ self.now) }
@@ -115,8 +124,20 @@ impl Entries {
         ensures rising { IsRising self.new }
     {
         // Tells that the identifiers rise.
+        let _count = self.len();
+        let shared = SharedEntry::of(self.allocator(), entry)?;
+        self.put_shared(shared)
+    }
+
+    /// Adds an entry that other lists may share, as [`put`](Entries::put) does.
+    pub fn put_shared(&mut self, entry: SharedEntry) -> Result<(), Memory>
+        ensures put { OnOk result (PutsEntry self.old self.new entry) }
+        ensures kept { OnErr result (self.new ≡ self.old) }
+        ensures rising { IsRising self.new }
+    {
+        // Tells that the identifiers rise.
         let _count = self.table.len();
-        let index = self.index_with(&entry)?;
+        let index = self.index_with(entry.entry())?;
         self.table.put(entry)?;
         self.index = index;
         Ok(())
@@ -159,7 +180,16 @@ impl Entries {
         self.table.allocator()
     }
 
-    // An index that notes each entry as it is.
+    // The entries of a table, with an index that is made anew.
+    pub(crate) fn indexed(table: Table<SharedEntry>) -> Result<Entries, Memory>
+        requires { table.edited ≡ [] }
+        ensures { IfOk result (λ entries. entries ≡ table.items) }
+    {
+        let index = index_of(&table)?;
+        Ok(Entries { table, index })
+    }
+
+    // An index that notes the entries as they are, and so nothing of those that are removed.
     fn folded(&self) -> Result<Index, Memory>
         ensures { IfOk result (λ index. AreNoted self.now index) }
     {
@@ -167,7 +197,7 @@ impl Entries {
         let mut index = self.index.copy()?;
         for place in 0..self.table.edit_count() {
             let entry = self.table.at(self.table.edited_at(place));
-            index = renoted(alloc, &index, entry.live_note(), entry.note())?;
+            index = index.without(alloc, entry.note())?;
         }
         Ok(index)
     }
@@ -180,8 +210,28 @@ impl Entries {
         let folded = self.folded()?;
         let alloc = self.allocator();
         match self.table.search(entry.id) {
-            Ok(at) => renoted(alloc, &folded, self.table.at(at).note(), entry.note()),
-            Err(_) => folded.with(alloc, entry.note()),
+            Ok(at) => renoted(alloc, &folded, self.table.at(at), entry),
+            Err(_) => noting(alloc, &folded, entry),
         }
     }
+}
+
+// An index of the entries of a table.
+fn index_of(table: &Table<SharedEntry>) -> Result<Index, Memory>
+    ensures { IfOk result (AreNoted table.now.items) }
+{
+    let in_order = table.in_order()?;
+    let notes = notes(table.allocator(), &in_order)?;
+    Index::of(table.allocator(), notes)
+}
+
+// Copies of the entries, to share.
+fn shared(alloc: Global, entries: &[Entry]) -> Result<Vec<SharedEntry>, Memory>
+    ensures { IfOk result (λ shared. shared.items ≡ entries.now) }
+{
+    let mut shared = Vec::with_capacity(alloc, entries.len())?;
+    for entry in entries {
+        shared.push(SharedEntry::of(alloc, entry.copy()?)?)?;
+    }
+    Ok(shared)
 }

@@ -1,7 +1,7 @@
 ghost use Rattle.std.specs.Prelude.{◌≡◌, ◌<◌, ◌==◌, length, slice_get, Some, IfOk};
 ghost use Rattle.ficus_entry.specs.Entry.{IsRising};
 
-use crate::{Entries, Entry};
+use crate::{Entries, Entry, SharedEntry};
 use ficus_ids::Memory;
 use std::marker::Model;
 
@@ -9,7 +9,7 @@ use std::marker::Model;
 /// stands, however many there are.
 #[derive(Drop)]
 pub struct InOrder<'a> {
-    rows: ficus_table::InOrder<'a, Entry>,
+    rows: ficus_table::InOrder<'a, SharedEntry>,
 }
 
 impl<'a> Model for InOrder<'a> {
@@ -43,6 +43,13 @@ impl<'a> InOrder<'a> {
         ensures { slice_get self.now index ≡ Some result.now }
     {
         self.rows.at(index)
+    }
+
+    /// The same, for a walk along them.
+    pub fn rows(&self) -> &ficus_table::InOrder<'a, SharedEntry>
+        ensures { result.now ≡ self.now }
+    {
+        &self.rows
     }
 }
 

@@ -1,6 +1,4 @@
-ghost use Rattle.std.specs.Prelude.{◌≡◌, ◌↔◌, ◌≤◌, length, Contains, IsTrue, IfOk, IfSome, IfNone};
-ghost use Rattle.std.specs.List.Sorted.{IsStrictlySortedBy};
-ghost use Rattle.ficus_ids.specs.Id.{id_cmp};
+ghost use Rattle.std.specs.Prelude.{◌≡◌, ◌↔◌, ◌≤◌, [], length, Contains, IsTrue, IfOk, OnOk, IfSome, IfNone};
 ghost use Rattle.ficus_ids.specs.Rising.{IsRisingBy};
 ghost use Rattle.ficus_ids.specs.declared.id.Id.{Id as IdValue};
 ghost use Rattle.ficus_entry.specs.declared.entry.Entry.{Entry as EntryValue};
@@ -10,7 +8,7 @@ ghost use Rattle.ficus_index.specs.Place.{IsNotedWithin};
 
 use crate::{Entries, Entry, InOrder};
 use ficus_ids::{Id, Memory, Name};
-use ficus_index::{Index, Place, REMOVED, Span, digest};
+use ficus_index::{DIGEST_END, Index, Place, Span, digest};
 
 /// To which objects an entry may lead.
 #[derive(Clone, Copy)]
@@ -132,18 +130,22 @@ impl Entries {
         ensures { IsTrue result ↔ HasLiveInside self.now dir }
     {
         let from = Place { dir, rank: 0 };
-        let to = Place { dir, rank: REMOVED };
+        let to = Place {
+            dir,
+            rank: DIGEST_END,
+        };
         self.first(from, to, &LiveIn { dir }).is_some()
     }
 
-    /// The identifiers of the entries that lie in the directory, live and removed ones, in order.
+    /// The identifiers of the entries that lie in the directory, live and removed ones, in order. It looks at each
+    /// entry once.
     pub fn inside(&self, dir: Id) -> Result<Vec<Id>, Memory>
         ensures entries { IfOk result (λ ids. (id : IdValue) → Contains ids.items id ↔ LiesInside self.now dir id) }
-        ensures rising { IfOk result (λ ids. IsStrictlySortedBy id_cmp ids.items) }
+        ensures rising { IfOk result (λ ids. IsRisingBy (λ (id : IdValue). id) ids.items) }
     {
-        let mut ids = self.noted_inside(dir)?;
-        ids.sort_unstable();
-        ids.dedup();
+        let in_order = self.in_order()?;
+        let mut ids = Vec::new(self.allocator());
+        note_inside(&mut ids, &in_order, dir)?;
         Ok(ids)
     }
 
@@ -155,18 +157,9 @@ impl Entries {
             → entry.state ≡ Live → entry.dir ≡ dir → Contains ids.items entry.id) }
     {
         let from = Place { dir, rank: 0 };
-        let to = Place { dir, rank: REMOVED };
-        noted_of(self, &self.index, self.index.span(from, to), dir)
-    }
-
-    // The same as `inside`, in the order of the index, perhaps some twice.
-    fn noted_inside(&self, dir: Id) -> Result<Vec<Id>, Memory>
-        ensures { IfOk result (λ ids. (id : IdValue) → Contains ids.items id ↔ LiesInside self.now dir id) }
-    {
-        let from = Place { dir, rank: 0 };
         let to = Place {
             dir,
-            rank: REMOVED + 1,
+            rank: DIGEST_END,
         };
         noted_of(self, &self.index, self.index.span(from, to), dir)
     }
@@ -282,6 +275,21 @@ fn is_other_name(entry: &Entry, dir: Id, name: &Name, target: Id) -> bool
     ensures { IsTrue result ↔ IsOtherName dir name.now target entry.now }
 {
     entry.is_live() && entry.target == target && !(entry.dir == dir && entry.name == *name)
+}
+
+// Puts the identifiers of the entries that lie in the directory into an empty list.
+fn note_inside(ids: &mut Vec<Id>, entries: &InOrder<'_>, dir: Id) -> Result<(), Memory>
+    requires { ids.old.items ≡ [] }
+    ensures entries { OnOk result ((id : IdValue) → Contains ids.new.items id ↔ LiesInside entries.now dir id) }
+    ensures rising { OnOk result (IsRisingBy (λ (id : IdValue). id) ids.new.items) }
+{
+    for index in 0..entries.len() {
+        let entry = entries.at(index);
+        if is_in(entry, dir) {
+            ids.push(entry.id)?;
+        }
+    }
+    Ok(())
 }
 
 // The identifiers that a span notes whose entries lie in the directory.

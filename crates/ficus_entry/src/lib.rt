@@ -9,6 +9,7 @@ mod kill_laws;
 mod killing;
 mod laws;
 mod note;
+mod replacing;
 mod row;
 
 pub use entries::Entries;
@@ -17,3 +18,4 @@ pub use in_order::InOrder;
 pub use inside::Leading;
 pub use kill_laws::only_its_own;
 pub use laws::{one_entry, same_entries};
+pub use row::SharedEntry;

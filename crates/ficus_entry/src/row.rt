@@ -1,40 +1,74 @@
-ghost use Rattle.std.specs.Prelude.{◌≡◌, Ok};
+ghost use Rattle.std.specs.Prelude.{◌≡◌, IfOk};
 
 use crate::Entry;
 use ficus_ids::{Id, Memory};
 use ficus_persistent::Item;
 use ficus_table::Row;
 use std::alloc::Global;
+use std::marker::Model;
+use std::rc::Rc;
 
-impl Item for Entry {
-    fn copied(&self) -> Result<Entry, Memory>
-        ensures { result ≡ Ok self.now }
+/// An entry that several lists may hold, in the same memory. Contracts see the entry.
+#[derive(Drop)]
+pub struct SharedEntry {
+    entry: Rc<Entry>,
+}
+
+impl Model for SharedEntry {
+    ghost use Rattle.ficus_entry.specs.declared.entry.Entry.{Entry as EntryValue};
+
+    ghost Value = { EntryValue };
+
+    ghost view = { λ s. s.entry.value };
+}
+
+impl SharedEntry {
+    /// An entry to share.
+    pub fn of(alloc: Global, entry: Entry) -> Result<SharedEntry, Memory>
+        ensures { IfOk result (λ shared. shared ≡ entry) }
     {
-        self.copy()
+        let entry = Rc::new(alloc, entry)?;
+        Ok(SharedEntry { entry })
+    }
+
+    /// The entry.
+    pub fn entry(&self) -> &Entry
+        ensures { result.now ≡ self.now }
+    {
+        self.entry.as_ref()
     }
 }
 
-impl Row for Entry {
+impl Item for SharedEntry {
+    fn copied(&self) -> Result<SharedEntry, Memory>
+        ensures { IfOk result (λ shared. shared ≡ self.now) }
+    {
+        let entry = self.entry.clone()?;
+        Ok(SharedEntry { entry })
+    }
+}
+
+impl Row for SharedEntry {
     type Seen = Entry;
 
     type Form = Entry;
 
-    ghost seen = { λ entry. entry };
+    ghost seen = { λ shared. shared };
 
-    ghost formed = { λ form entry. form };
+    ghost formed = { λ form shared. form };
 
     ghost id_of = { λ entry. entry.id };
 
     fn look(&self) -> &Entry {
-        self
+        self.entry()
     }
 
     fn formed<'a>(&'a self, form: &'a Entry) -> &'a Entry {
         form
     }
 
-    fn reformed(&self, _alloc: Global, form: &Entry) -> Result<Entry, Memory> {
-        form.copy()
+    fn reformed(&self, alloc: Global, form: &Entry) -> Result<SharedEntry, Memory> {
+        SharedEntry::of(alloc, form.copy()?)
     }
 
     fn id(item: &Entry) -> Id {

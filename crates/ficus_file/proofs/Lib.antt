@@ -1,5 +1,2 @@
 pub mod Changed
-pub mod Found
 pub mod Joined
-pub mod Overlaid
-pub mod Put

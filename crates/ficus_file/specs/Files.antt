@@ -1,8 +1,7 @@
 -- Lists of files.
-use Rattle.std.specs.Prelude.{◌≡◌, ◌≢◌, ◌⊎◌, ◌↔◌, ℕ, ◌<◌, List, length, Option, Some, slice_get, slice_set, Contains}
-use Rattle.std.specs.List.{HoldsAt}
+use Rattle.std.specs.Prelude.{◌≡◌, ◌≢◌, ℕ, List, Option, Some, slice_get, slice_set, Contains}
 use Rattle.ficus_ids.specs.declared.id.Id.{Id}
-use Rattle.ficus_ids.specs.Rising.{IsRisingBy, HoldsBy, HoldsUnderBy, IsPlaceBy}
+use Rattle.ficus_ids.specs.Rising.{IsRisingBy, HoldsBy, HoldsUnderBy}
 use Rattle.ficus_file.specs.declared.file.FileReplica.{FileReplica}
 use Rattle.ficus_file.specs.File.{IsWellFormed}
 
@@ -14,15 +13,15 @@ abbrev pub IsRising : List FileReplica → Type 0
 IsRising files = IsRisingBy id_of files
 
 -- it is well formed, and neither the root, `0.0`, nor the attic, `0.1`
-pub record IsHeldFile (file : FileReplica) : Type 0 where
+pub record IsSoundFile (file : FileReplica) : Type 0 where
   pub well_formed : IsWellFormed file
   pub not_root : file.id ≢ record { replica = 0; number = 0 }
   pub not_attic : file.id ≢ record { replica = 0; number = 1 }
 
--- what a replica may hold: the identifiers rise strictly, and each file may be held
+-- what a replica may hold: the identifiers rise strictly, and each file is sound
 pub record AreFiles (files : List FileReplica) : Type 0 where
   pub rising : IsRising files
-  pub each : (file : FileReplica) → Contains files file → IsHeldFile file
+  pub each : (file : FileReplica) → Contains files file → IsSoundFile file
 
 -- some file of the list has the identifier
 abbrev pub Holds : List FileReplica → Id → Type 0
@@ -31,23 +30,6 @@ Holds files id = HoldsBy id_of files id
 -- what the list holds under the identifier: a file, or nothing
 abbrev pub HoldsUnder : List FileReplica → Id → Option FileReplica → Type 0
 HoldsUnder files id found = HoldsUnderBy id_of files id found
-
--- a new file with the identifier goes in front of the file at this index
-abbrev pub IsPlace : List FileReplica → Id → ℕ → Type 0
-IsPlace files id index = IsPlaceBy id_of files id index
-
--- the item at this index has the identifier
-abbrev pub IsFoundAt : {X : Type 0} → (X → Id) → List X → Id → ℕ → Type 0
-IsFoundAt id_of items id index = (index < length items) × HoldsAt (λ item. id_of item ≡ id) items index
-
--- the new list holds the old items and this one
-abbrev pub Adds : {X : Type 0} → List X → List X → X → Type 0
-Adds old new item = (other : _) → Contains new other ↔ (Contains old other ⊎ (other ≡ item))
-
--- the new list holds this item, and those old ones that have other identifiers
-abbrev pub Puts : {X : Type 0} → (X → Id) → List X → List X → X → Type 0
-Puts id_of old new item =
-    (other : _) → Contains new other ↔ ((Contains old other × (id_of other ≢ id_of item)) ⊎ (other ≡ item))
 
 -- a file with the identifier for which this is true is in the list
 pub record HoldsFile (files : List FileReplica) (id : Id) (fits : FileReplica → Type 0) : Type 0 where

@@ -1,43 +1,37 @@
-ghost use Rattle.std.specs.Prelude.{◌≡◌, ◌≤◌, ◌<◌, [], length, slice_get, slice_set, Some, IfOk, IfErr, OnOk, OnErr};
+ghost use Rattle.std.specs.Prelude.{◌≡◌, ◌≤◌, ◌<◌, [], length, slice_get, slice_set, Some, IfOk, OnOk, OnErr};
 ghost use Rattle.std.specs.Option.{option_copied};
+ghost use Rattle.ficus_ids.specs.Rising.{Adds, PutsBy, ReplacesBy, LeavesOutBy};
 ghost use Rattle.ficus_file.specs.File.{advanced, covered_file, MayAdvance};
-ghost use Rattle.ficus_file.specs.Changes.{file_of};
-ghost use Rattle.ficus_file.specs.Files.{id_of, AreFiles, IsHeldFile, Holds, HoldsUnder, HoldsFile, IsFoundAt, IsPlace, Adds, Puts, IsChanged};
+ghost use Rattle.ficus_file.specs.Files.{id_of, AreFiles, IsSoundFile, IsRising, Holds, HoldsUnder, HoldsFile, IsChanged};
+ghost use Rattle.ficus_file.specs.declared.file.FileReplica.{FileReplica as FileValue};
 
 use crate::FileReplica;
-use crate::change::{Change, cover_at, place_of, put};
-use crate::held::Held;
-use crate::search::search;
+use crate::shared::{Form, SharedFile};
 use ficus_ids::{Id, Memory};
-use ficus_persistent::PersistentList;
+use ficus_table::{InOrder, Table};
 use std::alloc::Global;
 use std::marker::Model;
 
-// The room for changes is a multiple of this, so that an insert into a copy finds room, and one block serves after
-// the other.
-const ROOM: usize = 4096;
+/// All files in the order of their identifiers.
+pub type FilesInOrder<'a> = InOrder<'a, SharedFile>;
 
 /// Files and directories with different identifiers. Contracts see them as a list in which the identifiers rise
-/// strictly. A copy shares what it has with them. What changes without memory stands beside the list, in room that an
-/// earlier call reserved, until the next copy or insert.
+/// strictly. A copy shares what it has with them.
 #[derive(Drop)]
 pub struct Files {
-    pub(crate) list: PersistentList<Held>,
-    pub(crate) changes: Vec<Change>,
+    table: Table<SharedFile>,
 }
 
 impl Model for Files {
     ghost use Rattle.std.specs.Prelude.{List};
+    ghost use Rattle.ficus_file.specs.Files.{AreFiles};
     ghost use Rattle.ficus_file.specs.declared.file.FileReplica.{FileReplica as FileValue};
 
     ghost Value = { List FileValue };
 
-    ghost use Rattle.ficus_file.specs.Changes.{overlaid, IsSound};
-    ghost use Rattle.std.specs.Prelude.{vec_len, vec_capacity};
+    ghost view = { λ f. f.table.items };
 
-    ghost view = { λ f. overlaid f.changes.items f.list };
-
-    ghost invariant = { λ f. IsSound f.changes.items f.list (vec_len f.changes) (vec_capacity f.changes) };
+    ghost invariant = { λ f. AreFiles f.table.items };
 }
 
 impl Files {
@@ -46,9 +40,18 @@ impl Files {
         ensures { result ≡ [] }
     {
         Files {
-            list: PersistentList::new(),
-            changes: Vec::new(alloc),
+            table: Table::new(alloc),
         }
+    }
+
+    /// These files, whose identifiers rise strictly. It takes less time than to put one after the other.
+    pub fn of(alloc: Global, files: Vec<FileReplica>) -> Result<Files, Memory>
+        requires { AreFiles files.items }
+        ensures { IfOk result (λ held. held ≡ files.items) }
+    {
+        let rows = rows_of(alloc, files)?;
+        let table = Table::of(alloc, &rows)?;
+        Ok(Files { table })
     }
 
     /// How many files there are.
@@ -56,7 +59,7 @@ impl Files {
         ensures value { result ≡ length self.now }
         ensures files { AreFiles self.now }
     {
-        self.list.len()
+        self.table.len()
     }
 
     /// The file at a place in the order of identifiers, from 0. The place is below the length.
@@ -64,10 +67,7 @@ impl Files {
         requires { index < length self.now }
         ensures { slice_get self.now index ≡ Some result.now }
     {
-        match place_of(&self.changes, index) {
-            None => self.list.at(index).file(),
-            Some(place) => changed_file(&self.list, &self.changes[place]),
-        }
+        self.table.at(index)
     }
 
     /// The file with an identifier, or `None` exactly where no file has it.
@@ -75,10 +75,7 @@ impl Files {
         ensures found { HoldsUnder self.now id (option_copied result) }
         ensures files { AreFiles self.now }
     {
-        match self.search(id) {
-            Ok(index) => Some(self.at(index)),
-            Err(_) => None,
-        }
+        self.table.get(id)
     }
 
     /// The same files once more, with memory from where these have theirs.
@@ -86,33 +83,72 @@ impl Files {
         ensures same { IfOk result (λ files. files ≡ self.now) }
         ensures files { AreFiles self.now }
     {
-        let list = self.whole()?;
-        let room = (list.len() / ROOM).saturating_add(1).saturating_mul(ROOM);
-        let changes = Vec::with_capacity(self.allocator(), room)?;
-        Ok(Files { list, changes })
+        let table = self.table.copy()?;
+        Ok(Files { table })
+    }
+
+    /// The files in order, found in one walk: a look at one takes the same time wherever it stands, however many there
+    /// are.
+    pub fn in_order(&self) -> Result<FilesInOrder<'_>, Memory>
+        ensures same { IfOk result (λ files. files ≡ self.now) }
+        ensures files { AreFiles self.now }
+    {
+        self.table.in_order()
     }
 
     /// Adds a file whose identifier no file has. After `Memory` the files are as before.
     pub fn insert(&mut self, file: FileReplica) -> Result<(), Memory>
         requires new { Holds self.old file.id → ⊥ }
-        requires may { IsHeldFile file }
+        requires may { IsSoundFile file }
         ensures added { OnOk result (Adds self.old self.new file) }
         ensures kept { OnErr result (self.new ≡ self.old) }
         ensures files { AreFiles self.new }
     {
-        let list = self.putting(file)?;
-        self.hold(list)
+        self.put(file)
     }
 
     /// Adds a file, in place of the one with its identifier if there is one. After `Memory` the files are as before.
     pub fn put(&mut self, file: FileReplica) -> Result<(), Memory>
-        requires { IsHeldFile file }
-        ensures puts { OnOk result (Puts id_of self.old self.new file) }
+        requires { IsSoundFile file }
+        ensures puts { OnOk result (PutsBy id_of self.old self.new file) }
         ensures kept { OnErr result (self.new ≡ self.old) }
         ensures files { AreFiles self.new }
     {
-        let list = self.putting(file)?;
-        self.hold(list)
+        let row = SharedFile::of(self.table.allocator(), file)?;
+        self.put_row(row)
+    }
+
+    /// Adds files, whose identifiers rise strictly, each in place of the one with its identifier if there is one. Where
+    /// they are many it builds all anew in one walk, as [`Table::replace`] does. After `Memory` the files are as
+    /// before.
+    pub fn replace(&mut self, files: &[SharedFile]) -> Result<(), Memory>
+        requires { AreFiles files.now }
+        ensures replaced { OnOk result (ReplacesBy id_of self.old files.now self.new) }
+        ensures kept { OnErr result (self.new ≡ self.old) }
+        ensures files { AreFiles self.new }
+    {
+        self.table.replace(files)
+    }
+
+    /// The file with an identifier, which some file has. Files that take it in share with these what is behind it.
+    pub fn share(&self, id: Id) -> Result<SharedFile, Memory>
+        requires held { Holds self.now id }
+        ensures found { IfOk result (λ file. HoldsUnder self.now id (Some file)) }
+        ensures files { AreFiles self.now }
+    {
+        let Ok(index) = self.table.search(id) else {
+            unreachable!()
+        };
+        self.table.row(index)
+    }
+
+    /// The files whose identifiers are none of these.
+    pub fn without(&self, ids: &[Id]) -> Result<Files, Memory>
+        ensures left { IfOk result (LeavesOutBy id_of self.now ids.now) }
+        ensures files { IfOk result AreFiles }
+    {
+        let table = self.table.without(ids)?;
+        Ok(Files { table })
     }
 
     /// One version in place of all those of the file with the identifier: over them, by a replica, and with these
@@ -124,12 +160,11 @@ impl Files {
         ensures changed { IsChanged self.old self.new id (advanced by bytes.items) }
         ensures files { AreFiles self.new }
     {
-        let Ok(index) = self.search(id) else {
+        let Ok(index) = self.table.search(id) else {
             unreachable!()
         };
-        let file = self.at(index).advanced(by, bytes);
-        let file = Some(file);
-        put(&mut self.changes, Change { index, file });
+        let file = self.table.at(index).advanced(by, bytes);
+        self.table.edit(index, Form::Another(file));
     }
 
     /// Each version of the file with the identifier is covered. Takes no memory.
@@ -138,85 +173,56 @@ impl Files {
         ensures changed { IsChanged self.old self.new id covered_file }
         ensures files { AreFiles self.new }
     {
-        let Ok(index) = self.search(id) else {
+        let Ok(index) = self.table.search(id) else {
             unreachable!()
         };
-        cover_at(&mut self.changes, index);
+        cover_at(&mut self.table, index);
     }
 
-    /// From where these have their memory.
-    pub(crate) fn allocator(&self) -> Global {
-        *self.changes.allocator()
-    }
-
-    // The files in a list of their own.
-    fn whole(&self) -> Result<PersistentList<Held>, Memory>
-        ensures same { IfOk result (λ list. list ≡ self.now) }
-        ensures files { AreFiles self.now }
-    {
-        let alloc = self.allocator();
-        let mut list = self.list.copy()?;
-        let mut left = self.changes.len();
-        while left > 0 {
-            left -= 1;
-            let change = &self.changes[left];
-            let file = changed_file(&self.list, change);
-            let held = Held::of(alloc, file.copy(alloc)?)?;
-            list = list.put(alloc, change.index, held)?;
-        }
-        Ok(list)
-    }
-
-    // Holds these files from now on.
-    fn hold(&mut self, list: PersistentList<Held>) -> Result<(), Memory>
-        requires { AreFiles list }
-        ensures held { OnOk result (self.new ≡ list) }
+    // Adds a row, in place of the one with its identifier if there is one.
+    fn put_row(&mut self, row: SharedFile) -> Result<(), Memory>
+        requires { IsSoundFile row }
+        ensures puts { OnOk result (PutsBy id_of self.old self.new row) }
         ensures kept { OnErr result (self.new ≡ self.old) }
         ensures files { AreFiles self.new }
     {
-        self.changes.reserve(list.len())?;
-        self.changes.clear();
-        self.list = list;
-        Ok(())
-    }
-
-    // The files with this one, in place of the one with its identifier if there is one.
-    fn putting(&self, file: FileReplica) -> Result<PersistentList<Held>, Memory>
-        requires { IsHeldFile file }
-        ensures puts { IfOk result (λ list. Puts id_of self.now list file) }
-        ensures files { IfOk result AreFiles }
-        ensures were { AreFiles self.now }
-    {
-        let alloc = self.allocator();
-        let found = self.search(file.id);
-        let list = self.whole()?;
-        let held = Held::of(alloc, file)?;
-        match found {
-            Ok(index) => list.put(alloc, index, held),
-            Err(index) => list.insert(alloc, index, held),
-        }
-    }
-
-    // Where the file with the identifier is, or where one with it would go.
-    fn search(&self, id: Id) -> Result<usize, usize>
-        ensures found { IfOk result (IsFoundAt id_of self.now id) }
-        ensures place { IfErr result (IsPlace self.now id) }
-        ensures files { AreFiles self.now }
-    {
-        search(&self.list, id)
+        self.table.put(row)
     }
 }
 
-/// What the file of a list has become by a change.
-pub(crate) fn changed_file<'a>(
-    list: &'a PersistentList<Held>,
-    change: &'a Change,
-) -> &'a FileReplica
-    requires { change.now.index < length list.now }
-    ensures { result.now ≡ file_of change.now list.now }
+// The files in memory that copies share.
+fn rows_of(alloc: Global, files: Vec<FileReplica>) -> Result<Vec<SharedFile>, Memory>
+    ensures { IfOk result (λ rows. rows.items ≡ files.items) }
 {
-    match &change.file {
-        Some(file) => file,
-        None => list.at(change.index).covered(),
+    let mut rows = Vec::with_capacity(alloc, files.len())?;
+    for file in files {
+        rows.push(SharedFile::of(alloc, file)?)?;
     }
+    Ok(rows)
+}
+
+// The file at an index is covered, whether it was edited or not. Takes no memory.
+fn cover_at(table: &mut Table<SharedFile>, index: usize)
+    requires { index < length table.old.items }
+    ensures covered { (file : FileValue) → slice_get table.old.items index ≡ Some file
+        → table.new.items ≡ slice_set table.old.items index (covered_file file) }
+    ensures rising { IsRising table.new.items }
+{
+    match table.edit(index, Form::Covered) {
+        None => {}
+        Some(Form::Covered) => {}
+        Some(Form::Another(file)) => cover_again(table, index, file),
+    }
+}
+
+// In place of the covered row at an index stands this file, covered.
+fn cover_again(table: &mut Table<SharedFile>, index: usize, file: FileReplica)
+    requires within { index < length table.old.items }
+    requires same_id { (was : FileValue) → slice_get table.old.items index ≡ Some was → was.id ≡ file.id }
+    ensures covered { table.new.items ≡ slice_set table.old.items index (covered_file file) }
+    ensures rising { IsRising table.new.items }
+{
+    let mut covered = file;
+    covered.cover();
+    table.edit(index, Form::Another(covered));
 }

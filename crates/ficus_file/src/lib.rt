@@ -1,19 +1,19 @@
 //! Files: versions of their bytes, what is covered of them, and lists of them by identifier.
 #![tactic(auto)]
 
-mod change;
 mod file;
 mod files;
-mod held;
-mod in_order;
 mod laws;
-mod search;
+mod orphan;
+mod shared;
+mod showing;
 mod version;
 mod versions;
 
 pub use file::FileReplica;
-pub use files::Files;
-pub use in_order::FilesInOrder;
+pub use files::{Files, FilesInOrder};
 pub use laws::held_are_issued;
+pub use orphan::Orphan;
+pub use shared::SharedFile;
 pub use version::Version;
 pub use versions::Versions;

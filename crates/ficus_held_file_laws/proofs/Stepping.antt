@@ -7,9 +7,10 @@ use Rattle.ficus_ids.specs.RisingLaws.{one_item}
 use Rattle.ficus_ids.specs.declared.id.Id.{Id}
 use Rattle.ficus_ids.specs.declared.kind.Kind.{Kind}
 use Rattle.ficus_ids.specs.declared.kind.Kind.TheVariants.{Dir, Plain, Lines, Max, Keep}
+use Rattle.ficus_ids.specs.Rising.{Adds}
 use Rattle.ficus_vv.specs.VectorLaws.{count_of-none}
 use Rattle.ficus_file.specs.File.{made_file, first_versions, advanced, covered_file}
-use Rattle.ficus_file.specs.Files.{id_of, AreFiles, Adds, Holds, IsChanged}
+use Rattle.ficus_file.specs.Files.{id_of, AreFiles, Holds, IsChanged}
 use Rattle.ficus_file.specs.declared.file.FileReplica.{FileReplica}
 use Rattle.ficus_model.specs.declared.event.Op.{Op}
 use Rattle.ficus_model.specs.declared.event.Op.TheVariants.{Make}

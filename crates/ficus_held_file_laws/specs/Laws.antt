@@ -3,11 +3,12 @@ use Rattle.std.specs.Prelude.{◌≡◌, ◌↔◌, ◌≤◌, ℕ, List, ◌∷
 use Rattle.ficus_ids.specs.Members.{IsMember}
 use Rattle.ficus_ids.specs.declared.id.Id.{Id}
 use Rattle.ficus_ids.specs.declared.kind.Kind.{Kind}
+use Rattle.ficus_ids.specs.Rising.{Adds}
 use Rattle.ficus_vv.specs.Vector.{count_of}
 use Rattle.ficus_entry.specs.declared.entry.Entry.{Entry}
 use Rattle.ficus_entry.specs.declared.entry.State.TheVariants.{Live, Dead}
 use Rattle.ficus_file.specs.File.{HasUncovered, made_file, advanced, covered_file}
-use Rattle.ficus_file.specs.Files.{AreFiles, Adds, Holds, IsChanged}
+use Rattle.ficus_file.specs.Files.{AreFiles, Holds, IsChanged}
 use Rattle.ficus_file.specs.declared.file.FileReplica.{FileReplica}
 use Rattle.ficus_file.specs.declared.version.Version.{Version}
 use Rattle.ficus_model.specs.declared.event.Event.{Event}

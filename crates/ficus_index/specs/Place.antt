@@ -1,6 +1,6 @@
 -- Where identifiers stand in an index.
-use Rattle.std.specs.Prelude.{◌≡◌, ℕ, ◌+◌, ◌*◌, ◌^◌, ◌≤◌, ◌<◌, List, ◌∷◌, length, get_or, map, Contains}
-use Rattle.std.specs.List.{HoldsAt}
+use Rattle.std.specs.Prelude.{◌≡◌, ℕ, ◌+◌, ◌*◌, ◌^◌, ◌≤◌, ◌<◌, List, ◌∷◌, Bool, MatchBool, length, get_or, map, Contains}
+use Rattle.std.specs.List.{HoldsAt, filter}
 use Rattle.std.specs.List.Sorted.{IsNonDecreasingBy, IsPermutation}
 use Rattle.ficus_ids.specs.declared.id.Id.{Id}
 use Rattle.ficus_index.specs.declared.place.Note.{Note}
@@ -36,6 +36,14 @@ pub record TakesOne (notes : List Note) (note : Note) (fewer : List Note) : Type
   pub present : Contains notes note → IsPermutation notes (note ∷ fewer)
   pub absent : (Contains notes note → ⊥) → fewer ≡ notes
 
--- the notes are those of the rows, each as often
-abbrev pub AreNotesOf : {X : Type 0} → (X → Note) → List X → List Note → Type 0
-AreNotesOf note_of rows notes = ∥ IsPermutation (map note_of rows) notes ∥₁
+-- the notes are those of the rows that pass the test, each as often
+abbrev pub AreNotesOf : {X : Type 0} → (X → Bool) → (X → Note) → List X → List Note → Type 0
+AreNotesOf test note_of rows notes = ∥ IsPermutation (map note_of (filter test rows)) notes ∥₁
+
+-- the more are the notes with that of the row, if the row passes the test
+abbrev pub AddsRow : {X : Type 0} → (X → Bool) → (X → Note) → List Note → X → List Note → Type 0
+AddsRow test note_of notes row more = MatchBool (test row) (IsPermutation (note_of row ∷ notes) more) (more ≡ notes)
+
+-- the fewer are the notes without one of the row, if the row passes the test
+abbrev pub TakesRow : {X : Type 0} → (X → Bool) → (X → Note) → List Note → X → List Note → Type 0
+TakesRow test note_of notes row fewer = MatchBool (test row) (TakesOne notes (note_of row) fewer) (fewer ≡ notes)

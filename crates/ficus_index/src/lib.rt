@@ -8,4 +8,4 @@ mod rank;
 
 pub use index::{Index, Span};
 pub use place::{Note, Place};
-pub use rank::{REMOVED, digest};
+pub use rank::{DIGEST_END, digest};

@@ -10,17 +10,17 @@ const DIGEST_START: u64 = 2_166_136_261;
 
 const DIGEST_FACTOR: u64 = 16_777_619;
 
-/// A rank behind all digests, which have 32 bits.
-pub const REMOVED: u64 = 1 << 32;
+/// Above all digests, which have 32 bits.
+pub const DIGEST_END: u64 = 1 << 32;
 
 /// A number of 32 bits for a name. Other names may have the same.
 pub fn digest(name: &Name) -> u64
     ensures value { result ≡ digest_of name.now }
-    ensures small { result < REMOVED }
+    ensures small { result < DIGEST_END }
 {
     let mut digest = DIGEST_START;
     for byte in name.bytes() {
-        digest = (digest * DIGEST_FACTOR + u64::from(*byte)) % REMOVED;
+        digest = (digest * DIGEST_FACTOR + u64::from(*byte)) % DIGEST_END;
     }
     digest
 }

@@ -1,7 +1,9 @@
 mod Among
 mod ByDirectory
 mod Found
+mod Keyed
 mod Known
+mod Leads
 mod Listed
 mod Neighbours
 mod Order

@@ -1,15 +1,13 @@
 -- In bindings in order, a name that leads to several objects stands in neighbours.
 use Rattle.std.specs.Prelude.{◌≡◌, ◌⊎◌, ◌↔◌, ℕ, ◌+◌, ◌-◌, ◌<◌, Bool, List, length, slice_get, Some, IfSome, IsTrue}
-use Rattle.std.specs.declared.cmp.Ordering.TheVariants.{Less, Equal}
 use Rattle.std.specs.List.Sorted.{IsStrictlySortedBy}
 use Rattle.std.proofs.Common.{arith, get_or, sym, ap, ◌∙◌, subst, inl, inr}
-use Rattle.std.proofs.lemmas.Bool.{cases_order, cases_lt}
-use Rattle.std.proofs.lemmas.Cmp.{tied_itself}
+use Rattle.std.proofs.lemmas.Bool.{cases_order}
 use Rattle.std.proofs.lemmas.Option.{slice_get-get_or}
 use Rattle.std.proofs.lemmas.List.{get_or_default}
 use Rattle.std.proofs.lemmas.List.Elements.{Contains-get_or}
-use Rattle.std.proofs.lemmas.Map.Keys.{Less-from_sorted}
 use Rattle.ficus_model.specs.ShownNames.{HasOther}
+use Rattle.ficus_names.proofs.Keyed.{items_differ, next_has_key, previous_has_key}
 use Rattle.ficus_names.proofs.Order.{binding_cmp_total, same_name_between}
 use Rattle.ficus_names.specs.Binding.{Binds, binding_cmp}
 use Rattle.ficus_names.specs.declared.binding.Binding.{Binding}
@@ -33,10 +31,7 @@ module _ (bindings : List Binding) (rising : IsStrictlySortedBy binding_cmp bind
       (get_or bindings one d).target ≡ (get_or bindings other d).target → ⊥
   targets_differ one other d before within name target =
       let same : get_or bindings one d ≡ get_or bindings other d = λ i. record { name = name i; target = target i } in
-      let less = Less-from_sorted binding_cmp bindings one other d rising before within in
-      let tie : binding_cmp (get_or bindings one d) (get_or bindings other d) ≡ Equal =
-      ap (binding_cmp (get_or bindings one d)) (sym same) ∙ tied_itself binding_cmp_total (get_or bindings one d) in
-      cc (less, tie)
+      items_differ binding_cmp_total bindings rising one other d before within same
 
   pub shared_by_next : (index : ℕ) (d : Binding) → index + 1 < length bindings →
       (get_or bindings (index + 1) d).name ≡ (get_or bindings index d).name →
@@ -56,33 +51,6 @@ module _ (bindings : List Binding) (rising : IsStrictlySortedBy binding_cmp bind
     differs = λ equal. targets_differ (index - 1) index d (omega arith) within same equal;
   }
 
-  below : (one other : ℕ) (d : Binding) → one < other → other < length bindings →
-      binding_cmp (get_or bindings one d) (get_or bindings other d) ≡ Less
-  below one other d before within = Less-from_sorted binding_cmp bindings one other d rising before within
-
-  -- the next binding has the name that a later one has
-  next_has_name : (index later : ℕ) (d : Binding) → index < later → later < length bindings →
-      (get_or bindings later d).name ≡ (get_or bindings index d).name →
-      (get_or bindings (index + 1) d).name ≡ (get_or bindings index d).name
-  next_has_name index later d before within same =
-      elim (cases_lt (index + 1) later) as (λ _. (get_or bindings (index + 1) d).name ≡ (get_or bindings index d).name) [
-        | inl gap ↦ same_name_between (get_or bindings index d) (get_or bindings (index + 1) d)
-            (get_or bindings later d) (below index (index + 1) d (omega arith) (omega arith))
-            (below (index + 1) later d gap within) (sym same)
-        | inr beside ↦ let here : later ≡ index + 1 = omega arith in subst (λ k. (get_or bindings k d).name ≡ (get_or bindings index d).name) here same
-      ]
-
-  previous_has_name : (index earlier : ℕ) (d : Binding) → earlier < index → index < length bindings →
-      (get_or bindings earlier d).name ≡ (get_or bindings index d).name →
-      (get_or bindings (index - 1) d).name ≡ (get_or bindings index d).name
-  previous_has_name index earlier d before within same =
-      elim (cases_lt earlier (index - 1)) as (λ _. (get_or bindings (index - 1) d).name ≡ (get_or bindings index d).name) [
-        | inl gap ↦ same_name_between (get_or bindings earlier d) (get_or bindings (index - 1) d)
-            (get_or bindings index d) (below earlier (index - 1) d gap (omega arith))
-            (below (index - 1) index d (omega arith) within) same ∙ same
-        | inr beside ↦ let here : earlier ≡ index - 1 = omega arith in subst (λ k. (get_or bindings k d).name ≡ (get_or bindings index d).name) here same
-      ]
-
   -- where the name has another object, a neighbour has the name
   pub neighbour_has_name : (index : ℕ) (d : Binding) → index < length bindings →
       HasOther (Binds bindings) (get_or bindings index d).name (get_or bindings index d).target →
@@ -98,8 +66,8 @@ module _ (bindings : List Binding) (rising : IsStrictlySortedBy binding_cmp bind
         | inl same ↦ absurd (shared.differs (sym leads ∙ ap (λ k. (get_or bindings k d).target) same))
         | inr apart ↦
             elim apart [
-              | inl earlier ↦ inl (omega arith, previous_has_name index place d earlier within named)
-              | inr later ↦ inr (omega arith, next_has_name index place d later inside named)
+              | inl earlier ↦ inl (omega arith, previous_has_key binding_cmp_total bindings rising (λ b. b.name) same_name_between index place d earlier within named)
+              | inr later ↦ inr (omega arith, next_has_key binding_cmp_total bindings rising (λ b. b.name) same_name_between index place d later inside named)
             ]
       ]
 

@@ -1,5 +1,7 @@
 pub mod Binding
 pub mod Binds
+pub mod Clash
+pub mod ClashLaws
 pub mod Directories
 pub mod Find
 pub mod FindLaws

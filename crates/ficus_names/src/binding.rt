@@ -58,16 +58,6 @@ fn is_live_in(entry: &Entry, dir: Id) -> bool
     entry.is_live() && entry.dir == dir
 }
 
-/// The same bindings in order, each of them once.
-pub fn sorted(mut bindings: Vec<Binding>) -> Vec<Binding>
-    ensures same { (binding : Bound) → Contains result.items binding ↔ Contains bindings.items binding }
-    ensures rising { IsStrictlySortedBy binding_cmp result.items }
-{
-    bindings.sort_unstable();
-    bindings.dedup();
-    bindings
-}
-
 /// Whether the name of the binding at the index leads to another object too.
 pub fn is_shared(bindings: &[Binding], index: usize) -> bool
     requires rising { IsStrictlySortedBy binding_cmp bindings.now }

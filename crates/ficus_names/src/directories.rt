@@ -4,8 +4,9 @@ ghost use Rattle.ficus_names.specs.Binds.{BindsIn};
 ghost use Rattle.ficus_names.specs.Listing.{IsListing};
 ghost use Rattle.ficus_ids.specs.declared.id.Id.{Id as IdValue};
 
-use crate::binding::{Binding, sorted};
+use crate::binding::Binding;
 use crate::listing::{ShownName, listed};
+use crate::once::once_each;
 use ficus_entry::Entries;
 use ficus_ids::{Id, Memory};
 use std::alloc::Global;
@@ -50,7 +51,7 @@ impl Directories {
     pub fn shown(&self, alloc: Global, dir: Id) -> Result<Vec<ShownName>, Memory>
         ensures { IfOk result (λ names. IsListing (Binds (bindings_of self.now dir)) names.items) }
     {
-        let bindings = sorted(self.bindings_in(alloc, dir)?);
+        let bindings = once_each(self.bindings_in(alloc, dir)?);
         listed(alloc, &bindings)
     }
 

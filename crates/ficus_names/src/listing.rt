@@ -7,7 +7,8 @@ ghost use Rattle.ficus_names.specs.declared.listing.ShownName.{ShownName as Show
 ghost use Rattle.ficus_entry.specs.declared.entry.Entry.{Entry};
 ghost use Rattle.ficus_ids.specs.declared.id.Id.{Id as IdValue};
 
-use crate::binding::{Binding, bindings_in, is_shared, sorted};
+use crate::binding::{Binding, bindings_in, is_shared};
+use crate::once::once_each;
 use ficus_entry::Entries;
 use ficus_ids::{Id, Kind, Memory, Name};
 use std::alloc::Global;
@@ -38,7 +39,7 @@ pub struct Line {
 pub fn shown(alloc: Global, entries: &Entries, dir: Id) -> Result<Vec<ShownName>, Memory>
     ensures { IfOk result (λ names. IsListing (BindsIn entries.now dir) names.items) }
 {
-    let bindings = sorted(bindings_in(alloc, entries, dir)?);
+    let bindings = once_each(bindings_in(alloc, entries, dir)?);
     listed(alloc, &bindings)
 }
 

@@ -14,6 +14,15 @@ use Rattle.ficus_path.proofs.CutLaws.{IsFreeOf, cut_same}
 pub IsFreeOf-decimal : (s n : ℕ) → n < 2 ^ 64 → s < 48 → IsFreeOf s (decimal n)
 IsFreeOf-decimal s n fits low = All-from_get_or (λ byte. byte ≢ s) (decimal n) 0 (λ i h. λ e. omega (arith, decimal_at n fits i h))
 
+-- no slash stands in the spelling of an identifier
+pub IsFreeOf-id_text : (id : Id) → IsIssued id → IsFreeOf 47 (id_text id)
+IsFreeOf-id_text id issued =
+    let P = λ (byte : ℕ). byte ≢ 47 in
+    let replica = IsFreeOf-decimal 47 id.replica (omega (arith, issued.to_last)) (omega arith) in
+    let number = IsFreeOf-decimal 47 id.number (omega (arith, issued.fits)) (omega arith) in
+    All-append P (decimal id.replica) (46 ∷ decimal id.number) replica
+    (All-cons P 46 (decimal id.number) (λ e. omega arith) number)
+
 -- an identifier is cut at its point
 pub id_text_cut : (front rest : List ℕ) (id : Id) → IsIssued id → IsFreeOf 46 front → IsEndOr 46 rest →
     front ++ rest ≡ id_text id → (front ≡ decimal id.replica) × (rest ≡ 46 ∷ decimal id.number)

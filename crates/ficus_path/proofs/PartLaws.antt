@@ -1,7 +1,6 @@
 -- The spelling of a part: where it is cut, and that no two parts share one.
 use Rattle.std.proofs.Common.{◌≡◌, ◌≢◌, ℕ, ◌≤◌, List, ◌∷◌, ◌++◌, length, take, drop, ◌-◌, Option, Some, None, IfSome, All, refl, ◌∙◌, ap, arith}
 use Rattle.std.proofs.lemmas.List.Elements.{All-nil, All-cons, All-append, All-weaker}
-use Rattle.std.specs.Fmt.{decimal}
 use Rattle.ficus_ids.specs.declared.id.Id.{Id}
 use Rattle.ficus_ids.specs.Id.{id_text}
 use Rattle.ficus_ids.specs.Name.{IsName, IsNameByte}
@@ -9,7 +8,7 @@ use Rattle.ficus_path.specs.declared.path.Part.{Part}
 use Rattle.ficus_path.specs.Path.{IsIssued, IsPart}
 use Rattle.ficus_path.specs.Spelling.{name_text, target_text, component_text, IsEndOr}
 use Rattle.ficus_path.proofs.CutLaws.{IsFreeOf, cut_same, behind_first}
-use Rattle.ficus_path.proofs.IdLaws.{IsFreeOf-decimal, id_text_injective, id_text_visible}
+use Rattle.ficus_path.proofs.IdLaws.{IsFreeOf-id_text, id_text_injective, id_text_visible}
 use Rattle.ficus_path.proofs.NameLaws.{name_text_injective, IsFreeOf-name_text}
 
 -- no `#` stands in the spelling of a name
@@ -37,12 +36,7 @@ target_behind rest (Some id) issued e more = (id, issued, behind_first 35 (id_te
 IsFreeOf-target_text : (target : Option Id) → IfSome target IsIssued → IsFreeOf 47 (target_text target)
 IsFreeOf-target_text None issued = All-nil (λ byte. byte ≢ 47)
 IsFreeOf-target_text (Some id) issued =
-    let P = λ (byte : ℕ). byte ≢ 47 in
-    let replica = IsFreeOf-decimal 47 id.replica (omega (arith, issued.to_last)) (omega arith) in
-    let number = IsFreeOf-decimal 47 id.number (omega (arith, issued.fits)) (omega arith) in
-    All-cons P 35 (id_text id) (λ e. omega arith)
-    (All-append P (decimal id.replica) (46 ∷ decimal id.number) replica
-    (All-cons P 46 (decimal id.number) (λ e. omega arith) number))
+    All-cons (λ byte. byte ≢ 47) 35 (id_text id) (λ e. omega arith) (IsFreeOf-id_text id issued)
 
 pub IsFreeOf-component_text : (part : Part) → IsPart part → IsFreeOf 47 (component_text part)
 IsFreeOf-component_text part is_part =

@@ -4,14 +4,17 @@ use Rattle.std.specs.List.{AllByRecursion, flat_map}
 use Rattle.std.proofs.lemmas.List.{append_assoc, append-nil}
 use Rattle.std.proofs.lemmas.List.Concat.{flat_map-append}
 use Rattle.std.proofs.lemmas.List.Elements.{recursion_from_All, All-push, All-nil, All-cons, All-append}
+use Rattle.ficus_ids.specs.declared.id.Id.{Id}
+use Rattle.ficus_ids.specs.Id.{id_text}
 use Rattle.ficus_path.specs.declared.path.Base.{Base}
-use Rattle.ficus_path.specs.declared.path.Base.TheVariants.{Root}
+use Rattle.ficus_path.specs.declared.path.Base.TheVariants.{Root, Orphan}
 use Rattle.ficus_path.specs.declared.path.Part.{Part}
 use Rattle.ficus_path.specs.declared.path.Path.{Path}
-use Rattle.ficus_path.specs.Path.{IsPart, IsPath}
-use Rattle.ficus_path.specs.Spelling.{name_text, target_text, component_text, part_text, parts_text, path_text, IsEndOr}
-use Rattle.ficus_path.proofs.Lists.{cons_same, tail_same, All-flat_map}
+use Rattle.ficus_path.specs.Path.{IsBase, IsIssued, IsPart, IsPath}
+use Rattle.ficus_path.specs.Spelling.{name_text, target_text, component_text, part_text, path_text, start_text, IsEndOr}
+use Rattle.ficus_path.proofs.Lists.{cons_same, head_same, tail_same, All-flat_map}
 use Rattle.ficus_path.proofs.CutLaws.{IsFreeOf, cut_same, behind_first}
+use Rattle.ficus_path.proofs.IdLaws.{IsFreeOf-id_text, id_text_injective, id_text_visible}
 use Rattle.ficus_path.proofs.NameLaws.{name_text_not_empty, name_text_visible}
 use Rattle.ficus_path.proofs.PartLaws.{IsFreeOf-component_text, component_text_injective, target_text_visible}
 
@@ -66,27 +69,78 @@ no_empty_part part rest is_part e =
     name_text_not_empty part.name (target_text part.target ++ rest) is_part.name.not_empty
     (sym (append_assoc (name_text part.name) (target_text part.target) rest) ∙ e)
 
-parts_text_injective : (parts others : List Part) → AreParts parts → AreParts others →
-    parts_text parts ≡ parts_text others → parts ≡ others
-parts_text_injective [] [] are also e = refl
-parts_text_injective [] (other ∷ others) are also e = absurd (no_empty_part other (texts others) also.0 (sym (tail_same e)))
-parts_text_injective (part ∷ parts) [] are also e = absurd (no_empty_part part (texts parts) are.0 (tail_same e))
-parts_text_injective (part ∷ parts) (other ∷ others) are also e = texts_injective (part ∷ parts) (other ∷ others) are also e
+-- a path's text, of its base and its parts
+abbrev pub text_from : Base → List Part → List ℕ
+text_from base parts = start_text base parts ++ texts parts
 
-base_same : (base other : Base) → base ≡ other
-base_same Root Root = refl
+at_root_injective : (parts others : List Part) → AreParts parts → AreParts others →
+    text_from Root parts ≡ text_from Root others → parts ≡ others
+at_root_injective [] [] are also e = refl
+at_root_injective [] (other ∷ others) are also e = absurd (no_empty_part other (texts others) also.0 (sym (tail_same e)))
+at_root_injective (part ∷ parts) [] are also e = absurd (no_empty_part part (texts parts) are.0 (tail_same e))
+at_root_injective (part ∷ parts) (other ∷ others) are also e = texts_injective (part ∷ parts) (other ∷ others) are also e
 
-path_same : (path other : Path) → path.parts ≡ other.parts → path ≡ other
-path_same path other e =
+-- the text of a path that begins at the root begins with a slash, and with no tilde
+pub at_root_begins : (parts : List Part) → (rest : List ℕ) × (text_from Root parts ≡ 47 ∷ rest)
+at_root_begins [] = ([], refl)
+at_root_begins (part ∷ parts) = (component_text part ++ texts parts, refl)
+
+no_tilde : (parts : List Part) (rest : List ℕ) → text_from Root parts ≡ 126 ∷ rest → ⊥
+no_tilde parts rest e =
+    let begins = at_root_begins parts in
+    absurd (omega (arith, head_same (sym begins.1 ∙ e)))
+
+-- an identifier and parts behind it are cut at the first slash
+pub orphan_cut : (id : Id) (parts : List Part) (front rest : List ℕ) → IsIssued id → IsFreeOf 47 front →
+    IsEndOr 47 rest → front ++ rest ≡ id_text id ++ texts parts → (front ≡ id_text id) × (rest ≡ texts parts)
+orphan_cut id parts front rest issued free end e =
+    cut_same 47 front rest (id_text id) (texts parts) free end (IsFreeOf-id_text id issued) (IsEndOr-texts parts) e
+
+text_injective : (base other : Base) (parts others : List Part) → IsBase base → IsBase other → AreParts parts →
+    AreParts others → text_from base parts ≡ text_from other others → (base ≡ other) × (parts ≡ others)
+text_injective Root Root parts others is_base also are all e = (refl, at_root_injective parts others are all e)
+text_injective Root (Orphan other) parts others is_base also are all e =
+    absurd (no_tilde parts (id_text other ++ texts others) e)
+text_injective (Orphan id) Root parts others is_base also are all e =
+    absurd (no_tilde others (id_text id ++ texts parts) (sym e))
+text_injective (Orphan id) (Orphan other) parts others is_base also are all e =
+    let cut = orphan_cut other others (id_text id) (texts parts) also (IsFreeOf-id_text id is_base) (IsEndOr-texts parts)
+    (tail_same e) in
+    (ap Orphan (id_text_injective id other is_base also cut.0), texts_injective parts others are all cut.1)
+
+-- behind the tilde of a path stand the identifier of an orphan, and the parts
+pub record BeginsAtOrphan (path : Path) (front rest : List ℕ) : Type 0 where
+  pub orphan : Id
+  pub issued : IsIssued orphan
+  pub identifier : front ≡ id_text orphan
+  pub parts : rest ≡ texts path.parts
+
+orphan_of : (base : Base) (parts : List Part) (front rest : List ℕ) → IsBase base → IsFreeOf 47 front →
+    IsEndOr 47 rest → 126 ∷ (front ++ rest) ≡ text_from base parts →
+    (id : Id) × IsIssued id × (front ≡ id_text id) × (rest ≡ texts parts)
+orphan_of Root parts front rest is_base free end e = absurd (no_tilde parts (front ++ rest) (sym e))
+orphan_of (Orphan id) parts front rest is_base free end e =
+    let cut = orphan_cut id parts front rest is_base free end (tail_same e) in
+    (id, is_base, cut.0, cut.1)
+
+pub behind_tilde : (path : Path) (behind front rest : List ℕ) → IsPath path → IsFreeOf 47 front → IsEndOr 47 rest →
+    behind ≡ front ++ rest → 126 ∷ behind ≡ path_text path → BeginsAtOrphan path front rest
+behind_tilde path behind front rest is_path free end cut e =
+    let found = orphan_of path.base path.parts front rest is_path.base free end (ap (λ t. 126 ∷ t) (sym cut) ∙ e) in
+    record { orphan = found.0; issued = found.1; identifier = found.2; parts = found.3 }
+
+path_same : (path other : Path) → path.base ≡ other.base → path.parts ≡ other.parts → path ≡ other
+path_same path other e f =
     let with_base = λ (base : Base). let made : Path = record { base = base; parts = path.parts } in made in
     let with_parts = λ (parts : List Part). let made : Path = record { base = other.base; parts = parts } in made in
-    ap with_base (base_same path.base other.base) ∙ ap with_parts e
+    ap with_base e ∙ ap with_parts f
 
 pub path_text_injective : (path other : Path) → IsPath path → IsPath other → path_text path ≡ path_text other →
     path ≡ other
 path_text_injective path other is_path also e =
-    path_same path other (parts_text_injective path.parts other.parts
-    (recursion_from_All IsPart path.parts is_path.each) (recursion_from_All IsPart other.parts also.each) e)
+    let same = text_injective path.base other.base path.parts other.parts is_path.base also.base
+    (recursion_from_All IsPart path.parts is_path.each) (recursion_from_All IsPart other.parts also.each) e in
+    path_same path other same.0 same.1
 
 -- the text is the spelling of these parts, and a rest that may go on with more
 pub record IsReadTo (text : List ℕ) (parts : List Part) (rest : List ℕ) : Type 0 where
@@ -169,11 +223,17 @@ part_text_visible part is_part =
     (All-append P (name_text part.name) (target_text part.target)
     (name_text_visible part.name) (target_text_visible part.target is_part.target))
 
-parts_text_visible : (parts : List Part) → All IsPart parts → All (λ byte. 33 ≤ byte) (parts_text parts)
-parts_text_visible [] all =
+start_text_visible : (base : Base) (parts : List Part) → IsBase base → All (λ byte. 33 ≤ byte) (start_text base parts)
+start_text_visible Root [] is_base =
     let P = λ (byte : ℕ). 33 ≤ byte in
     All-cons P 47 [] (omega arith) (All-nil P)
-parts_text_visible (part ∷ parts) all = All-flat_map (λ byte. 33 ≤ byte) IsPart part_text part_text_visible (part ∷ parts) all
+start_text_visible Root (part ∷ parts) is_base = All-nil (λ byte. 33 ≤ byte)
+start_text_visible (Orphan id) parts is_base =
+    All-cons (λ byte. 33 ≤ byte) 126 (id_text id) (omega arith) (id_text_visible id is_base)
 
 pub path_text_visible : (path : Path) → IsPath path → All (λ byte. 33 ≤ byte) (path_text path)
-path_text_visible path is_path = parts_text_visible path.parts is_path.each
+path_text_visible path is_path =
+    let P = λ (byte : ℕ). 33 ≤ byte in
+    All-append P (start_text path.base path.parts) (texts path.parts)
+    (start_text_visible path.base path.parts is_path.base)
+    (All-flat_map P IsPart part_text part_text_visible path.parts is_path.each)

@@ -2,6 +2,8 @@
 use Rattle.std.specs.Prelude.{codes, ℕ, ◌≡◌, ◌≢◌, ◌≤◌, ◌<◌, ◌^◌, List, [], ◌∷◌, ◌++◌, length, All, None, IfSome}
 use Rattle.ficus_ids.specs.declared.id.Id.{Id}
 use Rattle.ficus_ids.specs.Name.{IsName}
+use Rattle.ficus_path.specs.declared.path.Base.{Base}
+use Rattle.ficus_path.specs.declared.path.Base.TheVariants.{Root, Orphan}
 use Rattle.ficus_path.specs.declared.path.Part.{Part}
 use Rattle.ficus_path.specs.declared.path.Path.{Path}
 use Rattle.ficus_path.specs.declared.path.PathFault.{PathFault}
@@ -18,7 +20,13 @@ pub record IsPart (part : Part) : Type 0 where
   pub name : IsName part.name
   pub target : IfSome part.target IsIssued
 
+-- the root, or an orphan of such an identifier
+abbrev pub IsBase : Base → Type 0
+IsBase Root = Unit {0}
+IsBase (Orphan id) = IsIssued id
+
 pub record IsPath (path : Path) : Type 0 where
+  pub base : IsBase path.base
   pub within_limit : length path.parts ≤ 32
   pub each : All IsPart path.parts
 

@@ -4,6 +4,8 @@ use Rattle.std.specs.List.{flat_map}
 use Rattle.std.specs.Fmt.{digit_glyph}
 use Rattle.ficus_ids.specs.declared.id.Id.{Id}
 use Rattle.ficus_ids.specs.Id.{id_text}
+use Rattle.ficus_path.specs.declared.path.Base.{Base}
+use Rattle.ficus_path.specs.declared.path.Base.TheVariants.{Root, Orphan}
 use Rattle.ficus_path.specs.declared.path.Part.{Part}
 use Rattle.ficus_path.specs.declared.path.Path.{Path}
 
@@ -38,13 +40,16 @@ component_text part = name_text part.name ++ target_text part.target
 abbrev pub part_text : Part → List ℕ
 part_text part = 47 ∷ component_text part
 
--- a slash where there is no part, else the parts one after the other
-abbrev pub parts_text : List Part → List ℕ
-parts_text [] = 47 ∷ []
-parts_text (part ∷ parts) = flat_map part_text (part ∷ parts)
+-- what stands before the parts: nothing at the root, or a slash where there is no part; a tilde (126) and the
+-- identifier at an orphan
+abbrev pub start_text : Base → List Part → List ℕ
+start_text Root [] = 47 ∷ []
+start_text Root (part ∷ parts) = []
+start_text (Orphan id) parts = 126 ∷ id_text id
 
+-- the start, and the parts one after the other
 abbrev pub path_text : Path → List ℕ
-path_text path = parts_text path.parts
+path_text path = start_text path.base path.parts ++ flat_map part_text path.parts
 
 -- the text is at its end, or goes on with the separator
 abbrev pub IsEndOr : ℕ → List ℕ → Type 0

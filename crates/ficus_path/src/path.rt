@@ -15,6 +15,8 @@ pub const PART_LIMIT: usize = 32;
 pub enum Base {
     /// At the root of the volume.
     Root,
+    /// At the orphan of this identifier, which no live entry names.
+    Orphan(Id),
 }
 
 /// One step of a path: the entry of this name in the directory reached so far. Where several live entries of

@@ -1,4 +1,4 @@
-ghost use Rattle.std.specs.Prelude.{◌≡◌, ◌≤◌, List, All, length, vec_len, IfOk, IsErrOf};
+ghost use Rattle.std.specs.Prelude.{◌≡◌, ◌≤◌, List, ◌∷◌, All, length, vec_len, IfOk, IsErrOf};
 ghost use Rattle.std.specs.List.{flat_map};
 ghost use Rattle.ficus_path.specs.declared.path.Part.{Part};
 ghost use Rattle.ficus_path.specs.declared.path.Path.{Path};
@@ -6,6 +6,7 @@ ghost use Rattle.ficus_path.specs.Path.{IsPart, IsPath};
 ghost use Rattle.ficus_path.specs.Spelling.{part_text, path_text, IsEndOr};
 
 use crate::cut::cut_before;
+use crate::id::read_id;
 use crate::part::read_component;
 use crate::path::{Base, PART_LIMIT, Part, Path, PathFault};
 use ficus_ids::Listed;
@@ -19,6 +20,20 @@ pub fn read_path(alloc: Global, bytes: &[u8]) -> Result<Path, PathFault>
     ensures not_path { IsErrOf result PathFault.NotPath →
         (path : Path) → IsPath path → bytes.now ≡ path_text path → ⊥ }
 {
+    if let [b'~', behind @ ..] = bytes {
+        path_at_orphan(alloc, behind)
+    } else {
+        path_at_root(alloc, bytes)
+    }
+}
+
+// What `read_path` answers of a path that begins at the root.
+fn path_at_root(alloc: Global, bytes: &[u8]) -> Result<Path, PathFault>
+    ensures path { IfOk result IsPath }
+    ensures spelling { IfOk result (λ path. bytes.now ≡ path_text path) }
+    ensures not_path { IsErrOf result PathFault.NotPath →
+        (path : Path) → IsPath path → path.base ≡ Base.Root → bytes.now ≡ path_text path → ⊥ }
+{
     let parts = match bytes {
         [b'/'] => Vec::new(alloc),
         [b'/', ..] => read_parts(alloc, bytes)?,
@@ -26,6 +41,24 @@ pub fn read_path(alloc: Global, bytes: &[u8]) -> Result<Path, PathFault>
     };
     Ok(Path {
         base: Base::Root,
+        parts: Listed::of(parts),
+    })
+}
+
+// What `read_path` answers of a path that begins at an orphan, behind its tilde.
+fn path_at_orphan(alloc: Global, behind: &[u8]) -> Result<Path, PathFault>
+    ensures path { IfOk result IsPath }
+    ensures spelling { IfOk result (λ path. 126 ∷ behind.now ≡ path_text path) }
+    ensures not_path { IsErrOf result PathFault.NotPath →
+        (path : Path) → IsPath path → 126 ∷ behind.now ≡ path_text path → ⊥ }
+{
+    let (id, rest) = cut_before(behind, b'/');
+    let Some(orphan) = read_id(id) else {
+        return Err(PathFault::NotPath);
+    };
+    let parts = read_parts(alloc, rest)?;
+    Ok(Path {
+        base: Base::Orphan(orphan),
         parts: Listed::of(parts),
     })
 }

@@ -1,5 +1,3 @@
-mod Adding
-mod Steps
+pub mod Changes
 mod Determined
-pub mod Replaced
 pub mod Rows

@@ -1,10 +1,9 @@
 //! The merge of two replicas' directory entries: the merge table, entry by entry.
 #![tactic(auto)]
 
+mod change;
 mod laws;
 mod merge;
-mod rule;
-mod rules;
 mod table;
 
 pub use laws::one_merge;

@@ -1,17 +1,19 @@
-ghost use Rattle.std.specs.Prelude.{◌≡◌, IfOk, OnOk};
+ghost use Rattle.std.specs.Prelude.{◌≡◌, [], ◌++◌, IfOk, OnOk};
 ghost use Rattle.ficus_ids.specs.Members.{IsMember};
+ghost use Rattle.ficus_table.specs.Made.{IsMadeBy};
+ghost use Rattle.ficus_table.specs.SideBySide.{as_list};
 ghost use Rattle.ficus_entry.specs.Entry.{IsRising};
-ghost use Rattle.ficus_recon_dir.specs.Merge.{MergesEntries, Replaces};
+ghost use Rattle.ficus_recon_dir.specs.Merge.{Changes, MergesEntries};
 
-use crate::rule::made_by;
-use crate::rules::{Difference, Whole};
+use crate::change::change;
 use crate::table::Taker;
-use ficus_entry::{Entries, Entry};
+use ficus_entry::{Entries, InOrder, SharedEntry};
 use ficus_ids::{Members, Memory};
+use ficus_table::SideBySide;
 use std::alloc::Global;
 
 /// What replica `me` holds after it has taken a peer's entries: the merge table, entry by entry. `me` is a
-/// member. Where little changes, all else is shared with what it held.
+/// member. Where little changes, all else is shared with what it held, and what is the peer's with the peer's.
 pub fn merge_entries(
     alloc: Global,
     mine: &Entries,
@@ -23,52 +25,56 @@ pub fn merge_entries(
     ensures merged { IfOk result (MergesEntries me members mine.now theirs.now) }
     ensures rising { IfOk result IsRising }
 {
+    let changes = changes(alloc, Taker::new(me, members), mine, theirs)?;
+    mine.replaced(&changes)
+}
+
+// What becomes of the taker's entries, where it isn't what stands there.
+fn changes(
+    alloc: Global,
+    taker: Taker,
+    mine: &Entries,
+    theirs: &Entries,
+) -> Result<Vec<SharedEntry>, Memory>
+    ensures made { IfOk result (λ changes.
+        IsMadeBy (λ entry. entry.id) (Changes taker.number taker.members) mine.now theirs.now changes.items) }
+    ensures rising { IfOk result (λ changes. IsRising changes.items) }
+{
     let my_entries = mine.in_order()?;
     let their_entries = theirs.in_order()?;
-    let rule = Difference {
-        taker: Taker::new(me, members),
-    };
-    let changes = made_by(alloc, 0, &rule, &my_entries, &their_entries)?;
-    let count = changes.len();
-    if !are_many(count, mine.len()) {
-        return replaced(mine, &changes);
+    let mut changes = Vec::new(alloc);
+    collect(&mut changes, taker, theirs, &my_entries, &their_entries)?;
+    Ok(changes)
+}
+
+// Puts these into an empty list.
+fn collect(
+    changes: &mut Vec<SharedEntry>,
+    taker: Taker,
+    theirs: &Entries,
+    my_entries: &InOrder<'_>,
+    their_entries: &InOrder<'_>,
+) -> Result<(), Memory>
+    requires none { changes.old.items ≡ [] }
+    requires same { theirs.now ≡ their_entries.now }
+    ensures made { OnOk result (IsMadeBy (λ entry. entry.id) (Changes taker.number taker.members)
+        my_entries.now their_entries.now changes.new.items) }
+    ensures rising { OnOk result (IsRising changes.new.items) }
+{
+    let alloc = *changes.allocator();
+    let mut walk = SideBySide::of(my_entries.rows(), their_entries.rows());
+    while let Some(pair) = walk.next_pair() {
+        note(changes, change(alloc, taker, pair, theirs)?)?;
     }
-    drop(changes);
-    let rule = Whole {
-        taker: Taker::new(me, members),
-    };
-    let room = mine.len().saturating_add(count);
-    let merged = made_by(alloc, room, &rule, &my_entries, &their_entries)?;
-    Entries::of(alloc, &merged)
+    Ok(())
 }
 
-// Whether so many changes to entries of this count take longer, one by one, than to build all entries anew: each
-// makes a way down the nodes anew, in which there are about as many as the count has binary digits.
-fn are_many(changes: usize, count: usize) -> bool {
-    changes > count / 16
-}
-
-// The entries with these in place of those that have their identifiers.
-fn replaced(entries: &Entries, changes: &[Entry]) -> Result<Entries, Memory>
-    requires { IsRising changes.now }
-    ensures replaces { IfOk result (Replaces entries.now changes.now) }
-    ensures rising { IfOk result IsRising }
+// Puts an entry, if there is one, behind the others.
+fn note(changes: &mut Vec<SharedEntry>, entry: Option<SharedEntry>) -> Result<(), Memory>
+    ensures { OnOk result (changes.new.items ≡ changes.old.items ++ as_list entry) }
 {
-    let mut replaced = entries.copy()?;
-    replace(&mut replaced, changes)?;
-    Ok(replaced)
-}
-
-// Puts these in place of those that have their identifiers.
-fn replace(entries: &mut Entries, changes: &[Entry]) -> Result<(), Memory>
-    requires { IsRising changes.now }
-    ensures replaces { OnOk result (Replaces entries.old changes.now entries.new) }
-    ensures rising { OnOk result (IsRising entries.new) }
-{
-    // Tells that the identifiers rise.
-    let _count = entries.len();
-    for change in changes {
-        entries.put(change.copy()?)?;
+    if let Some(entry) = entry {
+        changes.push(entry)?;
     }
     Ok(())
 }

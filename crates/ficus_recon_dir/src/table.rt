@@ -33,22 +33,8 @@ impl Taker {
         }
     }
 
-    /// What stands at the taker afterwards, by what stood there and what stands at the peer.
-    pub(crate) fn merge_entry(
-        self,
-        mine: Option<&Entry>,
-        theirs: Option<&Entry>,
-    ) -> Result<Option<Entry>, Memory>
-        ensures { IfOk result (MergesEntry self.number self.members
-            (option_copied mine.entry) (option_copied theirs.entry)) }
-    {
-        match (mine.or(theirs), self.state(mine, theirs)) {
-            (Some(entry), Some(state)) => Ok(Some(with_state(entry, state)?)),
-            _ => Ok(None),
-        }
-    }
-
-    /// The same, or nothing where it is what stands at the taker.
+    /// What stands at the taker afterwards, by what stood there and what stands at the peer, or nothing where it is
+    /// what stood there.
     pub(crate) fn change(
         self,
         mine: Option<&Entry>,

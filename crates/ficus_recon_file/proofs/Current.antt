@@ -14,7 +14,7 @@ use Rattle.ficus_ids.specs.declared.kind.Kind.TheVariants.{Dir, Plain, Lines, Ma
 use Rattle.ficus_file.specs.declared.file.FileReplica.{FileReplica}
 use Rattle.ficus_file.specs.Version.{AreCurrent}
 use Rattle.ficus_file.specs.File.{IsWellFormed}
-use Rattle.ficus_file.specs.Files.{IsHeldFile}
+use Rattle.ficus_file.specs.Files.{IsSoundFile}
 use Rattle.ficus_recon_file.specs.Versions.{IsLatest, IsOfEither, IsKept, AreOrdered, AreMerged, HaveOneText}
 use Rattle.ficus_recon_file.specs.Merge.{AgreeOnBytes, CanMerge}
 
@@ -150,9 +150,9 @@ none_inside [] none = refl
 none_inside (first ∷ later) none = absurd (none first (here first later))
 
 -- and what two of them make together is well formed
-pub merged_held : (mine theirs both : FileReplica) → IsHeldFile mine → IsHeldFile theirs → CanMerge mine theirs →
+pub merged_held : (mine theirs both : FileReplica) → IsSoundFile mine → IsSoundFile theirs → CanMerge mine theirs →
     both.id ≡ mine.id → both.kind ≡ mine.kind → AreMerged mine.versions theirs.versions both.versions →
-    IsHeldFile both
+    IsSoundFile both
 merged_held mine theirs both held others can same_id same_kind merged = record {
   well_formed = record {
     directory = λ dir.
@@ -170,7 +170,7 @@ merged_held mine theirs both held others can same_id same_kind merged = record {
     nothing is version (inl inside) = not_inside_none version (subst (λ l. Contains l version) (held.well_formed.directory is) inside)
     nothing is version (inr inside) = not_inside_none version (subst (λ l. Contains l version) (others.well_formed.directory (sym can.kind ∙ is)) inside)
 
-pub text_of_files : (mine theirs : FileReplica) → IsHeldFile mine → IsHeldFile theirs → CanMerge mine theirs →
+pub text_of_files : (mine theirs : FileReplica) → IsSoundFile mine → IsSoundFile theirs → CanMerge mine theirs →
     HaveOneText mine.versions theirs.versions
 text_of_files mine theirs held others can =
     one_text mine.versions theirs.versions (ordered_of mine held.well_formed) (ordered_of theirs others.well_formed) can.agree

@@ -3,15 +3,14 @@ use Rattle.std.proofs.Common.{◌≡◌, inl, inr, ℕ, ◌+◌, List, [], ◌�
 use Rattle.std.proofs.lemmas.List.Elements.{Contains-append_cases}
 use Rattle.ficus_ids.specs.ListLaws.{here_or_there, not_inside_none}
 use Rattle.ficus_file.specs.declared.file.FileReplica.{FileReplica}
-use Rattle.ficus_file.specs.Files.{IsRising}
 use Rattle.ficus_recon_file.specs.Merge.{CanMerge, Fit}
-use Rattle.ficus_recon_file.proofs.Walk.{take_next}
+use Rattle.ficus_touched.proofs.Kept.{take_next}
 
 pub fits_more : (mine theirs : List FileReplica) (i : ℕ) (their : FileReplica) → slice_get theirs i ≡ Some their →
-    IsRising mine → Fit mine (take i theirs) →
+    Fit mine (take i theirs) →
     ((file : FileReplica) → Contains mine file → file.id ≡ their.id → CanMerge file their) →
     Fit mine (take (i + 1) theirs)
-fits_more mine theirs i their at rising before now = record {
+fits_more mine theirs i their at before now = record {
   each = λ file other inside inside_too same. elim (Contains-append_cases (take i theirs) (their ∷ []) other (subst (λ l. Contains l other) next inside_too)) [
     | inl early ↦ before.each file other inside early same
     | inr last ↦ elim (here_or_there their other [] last) [

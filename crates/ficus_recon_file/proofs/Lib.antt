@@ -1,4 +1,3 @@
-pub mod Among
 pub mod Beside
 pub mod Counted
 pub mod Current
@@ -8,3 +7,4 @@ pub mod Inserted
 pub mod Kept
 pub mod New
 pub mod Walk
+pub mod Taking

@@ -1,5 +1,5 @@
 -- What is new of a peer's files tells all that a merge asks of them: what both hold alike changes nothing.
-use Rattle.std.proofs.Common.{◌≡◌, ◌⊎◌, ℕ, ◌≤◌, List, length, get_or, Contains, Option, Some, None, refl, sym, ap, subst, ◌∙◌, inl, inr, arith}
+use Rattle.std.proofs.Common.{◌≡◌, ℕ, ◌≤◌, List, length, get_or, slice_get, Contains, Option, Some, None, refl, sym, ap, subst, ◌∙◌, inl, inr}
 use Rattle.std.proofs.lemmas.Bool.{cases_order}
 use Rattle.std.proofs.lemmas.List.{get_or_default}
 use Rattle.ficus_ids.specs.declared.id.Id.{Id}
@@ -8,13 +8,14 @@ use Rattle.ficus_ids.specs.declared.kind.Kind.TheVariants.{Dir, Plain, Lines, Ma
 use Rattle.ficus_ids.specs.ListLaws.{not_inside_none}
 use Rattle.ficus_ids.specs.RisingLaws.{one_item, one_held}
 use Rattle.ficus_vv.specs.Vector.{IsOver}
-use Rattle.ficus_vv.specs.VectorLaws.{before_over, vector_cmp_total, not_before_itself, covers_itself, join_covered}
+use Rattle.ficus_vv.specs.VectorLaws.{covers_itself, join_covered}
 use Rattle.ficus_file.specs.declared.file.FileReplica.{FileReplica}
 use Rattle.ficus_file.specs.declared.version.Version.{Version}
 use Rattle.ficus_file.specs.Version.{AreCurrent}
 use Rattle.ficus_file.specs.File.{IsWellFormed}
-use Rattle.ficus_file.specs.Files.{id_of, AreFiles, IsHeldFile, HoldsUnder, Holds}
-use Rattle.ficus_recon_file.specs.Versions.{HasOver, IsLatest, IsKept, AreMerged}
+use Rattle.ficus_file.specs.Files.{id_of, AreFiles, HoldsUnder}
+use Rattle.ficus_file.proofs.Changed.{contains_at}
+use Rattle.ficus_recon_file.specs.Versions.{HasOver, AreMerged}
 use Rattle.ficus_recon_file.specs.Merge.{CanMerge, Fit, IsMergedFile, Merges, AreMergedFiles}
 use Rattle.ficus_recon_file.specs.News.{AreNew}
 use Rattle.ficus_recon_file.proofs.Current.{one_version, ordered_of, few_of}
@@ -32,7 +33,8 @@ none_is_over file well a b has_a has_b over = by_kind file.kind refl
         let at_a : get_or file.versions i a ≡ a = has_a.2 in
         let at_b : get_or file.versions j a ≡ b = get_or_default file.versions j a b has_b.1 ∙ has_b.2 in
         elim (cases_order i j) [
-          | inl here ↦ over.differ (ap (λ (v : Version). v.vector) (sym at_a ∙ ap (λ k. get_or file.versions k a) here ∙ at_b))
+          | inl here ↦ over.differ
+              (ap (λ (v : Version). v.vector) (sym at_a ∙ ap (λ k. get_or file.versions k a) here ∙ at_b))
           | inr (inl before) ↦ (current.apart i j a before has_b.1).not_covering
               (rw (at_a, at_b) over.covers)
           | inr (inr behind) ↦ (current.apart j i a behind has_a.1).not_covered
@@ -67,9 +69,11 @@ pub can_merge_itself : (file : FileReplica) → IsWellFormed file → CanMerge f
 can_merge_itself file well = record {
   kind = refl;
   agree = λ version other inside inside_too same.
-      ap (λ (v : Version). v.bytes) (one_version file.versions version other (ordered_of file well) inside inside_too same);
+      ap (λ (v : Version). v.bytes)
+      (one_version file.versions version other (ordered_of file well) inside inside_too same);
   few = λ both merged.
-      let same : both ≡ file.versions = same_versions file.versions file.versions both file.versions merged (merged_itself file well) in
+      let same : both ≡ file.versions =
+      same_versions file.versions file.versions both file.versions merged (merged_itself file well) in
       subst (λ (l : List Version). length l ≤ 8) (sym same) (few_of file well);
 }
 
@@ -80,6 +84,11 @@ makes_itself file well = record {
   versions = merged_itself file well;
   covered = sym (join_covered file.covered file.covered (covers_itself file.covered));
 }
+
+-- a new file is one of theirs
+pub of_theirs_at : (mine theirs new : List FileReplica) (index : ℕ) (file : FileReplica) → AreNew mine theirs new →
+    slice_get new index ≡ Some file → Contains theirs file
+of_theirs_at mine theirs new index file are at = are.of_theirs file (contains_at new index file at)
 
 module _ (mine theirs new : List FileReplica) (are : AreNew mine theirs new) (mine_held : AreFiles mine)
     (theirs_held : AreFiles theirs) where

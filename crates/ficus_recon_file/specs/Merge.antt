@@ -25,6 +25,10 @@ pub record Fit (mine theirs : List FileReplica) : Type 0 where
   pub each : (file other : FileReplica) → Contains mine file → Contains theirs other →
       file.id ≡ other.id → CanMerge file other
 
+-- so can the one of theirs with that of mine which has its identifier
+pub record FitsAmong (mine : List FileReplica) (other : FileReplica) : Type 0 where
+  pub each : (file : FileReplica) → Contains mine file → file.id ≡ other.id → CanMerge file other
+
 -- what two files with one identifier make together
 pub record IsMergedFile (mine theirs both : FileReplica) : Type 0 where
   pub id : both.id ≡ mine.id

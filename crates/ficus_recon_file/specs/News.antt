@@ -1,10 +1,7 @@
 -- What of the files of a peer is new to a replica.
-use Rattle.std.specs.Prelude.{◌≡◌, ◌≢◌, ◌⊎◌, ℕ, ◌<◌, ◌≤◌, List, [], ◌∷◌, ◌++◌, length, map, get_or, All, Contains, Some}
-use Rattle.std.specs.List.{AllWithin}
+use Rattle.std.specs.Prelude.{◌≡◌, ◌⊎◌, List, [], ◌∷◌, ◌++◌, map, All, Contains, Option, Some, None}
+use Rattle.std.specs.Borrow.{Bor}
 use Rattle.std.specs.Option.{option_copied}
-use Rattle.std.specs.declared.cmp.Ordering.TheVariants.{Less}
-use Rattle.ficus_ids.specs.declared.id.Id.{Id}
-use Rattle.ficus_ids.specs.Id.{id_cmp}
 use Rattle.ficus_file.specs.declared.file.FileReplica.{FileReplica}
 use Rattle.ficus_file.specs.Files.{AreFiles, HoldsUnder, IsRising}
 use Rattle.ficus_recon_file.specs.declared.news.NewFile.{NewFile}
@@ -41,16 +38,10 @@ pub record AreNews (mine theirs : List FileReplica) (news : List NewFile) : Type
 abbrev pub IsKnown : NewFile → Type 0
 IsKnown new = option_copied new.mine ≡ Some new.theirs.now
 
--- the new list has this one at its end, unless it is known
-abbrev pub Notes : List NewFile → List NewFile → NewFile → Type 0
-Notes old new one = (IsKnown one × (new ≡ old)) ⊎ ((IsKnown one → ⊥) × (new ≡ old ++ one ∷ []))
-
--- the files in front of a place have identifiers below this one
-pub record AreBelow (files : List FileReplica) (id : Id) (place : ℕ) : Type 0 where
-  pub within : place ≤ length files
-  pub front : AllWithin (λ file. id_cmp file.id id ≡ Less) files 0 place
-
--- and no others have
-pub record AreAllBelow (files : List FileReplica) (id : Id) (place : ℕ) : Type 0 where
-  pub below : AreBelow files id place
-  pub not_next : (d : FileReplica) → place < length files → id_cmp (get_or files place d).id id ≢ Less
+-- the new list has the file of theirs at its end, if there is one, unless mine hold it as it is
+abbrev pub Notes : List NewFile → List NewFile → Option (Bor FileReplica) → Option (Bor FileReplica) → Type 0
+Notes old new mine None = new ≡ old
+Notes old new mine (Some theirs) =
+    (IsKnown (record { mine = mine; theirs = theirs }) × (new ≡ old)) ⊎
+    ((IsKnown (record { mine = mine; theirs = theirs }) → ⊥) ×
+    (new ≡ old ++ (record { mine = mine; theirs = theirs }) ∷ []))

@@ -1,7 +1,7 @@
 ghost use Rattle.std.specs.Prelude.{◌≡◌, ◌↔◌, ◌≤◌, List, length, Contains, IsTrue, IfSome, false};
 ghost use Rattle.ficus_ids.specs.Rising.{HoldsBy};
 ghost use Rattle.ficus_file.specs.declared.version.Version.{Version as VersionValue};
-ghost use Rattle.ficus_file.specs.Files.{IsHeldFile};
+ghost use Rattle.ficus_file.specs.Files.{IsSoundFile};
 ghost use Rattle.ficus_recon_file.specs.Merge.{AgreeOnBytes, CanMerge, Fit};
 ghost use Rattle.ficus_recon_file.specs.Versions.{HasVector, IsLatest, AreOrdered, AreOfEither, HaveOneText};
 ghost use Rattle.ficus_recon_file.specs.Counts.{HaveSameVectors, Grows, MakeSoMany};
@@ -90,10 +90,10 @@ fn is_same(kind: Kind, other: Kind) -> bool
     kind == other
 }
 
-// Whether two files with one identifier can be merged.
-fn can_merge(mine: &FileReplica, theirs: &FileReplica) -> bool
-    requires mine { IsHeldFile mine.now }
-    requires theirs { IsHeldFile theirs.now }
+/// Whether two files with one identifier can be merged.
+pub(crate) fn can_merge(mine: &FileReplica, theirs: &FileReplica) -> bool
+    requires mine { IsSoundFile mine.now }
+    requires theirs { IsSoundFile theirs.now }
     ensures { IsTrue result ↔ CanMerge mine.now theirs.now }
 {
     if !is_same(mine.kind, theirs.kind) {
@@ -106,9 +106,9 @@ fn can_merge(mine: &FileReplica, theirs: &FileReplica) -> bool
     count_merged(versions, others) <= 8
 }
 
-/// Whether two lists of files can be merged: no object is in both with different kinds, no file of both has one
-/// vector with different bytes in the two, and no file of both would keep more than 8 versions. Takes no memory.
-pub fn merge_fits(news: &News<'_>) -> bool
+/// Whether the two lists of files can be merged, as `merge_fits` says of them. Takes no memory, and looks at what is new
+/// alone.
+pub fn news_fit(news: &News<'_>) -> bool
     ensures { IsTrue result ↔ Fit news.now.mine news.now.theirs }
 {
     for index in 0..news.len() {

@@ -1,19 +1,24 @@
-ghost use Rattle.std.specs.Prelude.{◌≡◌, ◌↔◌, Contains, IsTrue, IfOk, IfSome, OnOk};
+ghost use Rattle.std.specs.Prelude.{◌≡◌, ◌↔◌, unwrap_or, Some, Contains, IsTrue, IfOk, IfSome, OnOk};
 ghost use Rattle.ficus_ids.specs.Rising.{IsRisingBy};
-ghost use Rattle.ficus_file.specs.Files.{AreFiles, IsHeldFile, id_of, Puts};
-ghost use Rattle.ficus_recon_file.specs.Merge.{CanMerge, Fit, IsMergedFile, AreMergedFiles};
+ghost use Rattle.ficus_file.specs.declared.file.FileReplica.{FileReplica as FileValue};
+ghost use Rattle.ficus_file.specs.Files.{AreFiles, IsSoundFile, Holds, HoldsUnder};
+ghost use Rattle.ficus_recon_file.specs.Merge.{CanMerge, Fit, IsMergedFile, IsTaken, AreMergedFiles};
+ghost use Rattle.ficus_recon_file.specs.News.{IsBeside};
+ghost use Rattle.ficus_recon_file.specs.Changes.{IsChange, AddsChange, AreChanges};
+ghost use Rattle.ficus_touched.specs.Touched.{touched_by};
 
-use crate::News;
 use crate::versions::{is_whole, merged_versions};
-use ficus_file::{FileReplica, Files};
+use crate::{NewFile, News, alone};
+use ficus_entry::Entries;
+use ficus_file::{FileReplica, Files, SharedFile};
 use ficus_ids::{Id, Memory};
 use std::alloc::Global;
 
 // Whether the file of theirs adds nothing to mine.
 fn adds_nothing(mine: &FileReplica, theirs: &FileReplica) -> bool
     requires can { CanMerge mine.now theirs.now }
-    requires mine { IsHeldFile mine.now }
-    requires theirs { IsHeldFile theirs.now }
+    requires mine { IsSoundFile mine.now }
+    requires theirs { IsSoundFile theirs.now }
     ensures { IsTrue result → IsMergedFile mine.now theirs.now mine.now }
 {
     mine.covered.covers(theirs.covered) && is_whole(mine.versions.items(), theirs.versions.items())
@@ -26,10 +31,10 @@ fn merged_file(
     theirs: &FileReplica,
 ) -> Result<FileReplica, Memory>
     requires can { CanMerge mine.now theirs.now }
-    requires mine { IsHeldFile mine.now }
-    requires theirs { IsHeldFile theirs.now }
+    requires mine { IsSoundFile mine.now }
+    requires theirs { IsSoundFile theirs.now }
     ensures merged { IfOk result (IsMergedFile mine.now theirs.now) }
-    ensures held { IfOk result IsHeldFile }
+    ensures held { IfOk result IsSoundFile }
 {
     let versions = merged_versions(alloc, &mine.versions, &theirs.versions)?;
     Ok(FileReplica {
@@ -48,42 +53,118 @@ fn is_among(ids: &[Id], id: Id) -> bool
     ids.binary_search(&id).is_ok()
 }
 
-/// What the files of two replicas make together. Every file of mine stays. A file of both has exactly the versions
-/// that no version of either is over, and the join of the covers. A file of theirs alone is taken exactly where its
-/// identifier is in `held`, the rising list of those that entries held afterwards name or lie in.
-pub fn merge_files(alloc: Global, news: &News<'_>, held: &[Id]) -> Result<Files, Memory>
+// What the file of both becomes, unless mine stays.
+fn merged_change(
+    alloc: Global,
+    mine: &FileReplica,
+    theirs: &FileReplica,
+) -> Result<Option<SharedFile>, Memory>
+    requires can { CanMerge mine.now theirs.now }
+    requires mine { IsSoundFile mine.now }
+    requires theirs { IsSoundFile theirs.now }
+    ensures merged { IfOk result (λ change. IsMergedFile mine.now theirs.now (unwrap_or change mine.now)) }
+    ensures held { IfOk result (λ change. IfSome change IsSoundFile) }
+{
+    if adds_nothing(mine, theirs) {
+        return Ok(None);
+    }
+    let both = merged_file(alloc, mine, theirs)?;
+    Ok(Some(SharedFile::of(alloc, both)?))
+}
+
+// The file of theirs alone, where it is taken.
+fn taken(theirs: &Files, id: Id, held: &[Id]) -> Result<Option<SharedFile>, Memory>
+    requires rising { IsRisingBy (λ other. other) held.now }
+    requires there { Holds theirs.now id }
+    ensures taken { IfOk result (λ taken. (file : FileValue) → HoldsUnder theirs.now id (Some file) →
+        IsTaken held.now file taken) }
+    ensures of_theirs { IfOk result (λ taken. (file : FileValue) → taken ≡ Some file →
+        HoldsUnder theirs.now id (Some file)) }
+{
+    if !is_among(held, id) {
+        return Ok(None);
+    }
+    Ok(Some(theirs.share(id)?))
+}
+
+// What stands for a new file in place of mine, unless mine stay.
+fn change(
+    alloc: Global,
+    news: &News<'_>,
+    new: NewFile<'_>,
+    held: &[Id],
+) -> Result<Option<SharedFile>, Memory>
+    requires theirs { Contains news.now.theirs new.theirs.now }
+    requires mine { IsBeside news.now.mine new }
+    requires fit { Fit news.now.mine news.now.theirs }
+    requires rising { IsRisingBy (λ id. id) held.now }
+    ensures { IfOk result (IsChange held.now news.now.mine new.entry.theirs.now) }
+{
+    // Tells that both sides may be held.
+    let _count = news.len();
+    match new.mine {
+        Some(file) => merged_change(alloc, file, new.theirs),
+        None => taken(news.theirs(), new.theirs.id, held),
+    }
+}
+
+// Puts it behind the others.
+fn add_change(
+    changes: &mut Vec<SharedFile>,
+    alloc: Global,
+    news: &News<'_>,
+    new: NewFile<'_>,
+    held: &[Id],
+) -> Result<(), Memory>
+    requires theirs { Contains news.now.theirs new.theirs.now }
+    requires mine { IsBeside news.now.mine new }
+    requires fit { Fit news.now.mine news.now.theirs }
+    requires rising { IsRisingBy (λ id. id) held.now }
+    ensures { OnOk result
+        (AddsChange held.now news.now.mine new.entry.theirs.now changes.old.items changes.new.items) }
+{
+    if let Some(file) = change(alloc, news, new, held)? {
+        changes.push(file)?;
+    }
+    Ok(())
+}
+
+// The files of both that mine don't hold as they are afterwards.
+fn changes(alloc: Global, news: &News<'_>, held: &[Id]) -> Result<Vec<SharedFile>, Memory>
+    requires fit { Fit news.now.mine news.now.theirs }
+    requires rising { IsRisingBy (λ id. id) held.now }
+    ensures changes { IfOk result (λ changes. AreChanges held.now news.now.mine news.now.new changes.items) }
+    ensures files { IfOk result (λ changes. AreFiles changes.items) }
+{
+    let mut changes = Vec::new(alloc);
+    for index in 0..news.len() {
+        add_change(&mut changes, alloc, news, news.at(index), held)?;
+    }
+    Ok(changes)
+}
+
+/// What the files make together, as `merge_files` says of the two lists. What is taken is shared with theirs, and all that
+/// stays with mine.
+pub fn merge_news(alloc: Global, news: &News<'_>, held: &Entries) -> Result<Files, Memory>
+    requires { Fit news.now.mine news.now.theirs }
+    ensures merged { IfOk result (AreMergedFiles (touched_by held.now) news.now.mine news.now.theirs) }
+    ensures files { IfOk result AreFiles }
+{
+    let taken = alone::taken(alloc, held, news)?;
+    merged_with(alloc, news, &taken)
+}
+
+// The same where these alone of theirs are held, by rising identifiers.
+fn merged_with(alloc: Global, news: &News<'_>, held: &[Id]) -> Result<Files, Memory>
     requires fit { Fit news.now.mine news.now.theirs }
     requires rising { IsRisingBy (λ id. id) held.now }
     ensures merged { IfOk result (AreMergedFiles held.now news.now.mine news.now.theirs) }
     ensures files { IfOk result AreFiles }
 {
+    // Tells that both sides may be held.
+    let _count = news.len();
+    let changes = changes(alloc, news, held)?;
     let mut both = news.mine().copy()?;
-    merge_into(&mut both, alloc, news, held)?;
+    both.replace(&changes)?;
     Ok(both)
-}
-
-// Puts what the peer's files add into a copy of mine.
-fn merge_into(both: &mut Files, alloc: Global, news: &News<'_>, held: &[Id]) -> Result<(), Memory>
-    requires same { both.old ≡ news.now.mine }
-    requires fit { Fit news.now.mine news.now.theirs }
-    requires rising { IsRisingBy (λ id. id) held.now }
-    ensures merged { OnOk result (AreMergedFiles held.now news.now.mine news.now.theirs both.new) }
-    ensures files { OnOk result (AreFiles both.new) }
-{
-    for index in 0..news.len() {
-        let new = news.at(index);
-        match new.mine {
-            Some(file) => {
-                if !adds_nothing(file, new.theirs) {
-                    both.put(merged_file(alloc, file, new.theirs)?)?;
-                }
-            }
-            None => {
-                if is_among(held, new.theirs.id) {
-                    both.put(new.theirs.copy(alloc)?)?;
-                }
-            }
-        }
-    }
-    Ok(())
 }

@@ -1,12 +1,11 @@
-ghost use Rattle.std.specs.Prelude.{◌≡◌, ◌<◌, ◌==◌, ◌↔◌, length, slice_get, Some, IfOk, OnOk, IsTrue};
+ghost use Rattle.std.specs.Prelude.{◌≡◌, ◌<◌, ◌==◌, ◌↔◌, length, slice_get, Some, All, IfOk, OnOk, IsTrue};
 ghost use Rattle.std.specs.Option.{option_copied};
-ghost use Rattle.std.specs.declared.cmp.Ordering.TheVariants.{Less};
-ghost use Rattle.ficus_ids.specs.Id.{id_cmp};
 ghost use Rattle.ficus_file.specs.Files.{AreFiles, HoldsUnder};
-ghost use Rattle.ficus_recon_file.specs.News.{AreNew, AreNews, IsKnown, Notes, AreBelow, AreAllBelow};
+ghost use Rattle.ficus_recon_file.specs.News.{AreNew, theirs_of, IsBeside, IsKnown, Notes};
 
 use ficus_file::{FileReplica, Files, FilesInOrder};
-use ficus_ids::{Id, Memory};
+use ficus_ids::Memory;
+use ficus_table::{Pair, SideBySide};
 use std::alloc::Global;
 use std::marker::Model;
 
@@ -17,8 +16,8 @@ pub struct NewFile<'a> {
     pub theirs: &'a FileReplica,
 }
 
-/// What of the files of a peer, theirs, is new to a replica, which has mine: those of theirs that mine don't hold as they
-/// are. What both hold alike is passed by once, when this is made.
+/// What of the files of a peer, theirs, is new to a replica, which has mine: those of theirs that mine don't hold as
+/// they are. What both hold alike is passed by once, when this is made.
 #[derive(Drop)]
 pub struct News<'a> {
     mine: &'a Files,
@@ -85,6 +84,13 @@ impl<'a> News<'a> {
     {
         self.mine
     }
+
+    /// All of theirs.
+    pub(crate) fn theirs(&self) -> &'a Files
+        ensures { result.now ≡ self.now.theirs }
+    {
+        self.theirs
+    }
 }
 
 // Of theirs what is new, each beside the one of mine with its identifier.
@@ -93,33 +99,29 @@ fn found<'a>(
     mine: &FilesInOrder<'a>,
     theirs: &FilesInOrder<'a>,
 ) -> Result<Vec<NewFile<'a>>, Memory>
-    ensures { IfOk result (λ news. AreNews mine.now theirs.now news.items) }
+    ensures new { IfOk result (λ news. AreNew mine.now theirs.now (theirs_of news.items)) }
+    ensures beside { IfOk result (λ news. All (IsBeside mine.now) news.items) }
 {
-    // Tells that mine may be held.
-    let _count = mine.len();
+    let mut walk = SideBySide::of(mine, theirs);
     let mut news = Vec::new(alloc);
-    let mut place = 0;
-    for index in 0..theirs.len() {
-        let file = theirs.at(index);
-        place = skip_below(mine, place, file.id);
-        let beside = found_at(mine, place, file.id);
-        note(
-            &mut news,
-            NewFile {
-                mine: beside,
-                theirs: file,
-            },
-        )?;
+    while let Some(pair) = walk.next_pair() {
+        note(&mut news, pair)?;
     }
     Ok(news)
 }
 
-// Puts the file behind the others, unless mine hold it as it is.
-fn note<'a>(news: &mut Vec<NewFile<'a>>, new: NewFile<'a>) -> Result<(), Memory>
-    ensures { OnOk result (Notes news.old.items news.new.items new.entry) }
+// Puts the file of theirs behind the others, if there is one, unless mine hold it as it is.
+fn note<'a>(news: &mut Vec<NewFile<'a>>, pair: Pair<'a, FileReplica>) -> Result<(), Memory>
+    ensures { OnOk result (Notes news.old.items news.new.items pair.entry.mine pair.entry.theirs) }
 {
-    if !is_known(new) {
-        news.push(new)?;
+    if let Some(theirs) = pair.theirs {
+        let new = NewFile {
+            mine: pair.mine,
+            theirs,
+        };
+        if !is_known(new) {
+            news.push(new)?;
+        }
     }
     Ok(())
 }
@@ -131,37 +133,5 @@ fn is_known(new: NewFile<'_>) -> bool
     match new.mine {
         Some(file) => file.is_same_as(new.theirs),
         None => false,
-    }
-}
-
-// How many files have identifiers below this one, where so many are known to.
-fn skip_below(files: &FilesInOrder<'_>, known: usize, id: Id) -> usize
-    requires { AreBelow files.now id known }
-    ensures { AreAllBelow files.now id result }
-{
-    let mut place = known;
-    while place < files.len() && is_below(files.at(place), id) {
-        place += 1;
-    }
-    place
-}
-
-// Whether the file's identifier is below this one.
-#[tactic(auto, unfolding(ficus_ids::specs::Id::id_cmp))]
-fn is_below(file: &FileReplica, id: Id) -> bool
-    ensures { IsTrue result ↔ (id_cmp file.now.id id ≡ Less) }
-{
-    file.id < id
-}
-
-// The file with the identifier, which stands behind all those below it.
-fn found_at<'a>(files: &FilesInOrder<'a>, place: usize, id: Id) -> Option<&'a FileReplica>
-    requires { AreAllBelow files.now id place }
-    ensures { HoldsUnder files.now id (option_copied result) }
-{
-    if place < files.len() && files.at(place).id == id {
-        Some(files.at(place))
-    } else {
-        None
     }
 }

@@ -1,4 +1,4 @@
-ghost use Rattle.std.specs.Prelude.{◌≡◌, ◌⊎◌, ◌↔◌, IsTrue, IfOk, IfErr, OnOk, Contains};
+ghost use Rattle.std.specs.Prelude.{◌≡◌, ◌⊎◌, ◌↔◌, IsTrue, IfOk, IfSome, IfNone, OnOk, Contains};
 ghost use Rattle.ficus_file.specs.declared.version.Version.{Version as VersionValue};
 ghost use Rattle.ficus_recon_file.specs.Versions.{HasOver, HasVector, IsLatest, AreOrdered, AreMerged, AreOfEither, HaveOneText, IsPlaceOf, KeepsOrGains, GainsKept};
 
@@ -81,20 +81,20 @@ pub(crate) fn is_whole(mine: &[Version], theirs: &[Version]) -> bool
     are_latest(mine, theirs) && are_settled(mine, theirs)
 }
 
-// Where the version with the vector is, or where one with it would go.
-fn search(versions: &[Version], vector: Vector) -> Result<usize, usize>
+// Where a version with the vector goes, or `None` exactly where one has it.
+fn place_of(versions: &[Version], vector: Vector) -> Option<usize>
     requires { AreOrdered versions.now }
-    ensures found { IfOk result (λ index. HasVector versions.now vector) }
-    ensures place { IfErr result (IsPlaceOf versions.now vector) }
+    ensures place { IfSome result (IsPlaceOf versions.now vector) }
+    ensures none { IfNone result (HasVector versions.now vector) }
 {
     for index in 0..versions.len() {
         match versions[index].vector.order(vector) {
             Ordering::Less => {}
-            Ordering::Equal => return Ok(index),
-            Ordering::Greater => return Err(index),
+            Ordering::Equal => return None,
+            Ordering::Greater => return Some(index),
         }
     }
-    Err(versions.len())
+    Some(versions.len())
 }
 
 // Adds a version at its place, if none has its vector.
@@ -103,7 +103,7 @@ fn keep(alloc: Global, version: &Version, kept: &mut Vec<Version>) -> Result<(),
     ensures gained { OnOk result (KeepsOrGains kept.old.items kept.new.items version.now) }
     ensures ordered { OnOk result (AreOrdered kept.new.items) }
 {
-    if let Err(place) = search(kept, version.vector) {
+    if let Some(place) = place_of(kept, version.vector) {
         kept.insert(place, version.copy(alloc)?)?;
     }
     Ok(())

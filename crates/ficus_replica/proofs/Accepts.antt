@@ -17,10 +17,11 @@ use Rattle.ficus_model.specs.Live.{IsDirectory}
 use Rattle.ficus_model.specs.Lawful.{Volume, IsLawful, IsOpenAsk, MayAccept}
 use Rattle.ficus_entry.specs.declared.entry.Entry.{Entry}
 use Rattle.ficus_file.specs.declared.file.FileReplica.{FileReplica}
-use Rattle.ficus_codec.specs.Saved.{FitsImage, IsOfPast, IsEntryOfPast, IsFileOfPast, HasOwnPast}
-use Rattle.ficus_codec.specs.Tables.{FitsTables, touched_by}
-use Rattle.ficus_codec.proofs.MergedTables.{merged_tables_fit}
-use Rattle.ficus_codec.proofs.Touched.{touched_is}
+use Rattle.ficus_saved.specs.Saved.{FitsImage, IsOfPast, IsEntryOfPast, IsFileOfPast, HasOwnPast}
+use Rattle.ficus_saved.specs.Tables.{FitsTables}
+use Rattle.ficus_touched.specs.Touched.{touched_by}
+use Rattle.ficus_saved.proofs.MergedTables.{merged_tables_fit}
+use Rattle.ficus_saved.proofs.Touched.{touched_is}
 use Rattle.ficus_recon_dir.specs.Merge.{MergesEntries}
 use Rattle.ficus_laws.specs.Updates.{IsIssued}
 use Rattle.ficus_laws.proofs.Positions.{at_same, of_at}
@@ -273,7 +274,8 @@ accept_gives_stands volume H r from number entries files serve old (Ok new) few 
       lawful = may;
       stands = accepted_stands volume H r from number entries files serve old lawful stands served may new gives;
     }
-accept_gives_stands volume H r from number entries files serve old (Err Memory) few lawful stands served gives = tt
+accept_gives_stands volume H r from number entries files serve old (Err Memory) few lawful stands served open_ask =
+    open_taken volume H r from number entries files serve old lawful stands served open_ask
 accept_gives_stands volume H r from number entries files serve old (Err Stale) few lawful stands served gives =
     λ may. gives (taken_open volume H r from number entries files serve old stands served may)
 accept_gives_stands volume H r from number entries files serve old (Err BadMessage) few lawful stands served gives =

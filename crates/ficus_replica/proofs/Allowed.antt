@@ -8,15 +8,14 @@ use Rattle.ficus_model.specs.declared.event.Event.{Event}
 use Rattle.ficus_model.specs.declared.event.Op.{Op}
 use Rattle.ficus_model.specs.Events.{count_of}
 use Rattle.ficus_model.specs.Known.{Knows}
-use Rattle.ficus_model.specs.Lawful.{Volume, IsLawful, IsAllowed, HasBytesLeft, HasPlace, IsNamedInReach, AreNames, HasOtherName, MayLink, MayRemove, MayMove, FitsBytes, most_file_bytes}
+use Rattle.ficus_model.specs.Lawful.{Volume, IsLawful, IsAllowed, HasBytesLeft, HasPlace, IsNamedInReach, AreNames, HasOtherName, StaysOutside, MayLink, MayRemove, MayMove, MayAdopt, MayDiscard, FitsBytes, most_file_bytes}
 use Rattle.ficus_model.specs.Live.{ModelEntry, IsBound, IsBoundBy, IsMade, IsDirectory, IsFile, HasName}
-use Rattle.ficus_model.specs.View.{IsInReach, IsReachedDirectory, IsReachedFile, IsVisible}
+use Rattle.ficus_model.specs.View.{IsInReach, IsOrphan, IsReachedDirectory, IsReachedFile, IsVisible}
 use Rattle.ficus_laws.proofs.Issued.{entered_once}
-use Rattle.ficus_laws.proofs.Shown.{reached_within, tree_in_reach}
+use Rattle.ficus_laws.proofs.Shown.{reached_within}
 use Rattle.ficus_rules.specs.Named.{IsBoundByIn, AreNamedIn, HasOtherNameIn}
 use Rattle.ficus_rules.specs.Remove.{IsFullIn}
-use Rattle.ficus_rules.specs.Rename.{IsWithinIn}
-use Rattle.ficus_rules.specs.View.{IsBoundIn, IsTakenIn, IsDirectoryIn, IsReachedIn, history_view}
+use Rattle.ficus_rules.specs.View.{IsBoundIn, IsTakenIn, IsDirectoryIn, IsInReachIn, IsWithinIn, history_view}
 use Rattle.ficus_rules.specs.Walk.{Found, last_name}
 use Rattle.ficus_rules.proofs.Walks.{IsWalkedTo, IsFileAt, IsEntryAt}
 use Rattle.ficus_replica.proofs.Views.{visible_made}
@@ -36,13 +35,26 @@ module _ (volume : Volume) (H : List Event) (r : ℕ) where
       IsBound H (Knows H r) dir name target
   bound_of bound = record { entry = bound.entry; live = bound.live; in_dir = bound.in_dir; named = bound.named; leads = bound.leads }
 
-  in_reach : {object : Id} → IsReachedIn (history_view volume H r) object → IsInReach H (Knows H r) object
-  in_reach reached =
-      tree_in_reach (reached_within (λ from to leads. record { name = leads.0; bound = bound_of leads.1 }) reached)
+  in_reach : {object : Id} → IsInReachIn (history_view volume H r) object → IsInReach H (Knows H r) object
+  in_reach reached = reached_within (λ from to leads. record { name = leads.0; bound = bound_of leads.1 }) reached
 
   directory_of : {object : Id} → IsDirectoryIn (history_view volume H r) object → IsDirectory H (Knows H r) object
   directory_of (inl root) = inl root
   directory_of (inr kind) = inr kind.1
+
+  -- a visible directory is one of the view
+  directory_in : {object : Id} → IsVisible H (Knows H r) object → IsDirectory H (Knows H r) object →
+      IsDirectoryIn (history_view volume H r) object
+  directory_in visible (inl root) = inl root
+  directory_in visible (inr made) = inr (visible, made)
+
+  -- and a place that isn't within it in the view stays outside
+  stays_outside : {object dir : Id} → IsVisible H (Knows H r) object →
+      (IsWithinIn (history_view volume H r) object dir → ⊥) → StaysOutside H (Knows H r) object dir
+  stays_outside visible outside = λ directory reached. outside (record {
+    directory = directory_in visible directory;
+    reached = reached_within (λ from to leads. (leads.name, bound_in leads.bound)) reached;
+  })
 
   walked_directory : {dir : Id} → IsWalkedTo (history_view volume H r) dir → IsReachedDirectory H (Knows H r) dir
   walked_directory walked = record { directory = directory_of walked.directory; reached = in_reach walked.reached }
@@ -143,10 +155,6 @@ module _ (volume : Volume) (H : List Event) (r : ℕ) where
           (sym (ap (λ (e : ModelEntry). e.name) one) ∙ by.bound.named);
     }
 
-    object_directory : IsDirectory H (Knows H r) found.object → IsDirectoryIn (history_view volume H r) found.object
-    object_directory (inl root) = inl root
-    object_directory (inr made) = inr (inl (name_of_bound at.bound), made)
-
     -- they may be removed where a directory in which something lives keeps a name
     pub may_remove : (IsFullIn (history_view volume H r) found.object →
         HasOtherNameIn (history_view volume H r) found.dir (last_name path) found.object) →
@@ -154,7 +162,7 @@ module _ (volume : Volume) (H : List Event) (r : ℕ) where
     may_remove keeps = record {
       names = are_names;
       left = λ directory inside. other_name (keeps (record {
-        directory = object_directory directory;
+        directory = directory_in (inl (name_of_bound at.bound)) directory;
         entry = inside.entry;
         live = inside.live;
         inside = inside.in_dir;
@@ -168,11 +176,20 @@ module _ (volume : Volume) (H : List Event) (r : ℕ) where
     may_move dir name place outside = record {
       names = are_names;
       place = place;
-      outside = λ directory reached. outside (record {
-        directory = object_directory directory;
-        reached = reached_within (λ from to leads. (leads.name, bound_in leads.bound)) reached;
-      });
+      outside = stays_outside (inl (name_of_bound at.bound)) outside;
     }
+
+  -- an orphan may have a name, a directory none within itself
+  pub may_adopt : (orphan dir : Id) (name : List ℕ) → IsOrphan H (Knows H r) orphan → HasPlace H (Knows H r) dir name →
+      (IsWithinIn (history_view volume H r) orphan dir → ⊥) → MayAdopt H (Knows H r) orphan dir name
+  may_adopt orphan dir name is place outside =
+      record { orphan = is; place = place; outside = stays_outside (inr is) outside }
+
+  -- and where it is no directory, it may be given up
+  pub may_discard : IsLawful volume H → (orphan : Id) → IsOrphan H (Knows H r) orphan →
+      (IsDirectoryIn (history_view volume H r) orphan → ⊥) → MayDiscard H (Knows H r) orphan
+  may_discard lawful orphan is no_directory =
+      record { orphan = is; is_file = file_of lawful (inr is) no_directory }
 
   -- bytes within the limits may be written
   pub bytes_left : (bytes : List ℕ) → (most_file_bytes < length bytes → ⊥) →

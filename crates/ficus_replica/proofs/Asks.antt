@@ -5,7 +5,7 @@ use Rattle.ficus_model.specs.declared.event.Event.{Event}
 use Rattle.ficus_model.specs.declared.event.Event.TheVariants.{Ask}
 use Rattle.ficus_model.specs.Events.{through}
 use Rattle.ficus_model.specs.Lawful.{Volume}
-use Rattle.ficus_codec.specs.Saved.{FitsImage}
+use Rattle.ficus_saved.specs.Saved.{FitsImage}
 use Rattle.ficus_laws.proofs.OpenAsk.{open_end}
 use Rattle.ficus_replica.specs.declared.replica.Replica.{Replica}
 use Rattle.ficus_replica.specs.Ask.{AskGives}

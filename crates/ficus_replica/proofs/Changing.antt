@@ -11,11 +11,13 @@ use Rattle.ficus_model.specs.declared.event.Op.{Op}
 use Rattle.ficus_model.specs.Known.{Knows}
 use Rattle.ficus_model.specs.Lawful.{Volume, IsLawful, MayCome, IsAllowed, MaySettle, HasBytesLeft, FitsBytes}
 use Rattle.ficus_path.specs.declared.path.Path.{Path}
-use Rattle.ficus_codec.specs.Saved.{FitsImage}
+use Rattle.ficus_saved.specs.Saved.{FitsImage}
 use Rattle.ficus_laws.proofs.Lawful.{lawful_more}
 use Rattle.ficus_commands.specs.declared.change.Change.{Change}
-use Rattle.ficus_commands.specs.declared.change.Change.TheVariants.{MkDir, Create, Write, Settle, Resolve, Rm, Ln, Mv}
+use Rattle.ficus_commands.specs.declared.change.Change.TheVariants.{MkDir, Create, Write, Settle, Resolve, Rm, Ln, Mv, Adopt, Discard}
+use Rattle.ficus_rules.specs.Adopt.{AdoptRule}
 use Rattle.ficus_rules.specs.Change.{ChangeRule}
+use Rattle.ficus_rules.specs.Discard.{DiscardRule}
 use Rattle.ficus_rules.specs.Limits.{LimitsRule}
 use Rattle.ficus_rules.specs.Link.{LinkRule}
 use Rattle.ficus_rules.specs.Make.{MakeRule}
@@ -25,15 +27,15 @@ use Rattle.ficus_rules.specs.Rule.{Gives}
 use Rattle.ficus_rules.specs.View.{history_view}
 use Rattle.ficus_rules.specs.Walk.{FileRule, last_name}
 pub use Rattle.ficus_rules.proofs.Changes.{change_once, change_along}
-use Rattle.ficus_rules.proofs.Rules.{memory_along}
-use Rattle.ficus_rules.proofs.Walks.{IsFileAt, entry_walked, file_walked, parent_walked}
+use Rattle.ficus_rules.proofs.Changes.{change_answer_along}
+use Rattle.ficus_rules.proofs.Walks.{IsFileAt, entry_walked, file_walked, parent_walked, places_walked}
 use Rattle.ficus_answers.specs.View.{tables_view}
 use Rattle.ficus_replica.specs.declared.replica.Next.{Next}
 use Rattle.ficus_replica.specs.declared.replica.Replica.{Replica}
 use Rattle.ficus_replica.specs.Change.{Changed, ChangeGives, ChangedAfter, ChangeStands}
 use Rattle.ficus_replica.specs.Effect.{Applied}
 use Rattle.ficus_replica.specs.SavedOf.{StandsFor}
-use Rattle.ficus_replica.proofs.Allowed.{MayBeDone, new_place, file_in_reach, file_visible, bytes_left, may_link, may_remove, may_move}
+use Rattle.ficus_replica.proofs.Allowed.{MayBeDone, new_place, file_in_reach, file_visible, bytes_left, may_link, may_remove, may_move, may_adopt, may_discard}
 use Rattle.ficus_replica.proofs.Effects.{applied_stands}
 use Rattle.ficus_replica.proofs.OpenAsks.{open_kept}
 use Rattle.ficus_replica.proofs.Views.{stands_same}
@@ -78,27 +80,49 @@ module _ (volume : Volume) (H : List Event) (r : ℕ) (lawful : IsLawful volume 
 
   link_may : (from path : Path) (op : Op) → LinkRule (history_view volume H r) from path (Ok op) →
       MayBeDone volume H r op
-  link_may from path op (found, walk, (dir, parent, (no_directory, (free, (left, is))))) =
+  link_may from path op (places, walks, (no_directory, (free, (left, is)))) =
+      let walked = places_walked (history_view volume H r) from path places walks in
       subst (MayBeDone volume H r) (sym is) (record {
         left = omega arith;
         bytes = tt;
-        allowed = may_link volume H r lawful from found dir (last_name path)
-            (entry_walked (history_view volume H r) from found walk)
-            (new_place volume H r dir (last_name path) (parent_walked (history_view volume H r) path dir parent) free)
+        allowed = may_link volume H r lawful from places.found places.dir (last_name path)
+            (entry_walked (history_view volume H r) from places.found walked.found)
+            (new_place volume H r places.dir (last_name path)
+            (parent_walked (history_view volume H r) path places.dir walked.dir) free)
             no_directory;
       })
 
   rename_may : (from path : Path) (op : Op) → RenameRule (history_view volume H r) from path (Ok op) →
       MayBeDone volume H r op
-  rename_may from path op (found, walk, (dir, parent, (outside, (free, (left, (entries, named, is)))))) =
+  rename_may from path op (places, walks, (outside, (free, (left, (entries, named, is))))) =
+      let walked = places_walked (history_view volume H r) from path places walks in
       subst (MayBeDone volume H r) (sym is) (record {
         left = omega arith;
         bytes = tt;
-        allowed = may_move volume H r from found entries (entry_walked (history_view volume H r) from found walk) named
-            dir (last_name path)
+        allowed = may_move volume H r from places.found entries
+            (entry_walked (history_view volume H r) from places.found walked.found) named places.dir (last_name path)
+            (new_place volume H r places.dir (last_name path)
+            (parent_walked (history_view volume H r) path places.dir walked.dir) free)
+            outside;
+      })
+
+  adopt_may : (orphan : Id) (path : Path) (op : Op) → AdoptRule (history_view volume H r) orphan path (Ok op) →
+      MayBeDone volume H r op
+  adopt_may orphan path op (is_orphan, (dir, parent, (outside, (free, (left, is))))) =
+      subst (MayBeDone volume H r) (sym is) (record {
+        left = omega arith;
+        bytes = tt;
+        allowed = may_adopt volume H r orphan dir (last_name path) is_orphan
             (new_place volume H r dir (last_name path) (parent_walked (history_view volume H r) path dir parent) free)
             outside;
       })
+
+  discard_may : (orphan : Id) (op : Op) → DiscardRule (history_view volume H r) orphan (Ok op) → MayBeDone volume H r op
+  discard_may orphan op (is_orphan, (no_directory, (left, is))) = subst (MayBeDone volume H r) (sym is) (record {
+    left = omega arith;
+    bytes = tt;
+    allowed = may_discard volume H r lawful orphan is_orphan no_directory;
+  })
 
   pub change_may : (change : Change) (op : Op) → ChangeRule (history_view volume H r) change (Ok op) →
       MayBeDone volume H r op
@@ -116,6 +140,8 @@ module _ (volume : Volume) (H : List Event) (r : ℕ) (lawful : IsLawful volume 
   change_may (Rm path) op rule = remove_may path op rule
   change_may (Ln from path) op rule = link_may from path op rule
   change_may (Mv from path) op rule = rename_may from path op rule
+  change_may (Adopt orphan path) op rule = adopt_may orphan path op rule
+  change_may (Discard orphan) op rule = discard_may orphan op rule
 
 -- In each of these a replica stands for a lawful history.
 module _ {volume : Volume} {H : List Event} {r : ℕ} {old : Replica} (lawful : IsLawful volume H)
@@ -141,7 +167,7 @@ module _ {volume : Volume} {H : List Event} {r : ℕ} {old : Replica} (lawful : 
   change_stands : (result : Result Next Refusal) → ChangeGives old change result → ChangeStands volume H r change result
   change_stands (Ok next) gives = changed_after next gives
   change_stands (Err refusal) gives =
-      memory_along (change_along (stands_same lawful stands.saved) change) (Err refusal) gives
+      change_answer_along (stands_same lawful stands.saved) change (Err refusal) gives
 
 -- so it does over every lawful history for which the replica stands
 pub change_holds : (old : Replica) (change : Change) (result : Result Next Refusal) →

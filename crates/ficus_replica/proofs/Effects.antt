@@ -6,7 +6,7 @@ use Rattle.ficus_model.specs.declared.event.Event.{Event}
 use Rattle.ficus_model.specs.declared.event.Event.TheVariants.{Update}
 use Rattle.ficus_model.specs.declared.event.Op.{Op}
 use Rattle.ficus_model.specs.Lawful.{Volume, IsLawful}
-use Rattle.ficus_codec.specs.declared.saved.Saved.{Saved}
+use Rattle.ficus_saved.specs.declared.saved.Saved.{Saved}
 use Rattle.ficus_laws.specs.Updates.{next_number}
 use Rattle.ficus_laws.proofs.Lawful.{lawful_less}
 use Rattle.ficus_laws.proofs.Updates.{count_update}

@@ -11,7 +11,7 @@ use Rattle.ficus_model.specs.Events.{IsAt, actor, is_update_of, count_of}
 use Rattle.ficus_model.specs.Lawful.{Volume, ClosesAsk}
 use Rattle.ficus_model.specs.Versions.{written_in, written_of}
 use Rattle.ficus_ids.specs.Members.{IsMember}
-use Rattle.ficus_codec.specs.declared.saved.Saved.{Saved}
+use Rattle.ficus_saved.specs.declared.saved.Saved.{Saved}
 use Rattle.ficus_laws.proofs.Positions.{at_within}
 use Rattle.ficus_laws.proofs.Updates.{is_update_of_other}
 use Rattle.ficus_held_file_laws.specs.Tables.{AreHeldEntries, AreHeldFiles}

@@ -1,7 +1,9 @@
 pub mod Views
 pub mod Looking
+pub mod AlikeViews
 pub mod Telling
 pub mod Saves
+pub mod Standing
 pub mod OpenAsks
 pub mod Allowed
 pub mod Tables
@@ -11,6 +13,5 @@ pub mod Ready
 pub mod Changing
 pub mod Events
 pub mod Asks
-pub mod Taking
 pub mod Accepts
 pub mod Pulls

@@ -6,7 +6,7 @@ use Rattle.ficus_model.specs.Lawful.{Volume, IsLawful}
 use Rattle.ficus_commands.specs.declared.look.Look.{Look}
 use Rattle.ficus_commands.specs.declared.told.Told.{Told}
 pub use Rattle.ficus_rules.proofs.Looks.{look_once, look_along}
-use Rattle.ficus_rules.proofs.Rules.{memory_along}
+use Rattle.ficus_rules.proofs.Looks.{look_memory_along}
 use Rattle.ficus_replica.specs.declared.replica.Replica.{Replica}
 use Rattle.ficus_replica.specs.Look.{LookGives, LookStands}
 use Rattle.ficus_replica.specs.SavedOf.{StandsFor}
@@ -16,4 +16,4 @@ pub look_stands : {volume : Volume} {H : List Event} {r : ℕ} {replica : Replic
     StandsFor volume H r replica → (look : Look) (result : Result Told Refusal) → LookGives replica look result →
     LookStands volume H r look result
 look_stands lawful stands look result gives =
-    memory_along (look_along (stands_same lawful stands.saved) look) result gives
+    look_memory_along (stands_same lawful stands.saved) look result gives

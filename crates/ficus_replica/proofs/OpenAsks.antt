@@ -1,12 +1,12 @@
 -- The ask that a replica waits for an answer to, as the history grows.
-use Rattle.std.proofs.Common.{◌≡◌, ℕ, ◌<◌, List, [], ◌∷◌, ◌++◌, length, Option, Some, None, refl, ap, ◌∙◌, arith}
+use Rattle.std.proofs.Common.{◌≡◌, ℕ, ◌<◌, List, [], ◌∷◌, ◌++◌, length, Option, Some, None, refl, sym, ap, ◌∙◌, arith}
 use Rattle.std.proofs.lemmas.List.{take_at}
 use Rattle.ficus_model.specs.declared.event.Event.{Event}
 use Rattle.ficus_model.specs.declared.event.Event.TheVariants.{Ask}
 use Rattle.ficus_model.specs.Events.{through}
 use Rattle.ficus_model.specs.Lawful.{ClosesAsk}
 use Rattle.ficus_laws.proofs.Positions.{agree_more, agree_take, at_within, at_end, through_is}
-use Rattle.ficus_laws.proofs.OpenAsk.{open_kept as still_open, open_before, open_last}
+use Rattle.ficus_laws.proofs.OpenAsk.{open_kept as still_open, open_before, open_last, open_once}
 use Rattle.ficus_replica.specs.declared.replica.Asked.{Asked}
 use Rattle.ficus_replica.specs.SavedOf.{generation_of, IsOpenAskOf}
 
@@ -29,3 +29,15 @@ open_kept H r (Some asked) event stays waits =
 pub open_none : (H : List Event) (r : ℕ) (event : Event) → ClosesAsk r event → ((to : ℕ) → event ≡ Ask r to → ⊥) →
     IsOpenAskOf (H ++ event ∷ []) r None
 open_none H r event closes no_ask position to open_ask = no_ask to (open_last H event closes open_ask).1
+
+-- a history leaves one ask open, or none
+pub ask_once : (H : List Event) (r : ℕ) (one other : Option Asked) → IsOpenAskOf H r one → IsOpenAskOf H r other →
+    one ≡ other
+ask_once H r None None none none_too = refl
+ask_once H r None (Some asked) none (position, open_ask, numbered) = absurd (none position asked.to open_ask)
+ask_once H r (Some asked) None (position, open_ask, numbered) none = absurd (none position asked.to open_ask)
+ask_once H r (Some one) (Some other) (position, open_ask, numbered) (again, open_too, numbered_too) =
+    let same = open_once open_ask open_too in
+    let number : one.number ≡ other.number =
+    numbered ∙ ap (λ place. generation_of r (through place H)) same.0 ∙ sym numbered_too in
+    λ i. Some (record { to = same.1 i; number = number i })

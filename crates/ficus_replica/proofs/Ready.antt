@@ -12,12 +12,14 @@ use Rattle.ficus_model.specs.declared.event.Op.{Op}
 use Rattle.ficus_model.specs.Lawful.{most_file_bytes}
 use Rattle.ficus_model.specs.Reached.IsReached.{Base, Through}
 use Rattle.ficus_path.specs.declared.path.Path.{Path}
-use Rattle.ficus_codec.specs.Saved.{FitsImage}
-use Rattle.ficus_codec.specs.Tables.{FitsFile, HasObjectsIn}
-use Rattle.ficus_codec.specs.declared.saved.Saved.{Saved}
+use Rattle.ficus_saved.specs.Saved.{FitsImage}
+use Rattle.ficus_saved.specs.Tables.{FitsFile, HasObjectsIn}
+use Rattle.ficus_saved.specs.declared.saved.Saved.{Saved}
 use Rattle.ficus_commands.specs.declared.change.Change.{Change}
-use Rattle.ficus_commands.specs.declared.change.Change.TheVariants.{MkDir, Create, Write, Settle, Resolve, Rm, Ln, Mv}
+use Rattle.ficus_commands.specs.declared.change.Change.TheVariants.{MkDir, Create, Write, Settle, Resolve, Rm, Ln, Mv, Adopt, Discard}
+use Rattle.ficus_rules.specs.Adopt.{AdoptRule}
 use Rattle.ficus_rules.specs.Change.{ChangeRule}
+use Rattle.ficus_rules.specs.Discard.{DiscardRule}
 use Rattle.ficus_rules.specs.Limits.{LimitsRule}
 use Rattle.ficus_rules.specs.Link.{LinkRule}
 use Rattle.ficus_rules.specs.Make.{MakeRule}
@@ -25,10 +27,11 @@ use Rattle.ficus_rules.specs.Named.{AreNamedIn}
 use Rattle.ficus_rules.specs.Remove.{RemoveRule}
 use Rattle.ficus_rules.specs.Rename.{RenameRule}
 use Rattle.ficus_rules.specs.Rule.{Gives}
-use Rattle.ficus_rules.specs.View.{IsReachedIn, IsVisibleIn}
+use Rattle.ficus_rules.specs.View.{IsInReachIn, IsVisibleIn}
 use Rattle.ficus_rules.specs.Walk.{FileRule, Found, last_name}
-use Rattle.ficus_rules.proofs.Walks.{IsFileAt, IsEntryAt, entry_walked, file_walked, parent_walked}
+use Rattle.ficus_rules.proofs.Walks.{IsFileAt, IsEntryAt, entry_walked, file_walked, parent_walked, places_walked}
 use Rattle.ficus_answers.specs.View.{IsVisibleBy, held_live, tables_view}
+use Rattle.ficus_answers.proofs.Tables.{tables_named, visible_held}
 use Rattle.ficus_replica.specs.Effect.{IsPossible, IsReady, MayMake, MayRemove, MayWrite}
 
 module _ {saved : Saved} (fits : FitsImage saved) where
@@ -42,8 +45,11 @@ module _ {saved : Saved} (fits : FitsImage saved) where
       omega (arith, file.id.replica.at_least, zero)
 
   -- where an entry may be made
-  reached_place : {dir : Id} → IsReachedIn (tables_view saved) dir → MayMake saved dir
-  reached_place (Base root) = record {
+  reached_place : {dir : Id} → IsInReachIn (tables_view saved) dir → MayMake saved dir
+  reached_place (Base (inr orphan)) =
+      let held = visible_held fits (inr orphan) in
+      record { place = inl held; no_attic = no_attic held }
+  reached_place (Base (inl root)) = record {
     place = inr (inl root);
     no_attic = λ attic. let number : ROOT ≡ ATTIC = subst (λ id. id ≡ ATTIC) root attic in
         let zero : 0 ≡ 1 = ap (λ (id : Id). id.number) number in omega arith;
@@ -52,20 +58,15 @@ module _ {saved : Saved} (fits : FitsImage saved) where
       let held = subst (Holds saved.files) bound.leads (held_target (held_live bound.entry) bound.live) in
       record { place = inl held; no_attic = no_attic held }
 
-  -- what is visible is held
-  visible_held : {object : Id} → IsVisibleBy saved object → Holds saved.files object
-  visible_held (inl named) = subst (Holds saved.files) named.leads (held_target (held_live named.entry) named.inside)
-  visible_held (inr orphan) = record { item = orphan.file; inside = orphan.inside; has_id = orphan.has_id }
-
   visible_by : {object : Id} → IsVisibleIn (tables_view saved) object → IsVisibleBy saved object
-  visible_by (inl named) = inl (record { entry = named.entry; inside = named.live; leads = named.leads })
+  visible_by {object} (inl named) = inl ((tables_named saved object).1 named)
   visible_by (inr orphan) = inr orphan
 
   -- the file that a walk leads to
   file_held : {file : Id} → IsFileAt (tables_view saved) file → HoldsFile saved.files file (λ held. held.kind ≢ Dir)
   file_held {file} found =
       let visible = visible_by found.visible in
-      let held = visible_held visible in
+      let held = visible_held fits visible in
       record {
         file = held.item;
         inside = held.inside;
@@ -124,24 +125,41 @@ module _ {saved : Saved} (fits : FitsImage saved) where
   })
 
   link_ready : (from path : Path) (op : Op) → LinkRule (tables_view saved) from path (Ok op) → IsReady saved op
-  link_ready from path op (found, walk, (dir, parent, (no_directory, (free, (left, is))))) =
+  link_ready from path op (places, walks, (no_directory, (free, (left, is)))) =
+      let walked = places_walked (tables_view saved) from path places walks in
       subst (IsReady saved) (sym is) (record {
         left = omega arith;
         possible = record {
-          lies = reached_place (parent_walked (tables_view saved) path dir parent).reached;
-          held = entry_held (entry_walked (tables_view saved) from found walk);
+          lies = reached_place (parent_walked (tables_view saved) path places.dir walked.dir).reached;
+          held = entry_held (entry_walked (tables_view saved) from places.found walked.found);
         };
       })
 
   rename_ready : (from path : Path) (op : Op) → RenameRule (tables_view saved) from path (Ok op) → IsReady saved op
-  rename_ready from path op (found, walk, (dir, parent, (outside, (free, (left, (entries, named, is)))))) =
+  rename_ready from path op (places, walks, (outside, (free, (left, (entries, named, is))))) =
+      let walked = places_walked (tables_view saved) from path places walks in
       subst (IsReady saved) (sym is) (record {
         left = omega arith;
         possible = record {
-          removes = names_ready (entry_walked (tables_view saved) from found walk) named;
-          lies = reached_place (parent_walked (tables_view saved) path dir parent).reached;
+          removes = names_ready (entry_walked (tables_view saved) from places.found walked.found) named;
+          lies = reached_place (parent_walked (tables_view saved) path places.dir walked.dir).reached;
         };
       })
+
+  adopt_ready : (orphan : Id) (path : Path) (op : Op) → AdoptRule (tables_view saved) orphan path (Ok op) →
+      IsReady saved op
+  adopt_ready orphan path op (is_orphan, (dir, parent, (outside, (free, (left, is))))) =
+      subst (IsReady saved) (sym is) (record {
+        left = omega arith;
+        possible = record {
+          lies = reached_place (parent_walked (tables_view saved) path dir parent).reached;
+          held = visible_held fits (inr is_orphan);
+        };
+      })
+
+  discard_ready : (orphan : Id) (op : Op) → DiscardRule (tables_view saved) orphan (Ok op) → IsReady saved op
+  discard_ready orphan op (is_orphan, (no_directory, (left, is))) =
+      subst (IsReady saved) (sym is) (record { left = omega arith; possible = visible_held fits (inr is_orphan) })
 
   pub change_ready : (change : Change) (op : Op) → ChangeRule (tables_view saved) change (Ok op) → IsReady saved op
   change_ready (MkDir path) op rule = make_ready path Dir op rule
@@ -153,3 +171,5 @@ module _ {saved : Saved} (fits : FitsImage saved) where
   change_ready (Rm path) op rule = remove_ready path op rule
   change_ready (Ln from path) op rule = link_ready from path op rule
   change_ready (Mv from path) op rule = rename_ready from path op rule
+  change_ready (Adopt orphan path) op rule = adopt_ready orphan path op rule
+  change_ready (Discard orphan) op rule = discard_ready orphan op rule

@@ -1,41 +1,51 @@
 -- The tables that the code makes are what the operation makes of the replica's, and fit.
-use Rattle.std.proofs.Common.{◌≡◌, ◌≢◌, ℕ, ◌+◌, ◌≤◌, List, slice_get, take, Some, Result, Ok, Err, refl, sym, ap, subst, ◌∙◌, arith}
-use Rattle.std.specs.Prelude.{All, Contains}
-use Rattle.std.proofs.lemmas.List.Elements.{All-contains, All-push}
-use Rattle.ficus_ids.specs.ListLaws.{not_inside_none}
-use Rattle.ficus_ids.specs.Name.{IsName}
+use Rattle.std.proofs.Common.{◌≡◌, ◌≢◌, Bool, true, false, if◌then◌else◌, ℕ, ◌+◌, ◌≤◌, List, [], ◌∷◌, length, inl, inr, slice_get, take, Some, Result, Ok, Err, refl, sym, ap, subst, ◌∙◌, arith}
+use Rattle.std.specs.Prelude.{All, Contains, codes, nat_le}
+use Rattle.std.specs.List.{AllByRecursion}
+use Rattle.std.proofs.lemmas.Bool.Decides.{leb_tells}
+use Rattle.std.proofs.lemmas.Bool.{eqb-true, eq-eqb, false≢true}
+use Rattle.std.proofs.lemmas.List.Elements.{All-contains, All-from_recursion, All-push, All-weaker}
+use Rattle.ficus_ids.specs.ListLaws.{here, here_or_there, not_inside_none}
+use Rattle.ficus_ids.specs.Members.{IsMember}
+use Rattle.ficus_ids.specs.Name.{IsName, IsNameByte}
 use Rattle.ficus_ids.specs.declared.id.Id.{Id}
+use Rattle.ficus_ids.specs.declared.id.TheConstants.{ATTIC}
 use Rattle.ficus_ids.specs.declared.kind.Kind.{Kind}
+use Rattle.ficus_ids.specs.Rising.{Adds}
 use Rattle.ficus_vv.specs.Vector.{count_of}
 use Rattle.ficus_entry.specs.Entry.{IsRising, AddsEntry, Holds as HoldsEntry}
-use Rattle.ficus_entry.specs.Kill.{AreKilled}
+use Rattle.ficus_entry.specs.Kill.{AreKilled, IsJustKilled}
 use Rattle.ficus_entry.specs.declared.entry.Entry.{Entry}
-use Rattle.ficus_entry.specs.declared.entry.State.TheVariants.{Live}
+use Rattle.ficus_entry.specs.declared.entry.State.{State}
+use Rattle.ficus_entry.specs.declared.entry.State.TheVariants.{Live, Dead}
 use Rattle.ficus_entry.proofs.KilledAll.{killed_none}
 use Rattle.ficus_file.specs.File.{MayAdvance, made_file, advanced, covered_file}
-use Rattle.ficus_file.specs.Files.{AreFiles, Adds, Holds, HoldsFile, IsChanged}
+use Rattle.ficus_file.specs.Files.{AreFiles, Holds, HoldsFile, IsChanged}
 use Rattle.ficus_file.specs.Version.{join_all}
 use Rattle.ficus_file.specs.declared.file.FileReplica.{FileReplica}
 use Rattle.ficus_model.specs.declared.event.Op.{Op}
 use Rattle.ficus_model.specs.declared.event.Op.TheVariants.{Make, Link, Remove, Move, Write, Settle, Resolve, Adopt, Discard}
 use Rattle.ficus_model.specs.Live.{entry_of}
-use Rattle.ficus_recon_file.proofs.Walk.{take_next}
-use Rattle.ficus_codec.specs.Saved.{FitsImage, IsEntryOfPast, IsFileOfPast}
-use Rattle.ficus_codec.specs.Tables.{FitsFile}
-use Rattle.ficus_codec.specs.declared.saved.Saved.{Saved}
-use Rattle.ficus_codec.specs.Limits.{update_limit}
-use Rattle.ficus_codec.proofs.ChangedTables.{made_tables_fit, entered_tables_fit, written_tables_fit, covered_tables_fit}
-use Rattle.ficus_codec.proofs.KilledTables.{killed_tables_fit}
-use Rattle.ficus_codec.proofs.CountFits.{join_all_at_most}
+use Rattle.ficus_touched.proofs.Kept.{take_next}
+use Rattle.ficus_saved.specs.Saved.{FitsImage, IsEntryOfPast, IsFileOfPast}
+use Rattle.ficus_saved.specs.Laws.{FitsReplica}
+use Rattle.ficus_saved.specs.Tables.{FitsAttic, FitsFile, FitsState, HasObjectsIn}
+use Rattle.ficus_saved.specs.declared.saved.Saved.{Saved}
+use Rattle.ficus_saved.specs.Limits.{update_limit}
+use Rattle.ficus_saved.proofs.ChangedTables.{made_tables_fit, entered_tables_fit, written_tables_fit, covered_tables_fit, held_changed}
+use Rattle.ficus_saved.proofs.KilledTables.{killed_tables_fit}
+use Rattle.ficus_saved.proofs.MergedTables.{objects_in}
+use Rattle.ficus_saved.proofs.CountFits.{join_all_at_most}
 use Rattle.ficus_laws.proofs.AfterUpdate.{enters_none}
 use Rattle.ficus_held_laws.specs.Entries.{AreEntriesStepped}
-use Rattle.ficus_version_laws.specs.Operations.GivesUp.{ByRemove}
-use Rattle.ficus_held_file_laws.specs.Laws.{Overwrites}
-use Rattle.ficus_held_file_laws.specs.Laws.Names.{Links, Moves}
+use Rattle.ficus_version_laws.specs.Operations.GivesUp.{ByRemove, ByDiscard}
+use Rattle.ficus_held_file_laws.specs.Laws.{Names, Overwrites}
+use Rattle.ficus_held_file_laws.specs.Laws.Names.{Links as LinksOnly, Moves, Adopts as AdoptsOnly}
 use Rattle.ficus_held_file_laws.proofs.Stepping.{make_steps, write_steps, cover_steps, name_steps}
-use Rattle.ficus_answers.specs.View.{held_live}
-use Rattle.ficus_replica.specs.Effect.{IsStepped, MayMake, MayLink, MayRemove, MayMove, MayWrite, next_id}
-use Rattle.ficus_replica.proofs.Tables.{tables_of, entered_none, entered_one}
+use Rattle.ficus_answers.specs.View.{held_as, held_live}
+use Rattle.ficus_replica.specs.Effect.{GivesName, IsStepped, attic_place, MayMake, MayLink, MayRemove, MayMove, MayWrite, next_id}
+use Rattle.ficus_replica.specs.Effect.GivesName.{Links, Adopts}
+use Rattle.ficus_replica.proofs.Tables.{tables_of, entered_none, entered_one, entered_removed}
 
 -- what is so of the items before an index, and of the one at it, is so of those before the next
 pub all_more : {X : Type 0} (P : X → Type 0) (xs : List X) (index : ℕ) (x : X) → slice_get xs index ≡ Some x →
@@ -59,6 +69,20 @@ enters_nothing by number entries (Move list dir name target) file bytes overwrit
 enters_nothing by number entries (Adopt f dir name) file bytes overwrites = elim overwrites [ ]
 enters_nothing by number entries (Discard f) file bytes overwrites = elim overwrites [ ]
 
+-- what gives a name gives no other, and leaves the files
+names : {op : Op} {dir target : Id} {name : List ℕ} → GivesName op dir name target → Names op
+names Links = LinksOnly
+names Adopts = AdoptsOnly
+
+-- and enters one entry, live
+entered_by_name : (by : ℕ) (number : Id) {op : Op} {dir target : Id} {name : List ℕ} {entries after : List Entry} →
+    GivesName op dir name target → AddsEntry entries after (held_live (entry_of number dir name target)) →
+    AreEntriesStepped by number op entries after
+entered_by_name by number {op} {dir} {target} {name} {entries} Links adds =
+    entered_one by number op (killed_none by entries) (entry_of number dir name target) refl (not_inside_none number) adds
+entered_by_name by number {op} {dir} {target} {name} {entries} Adopts adds =
+    entered_one by number op (killed_none by entries) (entry_of number dir name target) refl (not_inside_none number) adds
+
 -- what was given is one thing
 pub same_ok : {A E : Type 0} (a b : A) →
     (let R : Type 0 = Result A E in let one : R = Ok a in let other : R = Ok b in one ≡ other) → a ≡ b
@@ -67,6 +91,64 @@ same_ok {A} {E} a b is = ap (value_or a) is
     value_or : A → Result A E → A
     value_or other (Ok value) = value
     value_or other (Err e) = other
+
+-- entries that fit beside the old files, and files that fit beside the old entries, fit together where what was held is
+fit_together : (members me next : ℕ) (entries after : List Entry) (files more : List FileReplica) →
+    FitsReplica members me next after files → FitsReplica members me next entries more →
+    ((id : Id) → Holds files id → Holds more id) → FitsReplica members me next after more
+fit_together members me next entries after files more with_old with_new stays = record {
+  tables = record {
+    rising = with_old.tables.rising;
+    each = with_old.tables.each;
+    rising_files = with_new.tables.rising_files;
+    each_file = with_new.tables.each_file;
+    objects = All-weaker (HasObjectsIn files) (HasObjectsIn more)
+        (λ entry has. objects_in files more entry (stays entry.target) (stays entry.dir) has) after
+        with_old.tables.objects;
+  };
+  past = record { each = with_old.past.each; each_file = with_new.past.each_file };
+}
+
+-- what a list of one item has is that item
+only_one : (one other : Id) → Contains (one ∷ []) other → other ≡ one
+only_one one other inside = elim (here_or_there one other [] inside) [
+  | inl is ↦ is
+  | inr none ↦ absurd (not_inside_none other none)
+]
+
+-- what is removed may lie in the attic
+removed_in_attic : (by : ℕ) (state : State) → IsJustKilled by state → FitsAttic ATTIC state
+removed_in_attic by Live killed = absurd killed
+removed_in_attic by (Dead one two) killed = tt
+
+-- no byte is below the digits, as those are that no name has
+abbrev are_above_signs : List ℕ → Bool
+are_above_signs [] = true
+are_above_signs (byte ∷ bytes) = if nat_le 48 byte then are_above_signs bytes else false
+
+are_of_names : (bytes : List ℕ) → are_above_signs bytes ≡ true → AllByRecursion IsNameByte bytes
+are_of_names [] above = tt
+are_of_names (byte ∷ bytes) above = elim (leb_tells 48 byte) [
+  | inl digit ↦ (
+    record {
+      not_zero = λ is. omega (arith, digit.1);
+      not_slash = λ is. omega (arith, digit.1);
+      not_number_sign = λ is. omega (arith, digit.1);
+    },
+    are_of_names bytes (rw digit.0 at above),
+  )
+  | inr sign ↦ let clash : false ≡ true = rw sign.0 at above in cc
+]
+
+-- the name of the attic's entries is one
+pub attic_name_is : IsName (codes "discarded")
+attic_name_is = record {
+  not_empty = omega arith;
+  within_limit = omega arith;
+  not_here = λ is. omega (arith, ap (λ (bytes : List ℕ). length bytes) is);
+  not_above = λ is. omega (arith, ap (λ (bytes : List ℕ). length bytes) is);
+  each = All-from_recursion IsNameByte (codes "discarded") (are_of_names (codes "discarded") refl);
+}
 
 module _ {saved : Saved} (fits : FitsImage saved) where
   most : saved.me ≤ 8
@@ -173,17 +255,16 @@ module _ {saved : Saved} (fits : FitsImage saved) where
   next_in_room left = omega (arith, fits.ids_at_most)
 
   -- with one more entry of an object
-  pub linked_steps : (dir : Id) (name : List ℕ) (target : Id) (entries : List Entry) → saved.next ≤ saved.ids →
-      MayLink saved dir target → IsName name → IsRising entries →
-      AddsEntry saved.entries entries (held_live (entry_of (next_id saved) dir name target)) →
-      IsStepped saved (Link dir name target) entries saved.files
-  linked_steps dir name target entries left may is_name rising adds = record {
+  pub named_steps : (op : Op) (dir : Id) (name : List ℕ) (target : Id) (entries : List Entry) →
+      saved.next ≤ saved.ids → MayLink saved dir target → GivesName op dir name target → IsName name →
+      IsRising entries → AddsEntry saved.entries entries (held_live (entry_of (next_id saved) dir name target)) →
+      IsStepped saved op entries saved.files
+  named_steps op dir name target entries left may gives is_name rising adds = record {
     stepped = record {
       rising = rising;
-      stepped = entered_one saved.me (next_id saved) (Link dir name target) (killed_none saved.me saved.entries)
-          (entry_of (next_id saved) dir name target) refl (not_inside_none (next_id saved)) adds;
+      stepped = entered_by_name saved.me (next_id saved) gives adds;
       held = are_files;
-      stepped_files = name_steps (next_id saved) saved.files Links;
+      stepped_files = name_steps (next_id saved) saved.files (names gives);
     };
     fits = entered_tables_fit saved.members saved.me saved.next dir name target Live saved.entries entries saved.files
         fits.me fits.next_at_least (next_in_room left) is_name may.lies.place tt may.lies.no_attic may.held
@@ -225,4 +306,38 @@ module _ {saved : Saved} (fits : FitsImage saved) where
         fits.me fits.next_at_least (next_in_room room) is_name may.lies.place tt may.lies.no_attic may.removes.held
         (killed_tables_fit saved.members saved.me saved.next ids saved.entries left saved.files fits.me
         (tables_of fits) left_rising killed) rising adds;
+  }
+
+  -- a removal that the replica alone knows of fits
+  killed_fits : (state : State) → IsJustKilled saved.me state → FitsState saved.members state
+  killed_fits Live killed = absurd killed
+  killed_fits (Dead one two) killed = record {
+    first = λ peer inside. subst (IsMember saved.members)
+        (sym (eqb-true peer saved.me (sym (killed.0 peer) ∙ inside))) fits.me;
+    second = λ peer inside. absurd (false≢true (sym (killed.1 peer) ∙ inside));
+    somebody = saved.me;
+    knows = killed.0 saved.me ∙ eq-eqb saved.me saved.me refl;
+  }
+
+  -- with an entry of the attic, removed at once, and the file covered
+  pub discarded_steps : (file : Id) (state : State) (entries : List Entry) (files : List FileReplica) →
+      saved.next ≤ saved.ids → Holds saved.files file → IsJustKilled saved.me state → IsRising entries →
+      AddsEntry saved.entries entries (held_as (attic_place (next_id saved) file) state) → AreFiles files →
+      IsChanged saved.files files file covered_file → IsStepped saved (Discard file) entries files
+  discarded_steps file state entries files left held killed rising adds are changed = record {
+    stepped = record {
+      rising = rising;
+      stepped = entered_removed saved.me (next_id saved) (Discard file) (attic_place (next_id saved) file) refl
+          (here (next_id saved) []) killed
+          (λ entry inside removed. entry_is_earlier entry inside (only_one (next_id saved) entry.id removed)) adds;
+      held = are;
+      stepped_files = cover_steps (next_id saved) saved.files files are_files ByDiscard changed;
+    };
+    fits = fit_together saved.members saved.me (saved.next + 1) saved.entries entries saved.files files
+        (entered_tables_fit saved.members saved.me saved.next ATTIC (codes "discarded") file state saved.entries entries
+        saved.files fits.me fits.next_at_least (next_in_room left) attic_name_is (inr (inr refl)) (killed_fits state killed)
+        (removed_in_attic saved.me state killed) held (tables_of fits) rising adds)
+        (covered_tables_fit saved.members saved.me saved.next file saved.entries saved.files files fits.me
+        fits.next_at_least (next_in_room left) (tables_of fits) are changed)
+        (held_changed saved.files files file covered_file (λ f. refl) changed);
   }

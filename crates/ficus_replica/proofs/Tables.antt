@@ -12,11 +12,11 @@ use Rattle.ficus_entry.specs.declared.entry.State.TheVariants.{Live, Dead}
 use Rattle.ficus_file.specs.declared.file.FileReplica.{FileReplica}
 use Rattle.ficus_model.specs.declared.event.Op.{Op}
 use Rattle.ficus_model.specs.Live.{ModelEntry, entered_by, removed_by}
-use Rattle.ficus_codec.specs.Laws.{FitsReplica}
-use Rattle.ficus_codec.specs.Saved.{FitsImage}
-use Rattle.ficus_codec.specs.declared.saved.Saved.{Saved}
-use Rattle.ficus_held_laws.specs.Entries.{place_of, AreEntriesStepped, HasSteppedEntry, IsJustRemoved, IsNewEntry, IsSteppedTo}
-use Rattle.ficus_answers.specs.View.{held_live}
+use Rattle.ficus_saved.specs.Laws.{FitsReplica}
+use Rattle.ficus_saved.specs.Saved.{FitsImage}
+use Rattle.ficus_saved.specs.declared.saved.Saved.{Saved}
+use Rattle.ficus_held_laws.specs.Entries.{place_of, AreEntriesStepped, HasSteppedEntry, IsFromEntry, IsJustRemoved, IsNewEntry, IsSteppedTo}
+use Rattle.ficus_answers.specs.View.{held_as, held_live}
 
 pub tables_of : {saved : Saved} → FitsImage saved →
     FitsReplica saved.members saved.me saved.next saved.entries saved.files
@@ -56,6 +56,19 @@ just_removed by (Dead one two) killed = record {
   second = λ peer inside. false≢true (sym (killed.1 peer) ∙ inside);
 }
 just_removed by Live killed = absurd killed
+
+-- the one entry that the operation enters, live
+new_is : (number : Id) (op : Op) (new : ModelEntry) → entered_by number op ≡ Some new → (entry : Entry) →
+    IsNewEntry number op entry → entry ≡ held_live new
+new_is number op new enters entry is_new =
+    let place : place_of entry ≡ new = same_Some (place_of entry) new (sym is_new.enters ∙ enters) in
+    λ i. record {
+      id = (place i).id;
+      dir = (place i).dir;
+      name = (place i).name;
+      target = (place i).target;
+      state = is_new.alive i;
+    }
 
 -- what an operation makes of entries of which those are removed that it removes
 module _ (by : ℕ) (number : Id) (op : Op) where
@@ -115,15 +128,12 @@ module _ (by : ℕ) (number : Id) (op : Op) where
     entered_one {after} new enters outside adds =
         entered_only {after = after}
         (λ entry is_new inside. outside
-        (subst (λ (e : ModelEntry). Contains removes e.id) (place_is entry is_new) inside))
+        (subst (λ (e : Entry). Contains removes e.id) (new_is number op new enters entry is_new) inside))
         (λ entry. (
           λ inside. out entry ((adds entry).0 inside),
           λ there. (adds entry).1 (into entry there),
         ))
       where
-        place_is : (entry : Entry) → IsNewEntry number op entry → place_of entry ≡ new
-        place_is entry is_new = same_Some (place_of entry) new (sym is_new.enters ∙ enters)
-
         out : (entry : Entry) → Contains left entry ⊎ (entry ≡ held_live new) →
             Contains left entry ⊎ IsNewEntry number op entry
         out entry (inl inside) = inl inside
@@ -132,12 +142,40 @@ module _ (by : ℕ) (number : Id) (op : Op) where
         into : (entry : Entry) → Contains left entry ⊎ IsNewEntry number op entry →
             Contains left entry ⊎ (entry ≡ held_live new)
         into entry (inl inside) = inl inside
-        into entry (inr is_new) =
-            let place : place_of entry ≡ new = place_is entry is_new in
-            inr (λ i. record {
-              id = (place i).id;
-              dir = (place i).dir;
-              name = (place i).name;
-              target = (place i).target;
-              state = is_new.alive i;
-            })
+        into entry (inr is_new) = inr (new_is number op new enters entry is_new)
+
+  -- where it enters this one and removes it at once, the list has what it was and this one, removed
+  pub entered_removed : {entries after : List Entry} {state : State} (new : ModelEntry) →
+      entered_by number op ≡ Some new → Contains removes new.id → IsJustKilled by state →
+      ((entry : Entry) → Contains entries entry → Contains removes entry.id → ⊥) →
+      AddsEntry entries after (held_as new state) → AreEntriesStepped by number op entries after
+  entered_removed {entries} {after} {state} new enters inside killed outside adds = record {
+    from = λ entry there. was entry ((adds entry).0 there);
+    all = λ entry there. becomes entry there;
+  }
+    where
+      -- the new entry, live, is left as it stands in the list
+      removed_at_once : IsSteppedTo by removes (held_live new) (held_as new state)
+      removed_at_once = record {
+        same = refl;
+        removed = λ _. just_removed by state killed;
+        left = λ out. absurd (out inside);
+      }
+
+      new_entry : IsNewEntry number op (held_live new)
+      new_entry = record { enters = enters; alive = refl }
+
+      was : (entry : Entry) → Contains entries entry ⊎ (entry ≡ held_as new state) →
+          IsFromEntry by number op entries entry
+      was entry (inl old) =
+          record { entry = entry; from = inl old; stepped = stays entry (outside entry old) }
+      was entry (inr is) = subst (IsFromEntry by number op entries) (sym is)
+          (record { entry = held_live new; from = inr new_entry; stepped = removed_at_once })
+
+      becomes : (entry : Entry) → Contains entries entry ⊎ IsNewEntry number op entry →
+          HasSteppedEntry by number op entry after
+      becomes entry (inl old) =
+          record { next = entry; inside = (adds entry).1 (inl old); stepped = stays entry (outside entry old) }
+      becomes entry (inr is_new) = subst (λ (e : Entry). HasSteppedEntry by number op e after)
+          (sym (new_is number op new enters entry is_new))
+          (record { next = held_as new state; inside = (adds (held_as new state)).1 (inr refl); stepped = removed_at_once })

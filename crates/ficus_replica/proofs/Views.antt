@@ -15,7 +15,7 @@ use Rattle.ficus_model.specs.Versions.{IsInConflict}
 use Rattle.ficus_model.specs.View.{HasUnseen, IsOrphan, IsVisible}
 use Rattle.ficus_laws.proofs.Issued.{made_once}
 use Rattle.ficus_laws.proofs.Places.{entered_target}
-use Rattle.ficus_codec.specs.declared.saved.Saved.{Saved}
+use Rattle.ficus_saved.specs.declared.saved.Saved.{Saved}
 use Rattle.ficus_file_laws.specs.Items.{AreVersionsOf}
 use Rattle.ficus_file_laws.proofs.Listing.{one_list, conflict_of_list}
 use Rattle.ficus_held_laws.specs.Entries.{place_of}
@@ -23,19 +23,20 @@ use Rattle.ficus_held_file_laws.specs.Laws.{IsKnownFile, ListsObject}
 use Rattle.ficus_held_file_laws.proofs.Entries.{live_from_listed, live_listed, removed_from_listed, removed_listed}
 use Rattle.ficus_held_file_laws.proofs.Files.{known_file, named_listed}
 use Rattle.ficus_held_file_laws.proofs.Orphans.{orphan_listed, unseen_uncovered, uncovered_unseen}
+use Rattle.ficus_orphan.specs.Orphan.{IsNamedBy, IsOrphanIn}
 use Rattle.ficus_rules.specs.View.{SameView, history_view}
-use Rattle.ficus_answers.specs.View.{IsNamedBy, IsOrphanIn, IsVisibleBy, held_live, held_dead, tables_view}
+use Rattle.ficus_answers.specs.View.{IsVisibleBy, held_live, held_dead, tables_view}
 use Rattle.ficus_replica.specs.SavedOf.{IsSavedOf}
 
 -- an object with a live name is made
-named_made : (volume : Volume) (H : List Event) (r : ℕ) (object : Id) → IsLawful volume H →
+pub named_made : (volume : Volume) (H : List Event) (r : ℕ) (object : Id) → IsLawful volume H →
     HasName H (Knows H r) object → (kind : Kind) × IsMade H (Knows H r) object kind
 named_made volume H r object lawful named =
     let made = entered_target volume H lawful named.live.entered in
     (made.0, subst (λ target. IsMade H (Knows H r) target made.0) named.leads made.1)
 
 -- so is an orphan
-orphan_made : {H : List Event} {U : ℕ → Type 0} {object : Id} → IsOrphan H U object →
+pub orphan_made : {H : List Event} {U : ℕ → Type 0} {object : Id} → IsOrphan H U object →
     (kind : Kind) × IsMade H U object kind
 orphan_made orphan = elim orphan.kept [
   | inl filled ↦ (Dir, filled.made)
@@ -65,12 +66,19 @@ module _ {volume : Volume} {H : List Event} {r : ℕ} {saved : Saved} (lawful : 
   )
 
   name_history : {object : Id} → IsNamedBy saved.entries object → HasName H (Knows H r) object
-  name_history named =
-      record { entry = named.entry; live = (live_history named.entry).0 named.inside; leads = named.leads }
+  name_history named = record {
+    entry = place_of named.entry;
+    live = live_from_listed is.entries named.live named.inside;
+    leads = named.leads;
+  }
 
   history_name : {object : Id} → HasName H (Knows H r) object → IsNamedBy saved.entries object
-  history_name named =
-      record { entry = named.entry; inside = (live_history named.entry).1 named.live; leads = named.leads }
+  history_name named = record {
+    entry = held_live named.entry;
+    inside = (live_history named.entry).1 named.live;
+    live = refl;
+    leads = named.leads;
+  }
 
   known : (file : FileReplica) → Contains saved.files file → IsKnownFile H (Knows H r) file
   known file inside = known_file is.files inside
@@ -94,7 +102,7 @@ module _ {volume : Volume} {H : List Event} {r : ℕ} {saved : Saved} (lawful : 
     in_dir = has.in_dir;
   }
 
-  orphan_history : {object : Id} → IsOrphanIn saved object → IsOrphan H (Knows H r) object
+  orphan_history : {object : Id} → IsOrphanIn saved.entries saved.files object → IsOrphan H (Knows H r) object
   orphan_history {object} orphan = record {
     nameless = λ named. orphan.nameless (history_name named);
     kept = elim orphan.kept [
@@ -107,7 +115,7 @@ module _ {volume : Volume} {H : List Event} {r : ℕ} {saved : Saved} (lawful : 
     ];
   }
 
-  history_orphan : {object : Id} → IsOrphan H (Knows H r) object → IsOrphanIn saved object
+  history_orphan : {object : Id} → IsOrphan H (Knows H r) object → IsOrphanIn saved.entries saved.files object
   history_orphan {object} orphan = record {
     nameless = λ named. orphan.nameless (name_history named);
     file = row.file;
@@ -162,6 +170,11 @@ module _ {volume : Volume} {H : List Event} {r : ℕ} {saved : Saved} (lawful : 
   visible_row : {object : Id} (visible : IsVisible H (Knows H r) object) →
       IsRow object (visible_made volume H r object lawful visible).0
   visible_row {object} visible = row_of visible (visible_made volume H r object lawful visible).1
+
+  -- so each visible object has a list of versions
+  pub visible_versions : {object : Id} → IsVisible H (Knows H r) object →
+      (versions : List Version) × AreVersionsOf H (Knows H r) object versions
+  visible_versions visible = let found = visible_row visible in (found.row.file.versions, found.versions)
 
   kinds_history : (object : Id) (kind : Kind) →
       (tables_view saved).kinds object kind ↔ (history_view volume H r).kinds object kind

@@ -12,8 +12,8 @@ use Rattle.ficus_file.specs.Files.{AreFiles}
 use Rattle.ficus_file.specs.declared.file.FileReplica.{FileReplica}
 use Rattle.ficus_recon_dir.specs.Merge.{MergesEntries}
 use Rattle.ficus_recon_file.specs.Merge.{Fit, AreMergedFiles}
-use Rattle.ficus_codec.specs.Saved.{HasOwnPast}
-use Rattle.ficus_codec.specs.Tables.{touched_by}
+use Rattle.ficus_saved.specs.Saved.{HasOwnPast}
+use Rattle.ficus_touched.specs.Touched.{touched_by}
 use Rattle.ficus_held_file_laws.specs.Tables.{AreHeldEntries, AreHeldFiles}
 use Rattle.ficus_replica.specs.declared.replica.Replica.{Replica}
 use Rattle.ficus_replica.specs.SavedOf.{StandsAfter, generation_of}
@@ -48,13 +48,14 @@ pub record Accepted (old : Replica) (from number : ℕ) (entries : List Entry) (
     ask = None;
   }
 
--- `stale` where no such ask is open; `badmessage` where the tables don't fit; else they are taken
+-- `stale` where no such ask is open; `badmessage` where the tables don't fit, which takes memory to find; else they are
+-- taken
 abbrev pub AcceptGives : Replica → ℕ → ℕ → List Entry → List FileReplica → Result Replica Refusal → Type 0
 AcceptGives old from number entries files (Ok new) = Accepted old from number entries files new
 AcceptGives old from number entries files (Err Stale) = IsOpen old from number → ⊥
 AcceptGives old from number entries files (Err BadMessage) =
     IsOpen old from number × (MayTake old entries files → ⊥)
-AcceptGives old from number entries files (Err Memory) = Unit {0}
+AcceptGives old from number entries files (Err Memory) = IsOpen old from number
 AcceptGives old from number entries files (Err other) = ⊥
 
 -- the tables are those that replica s served at a position, in answer to the ask of replica r with this number
@@ -71,5 +72,5 @@ pub record IsServed (volume : Volume) (H : List Event) (r s number : ℕ) (entri
 abbrev pub AcceptStands : Volume → List Event → ℕ → ℕ → Result Replica Refusal → Type 0
 AcceptStands volume H r serve (Ok new) = StandsAfter volume H r (Accept r serve) new
 AcceptStands volume H r serve (Err Stale) = MayCome volume H (Accept r serve) → ⊥
-AcceptStands volume H r serve (Err Memory) = Unit {0}
+AcceptStands volume H r serve (Err Memory) = MayCome volume H (Accept r serve)
 AcceptStands volume H r serve (Err other) = ⊥

@@ -6,8 +6,7 @@ use Rattle.ficus_model.specs.declared.event.Event.TheVariants.{Update}
 use Rattle.ficus_model.specs.Lawful.{Volume}
 use Rattle.ficus_answers.specs.View.{tables_view}
 use Rattle.ficus_commands.specs.declared.change.Change.{Change}
-use Rattle.ficus_rules.specs.Change.{ChangeRule}
-use Rattle.ficus_rules.specs.Rule.{UnlessMemory}
+use Rattle.ficus_rules.specs.Change.{ChangeAnswer, ChangeRule}
 use Rattle.ficus_rules.specs.View.{history_view}
 use Rattle.ficus_replica.specs.declared.replica.Next.{Next}
 use Rattle.ficus_replica.specs.declared.replica.Replica.{Replica}
@@ -23,7 +22,7 @@ pub record Changed (old : Replica) (change : Change) (next : Next) : Type 0 wher
 -- what a change gives, over what the replica holds
 abbrev pub ChangeGives : Replica → Change → Result Next Refusal → Type 0
 ChangeGives old change (Ok next) = Changed old change next
-ChangeGives old change (Err refusal) = UnlessMemory (ChangeRule (tables_view old.saved) change) (Err refusal)
+ChangeGives old change (Err refusal) = ChangeAnswer (tables_view old.saved) change (Err refusal)
 
 -- the operation is the rule's after the history; it may come, and the next replica stands for the history with it
 pub record ChangedAfter (volume : Volume) (H : List Event) (r : ℕ) (change : Change) (next : Next) : Type 0 where
@@ -33,4 +32,4 @@ pub record ChangedAfter (volume : Volume) (H : List Event) (r : ℕ) (change : C
 -- what a change of replica r gives after the history
 abbrev pub ChangeStands : Volume → List Event → ℕ → Change → Result Next Refusal → Type 0
 ChangeStands volume H r change (Ok next) = ChangedAfter volume H r change next
-ChangeStands volume H r change (Err refusal) = UnlessMemory (ChangeRule (history_view volume H r) change) (Err refusal)
+ChangeStands volume H r change (Err refusal) = ChangeAnswer (history_view volume H r) change (Err refusal)

@@ -1,5 +1,5 @@
 -- What an operation makes of what a replica saves.
-use Rattle.std.specs.Prelude.{◌≡◌, ◌≢◌, ℕ, ◌+◌, ◌≤◌, List, length, Contains}
+use Rattle.std.specs.Prelude.{◌≡◌, ◌≢◌, ℕ, ◌+◌, ◌≤◌, List, length, Contains, codes}
 use Rattle.ficus_ids.specs.Rising.{IsRisingBy}
 use Rattle.ficus_ids.specs.declared.id.Id.{Id}
 use Rattle.ficus_ids.specs.declared.id.TheConstants.{ATTIC}
@@ -11,11 +11,12 @@ use Rattle.ficus_file.specs.Files.{AreFiles, Holds, HoldsFile}
 use Rattle.ficus_file.specs.declared.file.FileReplica.{FileReplica}
 use Rattle.ficus_model.specs.declared.event.Op.{Op}
 use Rattle.ficus_model.specs.declared.event.Op.TheVariants.{Make, Link, Remove, Move, Write, Settle, Resolve, Adopt, Discard}
+use Rattle.ficus_model.specs.Live.{ModelEntry, entry_of}
 use Rattle.ficus_model.specs.Versions.{bytes_of}
-use Rattle.ficus_codec.specs.Laws.{FitsReplica}
-use Rattle.ficus_codec.specs.Tables.{IsPlaceIn}
-use Rattle.ficus_codec.specs.declared.saved.Saved.{Saved}
-use Rattle.ficus_codec.specs.Limits.{file_limit}
+use Rattle.ficus_saved.specs.Laws.{FitsReplica}
+use Rattle.ficus_saved.specs.Tables.{IsPlaceIn}
+use Rattle.ficus_saved.specs.declared.saved.Saved.{Saved}
+use Rattle.ficus_saved.specs.Limits.{file_limit}
 use Rattle.ficus_held_laws.specs.Entries.{AreEntriesStepped}
 use Rattle.ficus_held_laws.specs.Objects.{AreObjectsStepped}
 use Rattle.ficus_held_file_laws.specs.Tables.{objects_of}
@@ -23,6 +24,10 @@ use Rattle.ficus_held_file_laws.specs.Tables.{objects_of}
 -- the number of the replica's next update
 abbrev pub next_id : Saved → Id
 next_id saved = record { replica = saved.me; number = saved.next }
+
+-- the entry that a Discard with this number enters
+abbrev pub attic_place : Id → Id → ModelEntry
+attic_place number file = entry_of number ATTIC (codes "discarded") file
 
 -- the entries and files are what the next update of the replica makes of those that it holds
 pub record AreStepped (old : Saved) (op : Op) (entries : List Entry) (files : List FileReplica) : Type 0 where
@@ -76,7 +81,12 @@ pub record MayMove (old : Saved) (entries : List Id) (dir target : Id) : Type 0 
   pub removes : MayRemove old entries target
   pub lies : MayMake old dir
 
--- what is done is possible in the replica's tables; so far no operation adopts an orphan or gives one up
+-- the operation gives the object this name in the directory, and takes no name from it
+pub data GivesName : Op → Id → List ℕ → Id → Type 0 where
+  Links : {dir target : Id} {name : List ℕ} → GivesName (Link dir name target) dir name target
+  Adopts : {dir file : Id} {name : List ℕ} → GivesName (Adopt file dir name) dir name file
+
+-- what is done is possible in the replica's tables
 abbrev pub IsPossible : Saved → Op → Type 0
 IsPossible old (Make dir name kind) = MayMake old dir
 IsPossible old (Write file bytes) = MayWrite old file bytes
@@ -85,8 +95,8 @@ IsPossible old (Resolve file bytes) = MayWrite old file bytes
 IsPossible old (Link dir name target) = MayLink old dir target
 IsPossible old (Remove entries target) = MayRemove old entries target
 IsPossible old (Move entries dir name target) = MayMove old entries dir target
-IsPossible old (Adopt file dir name) = ⊥
-IsPossible old (Discard file) = ⊥
+IsPossible old (Adopt file dir name) = MayLink old dir file
+IsPossible old (Discard file) = Holds old.files file
 
 -- and an update is left for it
 pub record IsReady (old : Saved) (op : Op) : Type 0 where

@@ -4,4 +4,3 @@ pub mod Effect
 pub mod Change
 pub mod Ask
 pub mod Accept
-pub mod Taken

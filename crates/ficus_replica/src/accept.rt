@@ -1,12 +1,11 @@
 ghost use Rattle.std.specs.Prelude.{◌≡◌, ◌-◌, ◌^◌, ◌<◌, ℕ, List, IfOk, IsTrue, ◌↔◌};
 
-use crate::taken::taken;
 use crate::{Asked, Replica};
 use ficus_entry::{Entries, Entry};
 use ficus_file::{FileReplica, Files, Version};
 use ficus_ids::{Id, Memory, Refusal};
 use ficus_recon_dir::merge_entries;
-use ficus_recon_file::{News, merge_files, merge_fits};
+use ficus_recon_file::{News, merge_news, news_fit};
 use ficus_vv::Vector;
 use std::alloc::Global;
 
@@ -14,8 +13,8 @@ impl Replica {
     ghost use Rattle.std.specs.Prelude.{All, Contains};
     ghost use Rattle.ficus_file.specs.declared.version.Version.{Version as VersionValue};
     ghost use Rattle.ficus_vv.specs.Vector.{count_of};
-    ghost use Rattle.ficus_codec.specs.Saved.{FitsImage, IsEntryOfPast, IsFileOfPast, IsOfPast};
-    ghost use Rattle.ficus_codec.specs.Tables.{FitsTables};
+    ghost use Rattle.ficus_saved.specs.Saved.{FitsImage, IsEntryOfPast, IsFileOfPast, IsOfPast};
+    ghost use Rattle.ficus_saved.specs.Tables.{FitsTables};
     ghost use Rattle.ficus_model.specs.Lawful.{Volume, IsLawful};
     ghost use Rattle.ficus_model.specs.declared.event.Event.{Event};
     ghost use Rattle.ficus_recon_file.specs.Merge.{Fit};
@@ -71,7 +70,7 @@ impl Replica {
     {
         let saved = &self.saved;
         let merged = merge_entries(alloc, &saved.entries, entries, saved.me, saved.members)?;
-        let both = merged_files(alloc, &merged, news)?;
+        let both = merge_news(alloc, news, &merged)?;
         Ok((merged, both))
     }
 
@@ -81,7 +80,7 @@ impl Replica {
         requires mine { news.now.mine ≡ self.now.saved.files }
         ensures { IfOk result (λ fits. IsTrue fits ↔ MayTake self.now entries.now news.now.theirs) }
     {
-        Ok(self.has_issued_all(entries)? && self.has_issued_files(news) && merge_fits(news))
+        Ok(self.has_issued_all(entries)? && self.has_issued_files(news) && news_fit(news))
     }
 
     // Whether it has issued each identifier of its own in the entries.
@@ -157,18 +156,4 @@ impl Replica {
     {
         id.replica != self.saved.me || id.number < self.saved.next
     }
-}
-
-ghost use Rattle.ficus_codec.specs.Tables.{touched_by};
-ghost use Rattle.ficus_file.specs.Files.{AreFiles};
-ghost use Rattle.ficus_recon_file.specs.Merge.{Fit as FilesFit, AreMergedFiles};
-
-// What its files and those of the peer make together, where it holds these entries afterwards.
-fn merged_files(alloc: Global, entries: &Entries, news: &News<'_>) -> Result<Files, Memory>
-    requires { FilesFit news.now.mine news.now.theirs }
-    ensures merged { IfOk result (AreMergedFiles (touched_by entries.now) news.now.mine news.now.theirs) }
-    ensures files { IfOk result AreFiles }
-{
-    let taken = taken(alloc, entries, news)?;
-    merge_files(alloc, news, &taken)
 }

@@ -3,7 +3,7 @@ use ficus_ids::Memory;
 
 impl Replica {
     ghost use Rattle.std.specs.Prelude.{◌≢◌, ◌-◌, ◌^◌, ◌<◌, List, IfOk};
-    ghost use Rattle.ficus_codec.specs.Saved.{FitsImage};
+    ghost use Rattle.ficus_saved.specs.Saved.{FitsImage};
     ghost use Rattle.ficus_ids.specs.Members.{IsMember};
     ghost use Rattle.ficus_model.specs.Lawful.{Volume};
     ghost use Rattle.ficus_model.specs.declared.event.Event.{Event};

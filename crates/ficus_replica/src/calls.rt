@@ -1,21 +1,23 @@
 use crate::{Next, Replica};
-use ficus_commands::{Change, Look, Told};
+use ficus_commands::{Look, Told};
 use ficus_entry::{Entries, Entry};
-use ficus_file::{Files, Version};
-use ficus_ids::{Kind, Listed, Memory, Refusal};
-use ficus_names::Line;
+use ficus_file::{Files, Orphan, Version};
+use ficus_ids::{Id, Kind, Memory, Refusal};
+use ficus_names::{Clashes, Line};
 use ficus_path::Path;
 use std::alloc::Global;
 
 // The calls of a replica, one for each change and each look, with a path and bytes that the caller lends. What each of
 // them gives is what `change` or `look` gives of the same: the rule that stands in the row of that command.
 impl Replica {
-    ghost use Rattle.std.specs.Prelude.{◌≡◌, ◌-◌, ◌^◌, ◌<◌, IfOk, Ok};
-    ghost use Rattle.ficus_codec.specs.Saved.{FitsImage};
-    ghost use Rattle.ficus_commands.specs.declared.change.Change.TheVariants.{Create as Creates, Write as Writes, Settle as Settles, Resolve as Resolves, Rm as Removes, Ln as Links, Mv as Moves};
-    ghost use Rattle.ficus_commands.specs.declared.look.Look.TheVariants.{Ls as Lists, Read as Reads, Versions as TellsVersions, Tree as TellsTree, Marks as TellsMarks};
-    ghost use Rattle.ficus_commands.specs.declared.told.Told.TheVariants.{Text as ToldText, Names as ToldNames, Tree as ToldTree, Versions as ToldVersions, Marks as ToldMarks};
+    ghost use Rattle.std.specs.Prelude.{◌≡◌, ◌↔◌, ◌-◌, ◌^◌, ◌<◌, IfOk, IsTrue, Ok};
+    ghost use Rattle.ficus_answers.specs.View.{tables_view};
+    ghost use Rattle.ficus_saved.specs.Saved.{FitsImage};
+    ghost use Rattle.ficus_commands.specs.declared.change.Change.TheVariants.{Create as Creates, Write as Writes, Settle as Settles, Resolve as Resolves, Rm as Removes, Ln as Links, Mv as Moves, Adopt as Adopts, Discard as Discards};
+    ghost use Rattle.ficus_commands.specs.declared.look.Look.TheVariants.{Ls as Lists, Read as Reads, Versions as TellsVersions, Tree as TellsTree, Conflicts as TellsConflicts, Orphans as TellsOrphans, Detached as TellsDetached, Marks as TellsMarks};
+    ghost use Rattle.ficus_commands.specs.declared.told.Told.TheVariants.{Text as ToldText, Names as ToldNames, Tree as ToldTree, Versions as ToldVersions, Conflicts as ToldConflicts, Orphans as ToldOrphans, Detached as ToldDetached, Marks as ToldMarks};
     ghost use Rattle.ficus_path.specs.Path.{IsEntry, IsNew};
+    ghost use Rattle.ficus_rules.specs.Alike.{AreAlike};
     ghost use Rattle.ficus_replica.specs.Change.{ChangeGives};
     ghost use Rattle.ficus_replica.specs.Look.{LookGives, LookGivesAs};
 
@@ -29,8 +31,7 @@ impl Replica {
         ensures gives { ChangeGives self.now (Creates path.now kind) result }
         ensures fits { IfOk result (λ next. FitsImage next.replica.saved) }
     {
-        let path = path.copy(alloc)?;
-        self.change(alloc, &Change::Create { path, kind })
+        self.done(alloc, ficus_answers::make(&self.saved, path, kind))
     }
 
     /// Gives the file at the path these bytes. Refused as the walk is; with `IsDir` exactly where the object is a
@@ -43,9 +44,7 @@ impl Replica {
         ensures gives { ChangeGives self.now (Writes path.now bytes.now) result }
         ensures fits { IfOk result (λ next. FitsImage next.replica.saved) }
     {
-        let path = path.copy(alloc)?;
-        let text = Listed::of(bytes.to_vec(alloc)?);
-        self.change(alloc, &Change::Write { path, text })
+        self.done(alloc, ficus_answers::write(alloc, &self.saved, path, bytes))
     }
 
     /// Ends the conflict of the file at the path by these bytes. Refused as `write` is, but with `NoConflict` exactly
@@ -56,9 +55,10 @@ impl Replica {
         ensures gives { ChangeGives self.now (Settles path.now bytes.now) result }
         ensures fits { IfOk result (λ next. FitsImage next.replica.saved) }
     {
-        let path = path.copy(alloc)?;
-        let text = Listed::of(bytes.to_vec(alloc)?);
-        self.change(alloc, &Change::Settle { path, text })
+        self.done(
+            alloc,
+            ficus_answers::settle(alloc, &self.saved, path, bytes),
+        )
     }
 
     /// Ends the conflict of the file at the path by what the resolver of its kind makes of its versions. Refused as
@@ -69,8 +69,7 @@ impl Replica {
         ensures gives { ChangeGives self.now (Resolves path.now) result }
         ensures fits { IfOk result (λ next. FitsImage next.replica.saved) }
     {
-        let path = path.copy(alloc)?;
-        self.change(alloc, &Change::Resolve { path })
+        self.done(alloc, ficus_answers::resolve(alloc, &self.saved, path))
     }
 
     /// Removes the name at the path from its object: all live entries of the directory that have this name and lead to
@@ -83,8 +82,7 @@ impl Replica {
         ensures gives { ChangeGives self.now (Removes path.now) result }
         ensures fits { IfOk result (λ next. FitsImage next.replica.saved) }
     {
-        let path = path.copy(alloc)?;
-        self.change(alloc, &Change::Rm { path })
+        self.done(alloc, ficus_answers::remove(&self.saved, path))
     }
 
     /// Gives the file at the path `from` the new path `path` as a further name. Refused as the walk along `from` is; as
@@ -98,9 +96,7 @@ impl Replica {
         ensures gives { ChangeGives self.now (Links from.now path.now) result }
         ensures fits { IfOk result (λ next. FitsImage next.replica.saved) }
     {
-        let from = from.copy(alloc)?;
-        let path = path.copy(alloc)?;
-        self.change(alloc, &Change::Ln { from, path })
+        self.done(alloc, ficus_answers::link(&self.saved, from, path))
     }
 
     /// Gives the object at the path `from` the new path `path` in place of this name: it stays the same object, with
@@ -115,9 +111,35 @@ impl Replica {
         ensures gives { ChangeGives self.now (Moves from.now path.now) result }
         ensures fits { IfOk result (λ next. FitsImage next.replica.saved) }
     {
-        let from = from.copy(alloc)?;
-        let path = path.copy(alloc)?;
-        self.change(alloc, &Change::Mv { from, path })
+        self.done(alloc, ficus_answers::rename(alloc, &self.saved, from, path))
+    }
+
+    /// Gives the orphan the new path as its name. Refused with `NotOrphan` exactly where no orphan has this identifier; as
+    /// the walk to the parent of the path is; with `IntoSelf` exactly where the orphan is a directory, and the new parent
+    /// is it or lies below it; with `Exists` and `Spent` as `make` is.
+    pub fn adopt(&self, alloc: Global, orphan: Id, path: &Path) -> Result<Next, Refusal>
+        requires new { IsNew path.now }
+        requires fits { FitsImage self.now.saved }
+        requires generation { self.now.saved.generation < 2 ^ 63 - 1 }
+        ensures gives { ChangeGives self.now (Adopts orphan path.now) result }
+        ensures fits { IfOk result (λ next. FitsImage next.replica.saved) }
+    {
+        self.done(
+            alloc,
+            ficus_answers::adopt(alloc, &self.saved, orphan, path),
+        )
+    }
+
+    /// Gives up the orphan, a file: all its versions are covered, and an entry of the attic, removed at once, tells the
+    /// others of it. Refused with `NotOrphan` as `adopt` is; with `IsDir` exactly where the orphan is a directory; with
+    /// `Spent` as `make` is.
+    pub fn discard(&self, alloc: Global, orphan: Id) -> Result<Next, Refusal>
+        requires fits { FitsImage self.now.saved }
+        requires generation { self.now.saved.generation < 2 ^ 63 - 1 }
+        ensures gives { ChangeGives self.now (Discards orphan) result }
+        ensures fits { IfOk result (λ next. FitsImage next.replica.saved) }
+    {
+        self.done(alloc, ficus_answers::discard(&self.saved, orphan))
     }
 
     /// The names that the directory at the path shows, by name, then by object. Refused as the walk is; with `NotDir`
@@ -126,8 +148,7 @@ impl Replica {
         requires { FitsImage self.now.saved }
         ensures { LookGivesAs self.now (Lists path.now) (λ lines. ToldNames lines.items) result }
     {
-        let path = path.copy(alloc)?;
-        match self.look(alloc, &Look::Ls { path })? {
+        match ficus_answers::list(alloc, &self.saved, path)? {
             Told::Names(lines) => Ok(lines.into_vec()),
             _ => unreachable!(),
         }
@@ -139,8 +160,7 @@ impl Replica {
         requires { FitsImage self.now.saved }
         ensures { LookGivesAs self.now (Reads path.now) (λ bytes. ToldText bytes.items) result }
     {
-        let path = path.copy(alloc)?;
-        match self.look(alloc, &Look::Read { path })? {
+        match ficus_answers::read(alloc, &self.saved, path)? {
             Told::Text(bytes) => Ok(bytes.into_vec()),
             _ => unreachable!(),
         }
@@ -153,8 +173,7 @@ impl Replica {
         ensures { LookGivesAs self.now (TellsVersions path.now)
             (λ list. ToldVersions self.now.saved.members list.items) result }
     {
-        let path = path.copy(alloc)?;
-        match self.look(alloc, &Look::Versions { path })? {
+        match ficus_answers::versions(alloc, &self.saved, path)? {
             Told::Versions { list, .. } => Ok(list.into_vec()),
             _ => unreachable!(),
         }
@@ -172,6 +191,44 @@ impl Replica {
         }
     }
 
+    /// What is in conflict: each name under which a directory has several objects, by directory and name; and each file in
+    /// conflict that has a live name or is an orphan, by identifier.
+    pub fn conflicts(&self, alloc: Global) -> Result<Clashes, Memory>
+        requires { FitsImage self.now.saved }
+        ensures { IfOk result (λ clashes. LookGives self.now TellsConflicts (Ok (ToldConflicts clashes))) }
+    {
+        match self.look(alloc, &Look::Conflicts) {
+            Ok(Told::Conflicts(clashes)) => Ok(clashes),
+            Err(Refusal::Memory) => Err(Memory),
+            _ => unreachable!(),
+        }
+    }
+
+    /// The orphans, by identifier: the objects without a live name that are directories with something in them or files
+    /// with a version that no removal covers.
+    pub fn orphans(&self, alloc: Global) -> Result<Vec<Orphan>, Memory>
+        requires { FitsImage self.now.saved }
+        ensures { IfOk result (λ orphans. LookGives self.now TellsOrphans (Ok (ToldOrphans orphans.items))) }
+    {
+        match self.look(alloc, &Look::Orphans) {
+            Ok(Told::Orphans(orphans)) => Ok(orphans.into_vec()),
+            Err(Refusal::Memory) => Err(Memory),
+            _ => unreachable!(),
+        }
+    }
+
+    /// The directories with a live name that are reached neither from the root nor from an orphan, rising.
+    pub fn detached(&self, alloc: Global) -> Result<Vec<Id>, Memory>
+        requires { FitsImage self.now.saved }
+        ensures { IfOk result (λ dirs. LookGives self.now TellsDetached (Ok (ToldDetached dirs.items))) }
+    {
+        match self.look(alloc, &Look::Detached) {
+            Ok(Told::Detached(dirs)) => Ok(dirs.into_vec()),
+            Err(Refusal::Memory) => Err(Memory),
+            _ => unreachable!(),
+        }
+    }
+
     /// The removed entries that it holds, by identifier, each with the members that are known to know of the removal and
     /// those that are known to know that all know of it.
     pub fn marks(&self, alloc: Global) -> Result<Vec<Entry>, Memory>
@@ -183,6 +240,18 @@ impl Replica {
             Err(Refusal::Memory) => Err(Memory),
             _ => unreachable!(),
         }
+    }
+
+    /// Whether both replicas show the same: the same names in every directory, the same orphans, and the same kind and
+    /// the same versions of each object that has a live name or is an orphan. What they hold of removed entries may
+    /// differ. It looks at all that both hold, once.
+    pub fn alike(&self, alloc: Global, other: &Replica) -> Result<bool, Memory>
+        requires fits { FitsImage self.now.saved }
+        requires fits_too { FitsImage other.now.saved }
+        ensures { IfOk result (λ alike. IsTrue alike
+            ↔ AreAlike (tables_view self.now.saved) (tables_view other.now.saved)) }
+    {
+        ficus_answers::alike(alloc, &self.saved, &other.saved)
     }
 
     /// What it holds: its entries, live and removed, and its files. This is what it serves to a peer that asks.

@@ -1,12 +1,16 @@
 use crate::{Next, Replica};
 use ficus_commands::{Change, Look, Told};
 use ficus_ids::Refusal;
+use ficus_model::Op;
 use std::alloc::Global;
 
 impl Replica {
     ghost use Rattle.std.specs.Prelude.{◌-◌, ◌^◌, ◌<◌, IfOk};
-    ghost use Rattle.ficus_codec.specs.Saved.{FitsImage};
+    ghost use Rattle.ficus_saved.specs.Saved.{FitsImage};
+    ghost use Rattle.ficus_answers.specs.View.{tables_view};
     ghost use Rattle.ficus_commands.specs.Change.{HasFitPaths};
+    ghost use Rattle.ficus_commands.specs.declared.change.Change.{Change as ChangeValue};
+    ghost use Rattle.ficus_rules.specs.Change.{ChangeAnswer};
     ghost use Rattle.ficus_replica.specs.Change.{ChangeGives};
     ghost use Rattle.ficus_replica.specs.Look.{LookGives};
 
@@ -18,8 +22,19 @@ impl Replica {
         ensures gives { ChangeGives self.now change.now result }
         ensures fits { IfOk result (λ next. FitsImage next.replica.saved) }
     {
-        let op = ficus_answers::change(alloc, &self.saved, change)?;
-        Ok(self.applied(alloc, op)?)
+        self.done(alloc, ficus_answers::change(alloc, &self.saved, change))
+    }
+
+    // The replica once the operation is done that a change is answered with, and the operation.
+    pub(crate) fn done(&self, alloc: Global, answer: Result<Op, Refusal>) -> Result<Next, Refusal>
+        requires change { (change : ChangeValue) × ChangeAnswer (tables_view self.now.saved) change answer }
+        requires fits { FitsImage self.now.saved }
+        requires generation { self.now.saved.generation < 2 ^ 63 - 1 }
+        ensures gives { (change : ChangeValue) → ChangeAnswer (tables_view self.now.saved) change answer
+            → ChangeGives self.now change result }
+        ensures fits { IfOk result (λ next. FitsImage next.replica.saved) }
+    {
+        Ok(self.applied(alloc, answer?)?)
     }
 
     /// What the look tells, or why it is refused.

@@ -1,26 +1,28 @@
-ghost use Rattle.std.specs.Prelude.{◌≡◌, IfOk};
+ghost use Rattle.std.specs.Prelude.{◌≡◌, IfOk, codes};
 ghost use Rattle.ficus_ids.specs.Name.{IsName};
-ghost use Rattle.ficus_answers.specs.View.{held_live};
+ghost use Rattle.ficus_answers.specs.View.{held_as, held_live};
 
 use crate::{Next, Replica};
-use ficus_codec::Saved;
 use ficus_entry::{Entries, Entry, State};
 use ficus_file::{FileReplica, Files};
-use ficus_ids::{Id, Kind, Memory, Name};
+use ficus_ids::{ATTIC, Id, Kind, Marks, Memory, Name};
 use ficus_model::Op;
+use ficus_saved::Saved;
 use std::alloc::Global;
 
 impl Replica {
     ghost use Rattle.std.specs.Prelude.{◌-◌, ◌^◌, ◌<◌, ◌≤◌, OnOk};
     ghost use Rattle.ficus_answers.specs.View.{tables_view};
-    ghost use Rattle.ficus_codec.specs.Saved.{FitsImage};
+    ghost use Rattle.ficus_saved.specs.Saved.{FitsImage};
     ghost use Rattle.ficus_entry.specs.Entry.{AddsEntry, Holds, IsRising};
+    ghost use Rattle.ficus_entry.specs.Kill.{IsJustKilled};
     ghost use Rattle.ficus_file.specs.File.{made_file};
-    ghost use Rattle.ficus_file.specs.Files.{Adds, AreFiles};
+    ghost use Rattle.ficus_file.specs.Files.{AreFiles};
     ghost use Rattle.ficus_held_file_laws.specs.Laws.{Overwrites};
+    ghost use Rattle.ficus_ids.specs.Rising.{Adds};
     ghost use Rattle.ficus_model.specs.declared.event.Op.{Op as Operation};
-    ghost use Rattle.ficus_model.specs.declared.event.Op.TheVariants.{Link as Links, Make as Makes, Move as Moves, Remove as Removes};
-    ghost use Rattle.ficus_replica.specs.Effect.{Applied, IsReady, IsStepped, MayWrite, next_id};
+    ghost use Rattle.ficus_model.specs.declared.event.Op.TheVariants.{Discard as Discards, Make as Makes, Move as Moves, Remove as Removes};
+    ghost use Rattle.ficus_replica.specs.Effect.{Applied, GivesName, IsReady, IsStepped, MayLink, MayWrite, attic_place, next_id};
 
     /// The replica once the operation is done, and the operation.
     pub(crate) fn applied(&self, alloc: Global, op: Op) -> Result<Next, Memory>
@@ -52,7 +54,7 @@ impl Replica {
         })
     }
 
-    // The tables once the operation is done. So far it adopts no orphan and gives none up.
+    // The tables once the operation is done.
     fn stepped(&self, alloc: Global, op: &Op) -> Result<(Entries, Files), Memory>
         requires ready { IsReady self.now.saved op.now }
         requires fits { FitsImage self.now.saved }
@@ -62,7 +64,12 @@ impl Replica {
             Op::Make { dir, name, kind } => self.made(alloc, *dir, name, *kind),
             Op::Write { file, bytes } | Op::Settle { file, bytes } | Op::Resolve { file, bytes } =>
                 self.written(alloc, *file, bytes.items()),
-            Op::Link { dir, name, target } => self.linked(*dir, name, *target),
+            Op::Link { dir, name, target }
+            | Op::Adopt {
+                file: target,
+                dir,
+                name,
+            } => self.named(*dir, name, *target),
             Op::Remove { entries, target } => self.removed(entries.items(), *target),
             Op::Move {
                 entries,
@@ -70,7 +77,7 @@ impl Replica {
                 name,
                 target,
             } => self.moved(entries.items(), *dir, name, *target),
-            Op::Adopt { .. } | Op::Discard { .. } => unreachable!(),
+            Op::Discard { file } => self.discarded(*file),
         }
     }
 
@@ -93,10 +100,12 @@ impl Replica {
     }
 
     // The tables with one more entry of an object.
-    fn linked(&self, dir: Id, name: &Name, target: Id) -> Result<(Entries, Files), Memory>
-        requires ready { IsReady self.now.saved (Links dir name.now target) }
+    fn named(&self, dir: Id, name: &Name, target: Id) -> Result<(Entries, Files), Memory>
+        requires left { self.now.saved.next ≤ self.now.saved.ids }
+        requires may { MayLink self.now.saved dir target }
         requires fits { FitsImage self.now.saved }
-        ensures { IfOk result (λ tables. IsStepped self.now.saved (Links dir name.now target) tables.0 tables.1) }
+        ensures { (op : Operation) → GivesName op dir name.now target
+            → IfOk result (λ tables. IsStepped self.now.saved op tables.0 tables.1) }
     {
         let mut entries = self.saved.entries.copy()?;
         self.enter(&mut entries, dir, name, target)?;
@@ -136,6 +145,37 @@ impl Replica {
         self.enter(&mut entries, dir, name, target)?;
         let files = self.saved.files.copy()?;
         Ok((entries, files))
+    }
+
+    // The tables with an entry of the attic for the file, removed at once, and the file covered.
+    fn discarded(&self, file: Id) -> Result<(Entries, Files), Memory>
+        requires ready { IsReady self.now.saved (Discards file) }
+        requires fits { FitsImage self.now.saved }
+        ensures { IfOk result (λ tables. IsStepped self.now.saved (Discards file) tables.0 tables.1) }
+    {
+        let mut entries = self.saved.entries.copy()?;
+        entries.insert(self.attic_entry(file))?;
+        let mut files = self.saved.files.copy()?;
+        files.cover(file);
+        Ok((entries, files))
+    }
+
+    // The entry of its next update in the attic, of whose removal it alone is known to know.
+    fn attic_entry(&self, file: Id) -> Entry
+        requires { FitsImage self.now.saved }
+        ensures place { result ≡ held_as (attic_place (next_id self.now.saved) file) result.state }
+        ensures removed { IsJustKilled self.now.saved.me result.state }
+    {
+        Entry {
+            id: self.next_id(),
+            dir: ATTIC,
+            name: attic_name(),
+            target: file,
+            state: State::Dead {
+                one: Marks::empty().with(self.saved.me),
+                two: Marks::empty(),
+            },
+        }
     }
 
     // Adds the entry of its next update.
@@ -179,8 +219,8 @@ impl Replica {
         Ok((entries, files))
     }
 
-    // The number of its next update.
-    fn next_id(&self) -> Id
+    /// The number of its next update, if it may make one.
+    pub fn next_id(&self) -> Id
         ensures { result ≡ next_id self.now.saved }
     {
         Id {
@@ -208,6 +248,16 @@ fn written_by(op: &Op) -> usize
         | Op::Adopt { .. }
         | Op::Discard { .. } => 0,
     }
+}
+
+// The name that each entry of the attic has.
+fn attic_name() -> Name
+    ensures { result ≡ codes "discarded" }
+{
+    let Ok(name) = Name::new(b"discarded") else {
+        unreachable!()
+    };
+    name
 }
 
 // The live entry with these parts.

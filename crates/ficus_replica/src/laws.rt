@@ -1,11 +1,15 @@
-ghost use Rattle.std.specs.Prelude.{◌≡◌, ℕ, List, Result};
-ghost use Rattle.ficus_codec.specs.Saved.{FitsImage};
-ghost use Rattle.ficus_codec.specs.declared.saved.Saved.{Saved};
+ghost use Rattle.std.specs.Prelude.{◌≡◌, ◌↔◌, ℕ, List, Result};
+ghost use Rattle.ficus_saved.specs.Saved.{FitsImage};
+ghost use Rattle.ficus_saved.specs.declared.saved.Saved.{Saved};
 ghost use Rattle.ficus_commands.specs.declared.change.Change.{Change};
 ghost use Rattle.ficus_commands.specs.declared.look.Look.{Look};
 ghost use Rattle.ficus_commands.specs.declared.told.Told.{Told};
 ghost use Rattle.ficus_ids.specs.declared.refusal.Refusal.{Refusal};
+ghost use Rattle.ficus_model.specs.Known.{Knows};
 ghost use Rattle.ficus_model.specs.Lawful.{Volume, IsLawful};
+ghost use Rattle.ficus_model.specs.View.{ViewSame};
+ghost use Rattle.ficus_rules.specs.Alike.{AreAlike};
+ghost use Rattle.ficus_rules.specs.View.{history_view};
 ghost use Rattle.ficus_model.specs.declared.event.Event.{Event};
 ghost use Rattle.ficus_replica.specs.Change.{ChangeGives, ChangeStands};
 ghost use Rattle.ficus_replica.specs.Look.{LookGives, LookStands};
@@ -19,11 +23,25 @@ pub fn one_saved()
         → IsSavedOf volume H replica one → IsSavedOf volume H replica other → one ≡ other }
 {}
 
+/// A history has one replica of each number that stands for it.
+pub fn one_replica()
+    ensures { (volume : Volume) (H : List Event) (number : ℕ) (one other : Replica)
+        → StandsFor volume H number one → StandsFor volume H number other → one ≡ other }
+{}
+
 /// What a look gives over what the replica holds, it gives after every lawful history for which the replica stands.
 pub fn looks_stand()
     ensures { (replica : Replica) (look : Look) (result : Result Told Refusal) → LookGives replica look result
         → (volume : Volume) (H : List Event) → IsLawful volume H → StandsFor volume H replica.saved.me replica
         → LookStands volume H replica.saved.me look result }
+{}
+
+/// Two replicas that stand for a lawful history show alike by their views exactly where what both know of it shows the
+/// same.
+pub fn alike_stands()
+    ensures { (volume : Volume) (H : List Event) (r s : ℕ) (one other : Replica) → IsLawful volume H
+        → StandsFor volume H r one → StandsFor volume H s other
+        → AreAlike (history_view volume H r) (history_view volume H s) ↔ ViewSame H (Knows H r) (Knows H s) }
 {}
 
 /// What a change gives over what the replica holds, it gives after every lawful history for which the replica

@@ -8,7 +8,6 @@ mod commands;
 mod effect;
 mod laws;
 mod replica;
-mod taken;
 
-pub use laws::{changes_stand, looks_stand, one_saved};
+pub use laws::{alike_stands, changes_stand, looks_stand, one_replica, one_saved};
 pub use replica::{Asked, Next, Replica};

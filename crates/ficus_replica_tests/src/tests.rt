@@ -1,5 +1,5 @@
 ghost use Rattle.std.specs.Prelude.{IfOk};
-ghost use Rattle.ficus_codec.specs.Saved.{FitsImage};
+ghost use Rattle.ficus_saved.specs.Saved.{FitsImage};
 
 use crate::steps::{Make, fresh, made, why_not_changed, why_not_taken, written};
 use ficus_ids::{Kind, Refusal};

@@ -1,5 +1,5 @@
 -- The walk to an entry answers as the whole walk does.
-use Rattle.std.proofs.Common.{◌≡◌, ◌≢◌, ℕ, ◌-◌, List, [], ◌∷◌, ◌++◌, Option, Some, None, Result, Ok, Err, length, take, refl, sym, ap, subst, ◌∙◌, inl, inr, arith}
+use Rattle.std.proofs.Common.{◌≡◌, ◌≢◌, ◌-◌, List, [], ◌∷◌, ◌++◌, Option, Some, None, Result, Ok, Err, length, take, refl, ap, subst, ◌∙◌, inl, inr, arith}
 use Rattle.std.specs.List.{last_or}
 use Rattle.std.proofs.Math.Seq.{take-append_seam}
 use Rattle.std.proofs.lemmas.List.{length-append}
@@ -12,7 +12,7 @@ use Rattle.ficus_names.specs.Find.{FindAnswer}
 use Rattle.ficus_rules.specs.Laws.{object_of}
 use Rattle.ficus_rules.specs.Rule.{Then, Gives}
 use Rattle.ficus_rules.specs.View.{View, IsBoundIn}
-use Rattle.ficus_rules.specs.Walk.{PartsRule, WalkRule, DirectoryRule, EntryRule, Found, last_name, last_target, name_of, target_of}
+use Rattle.ficus_rules.specs.Walk.{PartsRule, WalkRule, DirectoryRule, EntryRule, Found, name_of, target_of}
 use Rattle.ficus_rules.proofs.Walks.{found_at}
 
 -- a list with something in it has a last item

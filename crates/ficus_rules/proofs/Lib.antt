@@ -11,6 +11,9 @@ pub mod Texts
 pub mod Resolved
 pub mod Reading
 pub mod VersionLists
+pub mod Conflicts
+pub mod Orphans
+pub mod Detached
 pub mod Marks
 pub mod Makes
 pub mod Writes
@@ -20,6 +23,9 @@ pub mod Named
 pub mod Removes
 pub mod Links
 pub mod Renames
+pub mod Adopts
+pub mod Discards
 pub mod Changes
 pub mod Looks
+pub mod Alikes
 pub mod Resolvers

@@ -8,17 +8,17 @@ use Rattle.ficus_rules.specs.View.{View, SameView}
 use Rattle.ficus_rules.specs.Walk.{last_name}
 use Rattle.ficus_rules.proofs.Rules.{then_once, unless_once, gives_once, then_along, unless_along, gives_along}
 use Rattle.ficus_rules.proofs.Views.{directory_same, taken_same}
-use Rattle.ficus_rules.proofs.Walks.{entry_once, entry_along, parent_once, parent_along}
+use Rattle.ficus_rules.proofs.Walks.{places_once, places_along}
 
 pub link_once : (view : View) (from path : Path) → Once (LinkRule view from path)
 link_once view from path =
-    then_once (entry_once view from) (λ found. then_once (parent_once view path)
-    (λ dir. unless_once _ _ (unless_once _ _ (unless_once _ _ (gives_once _)))))
+    then_once (places_once view from path)
+    (λ places. unless_once _ _ (unless_once _ _ (unless_once _ _ (gives_once _))))
 
 pub link_along : {one other : View} → SameView one other → (from path : Path) →
     Along (LinkRule one from path) (LinkRule other from path)
 link_along same from path =
-    then_along (entry_along same.shown from) (λ found walked. then_along (parent_along same.shown path)
-    (λ dir led. unless_along IsDir (directory_same same.shown found.object)
-    (unless_along Exists (taken_same same.shown dir (last_name path))
-    (unless_along Spent same.spent (gives_along (Link dir (last_name path) found.object))))))
+    then_along (places_along same.shown from path)
+    (λ places walked. unless_along IsDir (directory_same same.shown places.found.object)
+    (unless_along Exists (taken_same same.shown places.dir (last_name path))
+    (unless_along Spent same.spent (gives_along (Link places.dir (last_name path) places.found.object)))))

@@ -1,11 +1,11 @@
 -- `remove`: its answer is one, and the same over views that show the same.
-use Rattle.std.proofs.Common.{ℕ, List, Result}
+use Rattle.std.proofs.Common.{ℕ, List, Result, Ok}
 use Rattle.ficus_ids.specs.declared.id.Id.{Id}
 use Rattle.ficus_ids.specs.declared.refusal.Refusal.{Refusal}
 use Rattle.ficus_ids.specs.declared.refusal.Refusal.TheVariants.{NotEmpty, Spent}
 use Rattle.ficus_model.specs.declared.event.Op.TheVariants.{Remove}
 use Rattle.ficus_path.specs.declared.path.Path.{Path}
-use Rattle.ficus_rules.specs.Remove.{RemoveRule, KeepsNameRule, IsFullIn}
+use Rattle.ficus_rules.specs.Remove.{NeedsNames, RemoveRule, KeepsNameRule, IsFullIn}
 use Rattle.ficus_rules.specs.Rule.{Once, Along}
 use Rattle.ficus_rules.specs.View.{View, SameShown, SameView}
 use Rattle.ficus_rules.specs.Walk.{Found, last_name}
@@ -47,3 +47,10 @@ remove_along same path =
     then_along (entry_along same.shown path)
     (λ found walked. keeps_along same.shown found (last_name path) (unless_along Spent same.spent
     (tells_along (λ entries. Remove entries found.object) (named_there same.shown))))
+
+pub names_there : {one other : View} → SameView one other → (path : Path) → NeedsNames one path → NeedsNames other path
+names_there same path needs = record {
+  found = needs.found;
+  walked = entry_along same.shown path (Ok needs.found) needs.walked;
+  full = full_there same.shown needs.full;
+}

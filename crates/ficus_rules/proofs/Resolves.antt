@@ -1,9 +1,9 @@
 -- `resolve`: its answer is one, and the same over views that show the same.
-use Rattle.std.proofs.Common.{length}
+use Rattle.std.proofs.Common.{length, Ok}
 use Rattle.ficus_ids.specs.declared.refusal.Refusal.TheVariants.{NoConflict}
 use Rattle.ficus_model.specs.declared.event.Op.TheVariants.{Resolve}
 use Rattle.ficus_path.specs.declared.path.Path.{Path}
-use Rattle.ficus_rules.specs.Resolve.{ResolveRule}
+use Rattle.ficus_rules.specs.Resolve.{NeedsResolver, ResolveRule}
 use Rattle.ficus_rules.specs.Rule.{Once, Along}
 use Rattle.ficus_rules.specs.View.{View, SameView}
 use Rattle.ficus_rules.proofs.Limits.{limits_once, limits_along}
@@ -24,3 +24,11 @@ resolve_along same path =
     (λ file walked. where_along NoConflict (same.shown.conflicts file)
     (then_along (resolved_along same.shown file)
     (λ bytes resolved. limits_along same (length bytes) (gives_along (Resolve file bytes)))))
+
+pub resolver_there : {one other : View} → SameView one other → (path : Path) → NeedsResolver one path →
+    NeedsResolver other path
+resolver_there same path needs = record {
+  file = needs.file;
+  walked = file_along same.shown path (Ok needs.file) needs.walked;
+  conflict = (same.shown.conflicts needs.file).0 needs.conflict;
+}

@@ -1,8 +1,8 @@
 -- A rule has one answer, and says the same over views that show the same: each way to put rules together keeps both.
-use Rattle.std.proofs.Common.{◌≡◌, ◌↔◌, Result, Ok, Err, sym, ap, subst, ◌∙◌, inl, inr}
+use Rattle.std.proofs.Common.{◌≡◌, ◌↔◌, ◌⊎◌, Result, Ok, Err, sym, ap, subst, ◌∙◌, inl, inr}
 use Rattle.ficus_ids.specs.declared.refusal.Refusal.{Refusal}
 use Rattle.ficus_ids.specs.declared.refusal.Refusal.TheVariants.{Memory}
-use Rattle.ficus_rules.specs.Rule.{Then, RefusedOr, Unless, Where, Gives, Tells, UnlessMemory, Once, Along}
+use Rattle.ficus_rules.specs.Rule.{Then, RefusedOr, Unless, Where, Gives, Tells, RefusesNothing, UnlessMemoryWhere, UnlessMemory, Once, Along}
 
 module _ {A B : Type 0} {first : Result A Refusal → Type 0} {rest : A → Result B Refusal → Type 0}
     (first_once : Once first) (rest_once : (a : A) → Once (rest a)) where
@@ -97,22 +97,57 @@ pub tells_along : {A B : Type 0} (told_as : A → B) {IsSo IsSoToo : A → Type 
 tells_along told_as there (Ok b) (a, so, e) = (a, there a so, e)
 tells_along told_as there (Err r) none = absurd none
 
+-- Whether a rule refuses: a refusal is taken apart, step by step, from the outside.
+-- a rule that gives something refuses nothing
+pub given_none : {A : Type 0} {rule : Result A Refusal → Type 0} → Once rule → (a : A) → rule (Ok a) →
+    RefusesNothing rule
+given_none once a gives refusal refuses = let e = once (Ok a) (Err refusal) gives refuses in cc
+
+-- where the first gives this, what is refused is refused behind it
+pub behind : {A : Type 0} {first : Result A Refusal → Type 0} → Once first → (a : A) → first (Ok a) →
+    {refusal : Refusal} {Rest : A → Type 0} → first (Err refusal) ⊎ ((b : A) × first (Ok b) × Rest b) → Rest a
+behind once a goes {refusal} (inl stops) = absurd (given_none once a goes refusal stops)
+behind once a goes {refusal} {Rest} (inr (b, goes_too, rest)) =
+    let e = once (Ok a) (Ok b) goes goes_too in
+    let same : b ≡ a = cc in
+    subst Rest same rest
+
+-- where a refusal doesn't apply, too
+pub passed : {bad good same Rest : Type 0} → (bad → ⊥) → (bad × same) ⊎ (good × Rest) → Rest
+passed isnt (inl (is, e)) = absurd (isnt is)
+passed isnt (inr (is, rest)) = rest
+
+-- Want of memory beside a rule.
+module _ {A B : Type 0} {may may_too : Type 0} (rule : Result A Refusal → Type 0)
+    (other : Result B Refusal → Type 0) where
+  -- a refusal of the one rule is one of the other too, and so is want of memory
+  pub refusal_along : (refusal : Refusal) → (may → may_too) → (rule (Err refusal) → other (Err refusal)) →
+      UnlessMemoryWhere may rule (Err refusal) → UnlessMemoryWhere may_too other (Err refusal)
+  refusal_along Memory also there is = also is
+  refusal_along refusal also there is = there is
+
+module _ {A : Type 0} {may may_too : Type 0} {rule other : Result A Refusal → Type 0} where
+  pub memory_where_along : (may → may_too) → Along rule other →
+      Along (UnlessMemoryWhere may rule) (UnlessMemoryWhere may_too other)
+  memory_where_along also there (Ok a) is = there (Ok a) is
+  memory_where_along also there (Err refusal) is = refusal_along rule other refusal also (there (Err refusal)) is
+
 module _ {A : Type 0} {rule other : Result A Refusal → Type 0} where
-  pub memory_along : Along rule other → Along (UnlessMemory rule) (UnlessMemory other)
-  memory_along there (Ok a) is = there (Ok a) is
-  memory_along there (Err Memory) is = tt
-  memory_along there (Err refusal) is = there (Err refusal) is
+  -- rules with the same answers, with want of memory
+  pub memory_along : Along rule other → Along other rule → Along (UnlessMemory rule) (UnlessMemory other)
+  memory_along there back =
+      memory_where_along (λ none refusal refuses. none refusal (back (Err refusal) refuses)) there
 
 -- an answer of the rule, whichever it is
-pub or_memory : {A : Type 0} (rule : Result A Refusal → Type 0) (answer : Result A Refusal) → rule answer →
-    UnlessMemory rule answer
-or_memory rule (Ok a) is = is
-or_memory rule (Err Memory) is = tt
-or_memory rule (Err refusal) is = is
+module _ {A : Type 0} (may : Type 0) (rule : Result A Refusal → Type 0) (never : rule (Err Memory) → ⊥) where
+  pub or_memory : (answer : Result A Refusal) → rule answer → UnlessMemoryWhere may rule answer
+  or_memory (Ok a) is = is
+  or_memory (Err Memory) is = absurd (never is)
+  or_memory (Err refusal) is = is
 
--- a refusal other than want of memory is one of the other rule too
-pub refusal_along : {A B : Type 0} (rule : Result A Refusal → Type 0) (other : Result B Refusal → Type 0)
-    (refusal : Refusal) → (rule (Err refusal) → other (Err refusal)) → UnlessMemory rule (Err refusal) →
-    UnlessMemory other (Err refusal)
-refusal_along rule other Memory there is = tt
-refusal_along rule other refusal there is = there is
+-- a refusal of the one rule, where it is one of the other too
+pub or_refused : {A B : Type 0} (may : Type 0) (rule : Result A Refusal → Type 0) (other : Result B Refusal → Type 0)
+    (refusal : Refusal) → (rule (Err Memory) → ⊥) → (rule (Err refusal) → other (Err refusal)) → rule (Err refusal) →
+    UnlessMemoryWhere may other (Err refusal)
+or_refused may rule other refusal never there refused =
+    refusal_along rule other refusal (λ (is : may). is) there (or_memory may rule never (Err refusal) refused)

@@ -1,16 +1,16 @@
 -- Views that show the same.
-use Rattle.std.proofs.Common.{◌↔◌, ℕ, List, refl, sym, inl, inr}
+use Rattle.std.proofs.Common.{◌≡◌, ◌↔◌, ◌⊎◌, ℕ, List, refl, sym, inl, inr}
 use Rattle.ficus_ids.specs.declared.id.Id.{Id}
 use Rattle.ficus_ids.specs.declared.id.TheConstants.{ROOT}
 use Rattle.ficus_ids.specs.declared.kind.Kind.TheVariants.{Dir}
-use Rattle.ficus_laws.proofs.Shown.{reached_within}
-use Rattle.ficus_rules.specs.View.{View, SameShown, IsBoundIn, IsTakenIn, IsDirectoryIn, IsReachedFromIn, IsReachedIn}
+use Rattle.ficus_laws.proofs.Shown.{reached_from_more, reached_within}
+use Rattle.ficus_rules.specs.View.{View, SameShown, SameView, IsBoundIn, IsTakenIn, IsDirectoryIn, IsInReachIn, IsNamedIn, IsReachedFromIn, IsReachedIn, IsWithinIn}
 
 -- whatever is so is so, and where two things are so together, so they are the other way round
 itself : {A : Type 0} → A ↔ A
 itself = (λ is. is, λ is. is)
 
-turned : {A B : Type 0} → A ↔ B → B ↔ A
+pub turned : {A B : Type 0} → A ↔ B → B ↔ A
 turned either = (either.1, either.0)
 
 pub same_itself : (view : View) → SameShown view view
@@ -31,6 +31,14 @@ same_back same = record {
   kinds = λ object kind. turned (same.kinds object kind);
   conflicts = λ object. turned (same.conflicts object);
   versions = λ object versions. turned (same.versions object versions);
+}
+
+pub view_back : {one other : View} → SameView one other → SameView other one
+view_back same = record {
+  shown = same_back same.shown;
+  marks = λ entry knowing knowing_all_know. turned (same.marks entry knowing knowing_all_know);
+  spent = turned same.spent;
+  over_quota = λ bytes. turned (same.over_quota bytes);
 }
 
 module _ {one other : View} (same : SameShown one other) where
@@ -59,6 +67,21 @@ module _ {one other : View} (same : SameShown one other) where
   pub directory_same : (object : Id) → IsDirectoryIn one object ↔ IsDirectoryIn other object
   directory_same object = (directory_there same object, directory_there (same_back same) object)
 
+  pub named_there : (object : Id) → IsNamedIn one object → IsNamedIn other object
+  named_there object named = record {
+    entry = named.entry;
+    live = (same.live named.entry).0 named.live;
+    leads = named.leads;
+  }
+
+  top_there : (top : Id) → (top ≡ ROOT) ⊎ one.orphans top → (top ≡ ROOT) ⊎ other.orphans top
+  top_there top (inl root) = inl root
+  top_there top (inr orphan) = inr ((same.orphans top).0 orphan)
+
+  pub in_reach_there : (object : Id) → IsInReachIn one object → IsInReachIn other object
+  in_reach_there object reached =
+      reached_from_more top_there (reached_within (λ from to leads. (leads.0, bound_there same leads.1)) reached)
+
   pub reached_from_same : (start object : Id) → IsReachedFromIn one start object ↔ IsReachedFromIn other start object
   reached_from_same start object = (
     λ reached. reached_within (λ from to leads. (leads.0, bound_there same leads.1)) reached,
@@ -67,3 +90,14 @@ module _ {one other : View} (same : SameShown one other) where
 
   pub reached_same : (object : Id) → IsReachedIn one object ↔ IsReachedIn other object
   reached_same object = reached_from_same ROOT object
+
+within_there : {one other : View} {object dir : Id} → SameShown one other → IsWithinIn one object dir →
+    IsWithinIn other object dir
+within_there {object = object} {dir = dir} same within = record {
+  directory = (directory_same same object).0 within.directory;
+  reached = (reached_from_same same object dir).0 within.reached;
+}
+
+pub within_same : {one other : View} → SameShown one other → (object dir : Id) →
+    IsWithinIn one object dir ↔ IsWithinIn other object dir
+within_same same object dir = (λ within. within_there same within, λ within. within_there (same_back same) within)

@@ -13,11 +13,17 @@ pub mod Named
 pub mod Remove
 pub mod Link
 pub mod Rename
+pub mod Adopt
+pub mod Discard
 pub mod List
 pub mod Tree
 pub mod Read
 pub mod Versions
+pub mod Conflicts
+pub mod Orphans
+pub mod Detached
 pub mod Marks
+pub mod Alike
 pub mod Change
 pub mod Look
 pub mod Laws

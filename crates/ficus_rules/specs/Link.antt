@@ -7,14 +7,13 @@ use Rattle.ficus_model.specs.declared.event.Op.TheVariants.{Link}
 use Rattle.ficus_path.specs.declared.path.Path.{Path}
 use Rattle.ficus_rules.specs.Rule.{Then, Unless, Gives}
 use Rattle.ficus_rules.specs.View.{View, IsDirectoryIn, IsTakenIn}
-use Rattle.ficus_rules.specs.Walk.{EntryRule, ParentRule, last_name}
+use Rattle.ficus_rules.specs.Walk.{PlacesRule, last_name}
 
--- the walk; the parent walk of the new path; `isdir`; `exists`; `spent`; else a Link
+-- both walks; `isdir`; `exists`; `spent`; else a Link
 abbrev pub LinkRule : View → Path → Path → Result Op Refusal → Type 0
 LinkRule view from path =
-    Then (EntryRule view from) (λ found.
-    Then (ParentRule view path) (λ dir.
-    Unless (IsDirectoryIn view found.object) IsDir (
-    Unless (IsTakenIn view dir (last_name path)) Exists (
+    Then (PlacesRule view from path) (λ places.
+    Unless (IsDirectoryIn view places.found.object) IsDir (
+    Unless (IsTakenIn view places.dir (last_name path)) Exists (
     Unless view.spent Spent (
-    Gives (Link dir (last_name path) found.object))))))
+    Gives (Link places.dir (last_name path) places.found.object)))))

@@ -1,5 +1,5 @@
 -- `marks`: what it answers.
-use Rattle.std.specs.Prelude.{◌↔◌, ℕ, List, Result, Contains}
+use Rattle.std.specs.Prelude.{◌↔◌, List, Result, Contains}
 use Rattle.ficus_ids.specs.Rising.{IsRisingBy}
 use Rattle.ficus_ids.specs.declared.refusal.Refusal.{Refusal}
 use Rattle.ficus_entry.specs.declared.entry.Entry.{Entry}

@@ -1,5 +1,5 @@
 -- `remove`: what it answers.
-use Rattle.std.specs.Prelude.{◌≡◌, ℕ, List, Result}
+use Rattle.std.specs.Prelude.{◌≡◌, ℕ, List, Result, Ok}
 use Rattle.ficus_ids.specs.declared.id.Id.{Id}
 use Rattle.ficus_ids.specs.declared.refusal.Refusal.{Refusal}
 use Rattle.ficus_ids.specs.declared.refusal.Refusal.TheVariants.{NotEmpty, Spent}
@@ -18,6 +18,13 @@ pub record IsFullIn (view : View) (object : Id) : Type 0 where
   pub entry : ModelEntry
   pub live : view.live entry
   pub inside : entry.dir ≡ object
+
+-- the object is such a directory: what is refused further is known once its other names are looked for, and that takes
+-- memory
+pub record NeedsNames (view : View) (path : Path) : Type 0 where
+  pub found : Found
+  pub walked : EntryRule view path (Ok found)
+  pub full : IsFullIn view found.object
 
 -- refused with `notempty` where a directory with something in it would lose its last name
 abbrev pub KeepsNameRule : {B : Type 0} → View → Found → List ℕ → (Result B Refusal → Type 0) → Result B Refusal →

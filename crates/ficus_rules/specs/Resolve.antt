@@ -1,5 +1,6 @@
 -- `resolve`: what it answers.
-use Rattle.std.specs.Prelude.{length, Result}
+use Rattle.std.specs.Prelude.{length, Result, Ok}
+use Rattle.ficus_ids.specs.declared.id.Id.{Id}
 use Rattle.ficus_ids.specs.declared.refusal.Refusal.{Refusal}
 use Rattle.ficus_ids.specs.declared.refusal.Refusal.TheVariants.{NoConflict}
 use Rattle.ficus_model.specs.declared.event.Op.{Op}
@@ -10,6 +11,12 @@ use Rattle.ficus_rules.specs.Resolved.{ResolvedRule}
 use Rattle.ficus_rules.specs.Rule.{Then, Where, Gives}
 use Rattle.ficus_rules.specs.View.{View}
 use Rattle.ficus_rules.specs.Walk.{FileRule}
+
+-- the file is in conflict: what is refused further is known by what its resolver makes, and that takes memory
+pub record NeedsResolver (view : View) (path : Path) : Type 0 where
+  pub file : Id
+  pub walked : FileRule view path (Ok file)
+  pub conflict : view.conflicts file
 
 -- the walk; `isdir`; `noconflict`; `declined`; the limits; else a Resolve
 abbrev pub ResolveRule : View → Path → Result Op Refusal → Type 0

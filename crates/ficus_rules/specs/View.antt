@@ -89,6 +89,15 @@ IsReachedFromIn view start object = IsReached (LeadsWithin view) (λ base. base 
 abbrev pub IsReachedIn : View → Id → Type 0
 IsReachedIn view object = IsReachedFromIn view ROOT object
 
+-- in reach: reached from the root or from an orphan
+abbrev pub IsInReachIn : View → Id → Type 0
+IsInReachIn view object = IsReached (LeadsWithin view) (λ top. (top ≡ ROOT) ⊎ view.orphans top) object
+
+-- the object is a directory, and the other is it or lies below it, however deep
+pub record IsWithinIn (view : View) (object other : Id) : Type 0 where
+  pub directory : IsDirectoryIn view object
+  pub reached : IsReachedFromIn view object other
+
 -- what the replica shows after the history, by what it has heard of
 abbrev pub history_view : Volume → List Event → ℕ → View
 history_view volume H replica =

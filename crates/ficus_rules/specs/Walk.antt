@@ -4,18 +4,19 @@ use Rattle.std.specs.List.{last_or}
 use Rattle.ficus_ids.specs.declared.id.Id.{Id}
 use Rattle.ficus_ids.specs.declared.id.TheConstants.{ROOT}
 use Rattle.ficus_ids.specs.declared.refusal.Refusal.{Refusal}
-use Rattle.ficus_ids.specs.declared.refusal.Refusal.TheVariants.{NotDir, IsDir}
+use Rattle.ficus_ids.specs.declared.refusal.Refusal.TheVariants.{NotDir, IsDir, NotOrphan}
 use Rattle.ficus_path.specs.declared.path.Base.{Base}
-use Rattle.ficus_path.specs.declared.path.Base.TheVariants.{Root}
+use Rattle.ficus_path.specs.declared.path.Base.TheVariants.{Root, Orphan}
 use Rattle.ficus_path.specs.declared.path.Part.{Part}
 use Rattle.ficus_path.specs.declared.path.Path.{Path}
 use Rattle.ficus_names.specs.Find.{FindAnswer}
 use Rattle.ficus_rules.specs.Rule.{Then, Unless, Where, Gives}
 use Rattle.ficus_rules.specs.View.{View, IsBoundIn, IsDirectoryIn}
 
--- the object at which a walk begins
+-- the object at which a walk begins: the root, or the orphan with this identifier
 abbrev pub BaseRule : View → Base → Result Id Refusal → Type 0
 BaseRule view Root = Gives ROOT
+BaseRule view (Orphan id) = Where (view.orphans id) NotOrphan (Gives id)
 
 -- for each part the object so far has to be a directory, and then the part is looked up in it
 abbrev pub PartsRule : View → List Part → Id → Result Id Refusal → Type 0
@@ -73,3 +74,15 @@ EntryRule view path =
     Then (ParentRule view path) (λ dir.
     Then (FindAnswer (IsBoundIn view dir) (last_name path) (last_target path)) (λ object.
     Gives (record { dir = dir; object = object })))
+
+-- where an object that gets a new path is found, and the directory of that path
+pub record Places : Type 0 where
+  pub found : Found
+  pub dir : Id
+
+-- the walk to the entry at the one path; the parent walk of the new one
+abbrev pub PlacesRule : View → Path → Path → Result Places Refusal → Type 0
+PlacesRule view from path =
+    Then (EntryRule view from) (λ found.
+    Then (ParentRule view path) (λ dir.
+    Gives (record { found = found; dir = dir })))

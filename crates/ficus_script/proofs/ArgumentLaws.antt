@@ -1,5 +1,5 @@
 -- No two arguments are spelled by the same words.
-use Rattle.std.proofs.Common.{◌≡◌, ◌≢◌, ◌⊎◌, ℕ, List, [], ◌∷◌, ◌++◌, get_or, Option, None, Some, Result, Ok, Err, refl, inl, inr, sym, ◌∙◌, ap, arith, if◌then◌else◌, ◌==◌}
+use Rattle.std.proofs.Common.{◌≡◌, ◌≢◌, ◌⊎◌, ℕ, List, [], ◌∷◌, ◌++◌, get_or, Option, None, Some, Result, Ok, Err, refl, inl, inr, sym, ◌∙◌, ap, subst, arith, if◌then◌else◌, ◌==◌}
 use Rattle.std.specs.Fmt.{decimal}
 use Rattle.std.specs.List.{join_with_byte}
 use Rattle.std.specs.Result.{IsErrOf}
@@ -12,16 +12,18 @@ use Rattle.ficus_path.specs.declared.path.PathFault.TheVariants as path_fault
 use Rattle.ficus_path.specs.declared.text.TextFault.{TextFault}
 use Rattle.ficus_path.specs.declared.text.TextFault.TheVariants as text_fault
 use Rattle.ficus_path.proofs.CutLaws.{IsFreeOf}
-use Rattle.ficus_path.proofs.PathLaws.{path_text_injective, path_text_visible}
+use Rattle.ficus_path.proofs.PathLaws.{path_text_injective, path_text_visible, text_from}
+use Rattle.ficus_path.specs.declared.path.Base.{Base}
+use Rattle.ficus_path.specs.declared.path.Base.TheVariants.{Root, Orphan}
 use Rattle.ficus_path.specs.declared.path.Part.{Part}
 use Rattle.ficus_path.specs.declared.path.Path.{Path}
 use Rattle.ficus_path.specs.Path.{IsPath}
-use Rattle.ficus_path.specs.Spelling.{path_text, parts_text}
+use Rattle.ficus_path.specs.Spelling.{path_text}
 use Rattle.ficus_path.specs.Text.{quoted_text}
 use Rattle.ficus_path.proofs.TextLaws.{quoted_text_injective}
 use Rattle.ficus_script.specs.declared.arguments.Arguments.{Arguments}
 use Rattle.ficus_script.specs.declared.arguments.Arguments.TheVariants.{Nothing, OnePath, PathAndKind, PathAndText, TwoPaths, TwoReplicas}
-use Rattle.ficus_script.specs.Arguments.{AreArguments, Begins, IsReadingBehind, IsReadingWords, BeginsPath, BeginsText, argument_words, left_of}
+use Rattle.ficus_script.specs.Arguments.{AreArguments, IsReplicaNumber, Begins, IsReadingBehind, IsReadingWords, BeginsPath, BeginsText, argument_words, left_of}
 use Rattle.ficus_script.specs.declared.line.LineFault.{LineFault}
 use Rattle.ficus_script.specs.declared.line.LineFault.TheVariants.{NotCommand, Memory as OutOfMemory}
 use Rattle.ficus_script.specs.Line.{fault_of, fault_of_text}
@@ -37,38 +39,67 @@ shape_of (PathAndText path text) = 3
 shape_of (PathAndKind path kind) = 4
 shape_of (TwoPaths one two) = 5
 
+abbrev last_shape_at : ℕ → ℕ
+last_shape_at byte = if byte == 34 then 3 else if byte == 47 then 5 else if byte == 126 then 5 else 4
+
 abbrev behind_path : Option (List ℕ) → ℕ
 behind_path None = 1
-behind_path (Some last) = if get_or last 0 0 == 34 then 3 else if get_or last 0 0 == 47 then 5 else 4
+behind_path (Some last) = last_shape_at (get_or last 0 0)
+
+abbrev first_shape_at : ℕ → Option (List ℕ) → ℕ
+first_shape_at byte rest = if byte == 47 then behind_path rest else if byte == 126 then behind_path rest else 2
 
 abbrev shape_at : List ℕ → Option (List ℕ) → ℕ
-shape_at first rest = if get_or first 0 0 == 47 then behind_path rest else 2
+shape_at first rest = first_shape_at (get_or first 0 0) rest
 
--- a path begins with a slash
-path_begins : (parts : List Part) → get_or (parts_text parts) 0 0 ≡ 47
-path_begins [] = refl
-path_begins (part ∷ parts) = refl
+-- a path begins with a slash at the root, and with a tilde at an orphan
+text_begins : (base : Base) (parts : List Part) → BeginsPath (text_from base parts)
+text_begins Root [] = inl refl
+text_begins Root (part ∷ parts) = inl refl
+text_begins (Orphan id) parts = inr refl
+
+path_begins : (path : Path) → BeginsPath (path_text path)
+path_begins path = text_begins path.base path.parts
+
+-- and no number of a replica does
+no_path_begins : (first : List ℕ) (replica : ℕ) → IsReplicaNumber replica → first ≡ decimal replica →
+    BeginsPath first → ⊥
+no_path_begins first replica number same (inl slash) =
+    omega (arith, slash, ap (λ (word : List ℕ). get_or word 0 0) same, first_digit replica number)
+no_path_begins first replica number same (inr tilde) =
+    omega (arith, tilde, ap (λ (word : List ℕ). get_or word 0 0) same, first_digit replica number)
 
 path_shape : (first : List ℕ) (rest : Option (List ℕ)) → BeginsPath first → shape_at first rest ≡ behind_path rest
-path_shape first rest begins = ap (λ (byte : ℕ). if byte == 47 then behind_path rest else 2) begins
+path_shape first rest (inl slash) = ap (λ (byte : ℕ). first_shape_at byte rest) slash
+path_shape first rest (inr tilde) = ap (λ (byte : ℕ). first_shape_at byte rest) tilde
 
 path_words_shape : (path : Path) (first : List ℕ) (rest : Option (List ℕ)) → first ≡ path_text path →
     shape_at first rest ≡ behind_path rest
 path_words_shape path first rest same =
-    path_shape first rest (ap (λ (word : List ℕ). get_or word 0 0) same ∙ path_begins path.parts)
+    path_shape first rest (subst BeginsPath (sym same) (path_begins path))
 
 number_shape : (first : List ℕ) (rest : Option (List ℕ)) → (BeginsPath first → ⊥) → shape_at first rest ≡ 2
-number_shape first rest other = rw (ne_eqb (get_or first 0 0) 47 other) refl
+number_shape first rest other =
+    rw (
+      ne_eqb (get_or first 0 0) 47 (λ slash. other (inl slash)),
+      ne_eqb (get_or first 0 0) 126 (λ tilde. other (inr tilde)),
+    ) refl
 
 -- a text begins with a quotation mark, a second path as the first one, and the word of a kind with neither
 text_shape : (last : List ℕ) → BeginsText last → behind_path (Some last) ≡ 3
-text_shape last begins = ap (λ (byte : ℕ). if byte == 34 then 3 else if byte == 47 then 5 else 4) begins
+text_shape last begins = ap last_shape_at begins
 
 second_path_shape : (last : List ℕ) → BeginsPath last → behind_path (Some last) ≡ 5
-second_path_shape last begins = ap (λ (byte : ℕ). if byte == 34 then 3 else if byte == 47 then 5 else 4) begins
+second_path_shape last (inl slash) = ap last_shape_at slash
+second_path_shape last (inr tilde) = ap last_shape_at tilde
 
 kind_shape : (last : List ℕ) → (BeginsText last → ⊥) → (BeginsPath last → ⊥) → behind_path (Some last) ≡ 4
-kind_shape last no_text no_path = rw (ne_eqb (get_or last 0 0) 34 no_text, ne_eqb (get_or last 0 0) 47 no_path) refl
+kind_shape last no_text no_path =
+    rw (
+      ne_eqb (get_or last 0 0) 34 no_text,
+      ne_eqb (get_or last 0 0) 47 (λ slash. no_path (inl slash)),
+      ne_eqb (get_or last 0 0) 126 (λ tilde. no_path (inr tilde)),
+    ) refl
 
 kind_word_shape : (kind : Kind) → behind_path (Some (kind_word kind)) ≡ 4
 kind_word_shape Dir = refl
@@ -87,9 +118,9 @@ shape_is (PathAndKind path kind) first rest are words =
     path_words_shape path first rest words.0 ∙ ap behind_path words.1 ∙ kind_word_shape kind
 shape_is (TwoPaths one other) first rest are words =
     path_words_shape one first rest words.0 ∙ ap behind_path words.1
-    ∙ second_path_shape (path_text other) (path_begins other.parts)
+    ∙ second_path_shape (path_text other) (path_begins other)
 shape_is (TwoReplicas one other) first rest are words =
-    number_shape first rest (λ slash. omega (arith, slash, ap (λ (word : List ℕ). get_or word 0 0) words.0, first_digit one are.0))
+    number_shape first rest (no_path_begins first one are.0 words.0)
 
 -- the word of a kind tells the kind, by its first letter
 abbrev kind_at : List ℕ → Kind
@@ -216,8 +247,7 @@ no_path first rest path_fault.NotPath begins none = go
     go (PathAndText path text) are words = none refl path are words.0
     go (PathAndKind path kind) are words = none refl path are.0 words.0
     go (TwoPaths one two) are words = none refl one are.0 words.0
-    go (TwoReplicas one two) are words =
-        omega (arith, begins, ap (λ (word : List ℕ). get_or word 0 0) words.0, first_digit one are.0)
+    go (TwoReplicas one two) are words = no_path_begins first one are.0 words.0 begins
 
 -- what stands behind a path tells the shape
 last_shape : (path : Path) (last : List ℕ) (arguments : Arguments) → AreArguments arguments →

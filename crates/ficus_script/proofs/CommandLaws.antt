@@ -1,14 +1,19 @@
 -- Each command is read off the table of verbs from its spelling, and no two commands share one.
 use Rattle.std.proofs.Common.{◌≡◌, ◌≢◌, ℕ, Bool, true, false, if◌then◌else◌, List, [], ◌∷◌, ◌++◌, get_or, Option, None, Some, Err, IfNone, refl, sym, ◌∙◌, ap, inl, inr, arith}
-use Rattle.std.specs.Prelude.{nat_le, Ok, ok_or}
+use Rattle.std.specs.Prelude.{codes, nat_le, Ok, ok_or}
 use Rattle.std.specs.Fmt.{decimal}
 use Rattle.std.specs.List.{AllByRecursion, join_with_byte}
 use Rattle.std.specs.Str.{bytes_eq}
 use Rattle.std.proofs.lemmas.Bool.Decides.{leb_tells}
 use Rattle.std.proofs.lemmas.List.Elements.{All-from_recursion}
+use Rattle.ficus_ids.specs.declared.id.Id.{Id}
+use Rattle.ficus_ids.specs.declared.id.TheConstants.{ROOT}
+use Rattle.ficus_path.specs.declared.path.Base.{Base}
+use Rattle.ficus_path.specs.declared.path.Base.TheVariants.{Root, Orphan}
+use Rattle.ficus_path.specs.declared.path.Path.{Path}
 use Rattle.ficus_path.proofs.CutLaws.{IsFreeOf}
-use Rattle.ficus_commands.specs.declared.change.Change.TheVariants.{MkDir, Create, Write, Settle, Resolve, Rm, Ln, Mv}
-use Rattle.ficus_commands.specs.declared.look.Look.TheVariants.{Ls, Read, Versions, Tree, Marks}
+use Rattle.ficus_commands.specs.declared.change.Change.TheVariants.{MkDir, Create, Write, Settle, Resolve, Rm, Ln, Mv, Adopt, Discard}
+use Rattle.ficus_commands.specs.declared.look.Look.TheVariants.{Ls, Read, Versions, Tree, Conflicts, Orphans, Detached, Marks}
 use Rattle.ficus_script.specs.declared.arguments.Arguments.{Arguments}
 use Rattle.ficus_script.specs.declared.arguments.Arguments.TheVariants.{Nothing, OnePath, PathAndKind, PathAndText, TwoPaths, TwoReplicas}
 use Rattle.ficus_script.specs.declared.command.Command.{Command}
@@ -16,24 +21,32 @@ use Rattle.ficus_script.specs.declared.command.Command.TheVariants as command
 use Rattle.ficus_script.specs.declared.line.LineFault.{LineFault}
 use Rattle.ficus_script.specs.declared.line.LineFault.TheVariants.{NotCommand, Memory as OutOfMemory}
 use Rattle.ficus_script.specs.Arguments.{IsReplicaNumber, IsReadingBehind, argument_words, left_of}
-use Rattle.ficus_script.specs.Command.{IsCommand, IsCommandOf, Spelling, spelling_of, replica_words, spelling_text, command_text}
+use Rattle.ficus_script.specs.Command.{IsCommand, IsCommandOf, Spelling, at_orphan, of_replica, spelling_of, replica_words, spelling_text, command_text}
 use Rattle.ficus_script.specs.Line.{IsReadingOf, led_by}
 use Rattle.ficus_script.proofs.ArgumentLaws.{one_arguments}
 use Rattle.ficus_script.proofs.Cuts.{IsCut, join_first, one_cut, one_first_word, spaced}
 use Rattle.ficus_script.proofs.Numbers.{IsFreeOf-replica, first_digit}
 
+-- the orphan at which a path begins, and any number at the root
+abbrev orphan_of : Base → Id
+orphan_of Root = ROOT
+orphan_of (Orphan id) = id
+
 -- the commands with these before and behind their verbs
 abbrev commands_with : Option ℕ → Arguments → List Command
-commands_with (Some by) Nothing = command.Look by Tree ∷ command.Look by Marks ∷ []
+commands_with (Some by) Nothing =
+    command.Look by Tree ∷ command.Look by Conflicts ∷ command.Look by Orphans ∷ command.Look by Detached
+    ∷ command.Look by Marks ∷ []
 commands_with (Some by) (OnePath path) =
     command.Change by (MkDir path) ∷ command.Change by (Rm path) ∷ command.Change by (Resolve path)
-    ∷ command.Look by (Ls path) ∷ command.Look by (Read path) ∷ command.Look by (Versions path) ∷ []
+    ∷ command.Change by (Discard (orphan_of path.base)) ∷ command.Look by (Ls path) ∷ command.Look by (Read path) ∷ command.Look by (Versions path) ∷ []
 commands_with (Some by) (PathAndKind path kind) = command.Change by (Create path kind) ∷ []
 commands_with (Some by) (PathAndText path text) =
     command.Change by (Write path text) ∷ command.Change by (Settle path text) ∷ []
 commands_with (Some by) (TwoPaths from path) =
-    command.Change by (Ln from path) ∷ command.Change by (Mv from path) ∷ []
-commands_with None (TwoReplicas by to) = command.Pull by to ∷ []
+    command.Change by (Ln from path) ∷ command.Change by (Mv from path)
+    ∷ command.Change by (Adopt (orphan_of from.base) path) ∷ []
+commands_with None (TwoReplicas by to) = command.Pull by to ∷ command.Alike by to ∷ []
 commands_with (Some by) (TwoReplicas first second) = []
 commands_with None Nothing = []
 commands_with None (OnePath path) = []
@@ -74,18 +87,53 @@ listed (command.Change by (Resolve path)) = record { letters = refl; found = ref
 listed (command.Change by (Rm path)) = record { letters = refl; found = refl }
 listed (command.Change by (Ln from path)) = record { letters = refl; found = refl }
 listed (command.Change by (Mv from path)) = record { letters = refl; found = refl }
+listed (command.Change by (Adopt orphan path)) = record { letters = refl; found = refl }
+listed (command.Change by (Discard orphan)) = record { letters = refl; found = refl }
 listed (command.Look by (Ls path)) = record { letters = refl; found = refl }
 listed (command.Look by (Read path)) = record { letters = refl; found = refl }
 listed (command.Look by (Versions path)) = record { letters = refl; found = refl }
 listed (command.Look by Tree) = record { letters = refl; found = refl }
+listed (command.Look by Conflicts) = record { letters = refl; found = refl }
+listed (command.Look by Orphans) = record { letters = refl; found = refl }
+listed (command.Look by Detached) = record { letters = refl; found = refl }
 listed (command.Look by Marks) = record { letters = refl; found = refl }
 listed (command.Pull by to) = record { letters = refl; found = refl }
+listed (command.Alike by other) = record { letters = refl; found = refl }
 
 -- the table has one command for a spelling
 one_command : (command other : Command) → spelling_of command ≡ spelling_of other → command ≡ other
 one_command command other same =
     let found : Some command ≡ Some other = sym (listed command).found ∙ ap at_spelling same ∙ (listed other).found in
     cc
+
+-- where the table's command has another spelling, none has this one
+no_other : (spelling : Spelling) (candidate : Command) → at_spelling spelling ≡ Some candidate →
+    (spelling_of candidate ≡ spelling → ⊥) → IsCommandOf spelling None
+no_other spelling candidate found other = λ command valid same.
+    let both : Some candidate ≡ Some command = sym found ∙ sym (ap at_spelling same) ∙ (listed command).found in
+    let is : candidate ≡ command = cc in
+    other (ap spelling_of is ∙ same)
+
+-- what is to be given up or adopted is an orphan alone
+pub no_discard : (by : ℕ) (path : Path) → ((orphan : Id) → path ≡ at_orphan orphan → ⊥) →
+    IsCommandOf (of_replica by (codes "discard") (OnePath path)) None
+no_discard by path none =
+    no_other (of_replica by (codes "discard") (OnePath path)) (command.Change by (Discard (orphan_of path.base))) refl
+    (λ same.
+    let behind : OnePath (at_orphan (orphan_of path.base)) ≡ OnePath path = ap (λ (s : Spelling). s.behind) same in
+    let is : at_orphan (orphan_of path.base) ≡ path = cc in
+    none (orphan_of path.base) (sym is))
+
+pub no_adopt : (by : ℕ) (from path : Path) → ((orphan : Id) → from ≡ at_orphan orphan → ⊥) →
+    IsCommandOf (of_replica by (codes "adopt") (TwoPaths from path)) None
+no_adopt by from path none =
+    no_other (of_replica by (codes "adopt") (TwoPaths from path))
+    (command.Change by (Adopt (orphan_of from.base) path)) refl
+    (λ same.
+    let behind : TwoPaths (at_orphan (orphan_of from.base)) path ≡ TwoPaths from path =
+    ap (λ (s : Spelling). s.behind) same in
+    let is : at_orphan (orphan_of from.base) ≡ from = cc in
+    none (orphan_of from.base) (sym is))
 
 -- no space stands among letters
 letters_free : (bytes : List ℕ) → are_letters bytes ≡ true → AllByRecursion (λ byte. byte ≢ 32) bytes

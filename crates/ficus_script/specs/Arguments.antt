@@ -1,5 +1,5 @@
 -- What stands behind the verb of a command.
-use Rattle.std.specs.Prelude.{◌≡◌, ◌≢◌, ℕ, ◌≤◌, List, [], ◌∷◌, slice_index, Option, Some, None, Result, Ok, Err}
+use Rattle.std.specs.Prelude.{◌≡◌, ◌≢◌, ◌⊎◌, ℕ, ◌≤◌, List, [], ◌∷◌, slice_index, Option, Some, None, Result, Ok, Err}
 use Rattle.std.specs.Borrow.{Bor}
 use Rattle.std.specs.List.{join_with_byte}
 use Rattle.std.specs.Fmt.{decimal}
@@ -65,9 +65,9 @@ IsReadingWords first rest (Err NotCommand) =
     (arguments : Arguments) → AreArguments arguments → Begins first rest (argument_words arguments) → ⊥
 IsReadingWords first rest (Err OutOfMemory) = Unit {0}
 
--- the word begins as the spelling of a path does, with a slash (47)
+-- the word begins as the spelling of a path does, with a slash (47) or a tilde (126)
 abbrev pub BeginsPath : List ℕ → Type 0
-BeginsPath word = slice_index word 0 ≡ 47
+BeginsPath word = (slice_index word 0 ≡ 47) ⊎ (slice_index word 0 ≡ 126)
 
 -- the word begins as the spelling of a text does, with a quotation mark (34)
 abbrev pub BeginsText : List ℕ → Type 0

@@ -2,9 +2,12 @@
 use Rattle.std.specs.Prelude.{◌≡◌, ℕ, List, [], ◌∷◌, ◌++◌, Option, Some, None, IfSome, codes}
 use Rattle.std.specs.List.{join_with_byte}
 use Rattle.std.specs.Fmt.{decimal}
+use Rattle.ficus_ids.specs.declared.id.Id.{Id}
+use Rattle.ficus_path.specs.declared.path.Base.TheVariants.{Orphan}
+use Rattle.ficus_path.specs.declared.path.Path.{Path}
 use Rattle.ficus_commands.specs.Change.{HasFitPaths}
-use Rattle.ficus_commands.specs.declared.change.Change.TheVariants.{MkDir, Create, Write, Settle, Resolve, Rm, Ln, Mv}
-use Rattle.ficus_commands.specs.declared.look.Look.TheVariants.{Ls, Read, Versions, Tree, Marks}
+use Rattle.ficus_commands.specs.declared.change.Change.TheVariants.{MkDir, Create, Write, Settle, Resolve, Rm, Ln, Mv, Adopt, Discard}
+use Rattle.ficus_commands.specs.declared.look.Look.TheVariants.{Ls, Read, Versions, Tree, Conflicts, Orphans, Detached, Marks}
 use Rattle.ficus_script.specs.declared.arguments.Arguments.{Arguments}
 use Rattle.ficus_script.specs.declared.arguments.Arguments.TheVariants.{Nothing, OnePath, PathAndKind, PathAndText, TwoPaths, TwoReplicas}
 use Rattle.ficus_script.specs.declared.command.Command.{Command}
@@ -25,6 +28,10 @@ of_replica by verb behind = record { by = Some by; verb = verb; behind = behind 
 abbrev pub of_none : List ℕ → Arguments → Spelling
 of_none verb behind = record { by = None; verb = verb; behind = behind }
 
+-- the path that begins at the orphan, and has no part
+abbrev pub at_orphan : Id → Path
+at_orphan orphan = record { base = Orphan orphan; parts = [] }
+
 -- the one table of verbs: each command's verb, and what stands before and behind it
 abbrev pub spelling_of : Command → Spelling
 spelling_of (command.Change by (MkDir path)) = of_replica by (codes "mkdir") (OnePath path)
@@ -35,18 +42,25 @@ spelling_of (command.Change by (Resolve path)) = of_replica by (codes "resolve")
 spelling_of (command.Change by (Rm path)) = of_replica by (codes "rm") (OnePath path)
 spelling_of (command.Change by (Ln from path)) = of_replica by (codes "ln") (TwoPaths from path)
 spelling_of (command.Change by (Mv from path)) = of_replica by (codes "mv") (TwoPaths from path)
+spelling_of (command.Change by (Adopt orphan path)) = of_replica by (codes "adopt") (TwoPaths (at_orphan orphan) path)
+spelling_of (command.Change by (Discard orphan)) = of_replica by (codes "discard") (OnePath (at_orphan orphan))
 spelling_of (command.Look by (Ls path)) = of_replica by (codes "ls") (OnePath path)
 spelling_of (command.Look by (Read path)) = of_replica by (codes "read") (OnePath path)
 spelling_of (command.Look by (Versions path)) = of_replica by (codes "versions") (OnePath path)
 spelling_of (command.Look by Tree) = of_replica by (codes "tree") Nothing
+spelling_of (command.Look by Conflicts) = of_replica by (codes "conflicts") Nothing
+spelling_of (command.Look by Orphans) = of_replica by (codes "orphans") Nothing
+spelling_of (command.Look by Detached) = of_replica by (codes "detached") Nothing
 spelling_of (command.Look by Marks) = of_replica by (codes "marks") Nothing
 spelling_of (command.Pull by to) = of_none (codes "pull") (TwoReplicas by to)
+spelling_of (command.Alike by other) = of_none (codes "alike") (TwoReplicas by other)
 
 -- the paths are of the sort that the command takes: those of a change are, and others may be any
 abbrev pub TakesPaths : Command → Type 0
 TakesPaths (command.Change by change) = HasFitPaths change
 TakesPaths (command.Look by look) = Unit {0}
 TakesPaths (command.Pull by to) = Unit {0}
+TakesPaths (command.Alike by other) = Unit {0}
 
 -- the numbers are those of replicas, the arguments are such, and the paths are of the sort that the command takes
 pub record IsCommand (command : Command) : Type 0 where

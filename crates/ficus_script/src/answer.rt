@@ -11,6 +11,8 @@ pub enum Answer {
     Made(Id),
     /// What the look told.
     Told(Told),
+    /// Whether two replicas show the same.
+    Alike(bool),
     /// It was refused.
     Refused(Refusal),
 }

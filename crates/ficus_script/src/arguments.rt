@@ -49,7 +49,7 @@ pub(crate) fn read_arguments(alloc: Global, behind: Option<&[u8]>) -> Result<Arg
 fn begins_path(word: &[u8]) -> bool
     ensures { IsTrue result ↔ BeginsPath word.now }
 {
-    matches!(word, [b'/', ..])
+    matches!(word, [b'/' | b'~', ..])
 }
 
 // The shapes whose first word is a path.

@@ -4,6 +4,7 @@
 mod answer;
 mod arguments;
 mod command;
+mod conflicts;
 mod cut;
 mod fault;
 mod laws;

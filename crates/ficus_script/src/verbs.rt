@@ -1,16 +1,17 @@
-ghost use Rattle.std.specs.Prelude.{◌≡◌, ◌≢◌, Some, IfSome};
+ghost use Rattle.std.specs.Prelude.{◌≡◌, ◌≢◌, Some, IfSome, IfNone, codes};
 ghost use Rattle.ficus_ids.specs.declared.kind.Kind.TheVariants.{Dir};
-ghost use Rattle.ficus_path.specs.Path.{IsPath};
+ghost use Rattle.ficus_ids.specs.declared.id.Id.{Id};
+ghost use Rattle.ficus_path.specs.Path.{IsNew, IsPath};
 ghost use Rattle.ficus_script.specs.Arguments.{AreArguments, IsReplicaNumber};
-ghost use Rattle.ficus_script.specs.Command.{Spelling, IsCommandOf, of_none, of_replica};
+ghost use Rattle.ficus_script.specs.Command.{Spelling, IsCommandOf, at_orphan, of_none, of_replica};
 ghost use Rattle.ficus_script.specs.declared.command.Command.TheVariants as command;
 ghost use Rattle.ficus_script.specs.declared.arguments.Arguments.TheVariants.{Nothing, OnePath, PathAndKind, PathAndText, TwoPaths, TwoReplicas};
 
 use crate::Command;
 use crate::arguments::Arguments;
 use ficus_commands::{Change, Look};
-use ficus_ids::{Kind, Listed};
-use ficus_path::Path;
+use ficus_ids::{Id, Kind, Listed};
+use ficus_path::{Base, Path};
 
 /// The command that the verb makes of what stands before and behind it.
 pub(crate) fn command_of(by: Option<u8>, verb: &[u8], behind: Arguments) -> Option<Command>
@@ -35,6 +36,9 @@ fn with_nothing(by: u8, verb: &[u8]) -> Option<Command>
 {
     match verb {
         _ if verb == b"tree".as_slice() => look(by, Look::Tree),
+        _ if verb == b"conflicts".as_slice() => look(by, Look::Conflicts),
+        _ if verb == b"orphans".as_slice() => look(by, Look::Orphans),
+        _ if verb == b"detached".as_slice() => look(by, Look::Detached),
         _ if verb == b"marks".as_slice() => look(by, Look::Marks),
         _ => None,
     }
@@ -49,6 +53,7 @@ fn with_path(by: u8, verb: &[u8], path: Path) -> Option<Command>
         _ if verb == b"mkdir".as_slice() && path.is_new() => change(by, Change::MkDir { path }),
         _ if verb == b"rm".as_slice() && path.is_entry() => change(by, Change::Rm { path }),
         _ if verb == b"resolve".as_slice() => change(by, Change::Resolve { path }),
+        _ if verb == b"discard".as_slice() => discard(by, path),
         _ if verb == b"ls".as_slice() => look(by, Look::Ls { path }),
         _ if verb == b"read".as_slice() => look(by, Look::Read { path }),
         _ if verb == b"versions".as_slice() => look(by, Look::Versions { path }),
@@ -89,12 +94,44 @@ fn with_paths(by: u8, verb: &[u8], from: Path, path: Path) -> Option<Command>
     requires path { IsPath path }
     ensures { IsCommandOf (of_replica by verb.now (TwoPaths from path)) result }
 {
-    if !from.is_entry() || !path.is_new() {
+    if !path.is_new() {
         return None;
     }
     match verb {
-        _ if verb == b"ln".as_slice() => change(by, Change::Ln { from, path }),
-        _ if verb == b"mv".as_slice() => change(by, Change::Mv { from, path }),
+        _ if verb == b"ln".as_slice() && from.is_entry() => change(by, Change::Ln { from, path }),
+        _ if verb == b"mv".as_slice() && from.is_entry() => change(by, Change::Mv { from, path }),
+        _ if verb == b"adopt".as_slice() => adopt(by, from, path),
+        _ => None,
+    }
+}
+
+fn discard(by: u8, path: Path) -> Option<Command>
+    requires replica { IsReplicaNumber by }
+    requires path { IsPath path }
+    ensures { IsCommandOf (of_replica by (codes "discard") (OnePath path)) result }
+{
+    let orphan = orphan_at(&path)?;
+    change(by, Change::Discard { orphan })
+}
+
+fn adopt(by: u8, from: Path, path: Path) -> Option<Command>
+    requires replica { IsReplicaNumber by }
+    requires from { IsPath from }
+    requires path { IsPath path }
+    requires new { IsNew path }
+    ensures { IsCommandOf (of_replica by (codes "adopt") (TwoPaths from path)) result }
+{
+    let orphan = orphan_at(&from)?;
+    change(by, Change::Adopt { orphan, path })
+}
+
+// The orphan at which the path begins, if it has no part.
+fn orphan_at(path: &Path) -> Option<Id>
+    ensures found { IfSome result (λ orphan. path.now ≡ at_orphan orphan) }
+    ensures none { IfNone result ((orphan : Id) → path.now ≡ at_orphan orphan → ⊥) }
+{
+    match (path.base, path.parts.items()) {
+        (Base::Orphan(orphan), []) => Some(orphan),
         _ => None,
     }
 }
@@ -106,6 +143,7 @@ fn with_replicas(verb: &[u8], by: u8, to: u8) -> Option<Command>
 {
     match verb {
         _ if verb == b"pull".as_slice() => Some(Command::Pull { by, to }),
+        _ if verb == b"alike".as_slice() => Some(Command::Alike { by, other: to }),
         _ => None,
     }
 }

@@ -1,15 +1,16 @@
 ghost use Rattle.std.specs.Prelude.{◌≡◌, [], ◌∷◌, ◌++◌, codes, IfOk, OnOk};
 ghost use Rattle.ficus_path.specs.Text.{quoted_text};
 ghost use Rattle.ficus_script.specs.Answer.{answer_text_of, told_text_of, count_line, counted_lines, mark_line, name_line, tree_line};
-ghost use Rattle.ficus_script.specs.Answer.{vector_text, version_line};
+ghost use Rattle.ficus_script.specs.Answer.{alike_text_of, clashes_text_of, id_line, orphan_line, vector_text, version_line};
 
 use crate::Answer;
+use crate::conflicts::{append_clash_lines, append_file_lines, append_orphan_line};
 use crate::marks::append_mark_line;
 use ficus_commands::Told;
 use ficus_entry::Entry;
-use ficus_file::Version;
-use ficus_ids::{Members, Memory};
-use ficus_names::{Line, shown_text};
+use ficus_file::{Orphan, Version};
+use ficus_ids::{Id, Members, Memory};
+use ficus_names::{Clashes, Line, shown_text};
 use ficus_path::append_text;
 use ficus_vv::Vector;
 use std::alloc::Global;
@@ -22,11 +23,23 @@ pub fn answer_text(alloc: Global, answer: &Answer) -> Result<Vec<u8>, Memory>
         Answer::Done => Ok(Vec::from_slice(alloc, b"ok\n")?),
         Answer::Made(id) => Ok(format!(in alloc; "ok {id}\n")?.into_bytes()),
         Answer::Told(told) => told_text(alloc, told),
+        Answer::Alike(alike) => alike_text(alloc, *alike),
         Answer::Refused(refusal) => {
             let word = refusal.word();
             Ok(format!(in alloc; "no {word}\n")?.into_bytes())
         }
     }
+}
+
+fn alike_text(alloc: Global, alike: bool) -> Result<Vec<u8>, Memory>
+    ensures { IfOk result (λ text. text.items ≡ alike_text_of alike) }
+{
+    let text = if alike {
+        b"ok alike\n".as_slice()
+    } else {
+        b"ok apart\n".as_slice()
+    };
+    Ok(Vec::from_slice(alloc, text)?)
 }
 
 fn told_text(alloc: Global, told: &Told) -> Result<Vec<u8>, Memory>
@@ -37,6 +50,9 @@ fn told_text(alloc: Global, told: &Told) -> Result<Vec<u8>, Memory>
         Told::Names(lines) => names_text(alloc, lines.items()),
         Told::Tree(lines) => tree_text(alloc, lines.items()),
         Told::Versions { members, list } => versions_text(alloc, *members, list.items()),
+        Told::Conflicts(clashes) => conflicts_text(alloc, clashes),
+        Told::Orphans(orphans) => orphans_text(alloc, orphans.items()),
+        Told::Detached(dirs) => detached_text(alloc, dirs.items()),
         Told::Marks(entries) => marks_text(alloc, entries.items()),
     }
 }
@@ -86,6 +102,38 @@ fn marks_text(alloc: Global, entries: &[Entry]) -> Result<Vec<u8>, Memory>
     let mut text = count_text(alloc, entries.len())?;
     for entry in entries {
         append_mark_line(alloc, &mut text, entry)?;
+    }
+    Ok(text)
+}
+
+fn conflicts_text(alloc: Global, clashes: &Clashes) -> Result<Vec<u8>, Memory>
+    ensures { IfOk result (λ text. text.items ≡ clashes_text_of clashes.now) }
+{
+    let names = clashes.names.items();
+    let files = clashes.files.items();
+    let mut text = count_text(alloc, names.len() + files.len())?;
+    append_clash_lines(alloc, &mut text, names)?;
+    append_file_lines(alloc, &mut text, files)?;
+    Ok(text)
+}
+
+fn orphans_text(alloc: Global, orphans: &[Orphan]) -> Result<Vec<u8>, Memory>
+    ensures { IfOk result (λ text. text.items ≡ counted_lines orphan_line orphans.now) }
+{
+    let mut text = count_text(alloc, orphans.len())?;
+    for orphan in orphans {
+        append_orphan_line(alloc, &mut text, orphan)?;
+    }
+    Ok(text)
+}
+
+fn detached_text(alloc: Global, dirs: &[Id]) -> Result<Vec<u8>, Memory>
+    ensures { IfOk result (λ text. text.items ≡ counted_lines id_line dirs.now) }
+{
+    let mut text = count_text(alloc, dirs.len())?;
+    for dir in dirs {
+        let dir = *dir;
+        text.extend_from_slice(format!(in alloc; "{dir}\n")?.as_bytes())?;
     }
     Ok(text)
 }

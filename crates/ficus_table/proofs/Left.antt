@@ -1,27 +1,24 @@
 -- What a list holds without some of its items.
-use Rattle.std.proofs.Common.{◌≡◌, ◌≢◌, ◌⊎◌, ℕ, ◌+◌, ◌<◌, ◌≤◌, List, [], ◌∷◌, ◌++◌, length, map, get_or, take, ◌∙◌, refl, sym, ap, subst, arith, inl, inr}
+use Rattle.std.proofs.Common.{◌≡◌, ℕ, ◌+◌, ◌<◌, ◌≤◌, List, [], ◌∷◌, ◌++◌, length, map, get_or, ◌∙◌, sym, ap, subst, arith, inl, inr}
 use Rattle.std.specs.Prelude.{Contains}
 use Rattle.std.specs.List.{remove}
-use Rattle.std.specs.declared.cmp.Ordering.TheVariants.{Less}
-use Rattle.std.proofs.lemmas.Bool.{cases_lt, cases_order}
+use Rattle.std.proofs.lemmas.Bool.{cases_lt}
 use Rattle.std.proofs.lemmas.List.Edits.{length-remove, get_or-remove_below, get_or-remove_above}
 use Rattle.std.proofs.lemmas.List.Elements.{Contains-push, Contains-push_cases, Contains-append_left}
-use Rattle.std.proofs.lemmas.List.Sorted.{IsPermutation-remove, IsPermutation-sym, Contains-permutation}
+use Rattle.std.proofs.lemmas.List.Sorted.{IsPermutation-remove, Contains-permutation}
 use Rattle.ficus_ids.specs.declared.id.Id.{Id}
-use Rattle.ficus_ids.specs.Id.{id_cmp}
-use Rattle.ficus_ids.specs.IdLaws.{not_below_itself}
-use Rattle.ficus_ids.specs.ListLaws.{here, there, here_or_there, not_inside_none, into_map, from_map}
+use Rattle.ficus_ids.specs.ListLaws.{here, here_or_there, not_inside_none, into_map, from_map}
 use Rattle.ficus_ids.specs.Rising.{IsRisingBy, IsFoundAtBy, IsPlaceBy, LeavesOutBy}
 use Rattle.ficus_ids.specs.RisingLaws.{item_at, none_at_place}
 
 module _ {X : Type 0} (id_of : X → Id) where
   -- where an item of the shorter list stood
   was_at : (xs : List X) (i k : ℕ) (d : X) → i < length xs →
-      (m : ℕ) × (k ≤ m) × (m ≤ k + 1) × (m ≢ i) × (get_or (remove xs i) k d ≡ get_or xs m d)
+      (m : ℕ) × (k ≤ m) × (m ≤ k + 1) × (get_or (remove xs i) k d ≡ get_or xs m d)
   was_at xs i k d within =
       elim (cases_lt k i) [
-        | inl before ↦ (k, omega arith, omega arith, λ is. omega arith, get_or-remove_below xs i d k before within)
-        | inr behind ↦ (k + 1, omega arith, omega arith, λ is. omega arith, get_or-remove_above xs i d k behind within)
+        | inl before ↦ (k, omega arith, omega arith, get_or-remove_below xs i d k before within)
+        | inr behind ↦ (k + 1, omega arith, omega arith, get_or-remove_above xs i d k behind within)
       ]
 
   pub rising_without : (xs : List X) (i : ℕ) → i < length xs → IsRisingBy id_of xs → IsRisingBy id_of (remove xs i)
@@ -42,17 +39,17 @@ module _ {X : Type 0} (id_of : X → Id) where
         ];
   }
 
-  other_there : (xs : List X) (i m : ℕ) (d : X) (id : Id) → IsRisingBy id_of xs → IsFoundAtBy id_of xs id i →
-      m < length xs → m ≢ i → id_of (get_or xs m d) ≢ id
-  other_there xs i m d id rising found within elsewhere is =
-      let same : id_of (get_or xs m d) ≡ id_of (get_or xs i d) = is ∙ sym (found.1 d) in
-      elim (cases_order m i) [
-        | inl at ↦ elsewhere at
-        | inr (inl before) ↦ not_below_itself (id_of (get_or xs i d))
-            (subst (λ k. id_cmp k (id_of (get_or xs i d)) ≡ Less) same (rising.each m i d before found.0))
-        | inr (inr behind) ↦ not_below_itself (id_of (get_or xs i d))
-            (subst (λ k. id_cmp (id_of (get_or xs i d)) k ≡ Less) same (rising.each i m d behind within))
-      ]
+  -- the identifier of an item that was removed has its place among the others
+  place_left : (xs : List X) (i : ℕ) (id : Id) → IsRisingBy id_of xs → IsFoundAtBy id_of xs id i →
+      IsPlaceBy id_of (remove xs i) id i
+  place_left xs i id rising found =
+      let long = length-remove xs i found.0 in
+      record {
+        within = omega (arith, long, found.0);
+        above = λ k d from to. rw (get_or-remove_below xs i d k to found.0, ← found.1 d) (rising.each k i d to found.0);
+        below = λ k d from to. rw (get_or-remove_above xs i d k from found.0, ← found.1 d)
+            (rising.each i (k + 1) d (omega arith) (omega (arith, long)));
+      }
 
   -- without the item that has the identifier
   pub leaves_one : (xs fewer : List X) (id : Id) (i : ℕ) → IsRisingBy id_of xs → IsFoundAtBy id_of xs id i →
@@ -65,11 +62,11 @@ module _ {X : Type 0} (id_of : X → Id) where
       into : (item : X) → Contains (remove xs i) item → Contains xs item × (Contains (id ∷ []) (id_of item) → ⊥)
       into item (k, within, at) =
           let was = was_at xs i k item found.0 in
-          let there : was.0 < length xs = omega (arith, length-remove xs i found.0, was.2) in
-          let old : get_or xs was.0 item ≡ item = sym was.4 ∙ at in (
-            (was.0, there, old),
+          let there : was.0 < length xs = omega (arith, length-remove xs i found.0, was.2) in (
+            (was.0, there, sym was.3 ∙ at),
             λ named. elim (here_or_there id (id_of item) [] named) [
-              | inl same ↦ other_there xs i was.0 item id rising found there was.3 (ap id_of old ∙ same)
+              | inl same ↦ none_at_place id_of (remove xs i) id i (place_left xs i id rising found)
+                  (record { item = item; inside = (k, within, at); has_id = same })
               | inr none ↦ not_inside_none (id_of item) none
             ],
           )

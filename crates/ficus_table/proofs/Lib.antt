@@ -1,5 +1,8 @@
 pub mod Found
+pub mod Grown
 pub mod Left
+pub mod Made
+pub mod Replaced
 pub mod SameIds
 pub mod Shown
 pub mod Sound

@@ -1,12 +1,12 @@
 -- Edits stay sound by one more.
-use Rattle.std.proofs.Common.{◌≡◌, ◌≢◌, ◌⊎◌, ◌↔◌, ℕ, zero, suc, ◌+◌, ◌<◌, ◌≤◌, Bool, true, false, List, [], ◌∷◌, ◌++◌, length, map, get_or, slice_get, Option, Some, None, set, take, drop, ◌∙◌, refl, sym, ap, subst, arith, inl, inr}
-use Rattle.std.specs.Prelude.{All, AllPairs, Contains, ◌==◌}
+use Rattle.std.proofs.Common.{◌≡◌, ◌≢◌, ◌⊎◌, ◌↔◌, ℕ, zero, suc, ◌+◌, ◌<◌, ◌≤◌, true, false, List, [], ◌∷◌, ◌++◌, length, map, get_or, slice_get, Option, Some, None, set, take, drop, ◌∙◌, refl, sym, ap, subst, arith, inl, inr}
+use Rattle.std.specs.Prelude.{AllPairs, Contains, ◌==◌}
 use Rattle.std.specs.List.{insert}
 use Rattle.std.specs.Option.{is_some}
 use Rattle.std.proofs.Math.Seq.{map-set_same}
 use Rattle.std.proofs.lemmas.Bool.{cases_Bool, cases_eq, eqb-true, eqb-false, eq-eqb, ne_eqb}
 use Rattle.std.proofs.lemmas.List.{length-map, length_push, get_or-map, map-set, map-append, take-map, drop-map}
-use Rattle.std.proofs.lemmas.List.Elements.{All-push, All-get_or, Contains-push, Contains-push_cases, Contains-append_left, Contains-get_or}
+use Rattle.std.proofs.lemmas.List.Elements.{All-push, Contains-push, Contains-push_cases, Contains-append_left, Contains-get_or}
 use Rattle.std.proofs.lemmas.List.Quantifiers.{all_pairs_push}
 use Rattle.std.proofs.lemmas.Option.{slice_get_within, get_or_from_slice_get, slice_get-get_or}
 use Rattle.ficus_ids.specs.declared.id.Id.{Id}
@@ -14,7 +14,7 @@ use Rattle.ficus_ids.specs.ListLaws.{here, there, here_or_there, not_inside_none
 use Rattle.ficus_ids.specs.Rising.{IsRisingBy, IsFoundAtBy, IsPlaceBy, PutsBy}
 use Rattle.ficus_ids.specs.RisingLaws.{item_at, set_puts, insert_puts, IsRisingBy-set, IsRisingBy-insert}
 use Rattle.ficus_table.specs.declared.edit.Edit.{Edit}
-use Rattle.ficus_table.specs.Edits.{form_at, put_in, untouched, indices, AreBelow, shown, overlaid, IsSound}
+use Rattle.ficus_table.specs.Edits.{form_at, put_in, untouched, indices, AreBelow, shown, overlaid, IsSound, IsMadeAtOnce}
 use Rattle.ficus_table.specs.Table.{KeepsId, IsEdited}
 use Rattle.ficus_table.proofs.SameIds.{same_id, rising_same, found_same, place_same}
 use Rattle.ficus_table.proofs.Shown.{form_put, overlaid_at, overlaid_put, overlaid_none, length_shown}
@@ -199,13 +199,14 @@ module _ {F R S : Type 0} (id_of : S → Id) (seen : R → S) (formed : F → R 
   mapped (row ∷ rows) = ap (λ ids. id_of (seen row) ∷ ids) (mapped rows)
 
   pub sound_fresh : (rows : List R) (capacity : ℕ) → IsRisingBy (λ row. id_of (seen row)) rows →
-      length rows ≤ capacity → IsSound id_of seen formed [] rows capacity
-  sound_fresh rows capacity rising within = record {
+      length rows ≤ capacity → IsMadeAtOnce capacity → IsSound id_of seen formed [] rows capacity
+  sound_fresh rows capacity rising within made = record {
     rising = rising;
     within = λ i d inside. absurd (omega arith);
     once = λ i j d before inside. absurd (omega arith);
     same = ap (map id_of) (overlaid_none formed seen rows) ∙ mapped rows;
     room = omega (arith, untouched_most {F = F} [] (length rows));
+    made = made;
   }
 
   -- what a row shows has its identifier
@@ -258,6 +259,7 @@ module _ {F R S : Type 0} (id_of : S → Id) (seen : R → S) (formed : F → R 
         same = ap (map id_of) (overlaid_put formed seen edits new rows row found.1) ∙
             map-set_same id_of shows new.index more more is ∙ sound.same;
         room = omega (arith, room_put edits new (length rows) within, sound.room);
+        made = sound.made;
       }
 
   pub is_edited : (edits more : List (Edit F)) (new : Edit F) (earlier : Option F) (rows : List R) →

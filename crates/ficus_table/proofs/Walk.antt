@@ -1,5 +1,5 @@
 -- A walk along two rising lists, the lower identifier first. `i` and `j` are how far it has come.
-use Rattle.std.proofs.Common.{◌≡◌, ◌≢◌, ◌⊎◌, ℕ, ◌+◌, ◌-◌, ◌<◌, ◌≤◌, List, [], ◌∷◌, ◌++◌, length, take, get_or, slice_get, Option, Some, None, false, is_some, option_copied, Bor, Ordering, Less, Equal, Greater, Contains, sym, subst, ◌∙◌, ap, ap₂, inl, inr, refl, arith, add-zero, length-take, get_or-take}
+use Rattle.std.proofs.Common.{◌≡◌, ℕ, ◌+◌, ◌<◌, ◌≤◌, List, [], ◌∷◌, ◌++◌, length, take, get_or, slice_get, Option, Some, None, false, is_some, option_copied, Bor, Ordering, Less, Equal, Greater, Contains, sym, subst, ◌∙◌, ap, ap₂, inl, inr, refl, arith, add-zero, length-take, get_or-take}
 use Rattle.std.proofs.lemmas.Bool.{cases_lt}
 use Rattle.std.proofs.lemmas.List.{take_more, take_all, append-nil}
 use Rattle.std.proofs.lemmas.Option.{get_or_from_slice_get, slice_get_cases, slice_get_within}
@@ -9,7 +9,7 @@ use Rattle.ficus_ids.specs.declared.id.Id.{Id}
 use Rattle.ficus_ids.specs.Id.{id_cmp}
 use Rattle.ficus_ids.specs.IdLaws.{id_cmp_total, id_cmp-Equal, id_cmp-flip_back, not_below_itself}
 use Rattle.ficus_ids.specs.Rising.{IsRisingBy, HoldsBy, HoldsUnderBy}
-use Rattle.ficus_table.specs.SideBySide.{Sides, as_list, left, Passes, ArePassed, AreLowest}
+use Rattle.ficus_table.specs.SideBySide.{as_list, Passes, ArePassed, AreLowest}
 use Rattle.ficus_table.specs.Walk.{IsBelow, IsWalked, sides_at}
 
 -- how far the walk goes on in a list of which this is taken

@@ -1,5 +1,5 @@
 -- A list of rows some of which were edited since.
-use Rattle.std.specs.Prelude.{◌≡◌, ◌≢◌, ℕ, zero, suc, ◌+◌, ◌≤◌, ◌<◌, ◌==◌, if◌then◌else◌, List, [], ◌∷◌, length, map, All, AllPairs, Option, Some, None}
+use Rattle.std.specs.Prelude.{◌≡◌, ◌≢◌, ◌⊎◌, ℕ, zero, suc, ◌+◌, ◌-◌, ◌*◌, ◌/◌, ◌^◌, ◌≤◌, ◌<◌, ◌==◌, min, if◌then◌else◌, List, [], ◌∷◌, length, map, All, AllPairs, Option, Some, None}
 use Rattle.std.specs.Option.{is_some}
 use Rattle.ficus_ids.specs.declared.id.Id.{Id}
 use Rattle.ficus_ids.specs.Rising.{IsRisingBy}
@@ -43,8 +43,16 @@ shown_from formed seen start edits (row ∷ rows) =
 abbrev pub overlaid : {F R S : Type 0} → (F → R → S) → (R → S) → List (Edit F) → List R → List S
 overlaid formed seen edits rows = shown_from formed seen 0 edits rows
 
+-- how much room is made for the edits of so many rows: the next multiple of 4,096, where memory can be so large
+abbrev pub room_of : ℕ → ℕ
+room_of count = min ((count / 4096 + 1) * 4096) (2 ^ 64 - 1)
+
+-- the room was made at once for some count of rows, or there is none; grown room would have another size
+abbrev pub IsMadeAtOnce : ℕ → Type 0
+IsMadeAtOnce capacity = (capacity ≡ 0) ⊎ ((count : ℕ) × (capacity ≡ room_of count))
+
 -- the identifiers rise, the edits are of rows of the list, one for each at most, and keep their identifiers, and there
--- is room for an edit of each row without one
+-- is room for an edit of each row without one, which was made at once
 pub record IsSound {F R S : Type 0} (id_of : S → Id) (seen : R → S) (formed : F → R → S) (edits : List (Edit F))
     (rows : List R) (capacity : ℕ) : Type 0 where
   pub rising : IsRisingBy (λ row. id_of (seen row)) rows
@@ -52,3 +60,4 @@ pub record IsSound {F R S : Type 0} (id_of : S → Id) (seen : R → S) (formed 
   pub once : AllPairs (λ one other. one ≢ other) (indices edits)
   pub same : map id_of (overlaid formed seen edits rows) ≡ map (λ row. id_of (seen row)) rows
   pub room : length edits + untouched edits (length rows) ≤ capacity
+  pub made : IsMadeAtOnce capacity

@@ -28,6 +28,14 @@ impl<'a, R: Row> Model for InOrder<'a, R> {
 }
 
 impl<'a, R: Row> InOrder<'a, R> {
+    /// What these rows show, whose identifiers rise strictly.
+    pub(crate) fn of(seen: Vec<&'a R::Seen>) -> InOrder<'a, R>
+        requires { IsRisingBy R.id_of (map (λ one. one.now) seen.items) }
+        ensures { result ≡ map (λ one. one.now) seen.entry.items }
+    {
+        InOrder { seen }
+    }
+
     /// How many rows there are.
     pub fn len(&self) -> usize
         ensures value { result ≡ length self.now }
@@ -59,8 +67,17 @@ impl<R: Row> Table<R> {
     {
         let mut seen = gathered(self.allocator(), &self.list)?;
         overlay(&mut seen, &self.list, &self.edits);
-        Ok(InOrder { seen })
+        Ok(InOrder::of(seen))
     }
+}
+
+/// The rows of a list, in order.
+pub(crate) fn rows_of<R: Row>(alloc: Global, list: &PersistentList<R>) -> Result<Vec<&R>, Memory>
+    ensures { IfOk result (λ rows. map (λ row. row.now) rows.items ≡ list.now) }
+{
+    let mut rows = Vec::with_capacity(alloc, list.len())?;
+    list.gather(&mut rows)?;
+    Ok(rows)
 }
 
 // What the rows of a list show, in order.
@@ -70,8 +87,7 @@ fn gathered<'a, R: Row>(
 ) -> Result<Vec<&'a R::Seen>, Memory>
     ensures { IfOk result (λ seen. map (λ one. one.now) seen.items ≡ map R.seen list.now) }
 {
-    let mut rows = Vec::with_capacity(alloc, list.len())?;
-    list.gather(&mut rows)?;
+    let rows = rows_of(alloc, list)?;
     looks_at(alloc, &rows)
 }
 

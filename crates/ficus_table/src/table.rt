@@ -1,6 +1,9 @@
-ghost use Rattle.std.specs.Prelude.{◌≡◌, ◌≤◌, ◌<◌, ◌==◌, [], ◌∷◌, length, map, slice_get, slice_set, vec_len, vec_capacity, Some, None, IfOk, IfErr, OnOk, OnErr, AllPairs, ◌≢◌};
+ghost use Rattle.std.specs.Prelude.{◌≡◌, ◌≢◌, ◌≤◌, ◌<◌, ◌==◌, [], ◌∷◌, length, map, slice_get, slice_set};
+ghost use Rattle.std.specs.Prelude.{vec_len, vec_capacity, Some, IfOk, IfErr, OnOk, OnErr, AllPairs};
 ghost use Rattle.std.specs.Option.{option_copied};
-ghost use Rattle.ficus_ids.specs.Rising.{IsRisingBy, HoldsBy, HoldsUnderBy, IsFoundAtBy, IsPlaceBy, Adds, PutsBy, LeavesOutBy};
+ghost use Rattle.ficus_ids.specs.Rising.{IsRisingBy, HoldsBy, HoldsUnderBy, IsFoundAtBy, IsPlaceBy};
+ghost use Rattle.ficus_ids.specs.Rising.{Adds, PutsBy, LeavesOutBy};
+ghost use Rattle.ficus_table.specs.Edits.{room_of};
 ghost use Rattle.ficus_table.specs.Table.{IsEdited, KeepsId};
 
 use crate::Row;
@@ -17,8 +20,8 @@ const ROOM: usize = 4096;
 
 /// Rows with different identifiers. Contracts see what they show, as a list in which the identifiers rise strictly, and
 /// the indices of those that were edited since the table was copied or got another row. A copy shares what it has with
-/// the table, and a change takes time for a logarithm of the rows alone. What is edited takes no memory: it stands beside
-/// the rows, in room that an earlier call reserved.
+/// the table, and a change takes time for a logarithm of the rows alone. What is edited takes no memory: it stands
+/// beside the rows, in room that an earlier call reserved.
 #[derive(Drop)]
 pub struct Table<R: Row> {
     pub(crate) list: PersistentList<R>,
@@ -33,7 +36,10 @@ impl<R: Row> Model for Table<R> {
     ghost use Rattle.ficus_table.specs.Edits.{overlaid, indices, IsSound};
     ghost use Rattle.std.specs.Prelude.{vec_capacity};
 
-    ghost view = { λ t. record { items = overlaid R.formed R.seen t.edits.items t.list; edited = indices t.edits.items } };
+    ghost view = { λ t. record {
+      items = overlaid R.formed R.seen t.edits.items t.list;
+      edited = indices t.edits.items;
+    } };
 
     ghost invariant = { λ t. IsSound R.id_of R.seen R.formed t.edits.items t.list (vec_capacity t.edits) };
 }
@@ -84,6 +90,19 @@ impl<R: Row> Table<R> {
         match place_of(&self.edits, index) {
             None => row.look(),
             Some(place) => row.formed(&self.edits[place].form),
+        }
+    }
+
+    /// The row at a place in the order of identifiers, from 0, as it stands: with what had become of it. Another table
+    /// that takes it in shares with this one what copies of a row share. The place is below the length.
+    pub fn row(&self, index: usize) -> Result<R, Memory>
+        requires { index < length self.now.items }
+        ensures { IfOk result (λ row. slice_get self.now.items index ≡ Some (R.seen row)) }
+    {
+        let row = self.list.at(index);
+        match place_of(&self.edits, index) {
+            None => row.copied(),
+            Some(place) => row.reformed(self.allocator(), &self.edits[place].form),
         }
     }
 
@@ -175,6 +194,7 @@ impl<R: Row> Table<R> {
         requires within { index < length self.old.items }
         requires keeps { KeepsId R.id_of R.seen R.formed self.old.items index form }
         ensures edited { IsEdited R.seen R.formed self.old self.new index form result }
+        ensures ids { map R.id_of self.new.items ≡ map R.id_of self.old.items }
         ensures rising { IsRisingBy R.id_of self.new.items }
     {
         put(&mut self.edits, Edit { index, form })
@@ -206,7 +226,7 @@ impl<R: Row> Table<R> {
     }
 
     // The rows, edited as they are, in a list of their own.
-    fn whole(&self) -> Result<PersistentList<R>, Memory>
+    pub(crate) fn whole(&self) -> Result<PersistentList<R>, Memory>
         ensures same { IfOk result (λ list. map R.seen list ≡ self.now.items) }
         ensures rising { IfOk result (IsRisingBy (λ row. R.id_of (R.seen row))) }
     {
@@ -223,7 +243,7 @@ impl<R: Row> Table<R> {
     }
 
     // Holds these rows from now on.
-    fn hold(&mut self, list: PersistentList<R>) -> Result<(), Memory>
+    pub(crate) fn hold(&mut self, list: PersistentList<R>) -> Result<(), Memory>
         requires { IsRisingBy (λ row. R.id_of (R.seen row)) list }
         ensures items { OnOk result (self.new.items ≡ map R.seen list) }
         ensures edited { OnOk result (self.new.edited ≡ []) }
@@ -255,7 +275,7 @@ impl<R: Row> Table<R> {
 }
 
 // The list with this row, in place of the one with its identifier if there is one.
-fn putting<R: Row>(
+pub(crate) fn putting<R: Row>(
     list: &PersistentList<R>,
     alloc: Global,
     row: R,
@@ -287,13 +307,14 @@ fn removed<R: Row>(
     }
 }
 
-// Room for so many edits, and some more.
+// Room for so many edits, and some more, made at once.
 fn room_for<F>(alloc: Global, count: usize) -> Result<Vec<Edit<F>>, Memory>
     ensures items { IfOk result (λ edits. edits.items ≡ []) }
     ensures len { IfOk result (λ edits. vec_len edits ≡ 0) }
-    ensures capacity { IfOk result (λ edits. count ≤ vec_capacity edits) }
+    ensures enough { IfOk result (λ edits. count ≤ vec_capacity edits) }
+    ensures capacity { IfOk result (λ edits. vec_capacity edits ≡ room_of count) }
 {
     let room = (count / ROOM).saturating_add(1).saturating_mul(ROOM);
-    let edits = Vec::with_capacity(alloc, room.max(count))?;
+    let edits = Vec::with_capacity(alloc, room)?;
     Ok(edits)
 }

@@ -1,5 +1,5 @@
 -- What a front of the answers' texts holds.
-use Rattle.std.proofs.Common.{◌≡◌, ℕ, ◌+◌, ◌-◌, ◌≤◌, List, [], ◌∷◌, ◌++◌, length, take, drop, refl, sym, ◌∙◌, ap, subst, arith, length-append, append_assoc}
+use Rattle.std.proofs.Common.{◌≡◌, ℕ, ◌-◌, ◌≤◌, List, ◌++◌, length, take, drop, refl, sym, ◌∙◌, ap, subst, arith, length-append, append_assoc}
 use Rattle.std.specs.Prelude.{⊤}
 use Rattle.std.proofs.lemmas.List.{take-append-le, take-append-drop, length-take-le}
 use Rattle.std.proofs.lemmas.List.Concat.{flat_map-append}
@@ -23,7 +23,7 @@ front_goes_on old bytes new puts =
     ∙ ap (λ (l : List ℕ). old ++ l) (sym puts.is)
 
 -- each command has one answer
-one_each : {volume : Volume} {W after : ModelWorld} {commands : List Command} {outcomes : List Outcome}
+one_each : {volume : Volume} {W after : ModelWorld} {commands : List Command} {outcomes : List (List Outcome)}
     {answers : List Answer} → Run volume W commands outcomes answers after → length answers ≡ length commands
 one_each End = refl
 one_each (Then first rest) = omega (arith, one_each rest)
@@ -48,6 +48,7 @@ all_but_last volume W after commands old new served =
     let others : List ℕ = texts_of (drop k served.whole) in
     record {
       outcomes = served.outcomes;
+      done = served.done;
       answers = answers;
       within = omega (arith, counted, served.within);
       run = subst (λ (n : ℕ). Run volume W (take n commands) served.outcomes answers after) (sym counted) served.run;

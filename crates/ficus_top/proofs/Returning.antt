@@ -1,9 +1,9 @@
 -- Nothing that a replica knows to be removed returns.
-use Rattle.std.proofs.Common.{ℕ, List, ◌++◌, take, drop, sym, subst}
+use Rattle.std.proofs.Common.{List, take, drop, sym, subst}
 use Rattle.std.proofs.lemmas.List.{take-append-drop}
 use Rattle.ficus_model.specs.declared.event.Event.{Event}
 use Rattle.ficus_model.specs.Known.{Knows}
-use Rattle.ficus_model.specs.Live.{ModelEntry, IsLive, IsRemoved}
+use Rattle.ficus_model.specs.Live.{IsLive}
 use Rattle.ficus_laws.proofs.OneMore.{within_more}
 use Rattle.ficus_laws.proofs.Shown.{removed_within}
 use Rattle.ficus_top.specs.Headline.{NothingReturns}

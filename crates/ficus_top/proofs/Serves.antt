@@ -9,17 +9,23 @@ use Rattle.ficus_script.specs.declared.answer.Answer.{Answer}
 use Rattle.ficus_script.specs.Answer.{answer_text_of}
 use Rattle.ficus_world.specs.Follows.{Follows}
 use Rattle.ficus_world.specs.ModelWorld.{ModelWorld, Outcome}
-use Rattle.ficus_world.specs.Run.{Run}
+use Rattle.ficus_world.specs.Run.{Run, EachDone}
+use Rattle.ficus_world.specs.Run.EachDone.{NoneLeft, OneMore}
 use Rattle.ficus_world.specs.Run.Run.{End, Then}
 use Rattle.ficus_world.specs.World.{Whole, WorldStandsFor}
 use Rattle.ficus_top.specs.Outside.{PutsFront}
 use Rattle.ficus_top.specs.Serving.{texts_of, Serves, ServesFront, ServesWorld, ServesWorldFront}
 
-run_append : {volume : Volume} {W M N : ModelWorld} {commands others : List Command} {outcomes later : List Outcome}
+run_append : {volume : Volume} {W M N : ModelWorld} {commands others : List Command} {outcomes later : List (List Outcome)}
     {answers more : List Answer} → Run volume W commands outcomes answers M → Run volume M others later more N
     → Run volume W (commands ++ others) (outcomes ++ later) (answers ++ more) N
 run_append End behind = behind
 run_append (Then first rest) behind = Then first (run_append rest behind)
+
+done_append : {outcomes later : List (List Outcome)} → EachDone outcomes → EachDone later
+    → EachDone (outcomes ++ later)
+done_append NoneLeft behind = behind
+done_append (OneMore first rest) behind = OneMore first (done_append rest behind)
 
 pub texts_append : (old : List ℕ) (answers more : List Answer)
     → (old ++ texts_of answers) ++ texts_of more ≡ old ++ texts_of (answers ++ more)
@@ -30,7 +36,13 @@ texts_append old answers more =
 module _ {tells : Type 0} {volume : Volume} where
   -- no command
   pub serves_none : (W : ModelWorld) (old : List ℕ) → Serves tells volume W [] W old old
-  serves_none W old = record { outcomes = []; answers = []; run = End; put = λ told. sym (append-nil old) }
+  serves_none W old = record {
+    outcomes = [];
+    done = NoneLeft;
+    answers = [];
+    run = End;
+    put = λ told. sym (append-nil old);
+  }
 
   -- commands, and then others
   pub serves_append : {W M N : ModelWorld} {commands others : List Command} {old mid new : List ℕ}
@@ -38,6 +50,7 @@ module _ {tells : Type 0} {volume : Volume} where
       → Serves tells volume W (commands ++ others) N old new
   serves_append {old = old} first behind = record {
     outcomes = first.outcomes ++ behind.outcomes;
+    done = done_append first.done behind.done;
     answers = first.answers ++ behind.answers;
     run = run_append first.run behind.run;
     put = λ told. behind.put told ∙ ap (λ (l : List ℕ). l ++ texts_of behind.answers) (first.put told)
@@ -51,6 +64,7 @@ module _ {tells : Type 0} {volume : Volume} where
     count = 0;
     within = omega arith;
     outcomes = [];
+    done = NoneLeft;
     whole = [];
     last = [];
     at_most_one = omega arith;
@@ -71,6 +85,7 @@ module _ {tells : Type 0} {volume : Volume} where
     count = length commands + behind.count;
     within = omega (arith, behind.within, length-append commands others);
     outcomes = first.outcomes ++ behind.outcomes;
+    done = done_append first.done behind.done;
     whole = first.answers ++ behind.whole;
     last = behind.last;
     at_most_one = behind.at_most_one;
@@ -90,6 +105,7 @@ module _ {tells : Type 0} {volume : Volume} where
     count = front.count;
     within = omega (arith, front.within, length-take n commands);
     outcomes = front.outcomes;
+    done = front.done;
     whole = front.whole;
     last = front.last;
     at_most_one = front.at_most_one;
@@ -106,7 +122,8 @@ module _ {tells : Type 0} {volume : Volume} where
     world_one put = record {
       after = follows.after;
       serves = record {
-        outcomes = follows.outcome ∷ [];
+        outcomes = follows.outcomes ∷ [];
+        done = OneMore follows.done NoneLeft;
         answers = answer ∷ [];
         run = Then follows.step End;
         put = λ told. put told ∙ ap (λ (text : List ℕ). old ++ text) (sym (append-nil (answer_text_of answer)));
@@ -122,7 +139,8 @@ module _ {tells : Type 0} {volume : Volume} where
       serves = record {
         count = 1;
         within = omega arith;
-        outcomes = follows.outcome ∷ [];
+        outcomes = follows.outcomes ∷ [];
+        done = OneMore follows.done NoneLeft;
         whole = [];
         last = answer ∷ [];
         at_most_one = omega arith;

@@ -7,7 +7,7 @@ ghost use Rattle.ficus_top.specs.Outside.{PutsFront};
 ghost use Rattle.ficus_top.specs.Serving.{serving_limit, ServesWorld, ServesWorldFront};
 ghost use Rattle.ficus_top.specs.Headline.{script_limit};
 ghost use Rattle.ficus_world.specs.ModelWorld.{ModelWorld};
-ghost use Rattle.ficus_world.specs.World.{WorldStandsFor, event_limit};
+ghost use Rattle.ficus_world.specs.World.{WorldStandsFor, event_limit, most_events};
 
 use crate::fault::{AnsweringFault, Fault};
 use crate::put::put_all;
@@ -89,7 +89,7 @@ fn answer_one<K: Sink>(
     ensures failed { IsErrOf result AnsweringFault.Sink → Rose (K.faults output.old) (K.faults output.new) }
     ensures told { K.faults output.old < K.faults output.new → IsErrOf result AnsweringFault.Sink }
     ensures counted { K.faults output.old ≤ K.faults output.new }
-    ensures grows { length world.new.events ≤ length world.old.events + 3 }
+    ensures grows { length world.new.events ≤ length world.old.events + most_events }
 {
     let answer = world.step(alloc, command)?;
     put_answer(alloc, &answer, output)

@@ -11,14 +11,16 @@ use Rattle.ficus_laws.proofs.Shown.{shows_same, same_from_known}
 use Rattle.ficus_laws.proofs.Views.{same_turned, equal_known, conflict_within, orphan_within}
 use Rattle.ficus_version_laws.proofs.Latest.{VersionsWithin, are_shown_same}
 use Rattle.ficus_commands.specs.declared.look.Look.{Look}
+use Rattle.ficus_rules.specs.Alike.{AreAlike}
 use Rattle.ficus_rules.specs.Look.{LookRule, TellsOfView}
 use Rattle.ficus_rules.specs.View.{SameShown, SameView, View, history_view}
 use Rattle.ficus_rules.specs.Rule.{Along}
 use Rattle.ficus_rules.proofs.Looks.{look_along, shown_along}
-use Rattle.ficus_rules.proofs.Rules.{then_along, gives_along}
+use Rattle.ficus_rules.proofs.Alikes.{alike_along, same_shown_alike}
+use Rattle.ficus_rules.proofs.Rules.{then_along, gives_along, tells_along}
 use Rattle.ficus_script.specs.declared.answer.Answer.{Answer}
-use Rattle.ficus_script.specs.declared.answer.Answer.TheVariants.{Told}
-use Rattle.ficus_world.specs.Answers.{LookAnswer}
+use Rattle.ficus_script.specs.declared.answer.Answer.TheVariants.{Alike, Told}
+use Rattle.ficus_world.specs.Answers.{AlikeAnswer, LookAnswer}
 use Rattle.ficus_world.proofs.OneRun.{look_answer_once}
 
 -- what rules tell alike is answered alike
@@ -30,6 +32,13 @@ told_along one other look along = then_along along (λ told tells. gives_along (
 pub look_answer_along : {one other : View} → SameView one other → (look : Look)
     → Along (LookAnswer one look) (LookAnswer other look)
 look_answer_along {one} {other} same look = told_along one other look (look_along same look)
+
+-- views that are the same as two others are alike where those are
+pub alike_answer_along : {one other same same_too : View} → SameView one same → SameView other same_too
+    → Along (AlikeAnswer one other) (AlikeAnswer same same_too)
+alike_answer_along here there =
+    let either = alike_along here.shown there.shown in
+    tells_along Alike (λ flag means. (λ is. either.0 (means.0 is), λ alike. means.1 (either.1 alike)))
 
 -- and what is shown the same, by a look that tells of it
 shown_answer_along : {one other : View} → SameShown one other → (look : Look) → TellsOfView look
@@ -93,6 +102,10 @@ module _ (volume : Volume) (H : List Event) (replica other : ℕ) (same : KnowSa
       ),
     );
   }
+
+  -- so both are alike
+  pub same_updates_alike : AreAlike (history_view volume H replica) (history_view volume H other)
+  same_updates_alike = same_shown_alike same_shown
 
 module _ (volume : Volume) (H : List Event) (replica other : ℕ) (look : Look) where
   pub same_updates_answer : KnowSameUpdates H replica other → TellsOfView look

@@ -18,11 +18,8 @@ module _ (events H : List Event) (part : IsLastPart events H) where
 
   -- the event behind both, with its position raised in the history
   pub part_more : (stored event : Event) → raised (length part.earlier) stored ≡ event
-      → IsLastPart (events ++ stored ∷ []) (H ++ event ∷ [])
-  part_more stored event raises = record {
-    earlier = part.earlier;
-    is =
-        ap₂ (λ (front back : List Event). front ++ back) part.is (ap (λ e. e ∷ []) (sym raises))
-        ∙ append_assoc part.earlier (map raise events) (raise stored ∷ [])
-        ∙ ap (λ later. part.earlier ++ later) (sym (map-append raise events (stored ∷ [])));
-  }
+      → H ++ event ∷ [] ≡ part.earlier ++ map (raised (length part.earlier)) (events ++ stored ∷ [])
+  part_more stored event raises =
+      ap₂ (λ (front back : List Event). front ++ back) part.is (ap (λ e. e ∷ []) (sym raises))
+      ∙ append_assoc part.earlier (map raise events) (raise stored ∷ [])
+      ∙ ap (λ later. part.earlier ++ later) (sym (map-append raise events (stored ∷ [])))

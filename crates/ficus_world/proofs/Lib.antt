@@ -1,5 +1,7 @@
+pub mod Outcomes
 pub mod Sequences
 pub mod OneRun
+pub mod OneWorld
 pub mod Agreement
 pub mod Runs
 pub mod Replaced

@@ -11,13 +11,15 @@ use Rattle.ficus_replica.specs.Accept.{AcceptGives}
 use Rattle.ficus_replica.specs.Ask.{AskGives}
 use Rattle.ficus_script.specs.declared.answer.Answer.TheVariants.{Done}
 use Rattle.ficus_world.specs.declared.member.Member.{Member}
-use Rattle.ficus_world.specs.Moves.{ArePeers, CarriesOut}
+use Rattle.ficus_world.specs.Moves.{CarriesOut}
+use Rattle.ficus_world.specs.Peers.{ArePeers}
 use Rattle.ficus_world.specs.Moves.KeepsAsk.{Sends}
 use Rattle.ficus_world.specs.Moves.HandsOver.{Hands}
 use Rattle.ficus_world.specs.Moves.TakesServed.{Accepts, Refuses}
 use Rattle.ficus_world.specs.Sequence.Sequence.{Goes}
 use Rattle.ficus_script.specs.declared.command.Command.TheVariants.{Pull as Pulls}
-use Rattle.ficus_world.specs.World.{Whole, IsNumbered}
+use Rattle.ficus_world.specs.Numbered.{IsNumbered}
+use Rattle.ficus_world.specs.World.{Whole}
 use Rattle.ficus_world.proofs.Replaced.{number_set, number_kept}
 
 -- the events with an ask and its serving

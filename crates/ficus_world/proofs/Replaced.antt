@@ -5,7 +5,7 @@ use Rattle.std.proofs.lemmas.Bool.{cases_eq}
 use Rattle.std.proofs.lemmas.List.{get_or-set_same, get_or-set_other, length-set}
 use Rattle.std.proofs.lemmas.Option.{slice_get-get_or, get_or_from_slice_get}
 use Rattle.ficus_ids.specs.Members.{IsMember}
-use Rattle.ficus_world.specs.World.{IsNumbered}
+use Rattle.ficus_world.specs.Numbered.{IsNumbered}
 
 module _ {A : Type 0} (list : List A) (r : ℕ) where
   -- what stands at a place within the list

@@ -7,7 +7,7 @@ use Rattle.std.proofs.lemmas.List.FromFn.{length-range_with_len, get_or-range_wi
 use Rattle.std.proofs.lemmas.Option.{get_or_from_slice_get}
 use Rattle.ficus_ids.specs.Members.{IsMember}
 use Rattle.ficus_ids.specs.declared.refusal.Refusal.{Refusal}
-use Rattle.ficus_ids.specs.declared.refusal.Refusal.TheVariants.{Stale}
+use Rattle.ficus_ids.specs.declared.refusal.Refusal.TheVariants.{Member, Stale}
 use Rattle.ficus_model.specs.declared.event.Event.{Event}
 use Rattle.ficus_model.specs.declared.event.Event.TheVariants.{Update, Ask, Serve, Accept, Collect, Restart}
 use Rattle.ficus_model.specs.Events.{before}
@@ -18,24 +18,25 @@ use Rattle.ficus_laws.proofs.Lawful.{lawful_more}
 use Rattle.ficus_laws.proofs.Pull.{length_asked, serve_may_come, accept_may_come}
 use Rattle.ficus_script.specs.declared.command.Command.{Command}
 use Rattle.ficus_script.specs.declared.answer.Answer.{Answer}
-use Rattle.ficus_world.specs.Actions.{AddsWhereMayCome}
+use Rattle.ficus_world.specs.Actions.{SavesWhereMayCome}
 use Rattle.ficus_world.specs.Actions.Adds.{Added}
+use Rattle.ficus_world.specs.Actions.Saves.{Saved}
 use Rattle.ficus_world.specs.ModelWorld.{ModelWorld, Outcome, Effect}
-use Rattle.ficus_world.specs.Run.{Does, Step, Run}
+use Rattle.ficus_world.specs.Run.{Does, IsUnrefused, Step, Run}
 use Rattle.ficus_world.specs.Run.Run.{End, Then}
 use Rattle.ficus_world.specs.Sequence.Sequence.{Ends, Goes}
 use Rattle.ficus_world.specs.Sequence.ByRule.{Says}
-use Rattle.ficus_script.specs.declared.command.Command.TheVariants.{Change as Changes, Look as Looks, Pull as Pulls}
+use Rattle.ficus_script.specs.declared.command.Command.TheVariants.{Change as Changes, Look as Looks, Pull as Pulls, Alike as Compares}
 use Rattle.ficus_world.specs.Start.{default_volume, restarts}
 use Rattle.ficus_replica.proofs.Changing.{change_may}
 
 module _ (volume : Volume) where
   -- where an event may come, the history with it is lawful
-  adds_lawful : {A : Type 0} (given : ModelWorld → A) (event : Event) (refusal : Refusal) (W : ModelWorld)
+  saves_lawful : {A : Type 0} (given : ModelWorld → A) (event : Event) (refusal : Refusal) (W : ModelWorld)
       (result : Result A Refusal) (left : Effect) → IsLawful volume W.events
-      → AddsWhereMayCome volume given event refusal W result left → IsLawful volume left.after.events
-  adds_lawful given event refusal W result left lawful (Ends (Says is)) = lawful
-  adds_lawful given event refusal W result left lawful (Goes (Says may) Added) =
+      → SavesWhereMayCome volume given event refusal W result left → IsLawful volume left.after.events
+  saves_lawful given event refusal W result left lawful (Ends (Says is)) = lawful
+  saves_lawful given event refusal W result left lawful (Goes (Says may) Saved) =
       lawful_more volume W.events event lawful may.0
 
   -- what a command does leaves a lawful history lawful
@@ -43,45 +44,62 @@ module _ (volume : Volume) where
       → IsLawful volume W.events → Does volume command W result left → IsLawful volume left.after.events
   does_lawful (Changes by change) W result left lawful (Ends (Says none)) = lawful
   does_lawful (Changes by change) W result left lawful (Goes (Says member) (Ends (Says refused))) = lawful
-  does_lawful (Changes by change) W result left lawful (Goes (Says member) (Goes {a = op} (Says decided) Added)) =
+  does_lawful (Changes by change) W result left lawful (Goes (Says member) (Goes {a = op} (Says decided) Saved)) =
       let may = change_may volume W.events by lawful change op decided in
       lawful_more volume W.events (Update by op) lawful
       (record { member = member.0; left = may.left; bytes = may.bytes; allowed = may.allowed })
   does_lawful (Looks by look) W result left lawful (Ends (Says none)) = lawful
   does_lawful (Looks by look) W result left lawful (Goes (Says member) (Says told)) = lawful
+  does_lawful (Compares by other) W result left lawful (Ends (Says none)) = lawful
+  does_lawful (Compares by other) W result left lawful (Goes (Says peers) (Says compared)) = lawful
   does_lawful (Pulls by to) W result left lawful (Ends (Ends (Says none))) = lawful
-  does_lawful (Pulls by to) W result left lawful (Ends (Goes (Says may) added)) = elim added [ ]
-  does_lawful (Pulls by to) W result left lawful (Goes (Goes (Says may) Added) (Ends added)) = elim added [ ]
-  does_lawful (Pulls by to) W result left lawful (Goes (Goes (Says may) Added) (Goes Added takes)) =
-      adds_lawful _ _ Stale _ result left
+  does_lawful (Pulls by to) W result left lawful (Ends (Goes (Says may) saved)) = elim saved [ ]
+  does_lawful (Pulls by to) W result left lawful (Goes (Goes (Says may) Saved) (Ends added)) = elim added [ ]
+  does_lawful (Pulls by to) W result left lawful (Goes (Goes (Says may) Saved) (Goes {left = l} Added takes)) =
+      saves_lawful _ _ Stale _ result l
       (lawful_more volume (asked W.events by to) (Serve to (length W.events))
       (lawful_more volume W.events (Ask by to) lawful may.0) (serve_may_come W.events by to volume may.0.other))
       takes
 
-  -- what is served in a pull is taken
-  pull_answers : (W : ModelWorld) (by to : ℕ) (result : Result Answer Refusal) (left : Effect)
-      → Does volume (Pulls by to) W result left → result ≡ Err Stale → ⊥
-  pull_answers W by to result left (Ends (Ends (Says (inl refused)))) is = let e = refused.1 in cc
-  pull_answers W by to result left (Ends (Ends (Says (inr none)))) is = none.1
-  pull_answers W by to result left (Ends (Goes (Says may) added)) is = elim added [ ]
-  pull_answers W by to result left (Goes (Goes (Says may) Added) (Ends added)) is = elim added [ ]
-  pull_answers W by to result left (Goes (Goes (Says may) Added) (Goes Added (Goes (Says answers) Added))) is = cc
-  pull_answers W by to result left (Goes (Goes (Says may) Added) (Goes Added (Ends (Says (inr none))))) is = none.1
-  pull_answers W by to result left (Goes (Goes (Says may) Added) (Goes Added (Ends (Says (inl refused))))) is =
-      refused.0
-      (subst (λ serve. MayCome volume (answered W.events by to) (Accept by serve)) (sym (length_asked W.events by to))
-      (accept_may_come W.events by to volume may.0.member))
+  -- a pull is refused only where the one can't ask the other
+  module _ (refusal : Refusal) where
+    pull_refused : (W : ModelWorld) (by to : ℕ) (result : Result Answer Refusal) (left : Effect)
+        → Does volume (Pulls by to) W result left → result ≡ Err refusal
+        → (MayCome volume W.events (Ask by to) → ⊥) × (refusal ≡ Member)
+    pull_refused W by to result left (Ends (Ends (Says (inl refused)))) is =
+        let e = refused.1 in
+        let same : refusal ≡ Member = cc in
+        (refused.0, same)
+    pull_refused W by to result left (Ends (Ends (Says (inr none)))) is = absurd none.1
+    pull_refused W by to result left (Ends (Goes (Says may) saved)) is = elim saved [ ]
+    pull_refused W by to result left (Goes (Goes (Says may) Saved) (Ends added)) is = elim added [ ]
+    pull_refused W by to result left (Goes (Goes (Says may) Saved) (Goes Added (Goes (Says answers) Saved))) is =
+        absurd (cc)
+    pull_refused W by to result left (Goes (Goes (Says may) Saved) (Goes Added (Ends (Says (inr none))))) is =
+        absurd none.1
+    pull_refused W by to result left (Goes (Goes (Says may) Saved) (Goes Added (Ends (Says (inl refused))))) is =
+        absurd (refused.0
+        (subst (λ serve. MayCome volume (answered W.events by to) (Accept by serve)) (sym (length_asked W.events by to))
+        (accept_may_come W.events by to volume may.0.member)))
 
   pub pull_never_stale : (W : ModelWorld) (by to : ℕ) (left : Effect)
       → Does volume (Pulls by to) W (Err Stale) left → ⊥
-  pull_never_stale W by to left does = pull_answers W by to (Err Stale) left does refl
+  pull_never_stale W by to left does =
+      let refused = pull_refused Stale W by to (Err Stale) left does refl in
+      let e = refused.1 in
+      cc
 
-step_lawful : {volume : Volume} {old new : ModelWorld} {command : Command} {outcome : Outcome} {answer : Answer}
-    → Step volume old command outcome answer new → IsLawful volume old.events → IsLawful volume new.events
-step_lawful {volume} {old} {new} {command} {outcome} step lawful =
-    does_lawful volume command old step.result (record { outcome = outcome; after = new }) lawful step.does
+  -- so it is refused nowhere where the one may ask the other
+  pub pull_unrefused : (W : ModelWorld) (by to : ℕ) → MayCome volume W.events (Ask by to)
+      → IsUnrefused volume W (Pulls by to)
+  pull_unrefused W by to may refusal left does = (pull_refused refusal W by to (Err refusal) left does refl).0 may
 
-pub run_lawful : {volume : Volume} {old new : ModelWorld} {commands : List Command} {outcomes : List Outcome}
+step_lawful : {volume : Volume} {old new : ModelWorld} {command : Command} {outcomes : List Outcome} {answer : Answer}
+    → Step volume old command outcomes answer new → IsLawful volume old.events → IsLawful volume new.events
+step_lawful {volume} {old} {new} {command} {outcomes} step lawful =
+    does_lawful volume command old step.result (record { outcomes = outcomes; after = new }) lawful step.does
+
+pub run_lawful : {volume : Volume} {old new : ModelWorld} {commands : List Command} {outcomes : List (List Outcome)}
     {answers : List Answer} → Run volume old commands outcomes answers new → IsLawful volume old.events
     → IsLawful volume new.events
 run_lawful End lawful = lawful

@@ -1,66 +1,62 @@
--- Actions of the model, one after the other: each leaves one thing for what the outside does.
-use Rattle.std.proofs.Common.{◌≡◌, Result, Ok, Err, refl, sym, ap, subst, ◌∙◌}
+-- Actions of the model, one after the other: each leaves one thing for what becomes of what it asks of the outside.
+use Rattle.std.proofs.Common.{◌≡◌, List, ◌++◌, Result, Ok, Err, refl, sym, ap, ap₂, subst, ◌∙◌, append_assoc}
+use Rattle.std.proofs.lemmas.List.{append_cancel_left}
 use Rattle.ficus_ids.specs.declared.refusal.Refusal.{Refusal}
 use Rattle.ficus_model.specs.declared.event.Event.{Event}
 use Rattle.ficus_rules.specs.Rule.{Once}
-use Rattle.ficus_world.specs.Actions.{ModelAction, after, unchanged, Adds}
+use Rattle.ficus_world.specs.Actions.{ModelAction, First, unchanged, Adds, Saves}
 use Rattle.ficus_world.specs.Actions.Adds.{Added}
-use Rattle.ficus_world.specs.ModelWorld.{ModelWorld, AllDone, Effect}
-use Rattle.ficus_world.specs.Sequence.{Sequence, ByRule}
+use Rattle.ficus_world.specs.Actions.Saves.{Saved}
+use Rattle.ficus_world.specs.ModelWorld.{ModelWorld, Outcome, Effect, after, joined}
+use Rattle.ficus_world.specs.Sequence.{ByRule}
 use Rattle.ficus_world.specs.Sequence.Sequence.{Ends, Goes}
 use Rattle.ficus_world.specs.Sequence.ByRule.{Says}
 
--- the action needs nothing of the outside
-abbrev pub IsSure : {A : Type 0} → ModelAction A → Type 0
-IsSure {A} does =
-    (old : ModelWorld) (result : Result A Refusal) (left : Effect) → does old result left → left.outcome ≡ AllDone
+-- What becomes of what the action asks of the outside says what it gives and leaves, whatever comes behind.
+abbrev pub OnceByOutcomes : {A : Type 0} → ModelAction A → Type 0
+OnceByOutcomes {A} does =
+    (old : ModelWorld) (one other : Result A Refusal) (left right : Effect) (x y : List Outcome)
+    → does old one left → does old other right → left.outcomes ++ x ≡ right.outcomes ++ y
+    → (one ≡ other) × (left ≡ right)
 
--- for each outcome the action gives one thing, and leaves one
-abbrev pub OnceByOutcome : {A : Type 0} → ModelAction A → Type 0
-OnceByOutcome {A} does =
-    (old : ModelWorld) (one other : Result A Refusal) (left right : Effect) → does old one left → does old other right
-    → left.outcome ≡ right.outcome → (one ≡ other) × (left ≡ right)
-
-module _ {A B : Type 0} (first : ModelAction A) (rest : A → ModelAction B) (sure : IsSure first) where
-  pub sequence_sure : ((a : A) → IsSure (rest a)) → IsSure (Sequence after first rest)
-  sequence_sure rest_sure old result left (Ends is) = sure old _ left is
-  sequence_sure rest_sure old result left (Goes {a = a} {middle = m} is behind) = rest_sure a m.after result left behind
-
-  module _ (first_once : OnceByOutcome first) (rest_once : (a : A) → OnceByOutcome (rest a)) where
-    same_first : (old : ModelWorld) (one other : Result A Refusal) (left right : Effect) → first old one left
-        → first old other right → (one ≡ other) × (left ≡ right)
-    same_first old one other left right is too =
-        first_once old one other left right is too (sure old one left is ∙ sym (sure old other right too))
-
-    pub sequence_once : OnceByOutcome (Sequence after first rest)
-    sequence_once old one other left right (Ends {refusal = r} is) (Ends {refusal = s} too) outcome =
-        let e = same_first old (Err r) (Err s) left right is too in
-        let f = e.0 in
-        (ap Err (let same : r ≡ s = cc in same), e.1)
-    sequence_once old one other left right (Ends {refusal = r} is) (Goes {a = a} {middle = m} too behind) outcome =
-        let e = (same_first old (Err r) (Ok a) left m is too).0 in absurd (cc)
-    sequence_once old one other left right (Goes {a = a} {middle = m} is behind) (Ends {refusal = r} too) outcome =
-        let e = (same_first old (Ok a) (Err r) m right is too).0 in absurd (cc)
-    sequence_once old one other left right (Goes {a = a} {middle = m} is behind)
-        (Goes {a = b} {middle = n} too then) outcome =
-        let e = same_first old (Ok a) (Ok b) m n is too in
-        let f = e.0 in
-        let same : b ≡ a = cc in
-        rest_once a m.after one other left right behind
-        (subst (λ W. rest a W other right) (ap after (sym e.1)) (subst (λ x. rest x n.after other right) same then))
-        outcome
+module _ {A B : Type 0} (first : ModelAction A) (rest : A → ModelAction B) (first_once : OnceByOutcomes first)
+    (rest_once : (a : A) → OnceByOutcomes (rest a)) where
+  pub first_then_once : OnceByOutcomes (First first rest)
+  first_then_once old one other left right x y (Ends {refusal = r} is) (Ends {refusal = s} too) same =
+      let e = first_once old (Err r) (Err s) left right x y is too same in
+      let f = e.0 in
+      (ap Err (let h : r ≡ s = cc in h), e.1)
+  first_then_once old one other left right x y (Ends {refusal = r} is)
+      (Goes {a = a} {middle = n} {left = k} too behind) same =
+      let e = (first_once old (Err r) (Ok a) left n x (k.outcomes ++ y) is too
+      (same ∙ append_assoc n.outcomes k.outcomes y)).0 in
+      absurd (cc)
+  first_then_once old one other left right x y (Goes {a = a} {middle = m} {left = l} is behind)
+      (Ends {refusal = r} too) same =
+      let e = (first_once old (Ok a) (Err r) m right (l.outcomes ++ x) y is too
+      (sym (append_assoc m.outcomes l.outcomes x) ∙ same)).0 in
+      absurd (cc)
+  first_then_once old one other left right x y (Goes {a = a} {middle = m} {left = l} is behind)
+      (Goes {a = b} {middle = n} {left = k} too then) same =
+      let shifted : m.outcomes ++ (l.outcomes ++ x) ≡ n.outcomes ++ (k.outcomes ++ y) =
+      sym (append_assoc m.outcomes l.outcomes x) ∙ same ∙ append_assoc n.outcomes k.outcomes y in
+      let e = first_once old (Ok a) (Ok b) m n (l.outcomes ++ x) (k.outcomes ++ y) is too shifted in
+      let f = e.0 in
+      let given : b ≡ a = cc in
+      let rests : l.outcomes ++ x ≡ k.outcomes ++ y =
+      append_cancel_left m.outcomes _ _
+      (shifted ∙ ap (λ (t : Effect). t.outcomes ++ (k.outcomes ++ y)) (sym e.1)) in
+      let r = rest_once a m.after one other l k x y behind
+      (subst (λ W. rest a W other k) (ap after (sym e.1)) (subst (λ z. rest z n.after other k) given then)) rests in
+      (r.0, ap₂ joined e.1 r.1)
 
 module _ {A : Type 0} (rule : ModelWorld → Result A Refusal → Type 0) where
-  pub by_rule_sure : IsSure (ByRule unchanged rule)
-  by_rule_sure old result left (Says is) = refl
-
-  pub by_rule_once : ((old : ModelWorld) → Once (rule old)) → OnceByOutcome (ByRule unchanged rule)
-  by_rule_once rule_once old one other left right (Says is) (Says too) outcome =
-      (rule_once old one other is too, refl)
+  pub by_rule_once : ((old : ModelWorld) → Once (rule old)) → OnceByOutcomes (ByRule unchanged rule)
+  by_rule_once rule_once old one other left right x y (Says is) (Says too) same = (rule_once old one other is too, refl)
 
 module _ {A : Type 0} (given : ModelWorld → A) (event : Event) where
-  pub adds_sure : IsSure (Adds given event)
-  adds_sure old result left Added = refl
+  pub adds_once : OnceByOutcomes (Adds given event)
+  adds_once old one other left right x y Added Added same = (refl, refl)
 
-  pub adds_once : OnceByOutcome (Adds given event)
-  adds_once old one other left right Added Added outcome = (refl, refl)
+  pub saves_once : OnceByOutcomes (Saves given event)
+  saves_once old one other left right x y Saved Saved same = (refl, refl)

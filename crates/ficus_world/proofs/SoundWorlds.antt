@@ -4,8 +4,8 @@ use Rattle.std.specs.Prelude.{slice_set}
 use Rattle.std.proofs.lemmas.List.{length-set}
 use Rattle.ficus_ids.specs.Members.{IsCount}
 use Rattle.ficus_model.specs.declared.event.Event.{Event}
-use Rattle.ficus_codec.specs.Saved.{FitsImage}
-use Rattle.ficus_codec.specs.declared.saved.Saved.{Saved}
+use Rattle.ficus_saved.specs.Saved.{FitsImage}
+use Rattle.ficus_saved.specs.declared.saved.Saved.{Saved}
 use Rattle.ficus_replica.specs.declared.replica.Next.{Next}
 use Rattle.ficus_replica.specs.declared.replica.Replica.{Replica}
 use Rattle.ficus_entry.specs.declared.entry.Entry.{Entry}
@@ -15,7 +15,8 @@ use Rattle.ficus_replica.specs.Ask.{AskGives}
 use Rattle.ficus_world.specs.declared.member.Member.{Member}
 use Rattle.ficus_commands.specs.declared.change.Change.{Change}
 use Rattle.ficus_replica.specs.Change.{Changed}
-use Rattle.ficus_world.specs.World.{IsNumbered, IsSound, IsWorld}
+use Rattle.ficus_world.specs.Numbered.{IsNumbered}
+use Rattle.ficus_world.specs.World.{Whole, IsSound, IsWorld}
 use Rattle.ficus_world.proofs.Replaced.{replaced}
 
 pub sound_more : {count events more r : ℕ} {replica : Replica} → IsSound count events r replica → events ≤ more
@@ -28,30 +29,32 @@ sound_more sound h = record {
 }
 
 -- a member holds one replica in place of another, behind at least as many events
-module _ (members : List Member) (r : ℕ) (was : Member) (replica : Replica) (is : IsNumbered members r was) where
+module _ (old : Whole) (events : List Event) (r : ℕ) (was : Member) (replica : Replica)
+    (is : IsNumbered old.members r was) (world : IsWorld old)
+    (sound : IsSound (length old.members) (length events) r replica) (grown : length old.events ≤ length events) where
   abbrev holding : List Member
-  holding = slice_set members (r - 1) (record was { replica = replica })
+  holding = slice_set old.members (r - 1) (record was { replica = replica })
 
-  as_many : length holding ≡ length members
-  as_many = length-set members (r - 1) (record was { replica = replica })
+  as_many : length holding ≡ length old.members
+  as_many = length-set old.members (r - 1) (record was { replica = replica })
 
-  module _ (old new : List Event) (world : IsWorld members old) (sound : IsSound (length members) (length new) r replica)
-      (grown : length old ≤ length new) where
-    each : (q : ℕ) (found : Member) → IsNumbered holding q found →
-        IsSound (length members) (length new) q found.replica
-    each q found at =
-        elim (replaced members r q (record was { replica = replica }) found is.member.at_least at) [
-          | inl (here, swapped) ↦
-              subst (λ n. IsSound (length members) (length new) n found.replica) (sym here)
-              (subst (λ (m : Member). IsSound (length members) (length new) r m.replica) (sym swapped) sound)
-          | inr (differs, kept) ↦ sound_more (world.sound q found kept) grown
-        ]
+  each : (q : ℕ) (found : Member) → IsNumbered holding q found →
+      IsSound (length old.members) (length events) q found.replica
+  each q found at =
+      elim (replaced old.members r q (record was { replica = replica }) found is.member.at_least at) [
+        | inl (here, swapped) ↦
+            subst (λ n. IsSound (length old.members) (length events) n found.replica) (sym here)
+            (subst (λ (m : Member). IsSound (length old.members) (length events) r m.replica) (sym swapped) sound)
+        | inr (differs, kept) ↦ sound_more (world.sound q found kept) grown
+      ]
 
-    pub world_after : (after : List Member) → after ≡ holding → IsWorld after new
-    world_after after holds = subst (λ list. IsWorld list new) (sym holds) (record {
-      count = subst IsCount (sym as_many) world.count;
-      sound = λ q found at. subst (λ n. IsSound n (length new) q found.replica) (sym as_many) (each q found at);
-    })
+  pub world_after : (members : List Member) → members ≡ holding
+      → IsWorld (record old { members = members; events = events })
+  world_after members holds =
+      subst (λ list. IsWorld (record old { members = list; events = events })) (sym holds) (record {
+        count = subst IsCount (sym as_many) world.count;
+        sound = λ q found at. subst (λ n. IsSound n (length events) q found.replica) (sym as_many) (each q found at);
+      })
 
 -- what a change makes of a sound replica is sound
 pub changed_sound : {count events r : ℕ} {old : Replica} {change : Change} {next : Next} → IsSound count events r old →

@@ -13,16 +13,17 @@ use Rattle.ficus_replica.specs.SavedOf.{StandsFor}
 use Rattle.ficus_world.specs.declared.member.Member.{Member}
 use Rattle.ficus_world.specs.declared.member.MemberState.{MemberState}
 use Rattle.ficus_world.specs.declared.member.MemberState.TheVariants.{Up}
-use Rattle.ficus_world.specs.Actions.{happened}
+use Rattle.ficus_world.specs.Actions.{with_event}
 use Rattle.ficus_world.specs.ModelWorld.{ModelWorld}
 use Rattle.ficus_world.specs.Moves.{advanced}
-use Rattle.ficus_world.specs.World.{Whole, IsNumbered, MemberStandsFor, WorldStandsFor}
+use Rattle.ficus_world.specs.Numbered.{IsNumbered}
+use Rattle.ficus_world.specs.World.{Whole, MemberStandsFor, WorldStandsFor}
 use Rattle.ficus_replica.proofs.Events.{quiet_stands}
 use Rattle.ficus_world.proofs.LastPart.{length_part, part_more}
 use Rattle.ficus_world.proofs.Replaced.{number_read, replaced}
 
 -- so far each member is up
-is_up : (state : MemberState) → state ≡ Up
+pub is_up : (state : MemberState) → state ≡ Up
 is_up Up = refl
 
 up_stands : (volume : Volume) (H : List Event) (r : ℕ) (member : Member) (state : MemberState)
@@ -61,14 +62,17 @@ module _ (volume : Volume) (W : ModelWorld) (old : Whole) (stands : WorldStandsF
     next_stands : (members : List Member) → length members ≡ length old.members
         → ((r : ℕ) (member : Member) → IsNumbered members r member
         → StandsFor volume (W.events ++ event ∷ []) r member.replica)
-        → WorldStandsFor volume ((happened W event).after)
-        (record { members = members; events = old.events ++ stored ∷ [] })
+        → WorldStandsFor volume (with_event W event)
+        (record old { members = members; events = old.events ++ stored ∷ [] })
     next_stands members count each = record {
       count = stands.count;
       members = count ∙ stands.members;
       states = stands.states;
       lawful = lawful_more volume W.events event stands.lawful may;
-      stored = part_more old.events W.events stands.stored stored event raises;
+      stored = record {
+        earlier = stands.stored.earlier;
+        is = part_more old.events W.events stands.stored stored event raises;
+      };
       each = λ r member state is state_is.
           stands_up volume (W.events ++ event ∷ []) r member state (each r member is);
     }
@@ -91,13 +95,13 @@ module _ (volume : Volume) (W : ModelWorld) (old : Whole) (stands : WorldStandsF
                 (inl (λ e. differs (sym own ∙ e)))
           ]
 
-      pub advanced_stands : WorldStandsFor volume ((happened W event).after) (advanced old r was next stored)
+      pub advanced_stands : WorldStandsFor volume (with_event W event) (advanced old r was next stored)
       advanced_stands =
           next_stands (slice_set old.members (r - 1) new) (length-set old.members (r - 1) new) each_stands
 
   -- a member serves what it holds
   pub served_stands : (to ask position : ℕ) → ask + raise ≡ position → MayCome volume W.events (Serve to position)
-      → WorldStandsFor volume ((happened W (Serve to position)).after)
+      → WorldStandsFor volume (with_event W (Serve to position))
       (record old { events = old.events ++ Serve to ask ∷ [] })
   served_stands to ask position raises may =
       next_stands (Serve to ask) (Serve to position) (ap (λ n. Serve to n) raises) may old.members refl

@@ -13,7 +13,8 @@ use Rattle.ficus_model.specs.Events.{raised}
 use Rattle.ficus_model.specs.Lawful.{Volume}
 use Rattle.ficus_replica.proofs.Events.{restarts_alone, restarted_stands}
 use Rattle.ficus_world.specs.declared.member.Member.{Member}
-use Rattle.ficus_world.specs.World.{Whole, IsNumbered, IsSound, IsWorld, WorldStandsFor}
+use Rattle.ficus_world.specs.Numbered.{IsNumbered}
+use Rattle.ficus_world.specs.World.{Whole, IsSound, IsWorld, WorldStandsFor, whole_of}
 use Rattle.ficus_world.specs.Start.{default_volume, restarts, start, IsFresh, AreFresh}
 use Rattle.ficus_world.proofs.Replaced.{number_read}
 use Rattle.ficus_world.proofs.Runs.{start_lawful}
@@ -63,7 +64,7 @@ fresh_none volume members none = record {
 }
 
 module _ {count : ℕ} {members : List Member} (fresh : AreFresh (default_volume count) count members) where
-  pub fresh_world : (events : List Event) → IsCount count → IsWorld members events
+  pub fresh_world : (events : List Event) → IsCount count → IsWorld (whole_of members events)
   fresh_world events counted = record { count = subst IsCount (sym fresh.counted) counted; sound = sound }
     where
       sound : (r : ℕ) (member : Member) → IsNumbered members r member

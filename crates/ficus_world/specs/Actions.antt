@@ -15,30 +15,36 @@ use Rattle.ficus_rules.specs.Rule.{Where, Gives}
 use Rattle.ficus_rules.specs.View.{history_view}
 use Rattle.ficus_script.specs.declared.answer.Answer.{Answer}
 use Rattle.ficus_script.specs.declared.answer.Answer.TheVariants.{Done}
-use Rattle.ficus_world.specs.ModelWorld.{ModelWorld, AllDone, Effect}
+use Rattle.ficus_world.specs.ModelWorld.{ModelWorld, IsDone, Effect, after, joined}
 use Rattle.ficus_world.specs.Sequence.{Action, Sequence, ByRule}
-use Rattle.ficus_world.specs.Answers.{answer_to, LookAnswer}
+use Rattle.ficus_world.specs.Answers.{answer_to, AlikeAnswer, LookAnswer}
+use Rattle.ficus_world.specs.Peers.{ArePeers}
 
 -- an action on a world of the model
 abbrev pub ModelAction : Type 0 → Type 1
 ModelAction A = Action ModelWorld Effect A
 
--- the world that an effect leaves
-abbrev pub after : Effect → ModelWorld
-after effect = effect.after
+-- one action after the other
+abbrev pub First : {A B : Type 0} → ModelAction A → (A → ModelAction B) → ModelAction B
+First first rest = Sequence after joined first rest
 
--- nothing is changed
+-- nothing is changed, and nothing is asked of the outside
 abbrev pub unchanged : ModelWorld → Effect
-unchanged old = record { outcome = AllDone; after = old }
+unchanged old = record { outcomes = []; after = old }
 
--- this happens too
-abbrev pub happened : ModelWorld → Event → Effect
-happened old event = record { outcome = AllDone; after = record old { events = old.events ++ event ∷ [] } }
+-- the world once this has happened too
+abbrev pub with_event : ModelWorld → Event → ModelWorld
+with_event old event = record old { events = old.events ++ event ∷ [] }
 
 -- the event happens, and this of the world before it is given
 pub data Adds {A : Type 0} (given : ModelWorld → A) (event : Event) (old : ModelWorld) :
     Result A Refusal → Effect → Type 0 where
-  Added : Adds given event old (Ok (given old)) (happened old event)
+  Added : Adds given event old (Ok (given old)) (record { outcomes = []; after = with_event old event })
+
+-- a member saves, with this event of its own: it happens, and this of the world before it is given
+pub data Saves {A : Type 0} (given : ModelWorld → A) (event : Event) (old : ModelWorld) :
+    Result A Refusal → Effect → Type 0 where
+  Saved : Saves given event old (Ok (given old)) (record { outcomes = IsDone ∷ []; after = with_event old event })
 
 -- goes on where this is so, and is refused where it isn't
 abbrev pub Wants : (ModelWorld → Type 0) → Refusal → ModelAction (Unit {0})
@@ -54,24 +60,33 @@ Decides volume by change = ByRule unchanged (λ W. ChangeRule (history_view volu
 
 -- the operation is the member's next update
 abbrev pub Updates : ℕ → Op → ModelAction Answer
-Updates by op = Adds (λ W. answer_to (next_number by W.events) op) (Update by op)
+Updates by op = Saves (λ W. answer_to (next_number by W.events) op) (Update by op)
 
 -- the look is answered as its rule says, by what the member has heard of
 abbrev pub Sees : Volume → ℕ → Look → ModelAction Answer
 Sees volume by look = ByRule unchanged (λ W. LookAnswer (history_view volume W.events by) look)
 
+-- the numbers are those of two different members
+abbrev pub AtPeers : Volume → ℕ → ℕ → ModelAction (Unit {0})
+AtPeers volume by other = Wants (λ W. ArePeers volume.members by other) Member
+
+-- the two members are compared by what both have heard of
+abbrev pub Compares : Volume → ℕ → ℕ → ModelAction Answer
+Compares volume by other =
+    ByRule unchanged (λ W. AlikeAnswer (history_view volume W.events by) (history_view volume W.events other))
+
 -- where the next event will stand
 abbrev pub next_position : ModelWorld → ℕ
 next_position W = length W.events
 
--- the event happens where it may come, and this of the world before it is given; else it is refused
-abbrev pub AddsWhereMayCome : {A : Type 0} → Volume → (ModelWorld → A) → Event → Refusal → ModelAction A
-AddsWhereMayCome volume given event refusal =
-    Sequence after (Wants (λ W. MayCome volume W.events event) refusal) (λ may. Adds given event)
+-- the member saves with the event where that may come, and this of the world before it is given; else it is refused
+abbrev pub SavesWhereMayCome : {A : Type 0} → Volume → (ModelWorld → A) → Event → Refusal → ModelAction A
+SavesWhereMayCome volume given event refusal =
+    First (Wants (λ W. MayCome volume W.events event) refusal) (λ may. Saves given event)
 
 -- one of two different members asks the other; gives where the ask stands
 abbrev pub Asks : Volume → ℕ → ℕ → ModelAction ℕ
-Asks volume by to = AddsWhereMayCome volume next_position (Ask by to) Member
+Asks volume by to = SavesWhereMayCome volume next_position (Ask by to) Member
 
 -- the ask that stands at this position is served; gives where the Serve stands
 abbrev pub Serves : ℕ → ℕ → ModelAction ℕ
@@ -79,4 +94,4 @@ Serves to ask = Adds next_position (Serve to ask)
 
 -- what was served at this position is taken, where it answers the open ask
 abbrev pub TakesAnswer : Volume → ℕ → ℕ → ModelAction Answer
-TakesAnswer volume by serve = AddsWhereMayCome volume (λ W. Done) (Accept by serve) Stale
+TakesAnswer volume by serve = SavesWhereMayCome volume (λ W. Done) (Accept by serve) Stale

@@ -1,15 +1,16 @@
 -- How what commands come to is answered.
-use Rattle.std.specs.Prelude.{Result, Ok, Err}
+use Rattle.std.specs.Prelude.{◌↔◌, Result, Ok, Err, IsTrue}
 use Rattle.ficus_ids.specs.declared.id.Id.{Id}
 use Rattle.ficus_ids.specs.declared.refusal.Refusal.{Refusal}
 use Rattle.ficus_model.specs.declared.event.Op.{Op}
 use Rattle.ficus_model.specs.declared.event.Op.TheVariants as op
 use Rattle.ficus_commands.specs.declared.look.Look.{Look}
 use Rattle.ficus_rules.specs.Look.{LookRule}
-use Rattle.ficus_rules.specs.Rule.{Then, Gives}
+use Rattle.ficus_rules.specs.Alike.{AreAlike}
+use Rattle.ficus_rules.specs.Rule.{Then, Gives, Tells}
 use Rattle.ficus_rules.specs.View.{View}
 use Rattle.ficus_script.specs.declared.answer.Answer.{Answer}
-use Rattle.ficus_script.specs.declared.answer.Answer.TheVariants.{Done, Made, Told, Refused}
+use Rattle.ficus_script.specs.declared.answer.Answer.TheVariants.{Alike, Done, Made, Told, Refused}
 
 -- what the update of this number is answered with: its number, where it gives an object a name
 abbrev pub answer_to : Id → Op → Answer
@@ -26,6 +27,10 @@ answer_to number (op.Discard file) = Done
 -- what a look at what is shown is answered, or why it is refused
 abbrev pub LookAnswer : View → Look → Result Answer Refusal → Type 0
 LookAnswer view look = Then (LookRule view look) (λ told. Gives (Told told))
+
+-- whether the two views are alike
+abbrev pub AlikeAnswer : View → View → Result Answer Refusal → Type 0
+AlikeAnswer one other = Tells Alike (λ alike. IsTrue alike ↔ AreAlike one other)
 
 -- a refusal is an answer too
 abbrev pub answer_as : Result Answer Refusal → Answer

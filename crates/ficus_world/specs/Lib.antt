@@ -1,6 +1,8 @@
+pub mod Numbered
 pub mod Sequence
 pub mod ModelWorld
 pub mod Answers
+pub mod Peers
 pub mod Actions
 pub mod Run
 pub mod World

@@ -4,12 +4,12 @@ use Rattle.std.specs.List.{range_with_len}
 use Rattle.ficus_model.specs.declared.event.Event.{Event}
 use Rattle.ficus_model.specs.declared.event.Event.TheVariants.{Restart}
 use Rattle.ficus_model.specs.Lawful.{Volume}
-use Rattle.ficus_codec.specs.Saved.{FitsImage}
+use Rattle.ficus_saved.specs.Saved.{FitsImage}
 use Rattle.ficus_replica.specs.SavedOf.{StandsFor}
 use Rattle.ficus_world.specs.declared.member.Member.{Member}
 use Rattle.ficus_world.specs.declared.member.MemberState.TheVariants.{Up}
 use Rattle.ficus_world.specs.ModelWorld.{ModelWorld}
-use Rattle.ficus_world.specs.World.{IsNumbered}
+use Rattle.ficus_world.specs.Numbered.{IsNumbered}
 
 -- a volume with the default limits: a replica makes 100,000 updates over its life, and writes 4 MiB
 abbrev pub default_volume : ℕ → Volume

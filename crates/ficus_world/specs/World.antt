@@ -1,31 +1,34 @@
 -- What contracts see of a world, and what it means that it stands for a world of the model.
-use Rattle.std.specs.Prelude.{◌≡◌, ℕ, ◌+◌, ◌-◌, ◌^◌, ◌≤◌, List, ◌++◌, length, map, slice_get, Some}
-use Rattle.ficus_ids.specs.Members.{IsCount, IsMember}
+use Rattle.std.specs.Prelude.{◌≡◌, ℕ, ◌+◌, ◌-◌, ◌^◌, ◌≤◌, List, ◌++◌, length, map}
+use Rattle.ficus_ids.specs.Members.{IsCount}
 use Rattle.ficus_model.specs.declared.event.Event.{Event}
 use Rattle.ficus_model.specs.Events.{raised}
 use Rattle.ficus_model.specs.Lawful.{Volume, IsLawful}
-use Rattle.ficus_codec.specs.Saved.{FitsImage}
+use Rattle.ficus_saved.specs.Saved.{FitsImage}
 use Rattle.ficus_replica.specs.declared.replica.Replica.{Replica}
 use Rattle.ficus_replica.specs.SavedOf.{StandsFor}
 use Rattle.ficus_world.specs.declared.member.Member.{Member}
 use Rattle.ficus_world.specs.declared.member.MemberState.{MemberState}
 use Rattle.ficus_world.specs.declared.member.MemberState.TheVariants.{Up}
 use Rattle.ficus_world.specs.ModelWorld.{ModelWorld}
+use Rattle.ficus_world.specs.Numbered.{IsNumbered}
 
 -- the members, and the events of this run
 pub record Whole : Type 0 where
   pub members : List Member
   pub events : List Event
 
--- A command is carried out while fewer events are stored than this: it stores three at most, and a position is below
--- 2^32.
+-- a world of these parts
+abbrev pub whole_of : List Member → List Event → Whole
+whole_of members events = record { members = members; events = events }
+
+-- the most events that one command stores
+abbrev pub most_events : ℕ
+most_events = 3
+
+-- a command is carried out while fewer events are stored than this, since a position is below 2^32
 abbrev pub event_limit : ℕ
 event_limit = 2 ^ 32 - 16
-
--- the r-th of a list, from 1
-pub record IsNumbered {A : Type 0} (list : List A) (r : ℕ) (x : A) : Type 0 where
-  pub member : IsMember (length list) r
-  pub is : slice_get list (r - 1) ≡ Some x
 
 -- what member r holds
 pub record IsReplica (members : List Member) (r : ℕ) (replica : Replica) : Type 0 where
@@ -42,10 +45,10 @@ pub record IsSound (count events r : ℕ) (replica : Replica) : Type 0 where
   pub generation : replica.saved.generation ≤ 2 ^ 62 + events
 
 -- what holds of every world
-pub record IsWorld (members : List Member) (events : List Event) : Type 0 where
-  pub count : IsCount (length members)
-  pub sound : (r : ℕ) (member : Member) → IsNumbered members r member
-      → IsSound (length members) (length events) r member.replica
+pub record IsWorld (world : Whole) : Type 0 where
+  pub count : IsCount (length world.members)
+  pub sound : (r : ℕ) (member : Member) → IsNumbered world.members r member
+      → IsSound (length world.members) (length world.events) r member.replica
 
 -- the stored events are the last part of the history
 pub record IsLastPart (events H : List Event) : Type 0 where

@@ -1,4 +1,4 @@
-ghost use Rattle.std.specs.Prelude.{◌≡◌, ◌↔◌, ℕ, List, ◌++◌, Result, Err, Contains};
+ghost use Rattle.std.specs.Prelude.{◌≡◌, ◌↔◌, ℕ, List, ◌++◌, length, Result, Err, Contains};
 ghost use Rattle.ficus_ids.specs.declared.refusal.Refusal.{Refusal};
 ghost use Rattle.ficus_ids.specs.declared.refusal.Refusal.TheVariants.{Stale};
 ghost use Rattle.ficus_laws.specs.Laws.{KnowSameUpdates};
@@ -11,12 +11,13 @@ ghost use Rattle.ficus_removal_laws.specs.Marks.{IsMarked};
 ghost use Rattle.ficus_commands.specs.declared.look.Look.{Look};
 ghost use Rattle.ficus_answers.specs.View.{held_dead};
 ghost use Rattle.ficus_replica.specs.declared.replica.Replica.{Replica};
+ghost use Rattle.ficus_rules.specs.Alike.{AreAlike};
 ghost use Rattle.ficus_rules.specs.Look.{TellsOfView};
 ghost use Rattle.ficus_rules.specs.View.{history_view};
 ghost use Rattle.ficus_script.specs.declared.answer.Answer.{Answer};
 ghost use Rattle.ficus_script.specs.declared.command.Command.{Command};
 ghost use Rattle.ficus_world.specs.ModelWorld.{ModelWorld, Outcome, Effect};
-ghost use Rattle.ficus_world.specs.Run.{Does, Run};
+ghost use Rattle.ficus_world.specs.Run.{Does, Run, EachDone};
 ghost use Rattle.ficus_world.specs.Answers.{LookAnswer};
 ghost use Rattle.ficus_script.specs.declared.command.Command.TheVariants.{Pull as Pulls};
 ghost use Rattle.ficus_world.specs.Start.{default_volume, start};
@@ -24,17 +25,31 @@ ghost use Rattle.ficus_world.specs.World.{Whole, IsReplica, WorldStandsFor};
 
 /// Commands leave a lawful history, whatever they are.
 pub fn runs_are_lawful()
-    ensures { (members : ℕ) (commands : List Command) (outcomes : List Outcome) (answers : List Answer)
-        (W : ModelWorld) → Run (default_volume members) (start members) commands outcomes answers W
+    ensures { (members : ℕ) (commands : List Command) (outcomes : List (List Outcome))
+        (answers : List Answer) (W : ModelWorld) → Run (default_volume members) (start members) commands outcomes answers W
         → IsLawful (default_volume members) W.events }
 {}
 
 /// A run follows from its commands and from what the outside does: from one world the same commands with the same
 /// outcomes have the same answers, and lead to the same world.
 pub fn one_run()
-    ensures { (volume : Volume) (W after later : ModelWorld) (commands : List Command) (outcomes : List Outcome)
+    ensures { (volume : Volume) (W after later : ModelWorld) (commands : List Command) (outcomes : List (List Outcome))
         (answers others : List Answer) → Run volume W commands outcomes answers after
         → Run volume W commands outcomes others later → (answers ≡ others) × (after ≡ later) }
+{}
+
+/// Where all that is asked of the outside is done, a run follows from its commands alone.
+pub fn one_run_where_all_is_done()
+    ensures { (volume : Volume) (W after later : ModelWorld) (commands : List Command)
+        (outcomes other_outcomes : List (List Outcome)) (answers others : List Answer)
+        → EachDone outcomes → EachDone other_outcomes → Run volume W commands outcomes answers after
+        → Run volume W commands other_outcomes others later → (answers ≡ others) × (after ≡ later) }
+{}
+
+/// A world of the model has one world that stands for it and has so many of its events stored.
+pub fn one_world()
+    ensures { (volume : Volume) (W : ModelWorld) (one other : Whole) → WorldStandsFor volume W one
+        → WorldStandsFor volume W other → length one.events ≡ length other.events → one ≡ other }
 {}
 
 /// What is served in a pull is taken.
@@ -51,16 +66,22 @@ pub fn same_updates_answer_same()
         → LookAnswer (history_view volume H other) look again → answer ≡ again }
 {}
 
+/// Replicas that know the same updates are alike.
+pub fn same_updates_are_alike()
+    ensures { (volume : Volume) (H : List Event) (replica other : ℕ) → KnowSameUpdates H replica other
+        → AreAlike (history_view volume H replica) (history_view volume H other) }
+{}
+
 /// Commands only add to what has happened.
 pub fn runs_extend()
-    ensures { (volume : Volume) (W after : ModelWorld) (commands : List Command) (outcomes : List Outcome)
+    ensures { (volume : Volume) (W after : ModelWorld) (commands : List Command) (outcomes : List (List Outcome))
         (answers : List Answer) → Run volume W commands outcomes answers after
         → (later : List Event) × (after.events ≡ W.events ++ later) }
 {}
 
 /// What a member knows to be removed is alive for it after no later command.
 pub fn removed_stays_removed()
-    ensures { (volume : Volume) (W after : ModelWorld) (commands : List Command) (outcomes : List Outcome)
+    ensures { (volume : Volume) (W after : ModelWorld) (commands : List Command) (outcomes : List (List Outcome))
         (answers : List Answer) (replica : ℕ) (entry : ModelEntry) → Run volume W commands outcomes answers after
         → IsRemoved W.events (Knows W.events replica) entry.id
         → IsLive after.events (Knows after.events replica) entry → ⊥ }

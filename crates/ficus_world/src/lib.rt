@@ -8,7 +8,8 @@ mod step;
 mod world;
 
 pub use laws::{
-    knowledge_is_held, one_run, pulls_are_never_stale, removed_stays_removed, runs_are_lawful,
-    runs_extend, same_updates_answer_same,
+    knowledge_is_held, one_run, one_run_where_all_is_done, one_world, pulls_are_never_stale,
+    removed_stays_removed, runs_are_lawful, runs_extend, same_updates_answer_same,
+    same_updates_are_alike,
 };
 pub use world::World;

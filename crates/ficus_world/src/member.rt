@@ -1,6 +1,6 @@
 ghost use Rattle.std.specs.Prelude.{◌≡◌, ◌-◌, length, slice_set};
 ghost use Rattle.ficus_ids.specs.Members.{IsMember};
-ghost use Rattle.ficus_world.specs.World.{IsNumbered};
+ghost use Rattle.ficus_world.specs.Numbered.{IsNumbered};
 ghost use Rattle.ficus_world.specs.declared.member.Member.{Member as MemberValue};
 
 use ficus_replica::Replica;

@@ -2,7 +2,7 @@ ghost use Rattle.std.specs.Prelude.{◌≡◌, ◌≢◌, ◌↔◌, ◌+◌, �
 ghost use Rattle.ficus_ids.specs.declared.refusal.Refusal.TheVariants.{Member as NoMember, Memory as OutOfMemory};
 ghost use Rattle.ficus_model.specs.declared.event.Event.TheVariants.{Ask, Serve};
 ghost use Rattle.ficus_world.specs.Answers.{answer_as, answer_to};
-ghost use Rattle.ficus_world.specs.World.{event_limit};
+ghost use Rattle.ficus_world.specs.World.{event_limit, most_events};
 
 use crate::World;
 use crate::member::hold;
@@ -14,13 +14,14 @@ use std::alloc::Global;
 
 impl World {
     ghost use Rattle.ficus_model.specs.Lawful.{Volume};
-    ghost use Rattle.ficus_rules.specs.Rule.{UnlessMemory};
     ghost use Rattle.ficus_commands.specs.Change.{HasFitPaths};
     ghost use Rattle.ficus_script.specs.Command.{IsCommand};
-    ghost use Rattle.ficus_script.specs.declared.command.Command.TheVariants.{Change as Changes, Look as Looks, Pull as Pulls};
+    ghost use Rattle.ficus_script.specs.declared.command.Command.TheVariants.{Change as Changes, Look as Looks, Pull as Pulls, Alike as Compares};
     ghost use Rattle.ficus_world.specs.ModelWorld.{ModelWorld};
     ghost use Rattle.ficus_world.specs.Follows.{Follows};
-    ghost use Rattle.ficus_world.specs.Moves.{ArePeers, CarriesOut, Moves};
+    ghost use Rattle.ficus_world.specs.Moves.{ComesTo, Moves};
+    ghost use Rattle.ficus_world.specs.Peers.{ArePeers};
+    ghost use Rattle.ficus_world.specs.Run.{CommandMayWantMemory};
     ghost use Rattle.ficus_world.specs.World.{WorldStandsFor};
 
     /// Carries out one command, and answers it. After `Memory` the world is as before.
@@ -28,7 +29,7 @@ impl World {
         requires command { IsCommand command.now }
         requires room { length self.old.events < event_limit }
         ensures moves { IfOk result (λ answer. Moves self.old command.now answer self.new) }
-        ensures grows { length self.new.events ≤ length self.old.events + 3 }
+        ensures grows { length self.new.events ≤ length self.old.events + most_events }
         ensures memory { OnErr result (self.new ≡ self.old) }
         // Whatever the world stood for before, the model allows the answer there, and the world stands for what it
         // leads to; after `Memory`, for what it stood for.
@@ -36,6 +37,9 @@ impl World {
             → IfOk result (λ answer. Follows volume W command.now answer self.new) }
         ensures stays { (volume : Volume) (W : ModelWorld) → WorldStandsFor volume W self.old
             → OnErr result (WorldStandsFor volume W self.new) }
+        // Memory is wanted only where the model refuses nothing, or where it has to be taken before that is known.
+        ensures wants { (volume : Volume) (W : ModelWorld) → WorldStandsFor volume W self.old
+            → OnErr result (CommandMayWantMemory volume W command.now) }
     {
         answered(self.carry_out(alloc, command))
     }
@@ -43,50 +47,60 @@ impl World {
     fn carry_out(&mut self, alloc: Global, command: &Command) -> Result<Answer, Refusal>
         requires command { IsCommand command.now }
         requires room { length self.old.events < event_limit }
-        ensures moves { UnlessMemory (λ answer. CarriesOut command.now self.old answer self.new) result }
-        ensures grows { length self.new.events ≤ length self.old.events + 3 }
+        ensures moves { ComesTo self.old command.now result self.new }
+        ensures grows { length self.new.events ≤ length self.old.events + most_events }
         ensures memory { IsErrOf result OutOfMemory → self.new ≡ self.old }
     {
         match command {
             Command::Change { by, change } => self.change(alloc, *by, change),
             Command::Look { by, look } => self.look(alloc, *by, look),
             Command::Pull { by, to } => self.pull(alloc, *by, *to),
+            Command::Alike { by, other } => self.alike(alloc, *by, *other),
         }
     }
 
-    // All memory is taken before anything changes.
+    // All memory is taken before anything changes, and behind what may be refused.
     fn change(&mut self, alloc: Global, by: u8, change: &Change) -> Result<Answer, Refusal>
         requires new { HasFitPaths change.now }
         requires room { length self.old.events < event_limit }
-        ensures moves { UnlessMemory (λ answer. CarriesOut (Changes by change.now) self.old answer self.new) result }
+        ensures moves { ComesTo self.old (Changes by change.now) result self.new }
         ensures stored { OnOk result (length self.new.events ≡ length self.old.events + 1) }
         ensures refused { OnErr result (self.new ≡ self.old) }
     {
         if !self.has(by) {
             return Err(Refusal::Member);
         }
-        self.history.reserve(1)?;
         let replica = &self.member(by).replica;
-        let number = replica.saved.next;
+        let number = replica.next_id();
         let next = replica.change(alloc, change)?;
-        let id = Id {
-            replica: by,
-            number,
-        };
-        let answer = answer(id, &next.op);
+        self.history.reserve(1)?;
+        let answer = answer(number, &next.op);
         self.history.push(Event::Update { by, op: next.op });
         hold(&mut self.members, by, next.replica);
         Ok(answer)
     }
 
     fn look(&self, alloc: Global, by: u8, look: &Look) -> Result<Answer, Refusal>
-        ensures { UnlessMemory (λ answer. CarriesOut (Looks by look.now) self.now answer self.now) result }
+        ensures { ComesTo self.now (Looks by look.now) result self.now }
     {
         if !self.has(by) {
             return Err(Refusal::Member);
         }
         let told = self.member(by).replica.look(alloc, look)?;
         Ok(Answer::Told(told))
+    }
+
+    fn alike(&self, alloc: Global, by: u8, other: u8) -> Result<Answer, Refusal>
+        ensures { ComesTo self.now (Compares by other) result self.now }
+    {
+        if !self.are_peers(by, other) {
+            return Err(Refusal::Member);
+        }
+        let alike = self
+            .member(by)
+            .replica
+            .alike(alloc, &self.member(other).replica)?;
+        Ok(Answer::Alike(alike))
     }
 
     // Whether they are the numbers of two different members.
@@ -99,7 +113,7 @@ impl World {
     // All memory is taken before anything changes.
     fn pull(&mut self, alloc: Global, by: u8, to: u8) -> Result<Answer, Refusal>
         requires room { length self.old.events < event_limit }
-        ensures moves { UnlessMemory (λ answer. CarriesOut (Pulls by to) self.old answer self.new) result }
+        ensures moves { ComesTo self.old (Pulls by to) result self.new }
         ensures stored { OnOk result (length self.new.events ≡ length self.old.events + 3) }
         ensures refused { OnErr result (length self.new.events ≤ length self.old.events + 2) }
         ensures no_peers { IsErrOf result NoMember → self.new ≡ self.old }

@@ -2,10 +2,10 @@ ghost use Rattle.std.specs.Prelude.{◌≡◌, ◌↔◌, length, IfOk, IsTrue, 
 
 use crate::fresh::{fresh_history, fresh_members};
 use crate::member::Member;
-use ficus_codec::{BYTE_LIMIT, UPDATE_LIMIT};
 use ficus_ids::{Members, Memory};
 use ficus_model::History;
 use ficus_replica::Replica;
+use ficus_saved::{BYTE_LIMIT, UPDATE_LIMIT};
 use std::alloc::Global;
 use std::marker::Model;
 
@@ -23,18 +23,19 @@ pub struct World {
 }
 
 impl Model for World {
-    ghost use Rattle.ficus_world.specs.World.{Whole, IsWorld};
+    ghost use Rattle.ficus_world.specs.World.{Whole, IsWorld, whole_of};
 
     ghost Value = { Whole };
 
-    ghost view = { λ w. record { members = w.members.items; events = w.history.events } };
+    ghost view = { λ w. whole_of w.members.items w.history.events };
 
-    ghost invariant = { λ w. IsWorld w.members.items w.history.events };
+    ghost invariant = { λ w. IsWorld (whole_of w.members.items w.history.events) };
 }
 
 impl World {
     ghost use Rattle.ficus_ids.specs.Members.{IsMember};
-    ghost use Rattle.ficus_world.specs.World.{IsNumbered, IsReplica, IsSound, WorldStandsFor};
+    ghost use Rattle.ficus_world.specs.Numbered.{IsNumbered};
+    ghost use Rattle.ficus_world.specs.World.{IsReplica, IsSound, WorldStandsFor};
     ghost use Rattle.ficus_world.specs.Start.{default_volume, restarts, start};
 
     /// Members that have heard of nothing, with the default limits. The history is one restart of each.

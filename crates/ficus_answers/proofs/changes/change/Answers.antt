@@ -11,3 +11,6 @@ returns-in-Ln c = rw c.in-Ln.is c.link.ensures
 
 pub returns-in-Mv : goal.returns-in-Mv
 returns-in-Mv c = rw c.in-Mv.is c.rename.ensures
+
+pub returns-in-Adopt : goal.returns-in-Adopt
+returns-in-Adopt c = rw c.in-Adopt.is c.adopt.ensures

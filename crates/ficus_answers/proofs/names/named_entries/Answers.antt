@@ -1,4 +1,3 @@
-use Rattle.std.proofs.Common.{◌≡◌}
 use Rattle.ficus_answers.proofs.NamedEntries.{named_tables}
 use Rattle.ficus_entry.proofs.Within.{IfOk-both}
 use Rattle.ficus_answers.proofs.names.named_entries.Goals as goal

@@ -4,8 +4,8 @@ use Rattle.ficus_reach.specs.ReachedLaws.{IsReached-along}
 use Rattle.ficus_answers.proofs.Trees.{leads_from, leads_into}
 use Rattle.ficus_answers.proofs.renaming.is_within.Goals as goal
 
-pub returns : goal.returns
-returns c =
+pub returns-clause-within : goal.returns-clause-within
+returns-clause-within c =
     IfOk-weaker c.below.result _ _ (λ within tells. (
       λ is. record {
         directory = c.if-not-is_directory.ensures.0 refl;

@@ -1,12 +1,24 @@
-use Rattle.std.proofs.Common.{length, Err, refl, inl, inr}
+use Rattle.std.proofs.Common.{length, refl, inl, inr}
 use Rattle.std.proofs.lemmas.Result.{err_from_is_err_and}
 use Rattle.ficus_model.specs.declared.event.Op.TheVariants.{Resolve}
 use Rattle.ficus_rules.specs.Limits.{LimitsRule}
-use Rattle.ficus_rules.specs.Resolved.{ResolvedRule}
-use Rattle.ficus_rules.specs.Rule.{Then, Gives}
+use Rattle.ficus_rules.specs.Resolve.{NeedsResolver, ResolveRule}
+use Rattle.ficus_rules.specs.Rule.{Gives}
+use Rattle.ficus_rules.specs.Walk.{FileRule}
+use Rattle.ficus_rules.proofs.Limits.{limits_never}
+use Rattle.ficus_rules.proofs.Rules.{refusal_along}
+use Rattle.ficus_rules.proofs.Walks.{file_never}
+use Rattle.ficus_answers.specs.Files.{ResolvedWithin}
 use Rattle.ficus_answers.specs.View.{tables_view}
-use Rattle.ficus_answers.proofs.Refusals.{isnt, at_file_in_conflict, over_limits, not_resolved, at_resolved}
+use Rattle.ficus_answers.proofs.Refusals.{isnt, is_resolved, not_resolved, over_limits, stopped}
 use Rattle.ficus_answers.proofs.resolving.resolve.Goals as goal
+
+pub returns-in_err-file : goal.returns-in_err-file
+returns-in_err-file c =
+    let view = tables_view c.args.saved.now in
+    let path = c.args.path.now in
+    stopped _ (FileRule view path) (ResolveRule view path) (file_never view path) (λ refusal stops. inl stops) _
+    c.in_err-file.ensures.rule _ c.from_residual.ensures.1
 
 pub returns-then-not-is_conflict : goal.returns-then-not-is_conflict
 returns-then-not-is_conflict c =
@@ -15,12 +27,16 @@ returns-then-not-is_conflict c =
 pub returns-in_err-bytes : goal.returns-in_err-bytes
 returns-in_err-bytes c =
     let view = tables_view c.args.saved.now in
-    let p = err_from_is_err_and c.from_residual-in_err-bytes.result c.from_residual-in_err-bytes.ensures.1 in
-    rw (p.1, p.2)
-    (at_file_in_conflict view c.args.path.now
-    (λ file. Then (ResolvedRule view file) (λ bytes. LimitsRule view (length bytes) (Gives (Resolve file bytes))))
-    c.in_ok-file.file.now.id c.in_ok-file.ensures.rule (c.if-not-is_conflict.ensures.0 refl) (Err _)
-    (not_resolved view c.in_ok-file.file.now.id (Resolve c.in_ok-file.file.now.id) _ c.in_err-bytes.ensures))
+    let file = c.in_ok-file.file.now.id in
+    let walked = c.in_ok-file.ensures.rule in
+    let conflict = c.if-not-is_conflict.ensures.0 refl in
+    let needs : NeedsResolver view c.args.path.now = record { file = file; walked = walked; conflict = conflict } in
+    let given = err_from_is_err_and c.from_residual-in_err-bytes.result c.from_residual-in_err-bytes.ensures.1 in
+    rw (given.1, given.2)
+    (refusal_along (ResolvedWithin view file) (ResolveRule view c.args.path.now) _
+    (λ lacks. inr needs)
+    (λ refused. inr (file, walked, inr (conflict, not_resolved view file (Resolve file) _ refused)))
+    c.in_err-bytes.ensures)
 
 pub returns-in_err-within_limits : goal.returns-in_err-within_limits
 returns-in_err-within_limits c =
@@ -28,11 +44,17 @@ returns-in_err-within_limits c =
     let file = c.in_ok-file.file.now.id in
     let bytes = c.in_ok-bytes.bytes in
     let limits = rw c.items.ensures at c.in_err-within_limits.ensures in
-    let p = err_from_is_err_and c.from_residual-in_err-within_limits.result
-    c.from_residual-in_err-within_limits.ensures.1 in
-    rw (p.1, p.2)
-    (at_file_in_conflict view c.args.path.now
-    (λ file. Then (ResolvedRule view file) (λ bytes. LimitsRule view (length bytes) (Gives (Resolve file bytes))))
-    file c.in_ok-file.ensures.rule (c.if-not-is_conflict.ensures.0 refl) (Err _)
-    (at_resolved view file (λ bytes. LimitsRule view (length bytes) (Gives (Resolve file bytes))) bytes
-    c.in_ok-bytes.ensures (Err _) (over_limits view (length bytes) (Resolve file bytes) _ limits)))
+    stopped _ (LimitsRule view (length bytes) (Gives {B = Unit {0}} tt)) (ResolveRule view c.args.path.now)
+    (limits_never {B = Unit {0}} view (length bytes) tt)
+    (λ refusal over. inr (
+      file,
+      c.in_ok-file.ensures.rule,
+      inr (
+        c.if-not-is_conflict.ensures.0 refl,
+        inr (
+          bytes,
+          is_resolved view file bytes c.in_ok-bytes.ensures,
+          over_limits view (length bytes) (Resolve file bytes) refusal over,
+        ),
+      ),
+    )) _ limits _ c.from_residual-in_err-within_limits.ensures.1

@@ -1,11 +1,22 @@
-use Rattle.std.proofs.Common.{◌≡◌, length, Err, refl, ap, ◌∙◌, inl, inr, rules}
-use Rattle.std.proofs.lemmas.Result.{err_from_is_err_and}
+use Rattle.std.proofs.Common.{◌≡◌, length, refl, ap, ◌∙◌, inl, inr, rules}
 use Rattle.ficus_model.specs.declared.event.Op.TheVariants.{Write}
 use Rattle.ficus_rules.specs.Limits.{LimitsRule}
 use Rattle.ficus_rules.specs.Rule.{Gives}
+use Rattle.ficus_rules.specs.Walk.{FileRule}
+use Rattle.ficus_rules.specs.Write.{WriteRule}
+use Rattle.ficus_rules.proofs.Limits.{limits_never, limits_none}
+use Rattle.ficus_rules.proofs.Rules.{behind, passed}
+use Rattle.ficus_rules.proofs.Walks.{file_never, file_once}
 use Rattle.ficus_answers.specs.View.{tables_view}
-use Rattle.ficus_answers.proofs.Refusals.{isnt, at_settled_file, over_limits, within_limits}
+use Rattle.ficus_answers.proofs.Refusals.{isnt, over_limits, stopped, wanted, within_limits}
 use Rattle.ficus_answers.proofs.writing.write.Goals as goal
+
+pub returns-in_err-file : goal.returns-in_err-file
+returns-in_err-file c =
+    let view = tables_view c.args.saved.now in
+    let path = c.args.path.now in
+    stopped _ (FileRule view path) (WriteRule view path c.args.bytes.now) (file_never view path)
+    (λ refusal stops. inl stops) _ c.in_err-file.ensures.rule _ c.from_residual.ensures.1
 
 pub returns-then-is_conflict : goal.returns-then-is_conflict
 returns-then-is_conflict c =
@@ -15,12 +26,27 @@ pub returns-in_err-within_limits : goal.returns-in_err-within_limits
 returns-in_err-within_limits c =
     let view = tables_view c.args.saved.now in
     let bytes = c.args.bytes.now in
-    let p = err_from_is_err_and c.from_residual-in_err-within_limits.result
-    c.from_residual-in_err-within_limits.ensures.1 in
-    rw (p.1, p.2)
-    (at_settled_file view c.args.path.now (λ file. LimitsRule view (length bytes) (Gives (Write file bytes)))
-    c.in_ok-file.file.now.id c.in_ok-file.ensures.rule (isnt c.if-is_conflict.ensures) (Err _)
-    (over_limits view (length bytes) (Write c.in_ok-file.file.now.id bytes) _ c.in_err-within_limits.ensures))
+    let file = c.in_ok-file.file.now.id in
+    stopped _ (LimitsRule view (length bytes) (Gives {B = Unit {0}} tt)) (WriteRule view c.args.path.now bytes)
+    (limits_never {B = Unit {0}} view (length bytes) tt)
+    (λ refusal over. inr (
+      file,
+      c.in_ok-file.ensures.rule,
+      inr (
+        isnt c.if-is_conflict.ensures,
+        over_limits view (length bytes) (Write file bytes) refusal over,
+      ),
+    )) _ c.in_err-within_limits.ensures _ c.from_residual-in_err-within_limits.ensures.1
+
+pub returns-in_err-to_vec : goal.returns-in_err-to_vec
+returns-in_err-to_vec c =
+    let view = tables_view c.args.saved.now in
+    let path = c.args.path.now in
+    let bytes = c.args.bytes.now in
+    let file = c.in_ok-file.file.now.id in
+    wanted _ (WriteRule view path bytes) _ c.from_residual-in_err-to_vec.ensures.1
+    (λ refusal refuses. limits_none view (length bytes) (Write file bytes) _ _ c.in_ok-within_limits.ensures refusal
+    (passed (isnt c.if-is_conflict.ensures) (behind (file_once view path) file c.in_ok-file.ensures.rule refuses)))
 
 pub returns : goal.returns
 returns c =

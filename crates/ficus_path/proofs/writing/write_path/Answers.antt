@@ -7,7 +7,7 @@ loop-part-preserved c =
     rw (
       c.in_ok-append_part.ensures,
       c.loop-part.invariant,
-      flat_map_more part_text c.if-is_empty.text.items c.items-parts.result.now c.loop-part.part-index c.part-item.result
+      flat_map_more part_text c.append_start.new.out.items c.items-parts.result.now c.loop-part.part-index c.part-item.result
           c.loop-part-test.true,
       ← c.part-item.is,
     )

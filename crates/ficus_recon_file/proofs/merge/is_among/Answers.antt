@@ -1,6 +1,6 @@
 use Rattle.std.proofs.Common.{rules}
 use Rattle.ficus_ids.specs.Id.{id_cmp}
-use Rattle.ficus_recon_file.proofs.Among.{among_by}
+use Rattle.ficus_touched.proofs.Among.{among_by}
 use Rattle.ficus_recon_file.proofs.merge.is_among.Goals as goal
 
 pub returns : goal.returns

@@ -1,15 +1,23 @@
-use Rattle.ficus_recon_file.specs.declared.news.NewFile.{NewFile}
-use Rattle.ficus_recon_file.proofs.Beside.{below_next, news_more}
+use Rattle.ficus_recon_file.proofs.Beside.{nothing_so_far, news_more, all_new}
 use Rattle.ficus_recon_file.proofs.news.found.Goals as goal
 
-pub skip_below-place-requires : goal.skip_below-place-requires
-skip_below-place-requires c =
-    below_next c.args.mine.now c.args.theirs.now c.loop-index.place c.loop-index.index c.loop-index.news.items
-    c.loop-index.invariant c.at-file.result.now c.at-file.ensures
+pub loop-pair-init : goal.loop-pair-init
+loop-pair-init c =
+    let walk = c.of-walk.ensures in
+    rw c.new-news.ensures.items
+    (nothing_so_far c.args.mine.now c.args.theirs.now c.of-walk.result walk.mine walk.theirs walk.theirs_passed
+    walk.rising)
 
-pub loop-index-preserved : goal.loop-index-preserved
-loop-index-preserved c =
-    let new : NewFile = record { mine = c.found_at-beside.result; theirs = c.at-file.result } in
-    news_more c.args.mine.now c.args.theirs.now c.loop-index.place c.loop-index.index c.loop-index.news.items
-    c.loop-index.invariant new c.len-count.ensures.files.rising c.len-index-end.ensures.files.rising c.at-file.ensures
-    c.found_at-beside.ensures c.skip_below-place.result c.note.new.news.items c.skip_below-place.ensures.below c.in_ok-note.ensures
+pub loop-pair-preserved : goal.loop-pair-preserved
+loop-pair-preserved c =
+    news_more c.args.mine.now c.args.theirs.now c.loop-pair.walk c.next_pair.new.self c.loop-pair.news.items
+    c.note.new.news.items c.in-Some.pair.mine c.in-Some.pair.theirs c.loop-pair.invariant c.in-Some.ensures.some
+    c.in_ok-note.ensures
+
+pub returns-clause-new : goal.returns-clause-new
+returns-clause-new c =
+    all_new c.args.mine.now c.args.theirs.now c.loop-pair.walk c.loop-pair.news.items c.loop-pair.invariant
+    c.in_default.ensures.none
+
+pub returns-clause-beside : goal.returns-clause-beside
+returns-clause-beside c = c.loop-pair.invariant.each

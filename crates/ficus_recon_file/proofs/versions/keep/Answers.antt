@@ -7,11 +7,11 @@ use Rattle.ficus_recon_file.proofs.versions.keep.Goals as goal
 pub returns-in_ok-insert-clause-gained : goal.returns-in_ok-insert-clause-gained
 returns-in_ok-insert-clause-gained c =
     let same : c.in_ok-copy.field-0 ≡ c.args.version.now = c.in_ok-copy.ensures in
-    let all : c.insert.new.self.items ≡ insert c.args.kept.now.items c.in-Err.place c.args.version.now = c.in_ok-insert.ensures.items ∙ rw same refl in
-    inr (λ other. rw all (Contains-insert c.args.kept.now.items c.in-Err.place c.args.version.now other))
+    let all : c.insert.new.self.items ≡ insert c.args.kept.now.items c.in-Some.place c.args.version.now = c.in_ok-insert.ensures.items ∙ rw same refl in
+    inr (λ other. rw all (Contains-insert c.args.kept.now.items c.in-Some.place c.args.version.now other))
 
 pub returns-in_ok-insert-clause-ordered : goal.returns-in_ok-insert-clause-ordered
 returns-in_ok-insert-clause-ordered c =
     let same : c.in_ok-copy.field-0 ≡ c.args.version.now = c.in_ok-copy.ensures in
-    let all : c.insert.new.self.items ≡ insert c.args.kept.now.items c.in-Err.place c.args.version.now = c.in_ok-insert.ensures.items ∙ rw same refl in
-    rw all (insert_ordered c.args.kept.now.items c.args.version.now c.in-Err.place c.requires (rw c.deref.ensures.value at c.in-Err.ensures.place))
+    let all : c.insert.new.self.items ≡ insert c.args.kept.now.items c.in-Some.place c.args.version.now = c.in_ok-insert.ensures.items ∙ rw same refl in
+    rw all (insert_ordered c.args.kept.now.items c.args.version.now c.in-Some.place c.requires (rw c.deref.ensures.value at c.in-Some.ensures.place))

@@ -1,4 +1,4 @@
-use Rattle.std.proofs.Common.{◌≡◌, sym, ◌∙◌, ap, Some, None, refl, get_or}
+use Rattle.std.proofs.Common.{◌≡◌, sym, ◌∙◌, ap, Some, None, get_or}
 use Rattle.std.specs.Prelude.{position, ◌==◌}
 use Rattle.std.proofs.lemmas.List.Quantifiers.{position-Some}
 use Rattle.ficus_table.specs.declared.edit.Edit.{Edit}

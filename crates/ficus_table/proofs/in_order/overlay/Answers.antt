@@ -1,4 +1,4 @@
-use Rattle.std.proofs.Common.{◌≡◌, ◌-◌, ◌+◌, ◌<◌, ◌≤◌, List, length, map, get_or, set, drop, slice_get, Some, ◌∙◌, ap, sym, subst, arith, refl}
+use Rattle.std.proofs.Common.{◌≡◌, ◌-◌, ◌+◌, ◌<◌, ◌≤◌, List, length, get_or, set, drop, ◌∙◌, ap, sym, arith}
 use Rattle.std.proofs.lemmas.List.{map-set, length-map}
 use Rattle.ficus_table.specs.declared.edit.Edit.{Edit}
 use Rattle.ficus_table.specs.Edits.{AreBelow, overlaid}

@@ -1,5 +1,4 @@
 use Rattle.std.proofs.Common.{sym, ◌∙◌, ap, arith, rules}
-use Rattle.ficus_ids.specs.declared.id.Id.{Id}
 use Rattle.ficus_table.proofs.Found.{ids_parted, found_here, differs_here, place_by_cut}
 use Rattle.ficus_table.proofs.search.search.Goals as goal
 use Rattle.ficus_table.proofs.search.search.Goals.{else-index-len-via-then-index-len+else-eq, else-index-len-via-else-index-len}

@@ -11,7 +11,8 @@ returns-clause-none g c =
     let span = c.span in
     MatchOption-weaker c.first_of.result c.first_of.ensures.none (λ none entry inside passes between.
     let viewed : Contains view entry = rw c.self.view_is inside in
+    let live = g.T.Test.lives c.args.test.now entry passes in
     let old : Contains noted.before entry =
-    live_noted view c.self.inside.table.edited notes noted entry viewed (g.T.Test.lives c.args.test.now entry passes) in
+    live_noted view c.self.inside.table.edited notes noted entry viewed live in
     entry_within noted.before notes c.args.from c.args.to span.result.start span.result.end entry noted.noted
-    span.ensures old between (none entry inside passes)) (λ x t. t)
+    span.ensures old live between (none entry inside passes)) (λ x t. t)

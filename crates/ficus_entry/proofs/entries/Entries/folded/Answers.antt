@@ -1,10 +1,9 @@
-use Rattle.std.proofs.Common.{◌≡◌, ◌+◌, ◌∷◌, drop, get_or, ◌∙◌, sym, ap, subst, arith}
+use Rattle.std.proofs.Common.{◌≡◌, ◌+◌, ◌∷◌, drop, get_or, ◌∙◌, ap, subst, arith}
 use Rattle.std.specs.Prelude.{List, ℕ}
 use Rattle.std.proofs.lemmas.List.{drop_all, drop_more}
-use Rattle.std.proofs.lemmas.List.Elements.{Contains-get_or}
 use Rattle.std.proofs.lemmas.Option.{slice_get_within, get_or_from_slice_get}
-use Rattle.ficus_entry.specs.Place.{AreNoted, AreNotedBut}
-use Rattle.ficus_entry.proofs.Noted.{noted_folded, noted_whole, whole_noted, none_again, edit_within}
+use Rattle.ficus_entry.specs.Place.{AreNotedBut}
+use Rattle.ficus_entry.proofs.Noted.{noted_folded, whole_noted, none_again, edit_within}
 use Rattle.ficus_entry.proofs.entries.Entries.folded.Goals as goal
 
 pub at-entry-requires : goal.at-entry-requires
@@ -25,7 +24,7 @@ loop-place-preserved c =
     c.at-entry.result.now
     (subst (λ (l : List ℕ). AreNotedBut c.self.inside.table.items l c.loop-place.index) more c.loop-place.invariant)
     (none_again edited n index c.edit_count-place-end.ensures.once within is) c.at-entry.ensures
-    (rw (c.live_note.ensures, c.note.ensures) at c.in_ok-index-2.ensures)
+    (rw c.note.ensures at c.in_ok-index-2.ensures)
 
 pub returns : goal.returns
 returns c =

@@ -1,9 +1,5 @@
-use Rattle.std.specs.Prelude.{List}
-use Rattle.std.specs.List.Sorted.{IsPermutation}
-use Rattle.std.proofs.Common.{◌∷◌}
 use Rattle.std.proofs.lemmas.Result.{IfOk-weaker}
-use Rattle.ficus_index.specs.declared.place.Note.{Note}
-use Rattle.ficus_entry.specs.Place.{note_of, AreNoted, ReplacesNote}
+use Rattle.ficus_entry.specs.Place.{AreNoted}
 use Rattle.ficus_entry.proofs.Noted.{noted_put, noted_insert}
 use Rattle.ficus_entry.proofs.entries.Entries.index_with.Goals as goal
 
@@ -16,7 +12,7 @@ returns-in-Ok c =
     (IfOk-weaker c.renoted.result _ _
     (λ noted is more rises puts. noted_put view more c.in-Ok.at c.at.result.now c.args.entry.now folded noted
     c.search.ensures.rising are c.in-Ok.ensures.found c.at.ensures
-    (rw (c.note.ensures, c.note-in-Ok.ensures) at is) rises puts) c.renoted.ensures)
+    is rises puts) c.renoted.ensures)
 
 pub returns : goal.returns
 returns c =
@@ -24,6 +20,6 @@ returns c =
     let folded = c.in_ok-folded.folded in
     let are : AreNoted view folded = rw (← c.self.view_is) at c.in_ok-folded.ensures in
     rw (← c.self.view_is)
-    (IfOk-weaker c.with.result _ _
+    (IfOk-weaker c.noting.result _ _
     (λ noted is more rises puts. noted_insert view more _ c.args.entry.now folded noted
-    c.search.ensures.rising are c.in-Err.ensures.place (rw c.note-in-Err.ensures at is) rises puts) c.with.ensures)
+    c.search.ensures.rising are c.in-Err.ensures.place is rises puts) c.noting.ensures)

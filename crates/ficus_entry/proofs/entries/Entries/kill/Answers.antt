@@ -1,4 +1,4 @@
-use Rattle.std.proofs.Common.{◌≡◌, set, ap, ◌∙◌, sym, refl, subst, arith}
+use Rattle.std.proofs.Common.{◌≡◌, ap, ◌∙◌, sym, refl}
 use Rattle.ficus_ids.specs.Rising.{IsFoundAtBy}
 use Rattle.ficus_ids.specs.RisingLaws.{set_puts}
 use Rattle.ficus_entry.specs.declared.entry.Entry.{Entry}

@@ -1,4 +1,3 @@
-use Rattle.std.proofs.Common.{sym}
 use Rattle.ficus_entry.proofs.entries.Entries.names_of.Goals as goal
 
 pub returns-clause-entries : goal.returns-clause-entries

@@ -1,10 +1,9 @@
 use Rattle.std.specs.Prelude.{Contains}
 use Rattle.std.proofs.Common.{◌≡◌, ◌+◌, ◌∙◌, ap, sym, subst, arith}
-use Rattle.ficus_entry.specs.Place.{rank_of}
 use Rattle.ficus_index.specs.Digest.{digest_of}
 use Rattle.ficus_index.specs.Place.{IsNotedWithin}
 use Rattle.ficus_entry.proofs.Noted.{live_noted}
-use Rattle.ficus_entry.proofs.Within.{IfOk-both, held_where_not_missing, entry_within, between_ranks, rank_live}
+use Rattle.ficus_entry.proofs.Within.{IfOk-both, held_where_not_missing, entry_within, between_ranks}
 use Rattle.ficus_entry.proofs.entries.Entries.noted_names_of.Goals as goal
 
 pub returns : goal.returns
@@ -27,11 +26,10 @@ returns c =
           let viewed : Contains view such.entry = rw c.self.view_is such.inside in
           let old : Contains noted.before such.entry =
           live_noted view c.self.inside.table.edited notes noted such.entry viewed is.live in
-          let ranked : rank_of such.entry ≡ rank =
-          rank_live such.entry is.live ∙ ap digest_of is.named ∙ sym c.digest-rank.ensures.value in
+          let ranked : digest_of such.entry.name ≡ rank = ap digest_of is.named ∙ sym c.digest-rank.ensures.value in
           held_where_not_missing ids.items id
           (λ missing. entry_within noted.before notes _ _ span.result.start span.result.end such.entry noted.noted
-          span.ensures old
+          span.ensures old is.live
           (between_ranks c.args.dir rank (rank + 1) such.entry is.in_dir (omega (arith, ranked)) (omega (arith, ranked)))
           (λ within. missing (complete id
           (record { entry = such.entry; inside = such.inside; has_id = such.has_id; so = (is, such.so.leads) })

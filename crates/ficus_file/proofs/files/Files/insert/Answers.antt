@@ -5,5 +5,5 @@ use Rattle.ficus_file.proofs.files.Files.insert.Goals as goal
 
 pub returns-clause-added : goal.returns-clause-added
 returns-clause-added c =
-    on_ok_weaker c.hold.result
-    (λ is. rw is (put_adds id_of c.args.self.now _ c.args.file c.requires.new c.in_ok-list.ensures.puts)) c.hold.ensures.held
+    on_ok_weaker c.put.result (λ puts. put_adds id_of c.args.self.now _ c.args.file c.requires.new puts)
+    c.put.ensures.puts

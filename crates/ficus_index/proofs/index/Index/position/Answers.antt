@@ -1,4 +1,4 @@
-use Rattle.std.proofs.Common.{◌≡◌, ◌≢◌, ◌<◌, arith, rules}
+use Rattle.std.proofs.Common.{◌≢◌, ◌<◌, rules}
 use Rattle.std.proofs.lemmas.Bool.{ltb-true}
 use Rattle.ficus_index.specs.Place.{order_of}
 use Rattle.ficus_index.proofs.Notes.{nowhere, unseen_more}

@@ -1,4 +1,4 @@
-use Rattle.std.proofs.Common.{◌≡◌, ◌≢◌, ℕ, ◌≤◌, ◌<◌, get_or}
+use Rattle.std.proofs.Common.{◌≢◌, ℕ, ◌≤◌, ◌<◌, get_or}
 use Rattle.ficus_index.specs.declared.place.Note.{Note}
 use Rattle.ficus_index.proofs.index.Index.position.Given as goal
 

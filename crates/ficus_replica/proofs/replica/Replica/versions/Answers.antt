@@ -6,7 +6,6 @@ use Rattle.ficus_replica.proofs.replica.Replica.versions.Goals as goal
 
 pub returns : goal.returns
 returns c =
-    let told = subst (λ path. LookGives c.args.self.now (TellsVersions path) (Ok c.in_ok-list.field-0))
-    c.in_ok-path.ensures c.in_ok-list.ensures in
-    let list = subst (λ told. LookGives c.args.self.now (TellsVersions c.args.path.now) (Ok told)) c.in-Versions.is told in
+    let list = subst (λ told. LookGives c.args.self.now (TellsVersions c.args.path.now) (Ok told)) c.in-Versions.is
+    c.in_ok-list.ensures in
     rw c.into_vec.ensures (own_versions c.args.self.now c.args.path.now c.in-Versions.members c.in-Versions.list list)

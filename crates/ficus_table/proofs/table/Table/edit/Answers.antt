@@ -1,4 +1,4 @@
-use Rattle.std.proofs.Common.{◌≡◌, ◌<◌, vec_len, vec_capacity, length, sym, subst, ◌∙◌}
+use Rattle.std.proofs.Common.{◌<◌, vec_capacity, length, sym, subst, ◌∙◌}
 use Rattle.ficus_table.specs.Edits.{overlaid, put_in, IsSound}
 use Rattle.ficus_table.specs.Table.{KeepsId}
 use Rattle.ficus_table.proofs.Shown.{length_shown}
@@ -39,6 +39,9 @@ returns-clause-edited g c =
     (record { index = c.args.index; form = c.args.form }) c.put.result c.self.inside.list
     (subst (λ v. c.args.index < length v.items) (sym c.self.view_is) c.requires.within)
     c.put.ensures.put c.put.ensures.earlier)
+
+pub returns-clause-ids : goal.returns-clause-ids
+returns-clause-ids g c = rw (c.put.ensures.put, ← c.self.view_is) ((sound g c).same ∙ sym c.self.invariant.same)
 
 pub returns-clause-rising : goal.returns-clause-rising
 returns-clause-rising g c =

@@ -1,4 +1,4 @@
-use Rattle.std.proofs.Common.{◌≤◌, length, vec_capacity, arith, sym, subst}
+use Rattle.std.proofs.Common.{◌≤◌, length, vec_capacity, arith, sym, subst, inr}
 use Rattle.ficus_ids.specs.Rising.{IsRisingBy}
 use Rattle.ficus_table.proofs.Shown.{overlaid_none}
 use Rattle.ficus_table.proofs.Sound.{sound_fresh, rising_seen}
@@ -7,9 +7,11 @@ use Rattle.ficus_table.proofs.table.Table.fresh.Goals as goal
 pub invariant_of-result : goal.invariant_of-result
 invariant_of-result g c =
     let list = c.args.list in
-    let room : length list ≤ vec_capacity c.in_ok-edits.edits = omega (arith, c.in_ok-edits.ensures.capacity, c.len.ensures) in
+    let room : length list ≤ vec_capacity c.in_ok-edits.edits =
+    omega (arith, c.in_ok-edits.ensures.enough, c.len.ensures) in
     rw c.in_ok-edits.ensures.items
-    (sound_fresh g.R.Row.id_of g.R.Row.seen g.R.Row.formed list (vec_capacity c.in_ok-edits.edits) c.requires room)
+    (sound_fresh g.R.Row.id_of g.R.Row.seen g.R.Row.formed list (vec_capacity c.in_ok-edits.edits) c.requires room
+    (inr (c.len.result, c.in_ok-edits.ensures.capacity)))
 
 pub returns-clause-items : goal.returns-clause-items
 returns-clause-items g c = rw c.in_ok-edits.ensures.items (overlaid_none g.R.Row.formed g.R.Row.seen c.args.list)

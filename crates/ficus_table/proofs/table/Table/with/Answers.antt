@@ -1,6 +1,4 @@
-use Rattle.std.proofs.Common.{subst, List}
 use Rattle.std.proofs.lemmas.Result.{IfOk-weaker}
-use Rattle.ficus_ids.specs.Rising.{PutsBy}
 use Rattle.ficus_table.proofs.table.Table.with.Goals as goal
 
 pub returns-clause-puts : goal.returns-clause-puts

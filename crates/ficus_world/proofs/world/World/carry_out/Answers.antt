@@ -8,3 +8,6 @@ returns-in-Look-clause-moves c = rw c.in-Look.is c.look.ensures
 
 pub returns-in-Pull-clause-moves : goal.returns-in-Pull-clause-moves
 returns-in-Pull-clause-moves c = rw c.in-Pull.is c.pull.ensures.moves
+
+pub returns-in-Alike-clause-moves : goal.returns-in-Alike-clause-moves
+returns-in-Alike-clause-moves c = rw c.in-Alike.is c.alike.ensures

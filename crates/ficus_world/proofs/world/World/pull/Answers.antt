@@ -1,12 +1,12 @@
 use Rattle.std.proofs.Common.{◌≡◌, rules, Err, sym, subst, ap, ◌∙◌, length, length-append, arith}
 use Rattle.ficus_ids.specs.declared.refusal.Refusal.TheVariants.{Memory}
-use Rattle.ficus_rules.proofs.Rules.{or_memory}
-use Rattle.ficus_world.specs.Moves.{ArePeers, CarriesOut}
+use Rattle.ficus_world.specs.Moves.{CarriesOut}
+use Rattle.ficus_world.specs.Peers.{ArePeers}
 use Rattle.ficus_world.specs.Moves.KeepsAsk.{NoPeers}
 use Rattle.ficus_world.specs.Sequence.Sequence.{Ends}
 use Rattle.ficus_script.specs.declared.command.Command.TheVariants.{Pull as Pulls}
-use Rattle.ficus_world.specs.World.{Whole}
-use Rattle.ficus_world.proofs.Moved.{not_so}
+use Rattle.ficus_world.specs.World.{Whole, whole_of}
+use Rattle.ficus_world.proofs.Moved.{not_memory, not_so}
 use Rattle.ficus_world.proofs.Pulled.{pull_moves, pull_refused}
 use Rattle.ficus_world.proofs.SoundWorlds.{sound_more, world_after, asked_sound, accepted_sound}
 use Rattle.ficus_world.proofs.world.World.pull.Goals as goal
@@ -23,7 +23,8 @@ invariant_of-self-in-Err c =
     let is = c.member.ensures.is in
     let sound = rw c.in_ok-reserve.ensures.events at c.member.ensures.sound in
     let asked = asked_sound sound c.in_ok-asked.ensures.gives c.in_ok-asked.ensures.fits in
-    world_after _ _ was _ is _ _ c.self.invariant (sound_more asked (omega arith)) (omega arith) _
+    let old = whole_of c.self.inside.members.items c.self.inside.history.events in
+    world_after old _ c.args.by was _ is c.self.invariant (sound_more asked (omega arith)) (omega arith) _
     (c.hold.ensures was is)
 
 pub returns-in-Err-clause-moves : goal.returns-in-Err-clause-moves
@@ -33,8 +34,8 @@ returns-in-Err-clause-moves c =
     let was = c.member.result.now in
     let refusal = c.in-Err.refusal in
     let is = c.member.ensures.is in
-    let old : Whole = record { members = c.self.inside.members.items; events = c.self.inside.history.events } in
-    let new : Whole = record { members = c.hold.new.members.items; events = c.push_serve.new.history.events } in
+    let old = whole_of c.self.inside.members.items c.self.inside.history.events in
+    let new = whole_of c.hold.new.members.items c.push_serve.new.history.events in
     let peers = subst (λ (w : Whole). ArePeers (length w.members) by to) (sym c.self.view_is)
     (c.are_peers.ensures.0 c.if-not-are_peers.false) in
     let no_memory : refusal ≡ Memory → ⊥ = search rules in
@@ -43,7 +44,7 @@ returns-in-Err-clause-moves c =
     let here : CarriesOut (Pulls by to) c.args.self.now (Err refusal) new =
     rw (c.hold.ensures was is, c.push_serve.ensures.events, c.in_ok-reserve.ensures.events, ← c.self.view_is)
     moves in
-    or_memory (λ answer. CarriesOut (Pulls by to) c.args.self.now answer new) (Err refusal) here
+    not_memory _ (λ answer. CarriesOut (Pulls by to) c.args.self.now answer new) refusal no_memory here
 
 pub invariant_of-self-4 : goal.invariant_of-self-4
 invariant_of-self-4 c =
@@ -55,7 +56,8 @@ invariant_of-self-4 c =
     let sound = rw c.in_ok-reserve.ensures.events at c.member.ensures.sound in
     let asked = asked_sound sound c.in_ok-asked.ensures.gives c.in_ok-asked.ensures.fits in
     let accepted = accepted_sound asked c.in-Ok.ensures.gives c.in-Ok.ensures.fits in
-    world_after _ _ was _ is _ _ c.self.invariant (sound_more accepted (omega arith)) (omega arith) _
+    let old = whole_of c.self.inside.members.items c.self.inside.history.events in
+    world_after old _ c.args.by was _ is c.self.invariant (sound_more accepted (omega arith)) (omega arith) _
     (c.hold-2.ensures was is)
 
 pub returns-clause-moves : goal.returns-clause-moves
@@ -64,7 +66,7 @@ returns-clause-moves c =
     let to = c.args.to in
     let was = c.member.result.now in
     let is = c.member.ensures.is in
-    let old : Whole = record { members = c.self.inside.members.items; events = c.self.inside.history.events } in
+    let old = whole_of c.self.inside.members.items c.self.inside.history.events in
     let peers = subst (λ (w : Whole). ArePeers (length w.members) by to) (sym c.self.view_is)
     (c.are_peers.ensures.0 c.if-not-are_peers.false) in
     let moves = pull_moves old by to was c.member-2.result.now c.in_ok-asked.asked peers

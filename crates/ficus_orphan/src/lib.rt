@@ -1,0 +1,10 @@
+//! Which objects are orphans: those without a live name that are kept all the same.
+#![tactic(auto)]
+
+mod id_set;
+mod naming;
+mod orphan;
+
+pub use id_set::IdSet;
+pub use naming::named;
+pub use orphan::{is_kept, is_orphan, orphans};

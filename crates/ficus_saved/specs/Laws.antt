@@ -1,0 +1,85 @@
+-- The laws of tables that fit, as the law functions state them.
+use Rattle.std.specs.Prelude.{◌≢◌, ℕ, ◌+◌, ◌≤◌, List, length}
+use Rattle.ficus_ids.specs.Members.{IsMember}
+use Rattle.ficus_ids.specs.Name.{IsName}
+use Rattle.ficus_ids.specs.declared.id.Id.{Id}
+use Rattle.ficus_ids.specs.declared.id.TheConstants.{ATTIC}
+use Rattle.ficus_ids.specs.declared.kind.Kind.{Kind}
+use Rattle.ficus_ids.specs.declared.kind.Kind.TheVariants.{Dir}
+use Rattle.ficus_ids.specs.Rising.{Adds}
+use Rattle.ficus_entry.specs.Entry.{IsRising, AddsEntry}
+use Rattle.ficus_entry.specs.Kill.{AreKilled}
+use Rattle.ficus_entry.specs.declared.entry.Entry.{Entry}
+use Rattle.ficus_entry.specs.declared.entry.State.{State}
+use Rattle.ficus_entry.specs.declared.entry.State.TheVariants.{Live}
+use Rattle.ficus_file.specs.File.{made_file, advanced, covered_file}
+use Rattle.ficus_file.specs.Files.{AreFiles, Holds, IsChanged, HoldsFile}
+use Rattle.ficus_file.specs.declared.file.FileReplica.{FileReplica}
+use Rattle.ficus_recon_dir.specs.Merge.{MergesEntries}
+use Rattle.ficus_recon_file.specs.Merge.{AreMergedFiles}
+use Rattle.ficus_saved.specs.Limits.{update_limit, file_limit}
+use Rattle.ficus_saved.specs.Saved.{HasOwnPast}
+use Rattle.ficus_saved.specs.Tables.{FitsTables, FitsState, FitsAttic, IsPlaceIn}
+use Rattle.ficus_touched.specs.Touched.{touched_by}
+
+-- the tables fit, and hold nothing of the replica's own that it hasn't made
+pub record FitsReplica (members me next : ℕ) (entries : List Entry) (files : List FileReplica) : Type 0 where
+  pub tables : FitsTables members entries files
+  pub past : HasOwnPast me next entries files
+
+-- what two replicas' tables make together fits where both fit
+abbrev pub MergedTablesFit : Type 0
+MergedTablesFit = (members me next : ℕ) (mine theirs merged : List Entry) (files others both : List FileReplica) →
+    IsMember members me → FitsReplica members me next mine files → FitsReplica members me next theirs others →
+    IsRising merged → MergesEntries me members mine theirs merged →
+    AreFiles both → AreMergedFiles (touched_by merged) files others both →
+    FitsReplica members me next merged both
+
+-- with one more object and an entry for it fits what fits, for the next update of the replica
+abbrev pub MadeTablesFit : Type 0
+MadeTablesFit = (members me next : ℕ) (dir : Id) (name : List ℕ) (kind : Kind) (entries after : List Entry)
+    (files more : List FileReplica) →
+    let number : Id = record { replica = me; number = next } in
+    IsMember members me → 1 ≤ next → next ≤ update_limit → IsName name → IsPlaceIn files dir → dir ≢ ATTIC →
+    FitsReplica members me next entries files →
+    IsRising after →
+    AddsEntry entries after (record { id = number; dir = dir; name = name; target = number; state = Live }) →
+    AreFiles more → Adds files more (made_file number kind me) →
+    FitsReplica members me (next + 1) after more
+
+-- with one more entry, of an object that is held, in a state that fits, fits what fits, for the next update of the
+-- replica
+abbrev pub EnteredTablesFit : Type 0
+EnteredTablesFit = (members me next : ℕ) (dir : Id) (name : List ℕ) (target : Id) (state : State)
+    (entries after : List Entry) (files : List FileReplica) →
+    let number : Id = record { replica = me; number = next } in
+    IsMember members me → 1 ≤ next → next ≤ update_limit → IsName name → IsPlaceIn files dir →
+    FitsState members state → FitsAttic dir state → Holds files target →
+    FitsReplica members me next entries files →
+    IsRising after →
+    AddsEntry entries after (record { id = number; dir = dir; name = name; target = target; state = state }) →
+    FitsReplica members me (next + 1) after files
+
+-- with entries removed by a member fits what fits
+abbrev pub KilledTablesFit : Type 0
+KilledTablesFit = (members me next : ℕ) (ids : List Id) (entries after : List Entry) (files : List FileReplica) →
+    IsMember members me → FitsReplica members me next entries files → IsRising after → AreKilled entries after ids me →
+    FitsReplica members me next after files
+
+-- and with one version by the replica in place of all those of a file
+abbrev pub WrittenTablesFit : Type 0
+WrittenTablesFit = (members me next : ℕ) (file : Id) (bytes : List ℕ) (entries : List Entry)
+    (files after : List FileReplica) →
+    IsMember members me → 1 ≤ next → next ≤ update_limit → length bytes ≤ file_limit →
+    HoldsFile files file (λ held. held.kind ≢ Dir) →
+    FitsReplica members me next entries files →
+    AreFiles after → IsChanged files after file (advanced me bytes) →
+    FitsReplica members me (next + 1) entries after
+
+-- and with the versions of a file covered
+abbrev pub CoveredTablesFit : Type 0
+CoveredTablesFit = (members me next : ℕ) (file : Id) (entries : List Entry) (files after : List FileReplica) →
+    IsMember members me → 1 ≤ next → next ≤ update_limit →
+    FitsReplica members me next entries files →
+    AreFiles after → IsChanged files after file covered_file →
+    FitsReplica members me (next + 1) entries after

@@ -1,0 +1,27 @@
+ghost use Rattle.std.specs.Prelude.{◌≡◌};
+ghost use Rattle.ficus_saved.specs.Limits.{update_limit, byte_limit, file_limit};
+ghost use Rattle.ficus_saved.specs.Laws.{MergedTablesFit, MadeTablesFit, EnteredTablesFit, WrittenTablesFit, KilledTablesFit, CoveredTablesFit};
+
+use crate::{BYTE_LIMIT, FILE_LIMIT, UPDATE_LIMIT};
+
+/// The law that the limits of the code are those of the contracts.
+pub fn limits()
+    ensures updates { UPDATE_LIMIT ≡ update_limit }
+    ensures bytes { BYTE_LIMIT ≡ byte_limit }
+    ensures file { FILE_LIMIT ≡ file_limit }
+{}
+
+/// What the merge of entries and the merge of files make of tables that fit fits too.
+pub fn merged_tables_fit()
+    ensures { MergedTablesFit }
+{}
+
+/// What a new object with its entry, one more entry of an object that is held, removed entries, a new version and
+/// covered versions make of tables that fit fits too.
+pub fn changed_tables_fit()
+    ensures made { MadeTablesFit }
+    ensures entered { EnteredTablesFit }
+    ensures killed { KilledTablesFit }
+    ensures written { WrittenTablesFit }
+    ensures covered { CoveredTablesFit }
+{}

@@ -1,0 +1,8 @@
+//! What a replica saves, and what an image asks of it.
+#![tactic(auto)]
+
+mod laws;
+mod saved;
+
+pub use laws::{changed_tables_fit, limits, merged_tables_fit};
+pub use saved::{BYTE_LIMIT, FILE_LIMIT, Saved, UPDATE_LIMIT};

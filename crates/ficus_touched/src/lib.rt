@@ -1,0 +1,6 @@
+//! Which of some objects the entries name or lie in.
+#![tactic(auto)]
+
+mod touching;
+
+pub use touching::touched;

@@ -1,0 +1,63 @@
+ghost use Rattle.std.specs.Prelude.{◌≡◌, ◌↔◌, ◌∷◌, ◌++◌, [], length, List, Contains, IfOk};
+ghost use Rattle.ficus_ids.specs.Rising.{IsRisingBy};
+ghost use Rattle.ficus_ids.specs.declared.id.Id.{Id as IdValue};
+ghost use Rattle.ficus_touched.specs.Touched.{touched_by, HasMark, AreMarked};
+
+use ficus_entry::Entries;
+use ficus_ids::{Id, Memory};
+use std::alloc::Global;
+
+/// Those of the rising identifiers that an entry, live or removed, names or lies in, rising. It takes one walk along the
+/// entries.
+pub fn touched(alloc: Global, entries: &Entries, ids: &[Id]) -> Result<Vec<Id>, Memory>
+    requires { IsRisingBy (λ id. id) ids.now }
+    ensures rising { IfOk result (λ kept. IsRisingBy (λ id. id) kept.items) }
+    ensures touched { IfOk result (λ kept. (id : IdValue) → Contains kept.items id ↔
+        (Contains ids.now id × Contains (touched_by entries.now) id)) }
+{
+    let marks = marks(alloc, entries, ids)?;
+    marked(alloc, ids, &marks)
+}
+
+// Of each of the identifiers, whether an entry names it or lies in it.
+fn marks(alloc: Global, entries: &Entries, ids: &[Id]) -> Result<Vec<bool>, Memory>
+    requires { IsRisingBy (λ id. id) ids.now }
+    ensures { IfOk result (λ marks. AreMarked (touched_by entries.now) ids.now marks.items) }
+{
+    let in_order = entries.in_order()?;
+    let mut marks = vec![in alloc; false; ids.len()]?;
+    for index in 0..in_order.len() {
+        let entry = in_order.at(index);
+        mark(&mut marks, ids, entry.target);
+        mark(&mut marks, ids, entry.dir);
+    }
+    Ok(marks)
+}
+
+// Marks the identifier, if it is one of these.
+fn mark(marks: &mut Vec<bool>, ids: &[Id], id: Id)
+    requires rising { IsRisingBy (λ other. other) ids.now }
+    requires lengths { length marks.old.items ≡ length ids.now }
+    ensures { (others : List IdValue) → AreMarked others ids.now marks.old.items →
+        AreMarked (others ++ id ∷ []) ids.now marks.new.items }
+{
+    if let Ok(index) = ids.binary_search(&id) {
+        marks[index] = true;
+    }
+}
+
+// Those of the identifiers that have a mark.
+fn marked(alloc: Global, ids: &[Id], marks: &[bool]) -> Result<Vec<Id>, Memory>
+    requires rising { IsRisingBy (λ id. id) ids.now }
+    requires lengths { length marks.now ≡ length ids.now }
+    ensures rising { IfOk result (λ kept. IsRisingBy (λ id. id) kept.items) }
+    ensures marked { IfOk result (λ kept. (id : IdValue) → Contains kept.items id ↔ HasMark ids.now marks.now id) }
+{
+    let mut kept = Vec::new(alloc);
+    for index in 0..ids.len() {
+        if marks[index] {
+            kept.push(ids[index])?;
+        }
+    }
+    Ok(kept)
+}

@@ -1,0 +1,79 @@
+-- A world of the model has one world that stands for it, with so many stored events.
+use Rattle.std.proofs.Common.{◌≡◌, ℕ, ◌+◌, ◌-◌, List, [], ◌∷◌, length, map, get_or, drop, refl, sym, ap, ap₂, ◌∙◌, arith}
+use Rattle.std.proofs.Math.Seq.{drop-append_seam}
+use Rattle.std.proofs.lemmas.List.{ext_get_or}
+use Rattle.ficus_model.specs.declared.event.Event.{Event}
+use Rattle.ficus_model.specs.declared.event.Event.TheVariants.{Update, Ask, Serve, Accept, Collect, Restart}
+use Rattle.ficus_model.specs.Events.{raised}
+use Rattle.ficus_model.specs.Lawful.{Volume}
+use Rattle.ficus_replica.proofs.Standing.{replica_once}
+use Rattle.ficus_world.specs.ModelWorld.{ModelWorld}
+use Rattle.ficus_world.specs.Numbered.{IsNumbered}
+use Rattle.ficus_world.specs.World.{Whole, IsLastPart, WorldStandsFor}
+use Rattle.ficus_world.proofs.LastPart.{length_part}
+use Rattle.ficus_world.proofs.Replaced.{number_read}
+use Rattle.ficus_world.proofs.Standing.{is_up, replica_stands}
+
+-- the event with its positions as they were before they were raised
+lowered : ℕ → Event → Event
+lowered n (Update by op) = Update by op
+lowered n (Ask by to) = Ask by to
+lowered n (Serve by ask) = Serve by (ask - n)
+lowered n (Accept by serve) = Accept by (serve - n)
+lowered n (Collect by) = Collect by
+lowered n (Restart by) = Restart by
+
+lowered_again : (n : ℕ) (event : Event) → lowered n (raised n event) ≡ event
+unfolding lowered
+lowered_again n (Update by op) = refl
+lowered_again n (Ask by to) = refl
+lowered_again n (Serve by ask) = let same : ask + n - n ≡ ask = omega arith in ap (Serve by) same
+lowered_again n (Accept by serve) = let same : serve + n - n ≡ serve = omega arith in ap (Accept by) same
+lowered_again n (Collect by) = refl
+lowered_again n (Restart by) = refl
+
+all_lowered : (n : ℕ) (events : List Event) → map (lowered n) (map (raised n) events) ≡ events
+all_lowered n [] = refl
+all_lowered n (event ∷ events) =
+    ap₂ (λ (first : Event) (rest : List Event). first ∷ rest) (lowered_again n event) (all_lowered n events)
+
+-- the stored events follow from the history and from how many are before them
+stored_from : (events H : List Event) (part : IsLastPart events H) →
+    events ≡ map (lowered (length part.earlier)) (drop (length part.earlier) H)
+stored_from events H part =
+    let n = length part.earlier in
+    sym (all_lowered n events)
+    ∙ ap (map (lowered n)) (sym (ap (drop n) part.is ∙ drop-append_seam part.earlier (map (raised n) events)))
+
+stored_once : (H one other : List Event) → IsLastPart one H → IsLastPart other H → length one ≡ length other →
+    one ≡ other
+stored_once H one other part part_too same =
+    let before : length part.earlier ≡ length part_too.earlier =
+    omega (arith, length_part one H part, length_part other H part_too) in
+    stored_from one H part ∙ ap (λ n. map (lowered n) (drop n H)) before ∙ sym (stored_from other H part_too)
+
+-- lists of one length with the same at each number are one
+same_list : {A : Type 0} (one other : List A) → length one ≡ length other →
+    ((r : ℕ) (a b : A) → IsNumbered one r a → IsNumbered other r b → a ≡ b) → one ≡ other
+same_list [] [] same each = refl
+same_list [] (x ∷ xs) same each = absurd (omega (arith, same))
+same_list (x ∷ xs) other same each =
+    ext_get_or x (x ∷ xs) other same (λ i within.
+    let place : i + 1 - 1 ≡ i = omega arith in
+    each (i + 1) (get_or (x ∷ xs) i x) (get_or other i x)
+    (number_read (x ∷ xs) (i + 1) (get_or (x ∷ xs) i x) x (record { at_least = omega arith; at_most = omega arith })
+    (ap (λ k. get_or (x ∷ xs) k x) place))
+    (number_read other (i + 1) (get_or other i x) x (record { at_least = omega arith; at_most = omega (arith, same) })
+    (ap (λ k. get_or other k x) place)))
+
+pub world_once : (volume : Volume) (W : ModelWorld) (one other : Whole) → WorldStandsFor volume W one →
+    WorldStandsFor volume W other → length one.events ≡ length other.events → one ≡ other
+world_once volume W one other stands stands_too stored = λ i. record {
+  members = same_list one.members other.members (stands.members ∙ sym stands_too.members)
+      (λ r a b is is_too.
+      let same = replica_once (replica_stands volume W one stands r a is)
+      (replica_stands volume W other stands_too r b is_too) in
+      let states = is_up a.state ∙ sym (is_up b.state) in
+      λ j. record { replica = same j; state = states j }) i;
+  events = stored_once W.events one.events other.events stands.stored stands_too.stored stored i;
+}
