@@ -1,5 +1,5 @@
 -- No two arguments are spelled by the same words.
-use Rattle.std.proofs.Common.{◌≡◌, ◌≢◌, ◌⊎◌, ℕ, List, [], ◌∷◌, ◌++◌, get_or, Option, None, Some, Result, Ok, Err, refl, inl, inr, sym, ◌∙◌, ap, subst, arith, if◌then◌else◌, ◌==◌}
+use Rattle.std.proofs.Common.{◌≡◌, ◌≢◌, ◌⊎◌, ℕ, ◌<◌, ◌^◌, List, [], ◌∷◌, ◌++◌, get_or, Option, None, Some, Result, Ok, Err, refl, inl, inr, sym, ◌∙◌, ap, subst, arith, if◌then◌else◌, ◌==◌}
 use Rattle.std.specs.Fmt.{decimal}
 use Rattle.std.specs.List.{join_with_byte}
 use Rattle.std.specs.Result.{IsErrOf}
@@ -22,13 +22,13 @@ use Rattle.ficus_path.specs.Spelling.{path_text}
 use Rattle.ficus_path.specs.Text.{quoted_text}
 use Rattle.ficus_path.proofs.TextLaws.{quoted_text_injective}
 use Rattle.ficus_script.specs.declared.arguments.Arguments.{Arguments}
-use Rattle.ficus_script.specs.declared.arguments.Arguments.TheVariants.{Nothing, OnePath, PathAndKind, PathAndText, TwoPaths, TwoReplicas}
+use Rattle.ficus_script.specs.declared.arguments.Arguments.TheVariants.{Nothing, OnePath, PathAndKind, PathAndText, TwoPaths, OneNumber, TwoReplicas}
 use Rattle.ficus_script.specs.Arguments.{AreArguments, IsReplicaNumber, Begins, IsReadingBehind, IsReadingWords, BeginsPath, BeginsText, argument_words, left_of}
 use Rattle.ficus_script.specs.declared.line.LineFault.{LineFault}
 use Rattle.ficus_script.specs.declared.line.LineFault.TheVariants.{NotCommand, Memory as OutOfMemory}
 use Rattle.ficus_script.specs.Line.{fault_of, fault_of_text}
 use Rattle.ficus_script.proofs.Cuts.{join_first, one_first_word, spaced}
-use Rattle.ficus_script.proofs.Numbers.{IsFreeOf-replica, same_replica, first_digit}
+use Rattle.ficus_script.proofs.Numbers.{IsFreeOf-number, IsFreeOf-replica, same_number, same_replica, first_digit}
 
 -- The shapes have numbers, and the first word and what is left behind it tell the shape.
 abbrev shape_of : Arguments → ℕ
@@ -38,6 +38,7 @@ shape_of (TwoReplicas first second) = 2
 shape_of (PathAndText path text) = 3
 shape_of (PathAndKind path kind) = 4
 shape_of (TwoPaths one two) = 5
+shape_of (OneNumber number) = 6
 
 abbrev last_shape_at : ℕ → ℕ
 last_shape_at byte = if byte == 34 then 3 else if byte == 47 then 5 else if byte == 126 then 5 else 4
@@ -46,8 +47,13 @@ abbrev behind_path : Option (List ℕ) → ℕ
 behind_path None = 1
 behind_path (Some last) = last_shape_at (get_or last 0 0)
 
+abbrev behind_number : Option (List ℕ) → ℕ
+behind_number None = 6
+behind_number (Some last) = 2
+
 abbrev first_shape_at : ℕ → Option (List ℕ) → ℕ
-first_shape_at byte rest = if byte == 47 then behind_path rest else if byte == 126 then behind_path rest else 2
+first_shape_at byte rest =
+    if byte == 47 then behind_path rest else if byte == 126 then behind_path rest else behind_number rest
 
 abbrev shape_at : List ℕ → Option (List ℕ) → ℕ
 shape_at first rest = first_shape_at (get_or first 0 0) rest
@@ -61,13 +67,17 @@ text_begins (Orphan id) parts = inr refl
 path_begins : (path : Path) → BeginsPath (path_text path)
 path_begins path = text_begins path.base path.parts
 
--- and no number of a replica does
-no_path_begins : (first : List ℕ) (replica : ℕ) → IsReplicaNumber replica → first ≡ decimal replica →
+-- and no number does
+no_path_begins : (first : List ℕ) (number : ℕ) → number < 2 ^ 32 → first ≡ decimal number → BeginsPath first → ⊥
+no_path_begins first number fits same (inl slash) =
+    omega (arith, slash, ap (λ (word : List ℕ). get_or word 0 0) same, first_digit number fits)
+no_path_begins first number fits same (inr tilde) =
+    omega (arith, tilde, ap (λ (word : List ℕ). get_or word 0 0) same, first_digit number fits)
+
+no_replica_begins : (first : List ℕ) (replica : ℕ) → IsReplicaNumber replica → first ≡ decimal replica →
     BeginsPath first → ⊥
-no_path_begins first replica number same (inl slash) =
-    omega (arith, slash, ap (λ (word : List ℕ). get_or word 0 0) same, first_digit replica number)
-no_path_begins first replica number same (inr tilde) =
-    omega (arith, tilde, ap (λ (word : List ℕ). get_or word 0 0) same, first_digit replica number)
+no_replica_begins first replica number same =
+    no_path_begins first replica (omega (arith, number.at_most)) same
 
 path_shape : (first : List ℕ) (rest : Option (List ℕ)) → BeginsPath first → shape_at first rest ≡ behind_path rest
 path_shape first rest (inl slash) = ap (λ (byte : ℕ). first_shape_at byte rest) slash
@@ -78,7 +88,7 @@ path_words_shape : (path : Path) (first : List ℕ) (rest : Option (List ℕ)) �
 path_words_shape path first rest same =
     path_shape first rest (subst BeginsPath (sym same) (path_begins path))
 
-number_shape : (first : List ℕ) (rest : Option (List ℕ)) → (BeginsPath first → ⊥) → shape_at first rest ≡ 2
+number_shape : (first : List ℕ) (rest : Option (List ℕ)) → (BeginsPath first → ⊥) → shape_at first rest ≡ behind_number rest
 number_shape first rest other =
     rw (
       ne_eqb (get_or first 0 0) 47 (λ slash. other (inl slash)),
@@ -119,8 +129,10 @@ shape_is (PathAndKind path kind) first rest are words =
 shape_is (TwoPaths one other) first rest are words =
     path_words_shape one first rest words.0 ∙ ap behind_path words.1
     ∙ second_path_shape (path_text other) (path_begins other)
+shape_is (OneNumber number) first rest are words =
+    number_shape first rest (no_path_begins first number are words.0) ∙ ap behind_number words.1
 shape_is (TwoReplicas one other) first rest are words =
-    number_shape first rest (no_path_begins first one are.0 words.0)
+    number_shape first rest (no_replica_begins first one are.0 words.0) ∙ ap behind_number words.1
 
 -- the word of a kind tells the kind, by its first letter
 abbrev kind_at : List ℕ → Kind
@@ -157,6 +169,8 @@ one_of_words (TwoPaths one two) (TwoPaths other another) first rest are also wor
     let seconds : Some (path_text two) ≡ Some (path_text another) = sym words.1 ∙ same.1 in
     ap (λ (path : Path). TwoPaths path two) (path_text_injective one other are.0 also.0 (sym words.0 ∙ same.0))
     ∙ ap (λ (path : Path). TwoPaths other path) (path_text_injective two another are.1 also.1 (cc))
+one_of_words (OneNumber number) (OneNumber other) first rest are also words same =
+    ap (λ (n : ℕ). OneNumber n) (same_number number other are also (sym words.0 ∙ same.0))
 one_of_words (TwoReplicas one two) (TwoReplicas other another) first rest are also words same =
     let seconds : Some (decimal two) ≡ Some (decimal another) = sym words.1 ∙ same.1 in
     ap (λ (n : ℕ). TwoReplicas n two) (same_replica one other are.0 also.0 (sym words.0 ∙ same.0))
@@ -179,6 +193,7 @@ first_free (OnePath path) first rest are words = rw words.0 (IsFreeOf-path path 
 first_free (PathAndText path text) first rest are words = rw words.0 (IsFreeOf-path path are)
 first_free (PathAndKind path kind) first rest are words = rw words.0 (IsFreeOf-path path are.0)
 first_free (TwoPaths one two) first rest are words = rw words.0 (IsFreeOf-path one are.0)
+first_free (OneNumber number) first rest are words = rw words.0 (IsFreeOf-number number are)
 first_free (TwoReplicas one two) first rest are words = rw words.0 (IsFreeOf-replica one are.0)
 
 -- words that are joined again are the first one and what is left
@@ -247,7 +262,8 @@ no_path first rest path_fault.NotPath begins none = go
     go (PathAndText path text) are words = none refl path are words.0
     go (PathAndKind path kind) are words = none refl path are.0 words.0
     go (TwoPaths one two) are words = none refl one are.0 words.0
-    go (TwoReplicas one two) are words = no_path_begins first one are.0 words.0 begins
+    go (OneNumber number) are words = no_path_begins first number are words.0 begins
+    go (TwoReplicas one two) are words = no_replica_begins first one are.0 words.0 begins
 
 -- what stands behind a path tells the shape
 last_shape : (path : Path) (last : List ℕ) (arguments : Arguments) → AreArguments arguments →

@@ -15,7 +15,7 @@ use Rattle.ficus_path.proofs.CutLaws.{IsFreeOf}
 use Rattle.ficus_commands.specs.declared.change.Change.TheVariants.{MkDir, Create, Write, Settle, Resolve, Rm, Ln, Mv, Adopt, Discard}
 use Rattle.ficus_commands.specs.declared.look.Look.TheVariants.{Ls, Read, Versions, Tree, Conflicts, Orphans, Detached, Marks}
 use Rattle.ficus_script.specs.declared.arguments.Arguments.{Arguments}
-use Rattle.ficus_script.specs.declared.arguments.Arguments.TheVariants.{Nothing, OnePath, PathAndKind, PathAndText, TwoPaths, TwoReplicas}
+use Rattle.ficus_script.specs.declared.arguments.Arguments.TheVariants.{Nothing, OnePath, PathAndKind, PathAndText, TwoPaths, OneNumber, TwoReplicas}
 use Rattle.ficus_script.specs.declared.command.Command.{Command}
 use Rattle.ficus_script.specs.declared.command.Command.TheVariants as command
 use Rattle.ficus_script.specs.declared.line.LineFault.{LineFault}
@@ -25,7 +25,7 @@ use Rattle.ficus_script.specs.Command.{IsCommand, IsCommandOf, Spelling, at_orph
 use Rattle.ficus_script.specs.Line.{IsReadingOf, led_by}
 use Rattle.ficus_script.proofs.ArgumentLaws.{one_arguments}
 use Rattle.ficus_script.proofs.Cuts.{IsCut, join_first, one_cut, one_first_word, spaced}
-use Rattle.ficus_script.proofs.Numbers.{IsFreeOf-replica, first_digit}
+use Rattle.ficus_script.proofs.Numbers.{IsFreeOf-replica, first_digit_of_replica}
 
 -- the orphan at which a path begins, and any number at the root
 abbrev orphan_of : Base → Id
@@ -46,7 +46,9 @@ commands_with (Some by) (PathAndText path text) =
 commands_with (Some by) (TwoPaths from path) =
     command.Change by (Ln from path) ∷ command.Change by (Mv from path)
     ∷ command.Change by (Adopt (orphan_of from.base) path) ∷ []
-commands_with None (TwoReplicas by to) = command.Pull by to ∷ command.Alike by to ∷ []
+commands_with None (OneNumber number) = command.Give number ∷ command.Restart number ∷ []
+commands_with None (TwoReplicas by to) = command.Ask by to ∷ command.Pull by to ∷ command.Alike by to ∷ []
+commands_with (Some by) (OneNumber number) = []
 commands_with (Some by) (TwoReplicas first second) = []
 commands_with None Nothing = []
 commands_with None (OnePath path) = []
@@ -97,8 +99,11 @@ listed (command.Look by Conflicts) = record { letters = refl; found = refl }
 listed (command.Look by Orphans) = record { letters = refl; found = refl }
 listed (command.Look by Detached) = record { letters = refl; found = refl }
 listed (command.Look by Marks) = record { letters = refl; found = refl }
+listed (command.Ask by to) = record { letters = refl; found = refl }
+listed (command.Give mail) = record { letters = refl; found = refl }
 listed (command.Pull by to) = record { letters = refl; found = refl }
 listed (command.Alike by other) = record { letters = refl; found = refl }
+listed (command.Restart by) = record { letters = refl; found = refl }
 
 -- the table has one command for a spelling
 one_command : (command other : Command) → spelling_of command ≡ spelling_of other → command ≡ other
@@ -148,10 +153,10 @@ letters_free (byte ∷ bytes) letters =
 no_number : (verb : List ℕ) (replica : ℕ) → are_letters verb ≡ true → IsReplicaNumber replica → verb ≡ decimal replica →
     ⊥
 no_number [] replica letters number same =
-    omega (arith, first_digit replica number, ap (λ (bytes : List ℕ). get_or bytes 0 0) same)
+    omega (arith, first_digit_of_replica replica number, ap (λ (bytes : List ℕ). get_or bytes 0 0) same)
 no_number (byte ∷ bytes) replica letters number same =
     elim (leb_tells 97 byte) [
-      | inl letter ↦ omega (arith, letter.1, first_digit replica number, ap (λ (bytes : List ℕ). get_or bytes 0 0) same)
+      | inl letter ↦ omega (arith, letter.1, first_digit_of_replica replica number, ap (λ (bytes : List ℕ). get_or bytes 0 0) same)
       | inr other ↦ let clash : false ≡ true = rw other.0 at letters in cc
     ]
 

@@ -125,6 +125,7 @@ alike_text_of alike = codes "ok " ++ (if alike then codes "alike" else codes "ap
 abbrev pub answer_text_of : Answer → List ℕ
 answer_text_of answer.Done = codes "ok" ++ 10 ∷ []
 answer_text_of (answer.Made id) = codes "ok " ++ id_text id ++ 10 ∷ []
+answer_text_of (answer.Mail number) = codes "ok " ++ decimal number ++ 10 ∷ []
 answer_text_of (answer.Told told) = told_text_of told
 answer_text_of (answer.Alike alike) = alike_text_of alike
 answer_text_of (answer.Refused refusal) = codes "no " ++ refusal_word refusal ++ 10 ∷ []

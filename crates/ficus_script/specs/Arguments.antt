@@ -1,5 +1,5 @@
 -- What stands behind the verb of a command.
-use Rattle.std.specs.Prelude.{◌≡◌, ◌≢◌, ◌⊎◌, ℕ, ◌≤◌, List, [], ◌∷◌, slice_index, Option, Some, None, Result, Ok, Err}
+use Rattle.std.specs.Prelude.{◌≡◌, ◌≢◌, ◌⊎◌, ℕ, ◌^◌, ◌<◌, ◌≤◌, List, [], ◌∷◌, slice_index, Option, Some, None, Result, Ok, Err}
 use Rattle.std.specs.Borrow.{Bor}
 use Rattle.std.specs.List.{join_with_byte}
 use Rattle.std.specs.Fmt.{decimal}
@@ -9,7 +9,7 @@ use Rattle.ficus_path.specs.Path.{IsPath}
 use Rattle.ficus_path.specs.Spelling.{path_text}
 use Rattle.ficus_path.specs.Text.{quoted_text}
 use Rattle.ficus_script.specs.declared.arguments.Arguments.{Arguments}
-use Rattle.ficus_script.specs.declared.arguments.Arguments.TheVariants.{Nothing, OnePath, PathAndKind, PathAndText, TwoPaths, TwoReplicas}
+use Rattle.ficus_script.specs.declared.arguments.Arguments.TheVariants.{Nothing, OnePath, PathAndKind, PathAndText, TwoPaths, OneNumber, TwoReplicas}
 use Rattle.ficus_script.specs.declared.line.LineFault.{LineFault}
 use Rattle.ficus_script.specs.declared.line.LineFault.TheVariants.{NotCommand, Memory as OutOfMemory}
 
@@ -18,13 +18,14 @@ pub record IsReplicaNumber (replica : ℕ) : Type 0 where
   pub at_least : 1 ≤ replica
   pub at_most : replica ≤ 255
 
--- paths are paths, kinds are those of files, and the numbers of replicas are those
+-- paths are paths, kinds are those of files, numbers have 32 bits, and those of replicas are such
 abbrev pub AreArguments : Arguments → Type 0
 AreArguments Nothing = Unit {0}
 AreArguments (OnePath path) = IsPath path
 AreArguments (PathAndKind path kind) = IsPath path × (kind ≢ Dir)
 AreArguments (PathAndText path text) = IsPath path
 AreArguments (TwoPaths first second) = IsPath first × IsPath second
+AreArguments (OneNumber number) = number < 2 ^ 32
 AreArguments (TwoReplicas first second) = IsReplicaNumber first × IsReplicaNumber second
 
 -- the words that spell them, in order; a text is the last one, and spaces may stand in it
@@ -34,6 +35,7 @@ argument_words (OnePath path) = path_text path ∷ []
 argument_words (PathAndKind path kind) = path_text path ∷ kind_word kind ∷ []
 argument_words (PathAndText path text) = path_text path ∷ quoted_text text ∷ []
 argument_words (TwoPaths first second) = path_text first ∷ path_text second ∷ []
+argument_words (OneNumber number) = decimal number ∷ []
 argument_words (TwoReplicas first second) = decimal first ∷ decimal second ∷ []
 
 -- what stands behind a word and a space, where these words follow it, or nothing

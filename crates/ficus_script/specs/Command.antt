@@ -9,7 +9,7 @@ use Rattle.ficus_commands.specs.Change.{HasFitPaths}
 use Rattle.ficus_commands.specs.declared.change.Change.TheVariants.{MkDir, Create, Write, Settle, Resolve, Rm, Ln, Mv, Adopt, Discard}
 use Rattle.ficus_commands.specs.declared.look.Look.TheVariants.{Ls, Read, Versions, Tree, Conflicts, Orphans, Detached, Marks}
 use Rattle.ficus_script.specs.declared.arguments.Arguments.{Arguments}
-use Rattle.ficus_script.specs.declared.arguments.Arguments.TheVariants.{Nothing, OnePath, PathAndKind, PathAndText, TwoPaths, TwoReplicas}
+use Rattle.ficus_script.specs.declared.arguments.Arguments.TheVariants.{Nothing, OnePath, PathAndKind, PathAndText, TwoPaths, OneNumber, TwoReplicas}
 use Rattle.ficus_script.specs.declared.command.Command.{Command}
 use Rattle.ficus_script.specs.declared.command.Command.TheVariants as command
 use Rattle.ficus_script.specs.Arguments.{AreArguments, IsReplicaNumber, argument_words}
@@ -52,21 +52,28 @@ spelling_of (command.Look by Conflicts) = of_replica by (codes "conflicts") Noth
 spelling_of (command.Look by Orphans) = of_replica by (codes "orphans") Nothing
 spelling_of (command.Look by Detached) = of_replica by (codes "detached") Nothing
 spelling_of (command.Look by Marks) = of_replica by (codes "marks") Nothing
+spelling_of (command.Ask by to) = of_none (codes "ask") (TwoReplicas by to)
+spelling_of (command.Give mail) = of_none (codes "give") (OneNumber mail)
 spelling_of (command.Pull by to) = of_none (codes "pull") (TwoReplicas by to)
 spelling_of (command.Alike by other) = of_none (codes "alike") (TwoReplicas by other)
+spelling_of (command.Restart by) = of_none (codes "restart") (OneNumber by)
 
--- the paths are of the sort that the command takes: those of a change are, and others may be any
-abbrev pub TakesPaths : Command → Type 0
-TakesPaths (command.Change by change) = HasFitPaths change
-TakesPaths (command.Look by look) = Unit {0}
-TakesPaths (command.Pull by to) = Unit {0}
-TakesPaths (command.Alike by other) = Unit {0}
+-- the arguments are of the sort that the command takes: a change takes paths of its own sort, and a restart the number
+-- of a replica; others may be any
+abbrev pub TakesArguments : Command → Type 0
+TakesArguments (command.Change by change) = HasFitPaths change
+TakesArguments (command.Look by look) = Unit {0}
+TakesArguments (command.Ask by to) = Unit {0}
+TakesArguments (command.Give mail) = Unit {0}
+TakesArguments (command.Pull by to) = Unit {0}
+TakesArguments (command.Alike by other) = Unit {0}
+TakesArguments (command.Restart by) = IsReplicaNumber by
 
--- the numbers are those of replicas, the arguments are such, and the paths are of the sort that the command takes
+-- the number that leads is that of a replica, the arguments are such, and of the sort that the command takes
 pub record IsCommand (command : Command) : Type 0 where
   pub number : IfSome (spelling_of command).by IsReplicaNumber
   pub behind : AreArguments (spelling_of command).behind
-  pub paths : TakesPaths command
+  pub takes : TakesArguments command
 
 -- the number of a replica is a word, and none is no word
 abbrev pub replica_words : Option ℕ → List (List ℕ)

@@ -9,6 +9,8 @@ pub enum Answer {
     /// It was done, and an object got a name by the update of this number, which is the number of the entry, and that of
     /// the object where it was made.
     Made(Id),
+    /// It was done, and a message of this number was posted.
+    Mail(u32),
     /// What the look told.
     Told(Told),
     /// Whether two replicas show the same.

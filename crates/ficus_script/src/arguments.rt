@@ -10,7 +10,7 @@ ghost use Rattle.ficus_script.specs.declared.line.LineFault.TheVariants.{NotComm
 use crate::cut::cut_at;
 use crate::line::LineFault;
 use crate::replica::read_replica;
-use ficus_ids::{Kind, Listed};
+use ficus_ids::{Kind, Listed, read_number};
 use ficus_path::{Path, read_path, read_text};
 use std::alloc::Global;
 
@@ -27,6 +27,8 @@ pub(crate) enum Arguments {
     PathAndText(Path, Listed<u8>),
     /// Two paths.
     TwoPaths(Path, Path),
+    /// One number, that of a message or of a replica.
+    OneNumber(u32),
     /// The numbers of two replicas.
     TwoReplicas(u8, u8),
 }
@@ -109,5 +111,8 @@ fn number_first(first: &[u8], rest: Option<&[u8]>) -> Option<Arguments>
     requires { BeginsPath first.now → ⊥ }
     ensures { IsReadingWords first.now (bytes_of rest.entry) (ok_or result NotCommand) }
 {
-    Some(Arguments::TwoReplicas(read_replica(first)?, read_replica(rest?)?))
+    match rest {
+        None => Some(Arguments::OneNumber(read_number(first)?)),
+        Some(second) => Some(Arguments::TwoReplicas(read_replica(first)?, read_replica(second)?)),
+    }
 }

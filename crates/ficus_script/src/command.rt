@@ -1,7 +1,7 @@
 use ficus_commands::{Change, Look};
 
-/// What a line of a script asks for. The numbers are those of replicas, from 1 to 255; a world refuses those of
-/// no member. A text may have any length; a world refuses one that is too long for a file.
+/// What a line of a script asks for. The numbers of replicas are from 1 to 255; a world refuses those of no
+/// member, and those of no message. A text may have any length; a world refuses one that is too long for a file.
 #[derive(Drop)]
 pub enum Command {
     /// A change by replica `by`: `R mkdir N`, `R create N KIND`, `R write P TEXT`, `R settle P TEXT`, `R resolve P`,
@@ -10,8 +10,14 @@ pub enum Command {
     /// A look at replica `by`: `R ls P`, `R read P`, `R versions P`, `R tree`, `R conflicts`,
     /// `R orphans`, `R detached`, `R marks`.
     Look { by: u8, look: Look },
-    /// `pull R S`: replica `by` takes over what replica `to` knows.
+    /// `ask R S`: replica `by` asks replica `to` for its state.
+    Ask { by: u8, to: u8 },
+    /// `give M`: the message with this number is given to its receiver. An ask is served, and an answer is taken.
+    Give { mail: u32 },
+    /// `pull R S`: replica `by` takes over what replica `to` knows, by an ask and the two gives of its messages.
     Pull { by: u8, to: u8 },
     /// `alike R S`: whether replicas `by` and `other` show the same.
     Alike { by: u8, other: u8 },
+    /// `restart R`: the replica restarts. It no longer takes an answer to an earlier ask.
+    Restart { by: u8 },
 }

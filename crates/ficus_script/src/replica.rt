@@ -1,4 +1,4 @@
-ghost use Rattle.std.specs.Prelude.{◌≡◌, ℕ, IfSome, IfNone};
+ghost use Rattle.std.specs.Prelude.{◌≡◌, ◌↔◌, ℕ, IsTrue, IfSome, IfNone};
 ghost use Rattle.std.specs.Fmt.{decimal};
 ghost use Rattle.ficus_script.specs.Arguments.{IsReplicaNumber};
 
@@ -14,4 +14,11 @@ pub(crate) fn read_replica(word: &[u8]) -> Option<u8>
         replica @ 1..=255 => Some(replica as u8),
         _ => None,
     }
+}
+
+/// Whether a script may give the number as that of a replica.
+pub(crate) fn is_replica(number: u32) -> bool
+    ensures { IsTrue result ↔ IsReplicaNumber number }
+{
+    1 <= number && number <= 255
 }

@@ -5,10 +5,11 @@ ghost use Rattle.ficus_path.specs.Path.{IsNew, IsPath};
 ghost use Rattle.ficus_script.specs.Arguments.{AreArguments, IsReplicaNumber};
 ghost use Rattle.ficus_script.specs.Command.{Spelling, IsCommandOf, at_orphan, of_none, of_replica};
 ghost use Rattle.ficus_script.specs.declared.command.Command.TheVariants as command;
-ghost use Rattle.ficus_script.specs.declared.arguments.Arguments.TheVariants.{Nothing, OnePath, PathAndKind, PathAndText, TwoPaths, TwoReplicas};
+ghost use Rattle.ficus_script.specs.declared.arguments.Arguments.TheVariants.{Nothing, OnePath, PathAndKind, PathAndText, TwoPaths, OneNumber, TwoReplicas};
 
 use crate::Command;
 use crate::arguments::Arguments;
+use crate::replica::is_replica;
 use ficus_commands::{Change, Look};
 use ficus_ids::{Id, Kind, Listed};
 use ficus_path::{Base, Path};
@@ -25,6 +26,7 @@ pub(crate) fn command_of(by: Option<u8>, verb: &[u8], behind: Arguments) -> Opti
         (Some(by), Arguments::PathAndKind(path, kind)) => with_kind(by, verb, path, kind),
         (Some(by), Arguments::PathAndText(path, text)) => with_text(by, verb, path, text),
         (Some(by), Arguments::TwoPaths(from, path)) => with_paths(by, verb, from, path),
+        (None, Arguments::OneNumber(number)) => with_number(verb, number),
         (None, Arguments::TwoReplicas(first, second)) => with_replicas(verb, first, second),
         _ => None,
     }
@@ -136,12 +138,25 @@ fn orphan_at(path: &Path) -> Option<Id>
     }
 }
 
+fn with_number(verb: &[u8], number: u32) -> Option<Command>
+    ensures { IsCommandOf (of_none verb.now (OneNumber number)) result }
+{
+    match verb {
+        _ if verb == b"give".as_slice() => Some(Command::Give { mail: number }),
+        _ if verb == b"restart".as_slice() && is_replica(number) => Some(Command::Restart {
+            by: number as u8,
+        }),
+        _ => None,
+    }
+}
+
 fn with_replicas(verb: &[u8], by: u8, to: u8) -> Option<Command>
     requires by { IsReplicaNumber by }
     requires to { IsReplicaNumber to }
     ensures { IsCommandOf (of_none verb.now (TwoReplicas by to)) result }
 {
     match verb {
+        _ if verb == b"ask".as_slice() => Some(Command::Ask { by, to }),
         _ if verb == b"pull".as_slice() => Some(Command::Pull { by, to }),
         _ if verb == b"alike".as_slice() => Some(Command::Alike { by, other: to }),
         _ => None,

@@ -22,6 +22,7 @@ pub fn answer_text(alloc: Global, answer: &Answer) -> Result<Vec<u8>, Memory>
     match answer {
         Answer::Done => Ok(Vec::from_slice(alloc, b"ok\n")?),
         Answer::Made(id) => Ok(format!(in alloc; "ok {id}\n")?.into_bytes()),
+        Answer::Mail(number) => Ok(format!(in alloc; "ok {number}\n")?.into_bytes()),
         Answer::Told(told) => told_text(alloc, told),
         Answer::Alike(alike) => alike_text(alloc, *alike),
         Answer::Refused(refusal) => {

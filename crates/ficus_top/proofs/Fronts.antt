@@ -1,5 +1,5 @@
 -- What a front of the answers' texts holds.
-use Rattle.std.proofs.Common.{◌≡◌, ℕ, ◌-◌, ◌≤◌, List, ◌++◌, length, take, drop, refl, sym, ◌∙◌, ap, subst, arith, length-append, append_assoc}
+use Rattle.std.proofs.Common.{◌≡◌, ℕ, ◌+◌, ◌-◌, ◌≤◌, List, [], ◌∷◌, ◌++◌, length, take, drop, refl, sym, ◌∙◌, ap, subst, arith, length-append, append_assoc}
 use Rattle.std.specs.Prelude.{⊤}
 use Rattle.std.proofs.lemmas.List.{take-append-le, take-append-drop, length-take-le}
 use Rattle.std.proofs.lemmas.List.Concat.{flat_map-append}
@@ -11,7 +11,8 @@ use Rattle.ficus_world.specs.ModelWorld.{ModelWorld, Outcome}
 use Rattle.ficus_world.specs.Run.{Run}
 use Rattle.ficus_world.specs.Run.Run.{End, Then}
 use Rattle.ficus_top.specs.Outside.{PutsFront}
-use Rattle.ficus_top.specs.Serving.{texts_of, ServesFront, PutsAllButLast}
+use Rattle.ficus_top.specs.Serving.{texts_of, IsCut, ServesFront, PutsAllButLast}
+use Rattle.ficus_top.specs.Serving.IsCut.{Uncut, CutIn}
 use Rattle.ficus_top.proofs.Serves.{texts_append}
 
 pub front_stays : (old bytes new : List ℕ) → PutsFront old bytes new → length old ≤ length new
@@ -34,9 +35,16 @@ texts_cut k answers =
     ap texts_of (sym (take-append-drop k answers))
     ∙ flat_map-append answer_text_of (take k answers) (drop k answers)
 
-pub all_but_last : (volume : Volume) (W after : ModelWorld) (commands : List Command) (old new : List ℕ)
-    → ServesFront ⊤ volume W commands after old new → PutsAllButLast volume W commands after old new
-all_but_last volume W after commands old new served =
+-- what is cut may be cut behind the last answer
+cut_behind : {may : Type 0} {volume : Volume} {W after : ModelWorld} {last : List Answer} {commands : List Command}
+    {outcomes : List Outcome} → IsCut may volume W last commands outcomes after
+    → IsCut may volume W [] commands outcomes after
+cut_behind Uncut = Uncut
+cut_behind (CutIn allowed does) = CutIn allowed does
+
+pub all_but_last : (may : Type 0) (volume : Volume) (W after : ModelWorld) (commands : List Command) (old new : List ℕ)
+    → ServesFront ⊤ may volume W commands after old new → PutsAllButLast may volume W commands after old new
+all_but_last may volume W after commands old new served =
     let answers : List Answer = served.whole ++ served.last in
     let puts : PutsFront (old ++ texts_of served.whole) (texts_of served.last) new = served.put tt in
     let counted : length answers ≡ served.count =
@@ -48,10 +56,14 @@ all_but_last volume W after commands old new served =
     let others : List ℕ = texts_of (drop k served.whole) in
     record {
       outcomes = served.outcomes;
-      done = served.done;
       answers = answers;
       within = omega (arith, counted, served.within);
-      run = subst (λ (n : ℕ). Run volume W (take n commands) served.outcomes answers after) (sym counted) served.run;
+      middle = served.middle;
+      run = subst (λ (n : ℕ). Run volume W (take n commands) served.outcomes answers served.middle) (sym counted)
+          served.run;
+      more_outcomes = served.more_outcomes;
+      cut = subst (λ (n : ℕ). IsCut may volume served.middle [] (drop n commands) served.more_outcomes after)
+          (sym counted) (cut_behind served.cut);
       more = others ++ puts.front;
       put = puts.put
           ∙ ap (λ (l : List ℕ). (old ++ l) ++ puts.front) (texts_cut k served.whole)

@@ -7,9 +7,8 @@ use Rattle.ficus_model.specs.declared.event.Event.{Event}
 use Rattle.ficus_outside.specs.Faults.{Rose}
 use Rattle.ficus_script.specs.declared.command.Command.{Command}
 use Rattle.ficus_script.specs.Script.{IsScript}
-use Rattle.ficus_world.specs.ModelWorld.{ModelWorld}
-use Rattle.ficus_world.specs.Start.{default_volume, start}
-use Rattle.ficus_top.specs.Serving.{Serves, ServesFront}
+use Rattle.ficus_world.specs.Start.{default_volume}
+use Rattle.ficus_top.specs.Anew.{ServesAnew, ServesFrontAnew}
 use Rattle.ficus_top.specs.Words.{AreWords}
 
 -- what a replica knew to be removed after some first events of the history isn't alive there at its end
@@ -19,26 +18,25 @@ NothingReturns H =
     IsLive H (Knows H replica) entry → ⊥
 
 -- The source's bytes are a script, and the run over its commands was served: over a sink that tells, what was put are
--- the texts of its answers, in order, and nothing else. The history that the run leaves is lawful, and nothing removed
--- returns in it.
+-- the texts of its answers, in order, and nothing else. All that was asked of the outside was done, since the program's
+-- link never fails. The history that the run leaves is lawful, and nothing removed returns in it.
 pub record Answers (tells : Type 0) (members : ℕ) (script old new : List ℕ) : Type 0 where
   pub commands : List Command
   pub read : IsScript script commands
-  pub after : ModelWorld
-  pub serves : Serves tells (default_volume members) (start members) commands after old new
-  pub lawful : IsLawful (default_volume members) after.events
-  pub no_return : NothingReturns after.events
+  pub served : ServesAnew tells members commands old new
+  pub lawful : IsLawful (default_volume members) served.after.events
+  pub no_return : NothingReturns served.after.events
 
 -- The source's bytes are a script, and the run over some first ones of its commands was served: over a sink that tells,
--- what was put is a front of the texts of its answers, which ends in the last of them at the earliest. The history that
--- the run leaves is lawful, and nothing removed returns in it.
-pub record AnswersFront (tells : Type 0) (members : ℕ) (script old new : List ℕ) : Type 0 where
+-- what was put is a front of the texts of its answers, which ends in the last of them at the earliest. Where this may
+-- be, the next command was cut short. All that was asked of the outside was done. The history that the run leaves is
+-- lawful, and nothing removed returns in it.
+pub record AnswersFront (tells may : Type 0) (members : ℕ) (script old new : List ℕ) : Type 0 where
   pub commands : List Command
   pub read : IsScript script commands
-  pub after : ModelWorld
-  pub serves : ServesFront tells (default_volume members) (start members) commands after old new
-  pub lawful : IsLawful (default_volume members) after.events
-  pub no_return : NothingReturns after.events
+  pub served : ServesFrontAnew tells may members commands old new
+  pub lawful : IsLawful (default_volume members) served.after.events
+  pub no_return : NothingReturns served.after.events
 
 -- the code is one of those that the program ends with
 abbrev pub IsCode : ℕ → Type 0

@@ -29,9 +29,11 @@ pub fn fronts_go_on()
         → (rest : List ℕ) × (new ++ rest ≡ old ++ bytes) }
 {}
 
-/// The law that of a run that ended early all answers but the last were put whole, over a sink that tells. It does
-/// nothing when it runs.
+/// The law that of a run that ended early all answers but the last were put whole, over a sink that tells: where the
+/// next command may have been cut short, and where it may not. It does nothing when it runs.
 pub fn all_but_the_last_are_put()
-    ensures { (volume : Volume) (W after : ModelWorld) (commands : List Command) (old new : List ℕ)
-        → ServesFront ⊤ volume W commands after old new → PutsAllButLast volume W commands after old new }
+    ensures cut { (volume : Volume) (W after : ModelWorld) (commands : List Command) (old new : List ℕ)
+        → ServesFront ⊤ ⊤ volume W commands after old new → PutsAllButLast ⊤ volume W commands after old new }
+    ensures uncut { (volume : Volume) (W after : ModelWorld) (commands : List Command) (old new : List ℕ)
+        → ServesFront ⊤ ⊥ volume W commands after old new → PutsAllButLast ⊥ volume W commands after old new }
 {}

@@ -1,4 +1,4 @@
-ghost use Rattle.std.specs.Prelude.{◌≡◌, ◌≢◌, ◌⊎◌, ◌↔◌, ◌+◌, ◌<◌, ◌≤◌, ℕ, List, [], length, All, OnOk, OnErr, IfErr, IsErrOf};
+ghost use Rattle.std.specs.Prelude.{◌≡◌, ◌≢◌, ◌⊎◌, ◌↔◌, ◌+◌, ◌<◌, ◌≤◌, ℕ, List, [], ⊤, length, All, OnOk, IfErr, IsErrOf};
 ghost use Rattle.ficus_ids.specs.Members.{IsCount};
 ghost use Rattle.ficus_outside.specs.Faults.{Rose};
 ghost use Rattle.ficus_script.specs.Command.{IsCommand};
@@ -7,10 +7,8 @@ ghost use Rattle.ficus_script.specs.declared.command.Command.{Command as Command
 ghost use Rattle.ficus_top.specs.Ending.{TakesAsEnded, IsAnswering, IsIdle};
 ghost use Rattle.ficus_top.specs.Headline.{Answers, AnswersFront, IsCode, IsIdleCode, IsReadCode, IsRead, IsBadLineCode, script_limit};
 ghost use Rattle.ficus_top.specs.Outside.{GivesCount};
-ghost use Rattle.ficus_top.specs.Serving.{Serves, ServesFront};
+ghost use Rattle.ficus_top.specs.Anew.{ServesAnew, ServesFrontAnew};
 ghost use Rattle.ficus_top.specs.Words.{texts, AreWords, AreNoWords};
-ghost use Rattle.ficus_world.specs.ModelWorld.{ModelWorld};
-ghost use Rattle.ficus_world.specs.Start.{default_volume, start};
 
 use crate::fault::{AnsweringFault, Fault, ReadingFault};
 use crate::read::read_commands;
@@ -18,7 +16,7 @@ use crate::serving::answer_all;
 use crate::status::Status;
 use crate::words::read_words;
 use ficus_ids::Members;
-use ficus_outside::{Sink, Source};
+use ficus_outside::{MemLink, Sink, Source};
 use ficus_script::Command;
 use ficus_world::World;
 use std::alloc::Global;
@@ -66,12 +64,13 @@ pub fn ficus<S: Source, K: Sink>(
         → Answers K.tells members (S.left input.old) (K.written output.old) (K.written output.new)
         × (S.left input.new ≡ []) }
 
-    // With codes 3 and 5, what was put is a front of them; with code 3 maybe before the script was read.
+    // With codes 3 and 5, what was put is a front of them. With code 3 maybe before the script was read, and the last
+    // command may have been cut short.
     ensures prefix { S.tells → (members : ℕ) → AreWords (texts words.now.items) members
         → (result.code ≡ 5
-        → AnswersFront K.tells members (S.left input.old) (K.written output.old) (K.written output.new))
+        → AnswersFront K.tells ⊥ members (S.left input.old) (K.written output.old) (K.written output.new))
         × (result.code ≡ 3 → (output.new ≡ output.old)
-        ⊎ AnswersFront K.tells members (S.left input.old) (K.written output.old) (K.written output.new)) }
+        ⊎ AnswersFront K.tells ⊤ members (S.left input.old) (K.written output.old) (K.written output.new)) }
 
     // Valid words and a script are answered, unless memory is wanted or the outside failed in this call.
     ensures complete { S.tells → (members : ℕ) (commands : List CommandValue)
@@ -102,7 +101,8 @@ fn run<S: Source, K: Sink>(
         → Answers K.tells members (S.left input.old) (K.written output.old) (K.written output.new)) }
     ensures prefix { S.tells → IfErr result (λ fault. IsAnswering fault
         → (members : ℕ) → AreWords (texts words.now.items) members
-        → AnswersFront K.tells members (S.left input.old) (K.written output.old) (K.written output.new)) }
+        → AnswersFront K.tells (fault ≡ Fault.Answering AnsweringFault.Memory) members (S.left input.old)
+        (K.written output.old) (K.written output.new)) }
     ensures idle { IfErr result (λ fault. IsIdle fault → output.new ≡ output.old) }
     ensures read_fault { IsErrOf result (Fault.Reading ReadingFault.Source)
         → Rose (S.faults input.old) (S.faults input.new) }
@@ -132,16 +132,16 @@ fn answer_commands<K: Sink>(
     requires members { IsCount members }
     requires commands { All IsCommand commands.now }
     requires count { length commands.now ≤ script_limit }
-    ensures answers { OnOk result ((after : ModelWorld)
-        × Serves K.tells (default_volume members) (start members) commands.now after
+    ensures answers { OnOk result (ServesAnew K.tells members commands.now
         (K.written output.old) (K.written output.new)) }
-    ensures prefix { OnErr result ((after : ModelWorld)
-        × ServesFront K.tells (default_volume members) (start members) commands.now after
+    ensures prefix { IfErr result (λ fault. ServesFrontAnew K.tells (fault ≡ AnsweringFault.Memory) members commands.now
         (K.written output.old) (K.written output.new)) }
     ensures failed { IsErrOf result AnsweringFault.Sink → Rose (K.faults output.old) (K.faults output.new) }
     ensures told { K.faults output.old < K.faults output.new → IsErrOf result AnsweringFault.Sink }
     ensures counted { K.faults output.old ≤ K.faults output.new }
 {
-    let mut world = World::fresh(alloc, members)?;
-    answer_all(alloc, &mut world, commands, output)
+    let mut world = World::fresh(alloc, members, MemLink::new(alloc))?;
+    let answered = answer_all(alloc, &mut world, commands, output);
+    let _ = world.link();
+    answered
 }

@@ -1,4 +1,4 @@
-ghost use Rattle.std.specs.Prelude.{◌≡◌, ◌⊎◌, ◌+◌, ◌<◌, ◌≤◌, ◌∷◌, [], ◌++◌, List, length, All, OnOk, OnErr, IsErrOf};
+ghost use Rattle.std.specs.Prelude.{◌≡◌, ◌⊎◌, ◌+◌, ◌<◌, ◌≤◌, ◌∷◌, [], ◌++◌, List, length, All, OnOk, OnErr, IfErr, IsErrOf};
 ghost use Rattle.ficus_model.specs.Lawful.{Volume};
 ghost use Rattle.ficus_outside.specs.Faults.{Rose};
 ghost use Rattle.ficus_script.specs.Answer.{answer_text_of};
@@ -12,16 +12,16 @@ ghost use Rattle.ficus_world.specs.World.{WorldStandsFor, event_limit, most_even
 use crate::fault::{AnsweringFault, Fault};
 use crate::put::put_all;
 use crate::status::Status;
-use ficus_outside::Sink;
+use ficus_outside::{Link, Sink};
 use ficus_script::{Answer, Command, answer_text};
 use ficus_world::World;
 use std::alloc::Global;
 
 /// Answers the commands in order: each answer's text is put after its command was carried out, and before the
 /// next one. Ends with code 0; 3, for want of memory; or 5, where the sink fails.
-pub fn serve<K: Sink>(
+pub fn serve<K: Sink, L: Link + Drop>(
     alloc: Global,
-    world: &mut World,
+    world: &mut World<L>,
     commands: &[Command],
     output: &mut K,
 ) -> Status
@@ -30,12 +30,15 @@ pub fn serve<K: Sink>(
     requires room { length world.old.events < serving_limit }
     ensures codes { (result.code ≡ 0) ⊎ (result.code ≡ 3) ⊎ (result.code ≡ 5) }
 
-    // Whatever the world stood for before: what was answered, what of it was put, and for what the world stands now.
-    ensures answers { result.code ≡ 0 → (volume : Volume) (W : ModelWorld) → WorldStandsFor volume W world.old
-        → ServesWorld K.tells volume W commands.now world.new (K.written output.old) (K.written output.new) }
-    ensures prefix { (result.code ≡ 3) ⊎ (result.code ≡ 5)
+    // Whatever the world stood for before, over a link that tells its posts: what was answered, what of it was put, and
+    // for what the world stands now. With code 3 the last command may have been cut short.
+    ensures answers { L.tells → result.code ≡ 0 → (volume : Volume) (W : ModelWorld) → WorldStandsFor volume W world.old
+        → ServesWorld K.tells volume W world.old.post.faults commands.now world.new
+        (K.written output.old) (K.written output.new) }
+    ensures prefix { L.tells → (result.code ≡ 3) ⊎ (result.code ≡ 5)
         → (volume : Volume) (W : ModelWorld) → WorldStandsFor volume W world.old
-        → ServesWorldFront K.tells volume W commands.now world.new (K.written output.old) (K.written output.new) }
+        → ServesWorldFront K.tells (result.code ≡ 3) volume W world.old.post.faults commands.now world.new
+        (K.written output.old) (K.written output.new) }
 
     // Code 5 comes only where the sink has failed in this call, and wherever it has.
     ensures write_fault { result.code ≡ 5 → Rose (K.faults output.old) (K.faults output.new) }
@@ -44,24 +47,29 @@ pub fn serve<K: Sink>(
     ensures numbers { (result.line ≡ 0) × (result.replica ≡ 0) }
     ensures counted { K.faults output.old ≤ K.faults output.new }
 {
-    let answered = answer_all(alloc, world, commands, output);
-    Status::of(answered.map_err(Fault::Answering))
+    match answer_all(alloc, world, commands, output) {
+        Ok(()) => Status::of(Ok(())),
+        Err(fault) => Status::of(Err(Fault::Answering(fault))),
+    }
 }
 
 /// Carries out each command and puts its answer.
-pub(crate) fn answer_all<K: Sink>(
+pub(crate) fn answer_all<K: Sink, L: Link + Drop>(
     alloc: Global,
-    world: &mut World,
+    world: &mut World<L>,
     commands: &[Command],
     output: &mut K,
 ) -> Result<(), AnsweringFault>
     requires commands { All IsCommand commands.now }
     requires count { length commands.now ≤ script_limit }
     requires room { length world.old.events < serving_limit }
-    ensures answers { OnOk result ((volume : Volume) (W : ModelWorld) → WorldStandsFor volume W world.old
-        → ServesWorld K.tells volume W commands.now world.new (K.written output.old) (K.written output.new)) }
-    ensures prefix { OnErr result ((volume : Volume) (W : ModelWorld) → WorldStandsFor volume W world.old
-        → ServesWorldFront K.tells volume W commands.now world.new (K.written output.old) (K.written output.new)) }
+    ensures answers { L.tells → OnOk result ((volume : Volume) (W : ModelWorld) → WorldStandsFor volume W world.old
+        → ServesWorld K.tells volume W world.old.post.faults commands.now world.new
+        (K.written output.old) (K.written output.new)) }
+    ensures prefix { L.tells → IfErr result (λ fault. (volume : Volume) (W : ModelWorld)
+        → WorldStandsFor volume W world.old
+        → ServesWorldFront K.tells (fault ≡ AnsweringFault.Memory) volume W world.old.post.faults commands.now world.new
+        (K.written output.old) (K.written output.new)) }
     ensures failed { IsErrOf result AnsweringFault.Sink → Rose (K.faults output.old) (K.faults output.new) }
     ensures told { K.faults output.old < K.faults output.new → IsErrOf result AnsweringFault.Sink }
     ensures counted { K.faults output.old ≤ K.faults output.new }
@@ -73,19 +81,21 @@ pub(crate) fn answer_all<K: Sink>(
 }
 
 // Carries out one command and puts its answer.
-fn answer_one<K: Sink>(
+fn answer_one<K: Sink, L: Link + Drop>(
     alloc: Global,
-    world: &mut World,
+    world: &mut World<L>,
     command: &Command,
     output: &mut K,
 ) -> Result<(), AnsweringFault>
     requires command { IsCommand command.now }
     requires room { length world.old.events < event_limit }
-    ensures answer { OnOk result ((volume : Volume) (W : ModelWorld) → WorldStandsFor volume W world.old
-        → ServesWorld K.tells volume W (command.now ∷ []) world.new (K.written output.old) (K.written output.new)) }
-    ensures front { OnErr result ((volume : Volume) (W : ModelWorld) → WorldStandsFor volume W world.old
-        → ServesWorldFront K.tells volume W (command.now ∷ []) world.new
+    ensures answer { L.tells → OnOk result ((volume : Volume) (W : ModelWorld) → WorldStandsFor volume W world.old
+        → ServesWorld K.tells volume W world.old.post.faults (command.now ∷ []) world.new
         (K.written output.old) (K.written output.new)) }
+    ensures front { L.tells → IfErr result (λ fault. (volume : Volume) (W : ModelWorld)
+        → WorldStandsFor volume W world.old
+        → ServesWorldFront K.tells (fault ≡ AnsweringFault.Memory) volume W world.old.post.faults (command.now ∷ [])
+        world.new (K.written output.old) (K.written output.new)) }
     ensures failed { IsErrOf result AnsweringFault.Sink → Rose (K.faults output.old) (K.faults output.new) }
     ensures told { K.faults output.old < K.faults output.new → IsErrOf result AnsweringFault.Sink }
     ensures counted { K.faults output.old ≤ K.faults output.new }

@@ -1,6 +1,6 @@
 // The program over sources and sinks in memory.
 use ficus_ids::Members;
-use ficus_outside::{MemSink, MemSource};
+use ficus_outside::{MemLink, MemSink, MemSource};
 use ficus_script::{ScriptFault, read_script};
 use ficus_top::{Status, ficus, serve};
 use ficus_world::World;
@@ -279,7 +279,7 @@ const SERVED: &[(&str, u8, u32)] = &[
 
 fn serve_script(
     alloc: Global,
-    world: &mut World,
+    world: &mut World<MemLink>,
     script: &str,
     output: &mut MemSink,
 ) -> Result<Status, Fail> {
@@ -293,7 +293,7 @@ fn serve_script(
 // The place of the first script that isn't served as wanted, if there is one.
 fn first_served_wrong(
     alloc: Global,
-    world: &mut World,
+    world: &mut World<MemLink>,
     output: &mut MemSink,
 ) -> Result<Option<usize>, Fail> {
     for (place, &(script, code, events)) in SERVED.iter().enumerate() {
@@ -308,7 +308,7 @@ fn first_served_wrong(
 // The same in a fresh world.
 fn first_served_wrong_anew(alloc: Global, output: &mut MemSink) -> Result<Option<usize>, Fail> {
     let members = Members::new(2).ok_or("two members")?;
-    let mut world = World::fresh(alloc, members)?;
+    let mut world = World::fresh(alloc, members, MemLink::new(alloc))?;
     first_served_wrong(alloc, &mut world, output)
 }
 

@@ -1,17 +1,22 @@
--- A world of the model has one world that stands for it, with so many stored events.
-use Rattle.std.proofs.Common.{◌≡◌, ℕ, ◌+◌, ◌-◌, List, [], ◌∷◌, length, map, get_or, drop, refl, sym, ap, ap₂, ◌∙◌, arith}
+-- A world of the model has one world that stands for it, with so many stored events and failures of its link.
+use Rattle.std.proofs.Common.{◌≡◌, ℕ, ◌+◌, ◌-◌, List, [], ◌∷◌, length, map, get_or, drop, refl, sym, ap, ap₂, subst, ◌∙◌, arith}
 use Rattle.std.proofs.Math.Seq.{drop-append_seam}
 use Rattle.std.proofs.lemmas.List.{ext_get_or}
+use Rattle.ficus_ids.specs.Members.{IsMember}
 use Rattle.ficus_model.specs.declared.event.Event.{Event}
 use Rattle.ficus_model.specs.declared.event.Event.TheVariants.{Update, Ask, Serve, Accept, Collect, Restart}
 use Rattle.ficus_model.specs.Events.{raised}
 use Rattle.ficus_model.specs.Lawful.{Volume}
 use Rattle.ficus_replica.proofs.Standing.{replica_once}
+use Rattle.ficus_wire.specs.Message.{message_bytes}
+use Rattle.ficus_wire.specs.declared.message.Message.{Message}
+use Rattle.ficus_world.specs.Message.{IsMessageAt}
 use Rattle.ficus_world.specs.ModelWorld.{ModelWorld}
 use Rattle.ficus_world.specs.Numbered.{IsNumbered}
-use Rattle.ficus_world.specs.World.{Whole, IsLastPart, WorldStandsFor}
+use Rattle.ficus_world.specs.World.{Whole, IsLastPart, IsPosted, WorldStandsFor}
 use Rattle.ficus_world.proofs.LastPart.{length_part}
-use Rattle.ficus_world.proofs.Replaced.{number_read}
+use Rattle.ficus_world.proofs.Messages.{message_once}
+use Rattle.ficus_world.proofs.Numbers.{number_read, number_once, number_exists}
 use Rattle.ficus_world.proofs.Standing.{is_up, replica_stands}
 
 -- the event with its positions as they were before they were raised
@@ -66,14 +71,63 @@ same_list (x ∷ xs) other same each =
     (number_read other (i + 1) (get_or other i x) x (record { at_least = omega arith; at_most = omega (arith, same) })
     (ap (λ k. get_or other k x) place)))
 
-pub world_once : (volume : Volume) (W : ModelWorld) (one other : Whole) → WorldStandsFor volume W one →
-    WorldStandsFor volume W other → length one.events ≡ length other.events → one ≡ other
-world_once volume W one other stands stands_too stored = λ i. record {
-  members = same_list one.members other.members (stands.members ∙ sym stands_too.members)
-      (λ r a b is is_too.
-      let same = replica_once (replica_stands volume W one stands r a is)
-      (replica_stands volume W other stands_too r b is_too) in
-      let states = is_up a.state ∙ sym (is_up b.state) in
-      λ j. record { replica = same j; state = states j }) i;
-  events = stored_once W.events one.events other.events stands.stored stands_too.stored stored i;
-}
+-- one message of each number was posted, behind one position
+posted_once : {volume : Volume} {W : ModelWorld} {number place position : ℕ} {bytes others : List ℕ} →
+    IsPosted volume W number place bytes → IsPosted volume W number position others →
+    (place ≡ position) × (bytes ≡ others)
+posted_once {volume} {W} {place = place} is too =
+    let positions = number_once is.numbered too.numbered in
+    let messages = message_once volume W.events place is.message too.message is.is
+    (subst (λ p. IsMessageAt volume W.events p too.message) (sym positions) too.is) in
+    (positions, is.spelled.is ∙ ap (λ (m : Message). message_bytes volume.members m) messages ∙ sym too.spelled.is)
+
+module _ (volume : Volume) (W : ModelWorld) (one other : Whole) (stands : WorldStandsFor volume W one)
+    (stands_too : WorldStandsFor volume W other) (stored : length one.events ≡ length other.events) where
+  both_posted : (r p q : ℕ) (bytes others : List ℕ) → IsNumbered one.post.behind r p → IsNumbered other.post.behind r q →
+      IsNumbered one.post.posts r bytes → IsNumbered other.post.posts r others → (p ≡ q) × (bytes ≡ others)
+  both_posted r p q bytes others behind behind_too posts posts_too =
+      let same = posted_once (stands.mail r p bytes behind posts) (stands_too.mail r q others behind_too posts_too) in (
+        omega (
+          arith,
+          same.0,
+          stored,
+          length_part one.events W.events stands.stored,
+          length_part other.events W.events stands_too.stored,
+        ),
+        same.1,
+      )
+
+  same_count : length one.post.behind ≡ length other.post.behind
+  same_count = sym stands.posted ∙ stands_too.posted
+
+  same_behind : one.post.behind ≡ other.post.behind
+  same_behind =
+      same_list one.post.behind other.post.behind same_count (λ r p q is is_too.
+      let posts = number_exists one.post.posts r (subst (λ n. IsMember n r) (sym stands.counted) is.member) in
+      let posts_too = number_exists other.post.posts r (subst (λ n. IsMember n r) (sym stands_too.counted) is_too.member) in
+      (both_posted r p q posts.0 posts_too.0 is is_too posts.1 posts_too.1).0)
+
+  same_posts : one.post.posts ≡ other.post.posts
+  same_posts =
+      same_list one.post.posts other.post.posts (stands.counted ∙ same_count ∙ sym stands_too.counted)
+      (λ r bytes others is is_too.
+      let behind = number_exists one.post.behind r (subst (λ n. IsMember n r) stands.counted is.member) in
+      let behind_too = number_exists other.post.behind r (subst (λ n. IsMember n r) stands_too.counted is_too.member) in
+      (both_posted r behind.0 behind_too.0 bytes others behind.1 behind_too.1 is is_too).1)
+
+  pub world_once : one.post.faults ≡ other.post.faults → one ≡ other
+  world_once faults = λ i. record {
+    members = same_list one.members other.members (stands.members ∙ sym stands_too.members)
+        (λ r a b is is_too.
+        let same = replica_once (replica_stands volume W one stands r a is)
+        (replica_stands volume W other stands_too r b is_too) in
+        let states = is_up a.state ∙ sym (is_up b.state) in
+        λ j. record { replica = same j; state = states j }) i;
+    events = stored_once W.events one.events other.events stands.stored stands_too.stored stored i;
+    post = record {
+      behind = same_behind i;
+      posts = same_posts i;
+      total = (stands.total ∙ sym stands_too.total) i;
+      faults = faults i;
+    };
+  }

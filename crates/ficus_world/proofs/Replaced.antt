@@ -1,39 +1,12 @@
 -- One of a list in the place of another.
-use Rattle.std.proofs.Common.{◌≡◌, ◌≢◌, ℕ, ◌-◌, ◌<◌, ◌≤◌, List, length, get_or, Some, sym, ap, subst, ◌∙◌, inl, inr, ◌⊎◌, arith}
+use Rattle.std.proofs.Common.{◌≡◌, ◌≢◌, ℕ, ◌-◌, ◌<◌, ◌≤◌, List, length, get_or, sym, ap, subst, ◌∙◌, inl, inr, ◌⊎◌, arith}
 use Rattle.std.specs.Prelude.{slice_set}
 use Rattle.std.proofs.lemmas.Bool.{cases_eq}
 use Rattle.std.proofs.lemmas.List.{get_or-set_same, get_or-set_other, length-set}
-use Rattle.std.proofs.lemmas.Option.{slice_get-get_or, get_or_from_slice_get}
+use Rattle.std.proofs.lemmas.Option.{get_or_from_slice_get}
 use Rattle.ficus_ids.specs.Members.{IsMember}
 use Rattle.ficus_world.specs.Numbered.{IsNumbered}
-
-module _ {A : Type 0} (list : List A) (r : ℕ) where
-  -- what stands at a place within the list
-  pub number_read : (x d : A) → IsMember (length list) r → get_or list (r - 1) d ≡ x → IsNumbered list r x
-  number_read x d member is =
-      let one = member.at_least in
-      let most = member.at_most in
-      record { member = member; is = slice_get-get_or list (r - 1) d (omega arith) ∙ ap Some is }
-
-module _ {A : Type 0} (list : List A) (r : ℕ) (next : A) where
-  stays_within : {q : ℕ} → IsMember (length list) q → IsMember (length (slice_set list (r - 1) next)) q
-  stays_within {q} member = subst (λ n. IsMember n q) (sym (length-set list (r - 1) next)) member
-
-  -- the new one stands in its place
-  pub number_set : IsMember (length list) r → IsNumbered (slice_set list (r - 1) next) r next
-  number_set member =
-      let one = member.at_least in
-      let most = member.at_most in
-      number_read (slice_set list (r - 1) next) r next next (stays_within member)
-      (get_or-set_same list (r - 1) next next (omega arith))
-
-  -- and another one in its own
-  pub number_kept : {q : ℕ} {x : A} → 1 ≤ r → IsNumbered list q x → r ≢ q → IsNumbered (slice_set list (r - 1) next) q x
-  number_kept {q} {x} from_one is differs =
-      let one = is.member.at_least in
-      let other : q - 1 ≢ r - 1 = omega arith in
-      number_read (slice_set list (r - 1) next) q x x (stays_within is.member)
-      (get_or-set_other list (r - 1) (q - 1) next x other ∙ get_or_from_slice_get list (q - 1) x x is.is)
+use Rattle.ficus_world.proofs.Numbers.{number_read}
 
 module _ {A : Type 0} (list : List A) (r q : ℕ) (next found : A) (from_one : 1 ≤ r)
     (is : IsNumbered (slice_set list (r - 1) next) q found) where

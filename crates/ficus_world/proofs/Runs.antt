@@ -1,5 +1,5 @@
 -- Commands leave a lawful history.
-use Rattle.std.proofs.Common.{◌≡◌, ℕ, ◌<◌, List, length, Result, Err, refl, sym, subst, inl, inr, arith}
+use Rattle.std.proofs.Common.{◌≡◌, ℕ, ◌<◌, List, length, Result, Ok, Err, refl, sym, subst, inl, inr, arith}
 use Rattle.std.specs.Prelude.{All}
 use Rattle.std.specs.List.{range_with_len}
 use Rattle.std.proofs.lemmas.List.Elements.{All-map}
@@ -7,92 +7,154 @@ use Rattle.std.proofs.lemmas.List.FromFn.{length-range_with_len, get_or-range_wi
 use Rattle.std.proofs.lemmas.Option.{get_or_from_slice_get}
 use Rattle.ficus_ids.specs.Members.{IsMember}
 use Rattle.ficus_ids.specs.declared.refusal.Refusal.{Refusal}
-use Rattle.ficus_ids.specs.declared.refusal.Refusal.TheVariants.{Member, Stale}
 use Rattle.ficus_model.specs.declared.event.Event.{Event}
+use Rattle.ficus_model.specs.declared.event.Event.TheVariants as event
 use Rattle.ficus_model.specs.declared.event.Event.TheVariants.{Update, Ask, Serve, Accept, Collect, Restart}
 use Rattle.ficus_model.specs.Events.{before}
-use Rattle.ficus_model.specs.Lawful.{Volume, MayCome, IsLawful}
-use Rattle.ficus_laws.specs.Accepts.{asked, answered}
+use Rattle.ficus_model.specs.Lawful.{Volume, MayCome, AnswersOpenAsk, IsLawful}
 use Rattle.ficus_laws.proofs.Positions.{at_within}
 use Rattle.ficus_laws.proofs.Lawful.{lawful_more}
-use Rattle.ficus_laws.proofs.Pull.{length_asked, serve_may_come, accept_may_come}
 use Rattle.ficus_script.specs.declared.command.Command.{Command}
 use Rattle.ficus_script.specs.declared.answer.Answer.{Answer}
-use Rattle.ficus_world.specs.Actions.{SavesWhereMayCome}
+use Rattle.ficus_script.specs.declared.answer.Answer.TheVariants.{Done, Mail}
+use Rattle.ficus_world.specs.Actions.{ModelAction, First, unchanged, GivesOnly, Adds, Posts, next_position}
 use Rattle.ficus_world.specs.Actions.Adds.{Added}
 use Rattle.ficus_world.specs.Actions.Saves.{Saved}
+use Rattle.ficus_world.specs.Actions.Posts.{Posted, NotPosted}
+use Rattle.ficus_world.specs.Actions.Fetches.{Fetched, NotFetched}
+use Rattle.ficus_world.specs.Exchange.{Asks, Behind, AnAsk, AnAnswer, LiesBehind, Handles, GivesMail, GivesNext}
+use Rattle.ficus_world.specs.Exchange.LiesBehind.{IsAsk, IsAnswer}
 use Rattle.ficus_world.specs.ModelWorld.{ModelWorld, Outcome, Effect}
-use Rattle.ficus_world.specs.Run.{Does, IsUnrefused, Step, Run}
+use Rattle.ficus_world.specs.Run.{Does, DoesPart, Step, Run}
 use Rattle.ficus_world.specs.Run.Run.{End, Then}
+use Rattle.ficus_world.specs.Sequence.CutSequence.{InFirst, InRest}
 use Rattle.ficus_world.specs.Sequence.Sequence.{Ends, Goes}
 use Rattle.ficus_world.specs.Sequence.ByRule.{Says}
-use Rattle.ficus_script.specs.declared.command.Command.TheVariants.{Change as Changes, Look as Looks, Pull as Pulls, Alike as Compares}
+use Rattle.ficus_script.specs.declared.command.Command.TheVariants as command
 use Rattle.ficus_world.specs.Start.{default_volume, restarts}
 use Rattle.ficus_replica.proofs.Changing.{change_may}
 
+-- an action leaves a lawful history lawful
+abbrev KeepsLawful : {A : Type 0} → Volume → ModelAction A → Type 0
+KeepsLawful {A} volume does =
+    (W : ModelWorld) (result : Result A Refusal) (left : Effect) → IsLawful volume W.events → does W result left
+    → IsLawful volume left.after.events
+
 module _ (volume : Volume) where
-  -- where an event may come, the history with it is lawful
-  saves_lawful : {A : Type 0} (given : ModelWorld → A) (event : Event) (refusal : Refusal) (W : ModelWorld)
-      (result : Result A Refusal) (left : Effect) → IsLawful volume W.events
-      → SavesWhereMayCome volume given event refusal W result left → IsLawful volume left.after.events
-  saves_lawful given event refusal W result left lawful (Ends (Says is)) = lawful
-  saves_lawful given event refusal W result left lawful (Goes (Says may) Saved) =
-      lawful_more volume W.events event lawful may.0
+  first_lawful : {A B : Type 0} (first : ModelAction A) (rest : A → ModelAction B) → KeepsLawful volume first
+      → ((a : A) → KeepsLawful volume (rest a)) → KeepsLawful volume (First first rest)
+  first_lawful first rest keeps behind W result left lawful (Ends {refusal = r} is) = keeps W (Err r) left lawful is
+  first_lawful first rest keeps behind W result left lawful (Goes {a = a} {middle = m} {left = l} is next) =
+      behind a m.after result l (keeps W (Ok a) m lawful is) next
+
+  gives_only_lawful : {A : Type 0} (a : A) → KeepsLawful volume (GivesOnly a)
+  gives_only_lawful a W result left lawful (Says is) = lawful
+
+  posts_lawful : (position : ModelWorld → ℕ) (size : ℕ) → KeepsLawful volume (Posts position size)
+  posts_lawful position size W result left lawful Posted = lawful
+  posts_lawful position size W result left lawful NotPosted = lawful
+
+  asks_lawful : (by to : ℕ) → KeepsLawful volume (Asks volume by to)
+  asks_lawful by to W result left lawful (Ends (Says none)) = lawful
+  asks_lawful by to W result left lawful (Goes (Says may) (Ends (Says none))) = lawful
+  asks_lawful by to W result left lawful (Goes (Says may) (Goes (Says message) (Ends (Says full)))) = lawful
+  asks_lawful by to W result left lawful (Goes (Says may) (Goes (Says message) (Goes (Says room) (Ends saved)))) =
+      elim saved [ ]
+  asks_lawful by to W result left lawful
+      (Goes (Says may) (Goes (Says message) (Goes (Says room) (Goes {left = l} Saved posts)))) =
+      posts_lawful _ _ _ result l (lawful_more volume W.events (event.Ask by to) lawful may.0) posts
+
+  -- what lies behind a message may be handled
+  module _ (W : ModelWorld) (number : ℕ) (lawful : IsLawful volume W.events) where
+    server_may : (position server : ℕ) → LiesBehind W number (AnAsk position server)
+        → MayCome volume W.events (event.Serve server position)
+    server_may position server (IsAsk {asker = asker} numbered at) =
+        record { member = (lawful.each position (event.Ask asker server) at).other; asker = asker; asked = at }
+
+    asker_may : (position asker : ℕ) → LiesBehind W number (AnAnswer position asker)
+        → AnswersOpenAsk W.events position asker → MayCome volume W.events (event.Accept asker position)
+    asker_may position asker (IsAnswer {ask = ask} {server = server} numbered served at) answers =
+        record { member = (lawful.each ask (event.Ask asker server) at).member; answer = answers }
+
+  serves_lawful : (position server size : ℕ) (W : ModelWorld) (result : Result Answer Refusal) (left : Effect)
+      → IsLawful volume W.events → MayCome volume W.events (event.Serve server position)
+      → First (Posts next_position size) (λ number. Adds (λ V. Mail number) (event.Serve server position)) W result left
+      → IsLawful volume left.after.events
+  serves_lawful position server size W result left lawful may (Ends NotPosted) = lawful
+  serves_lawful position server size W result left lawful may (Goes Posted Added) =
+      lawful_more volume W.events (event.Serve server position) lawful may
+
+  handles_lawful : (number : ℕ) (behind : Behind) (W : ModelWorld) (result : Result Answer Refusal) (left : Effect)
+      → IsLawful volume W.events → LiesBehind W number behind → Handles volume behind W result left
+      → IsLawful volume left.after.events
+  handles_lawful number (AnAsk position server) W result left lawful lies (Ends (Says none)) = lawful
+  handles_lawful number (AnAsk position server) W result left lawful lies (Goes (Says message) (Ends (Says full))) =
+      lawful
+  handles_lawful number (AnAsk position server) W result left lawful lies
+      (Goes (Says message) (Goes {left = l} (Says room) serves)) =
+      serves_lawful position server _ W result l lawful (server_may W number lawful position server lies) serves
+  handles_lawful number (AnAnswer position asker) W result left lawful lies (Ends (Says stale)) = lawful
+  handles_lawful number (AnAnswer position asker) W result left lawful lies (Goes (Says answers) Saved) =
+      lawful_more volume W.events (event.Accept asker position) lawful
+      (asker_may W number lawful position asker lies answers.0)
+
+  gives_mail_lawful : (number : ℕ) → KeepsLawful volume (GivesMail volume number)
+  gives_mail_lawful number W result left lawful (Ends (Says none)) = lawful
+  gives_mail_lawful number W result left lawful (Goes (Says some) (Ends NotFetched)) = lawful
+  gives_mail_lawful number W result left lawful (Goes (Says some) (Goes Fetched (Ends (Says none)))) = lawful
+  gives_mail_lawful number W result left lawful
+      (Goes (Says some) (Goes Fetched (Goes {a = behind} {left = l} (Says found) handles))) =
+      handles_lawful number behind W result l lawful
+      (subst (LiesBehind W number) (sym found.2) found.1) handles
+
+  gives_next_lawful : (answer : Answer) → KeepsLawful volume (GivesNext volume answer)
+  gives_next_lawful (Mail number) = first_lawful _ _ (gives_mail_lawful number) (λ given. gives_only_lawful Done)
+  gives_next_lawful other = gives_only_lawful Done
 
   -- what a command does leaves a lawful history lawful
-  does_lawful : (command : Command) (W : ModelWorld) (result : Result Answer Refusal) (left : Effect)
-      → IsLawful volume W.events → Does volume command W result left → IsLawful volume left.after.events
-  does_lawful (Changes by change) W result left lawful (Ends (Says none)) = lawful
-  does_lawful (Changes by change) W result left lawful (Goes (Says member) (Ends (Says refused))) = lawful
-  does_lawful (Changes by change) W result left lawful (Goes (Says member) (Goes {a = op} (Says decided) Saved)) =
+  does_lawful : (command : Command) → KeepsLawful volume (Does volume command)
+  does_lawful (command.Change by change) W result left lawful (Ends (Says none)) = lawful
+  does_lawful (command.Change by change) W result left lawful (Goes (Says member) (Ends (Says refused))) = lawful
+  does_lawful (command.Change by change) W result left lawful
+      (Goes (Says member) (Goes {a = op} (Says decided) Saved)) =
       let may = change_may volume W.events by lawful change op decided in
-      lawful_more volume W.events (Update by op) lawful
+      lawful_more volume W.events (event.Update by op) lawful
       (record { member = member.0; left = may.left; bytes = may.bytes; allowed = may.allowed })
-  does_lawful (Looks by look) W result left lawful (Ends (Says none)) = lawful
-  does_lawful (Looks by look) W result left lawful (Goes (Says member) (Says told)) = lawful
-  does_lawful (Compares by other) W result left lawful (Ends (Says none)) = lawful
-  does_lawful (Compares by other) W result left lawful (Goes (Says peers) (Says compared)) = lawful
-  does_lawful (Pulls by to) W result left lawful (Ends (Ends (Says none))) = lawful
-  does_lawful (Pulls by to) W result left lawful (Ends (Goes (Says may) saved)) = elim saved [ ]
-  does_lawful (Pulls by to) W result left lawful (Goes (Goes (Says may) Saved) (Ends added)) = elim added [ ]
-  does_lawful (Pulls by to) W result left lawful (Goes (Goes (Says may) Saved) (Goes {left = l} Added takes)) =
-      saves_lawful _ _ Stale _ result l
-      (lawful_more volume (asked W.events by to) (Serve to (length W.events))
-      (lawful_more volume W.events (Ask by to) lawful may.0) (serve_may_come W.events by to volume may.0.other))
-      takes
+  does_lawful (command.Look by look) W result left lawful (Ends (Says none)) = lawful
+  does_lawful (command.Look by look) W result left lawful (Goes (Says member) (Says told)) = lawful
+  does_lawful (command.Ask by to) W result left lawful does =
+      first_lawful _ _ (asks_lawful by to) (λ number. gives_only_lawful (Mail number)) W result left lawful does
+  does_lawful (command.Give number) W result left lawful does = gives_mail_lawful number W result left lawful does
+  does_lawful (command.Pull by to) W result left lawful does =
+      first_lawful _ _ (asks_lawful by to) (λ number. first_lawful _ _ (gives_mail_lawful number) gives_next_lawful) W
+      result left lawful does
+  does_lawful (command.Alike by other) W result left lawful (Ends (Says none)) = lawful
+  does_lawful (command.Alike by other) W result left lawful (Goes (Says peers) (Says compared)) = lawful
+  does_lawful (command.Restart by) W result left lawful (Ends (Says none)) = lawful
+  does_lawful (command.Restart by) W result left lawful (Goes (Says member) Added) =
+      lawful_more volume W.events (event.Restart by) lawful member.0
 
-  -- a pull is refused only where the one can't ask the other
-  module _ (refusal : Refusal) where
-    pull_refused : (W : ModelWorld) (by to : ℕ) (result : Result Answer Refusal) (left : Effect)
-        → Does volume (Pulls by to) W result left → result ≡ Err refusal
-        → (MayCome volume W.events (Ask by to) → ⊥) × (refusal ≡ Member)
-    pull_refused W by to result left (Ends (Ends (Says (inl refused)))) is =
-        let e = refused.1 in
-        let same : refusal ≡ Member = cc in
-        (refused.0, same)
-    pull_refused W by to result left (Ends (Ends (Says (inr none)))) is = absurd none.1
-    pull_refused W by to result left (Ends (Goes (Says may) saved)) is = elim saved [ ]
-    pull_refused W by to result left (Goes (Goes (Says may) Saved) (Ends added)) is = elim added [ ]
-    pull_refused W by to result left (Goes (Goes (Says may) Saved) (Goes Added (Goes (Says answers) Saved))) is =
-        absurd (cc)
-    pull_refused W by to result left (Goes (Goes (Says may) Saved) (Goes Added (Ends (Says (inr none))))) is =
-        absurd none.1
-    pull_refused W by to result left (Goes (Goes (Says may) Saved) (Goes Added (Ends (Says (inl refused))))) is =
-        absurd (refused.0
-        (subst (λ serve. MayCome volume (answered W.events by to) (Accept by serve)) (sym (length_asked W.events by to))
-        (accept_may_come W.events by to volume may.0.member)))
+  unchanged_lawful : (W : ModelWorld) (left : Effect) → IsLawful volume W.events → left ≡ unchanged W
+      → IsLawful volume left.after.events
+  unchanged_lawful W left lawful same =
+      subst (λ (effect : Effect). IsLawful volume effect.after.events) (sym same) lawful
 
-  pub pull_never_stale : (W : ModelWorld) (by to : ℕ) (left : Effect)
-      → Does volume (Pulls by to) W (Err Stale) left → ⊥
-  pull_never_stale W by to left does =
-      let refused = pull_refused Stale W by to (Err Stale) left does refl in
-      let e = refused.1 in
-      cc
-
-  -- so it is refused nowhere where the one may ask the other
-  pub pull_unrefused : (W : ModelWorld) (by to : ℕ) → MayCome volume W.events (Ask by to)
-      → IsUnrefused volume W (Pulls by to)
-  pull_unrefused W by to may refusal left does = (pull_refused refusal W by to (Err refusal) left does refl).0 may
+  -- and so does what it has done where memory is refused
+  pub part_lawful : (command : Command) (W : ModelWorld) (left : Effect) → IsLawful volume W.events
+      → DoesPart volume command W left → IsLawful volume left.after.events
+  part_lawful (command.Pull by to) W left lawful (InFirst same) = unchanged_lawful W left lawful same
+  part_lawful (command.Pull by to) W left lawful (InRest {a = number} {middle = m} asks (InFirst {left = l} same)) =
+      unchanged_lawful m.after l (asks_lawful by to W (Ok number) m lawful asks) same
+  part_lawful (command.Pull by to) W left lawful
+      (InRest {a = number} {middle = m} asks (InRest {a = given} {middle = k} {left = l} gives same)) =
+      unchanged_lawful k.after l
+      (gives_mail_lawful number m.after (Ok given) k (asks_lawful by to W (Ok number) m lawful asks) gives) same
+  part_lawful (command.Change by change) W left lawful same = unchanged_lawful W left lawful same
+  part_lawful (command.Look by look) W left lawful same = unchanged_lawful W left lawful same
+  part_lawful (command.Ask by to) W left lawful same = unchanged_lawful W left lawful same
+  part_lawful (command.Give number) W left lawful same = unchanged_lawful W left lawful same
+  part_lawful (command.Alike by other) W left lawful same = unchanged_lawful W left lawful same
+  part_lawful (command.Restart by) W left lawful same = unchanged_lawful W left lawful same
 
 step_lawful : {volume : Volume} {old new : ModelWorld} {command : Command} {outcomes : List Outcome} {answer : Answer}
     → Step volume old command outcomes answer new → IsLawful volume old.events → IsLawful volume new.events

@@ -1,12 +1,14 @@
 -- Actions of the model, one after the other: each leaves one thing for what becomes of what it asks of the outside.
-use Rattle.std.proofs.Common.{◌≡◌, List, ◌++◌, Result, Ok, Err, refl, sym, ap, ap₂, subst, ◌∙◌, append_assoc}
+use Rattle.std.proofs.Common.{◌≡◌, ℕ, List, ◌++◌, Result, Ok, Err, refl, sym, ap, ap₂, subst, ◌∙◌, append_assoc}
 use Rattle.std.proofs.lemmas.List.{append_cancel_left}
 use Rattle.ficus_ids.specs.declared.refusal.Refusal.{Refusal}
 use Rattle.ficus_model.specs.declared.event.Event.{Event}
 use Rattle.ficus_rules.specs.Rule.{Once}
-use Rattle.ficus_world.specs.Actions.{ModelAction, First, unchanged, Adds, Saves}
+use Rattle.ficus_world.specs.Actions.{ModelAction, First, unchanged, Adds, Saves, Posts, Fetches}
 use Rattle.ficus_world.specs.Actions.Adds.{Added}
 use Rattle.ficus_world.specs.Actions.Saves.{Saved}
+use Rattle.ficus_world.specs.Actions.Posts.{Posted, NotPosted}
+use Rattle.ficus_world.specs.Actions.Fetches.{Fetched, NotFetched}
 use Rattle.ficus_world.specs.ModelWorld.{ModelWorld, Outcome, Effect, after, joined}
 use Rattle.ficus_world.specs.Sequence.{ByRule}
 use Rattle.ficus_world.specs.Sequence.Sequence.{Ends, Goes}
@@ -60,3 +62,16 @@ module _ {A : Type 0} (given : ModelWorld → A) (event : Event) where
 
   pub saves_once : OnceByOutcomes (Saves given event)
   saves_once old one other left right x y Saved Saved same = (refl, refl)
+
+module _ (position : ModelWorld → ℕ) (size : ℕ) where
+  pub posts_once : OnceByOutcomes (Posts position size)
+  posts_once old one other left right x y Posted Posted same = (refl, refl)
+  posts_once old one other left right x y NotPosted NotPosted same = (refl, refl)
+  posts_once old one other left right x y Posted NotPosted same = absurd (cc)
+  posts_once old one other left right x y NotPosted Posted same = absurd (cc)
+
+pub fetches_once : OnceByOutcomes Fetches
+fetches_once old one other left right x y Fetched Fetched same = (refl, refl)
+fetches_once old one other left right x y NotFetched NotFetched same = (refl, refl)
+fetches_once old one other left right x y Fetched NotFetched same = absurd (cc)
+fetches_once old one other left right x y NotFetched Fetched same = absurd (cc)

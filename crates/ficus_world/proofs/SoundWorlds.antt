@@ -1,8 +1,9 @@
 -- What holds of every world stays so as commands change it.
-use Rattle.std.proofs.Common.{◌≡◌, ℕ, ◌+◌, ◌-◌, ◌≤◌, List, length, sym, ap, subst, ◌∙◌, inl, inr, arith}
-use Rattle.std.specs.Prelude.{slice_set}
-use Rattle.std.proofs.lemmas.List.{length-set}
+use Rattle.std.proofs.Common.{◌≡◌, ℕ, ◌+◌, ◌-◌, ◌≤◌, List, length, Result, Ok, Err, sym, ap, subst, ◌∙◌, inl, inr, arith}
+use Rattle.std.specs.Prelude.{slice_set, IfOk, OnErr}
+use Rattle.std.proofs.lemmas.List.{length-set, length_push}
 use Rattle.ficus_ids.specs.Members.{IsCount}
+use Rattle.ficus_ids.specs.declared.refusal.Refusal.{Refusal}
 use Rattle.ficus_model.specs.declared.event.Event.{Event}
 use Rattle.ficus_saved.specs.Saved.{FitsImage}
 use Rattle.ficus_saved.specs.declared.saved.Saved.{Saved}
@@ -15,7 +16,9 @@ use Rattle.ficus_replica.specs.Ask.{AskGives}
 use Rattle.ficus_world.specs.declared.member.Member.{Member}
 use Rattle.ficus_commands.specs.declared.change.Change.{Change}
 use Rattle.ficus_replica.specs.Change.{Changed}
+use Rattle.ficus_world.specs.Moves.{without_ask}
 use Rattle.ficus_world.specs.Numbered.{IsNumbered}
+use Rattle.ficus_world.specs.Post.{Outbox, IsSent, HasFailed}
 use Rattle.ficus_world.specs.World.{Whole, IsSound, IsWorld}
 use Rattle.ficus_world.proofs.Replaced.{replaced}
 
@@ -54,7 +57,41 @@ module _ (old : Whole) (events : List Event) (r : ℕ) (was : Member) (replica :
       subst (λ list. IsWorld (record old { members = list; events = events })) (sym holds) (record {
         count = subst IsCount (sym as_many) world.count;
         sound = λ q found at. subst (λ n. IsSound n (length events) q found.replica) (sym as_many) (each q found at);
+        counted = world.counted;
+        few = world.few;
       })
+
+-- something is posted, with at least as many events stored
+module _ (old : Whole) (world : IsWorld old) where
+  pub more_stored : (events : List Event) → length old.events ≤ length events
+      → IsWorld (record old { events = events })
+  more_stored events grown = record {
+    count = world.count;
+    sound = λ r member is. sound_more (world.sound r member is) grown;
+    counted = world.counted;
+    few = world.few;
+  }
+
+  pub world_posted : (post : Outbox) → (length post.posts ≡ length post.behind) × (length post.posts ≤ post.total)
+      → IsWorld (record old { post = post })
+  world_posted post counts = record {
+    count = world.count;
+    sound = world.sound;
+    counted = counts.0;
+    few = counts.1;
+  }
+
+  -- one message more at most, where it has a byte
+  pub sent_counts : (tells : Type 0) (place : ℕ) (bytes : List ℕ) (post : Outbox) (result : Result ℕ Refusal)
+      → 1 ≤ length bytes → IfOk result (λ n. IsSent tells old.post place bytes n post)
+      → OnErr result (HasFailed old.post post)
+      → (length post.posts ≡ length post.behind) × (length post.posts ≤ post.total)
+  sent_counts tells place bytes post (Ok n) some sent failed =
+      let longer = ap (λ (list : List ℕ). length list) sent.behind ∙ length_push old.post.behind place in
+      (sent.counted ∙ ap (λ k. k + 1) world.counted ∙ sym longer, omega (arith, sent.counted, sent.total, world.few, some))
+  sent_counts tells place bytes post (Err r) some sent failed =
+      subst (λ (p : Outbox). (length p.posts ≡ length p.behind) × (length p.posts ≤ p.total)) (sym failed.same)
+      (world.counted, world.few)
 
 -- what a change makes of a sound replica is sound
 pub changed_sound : {count events r : ℕ} {old : Replica} {change : Change} {next : Next} → IsSound count events r old →
@@ -90,3 +127,13 @@ accepted_sound sound accepted fits =
       fits = fits;
       generation = omega (arith, ap (λ (x : Replica). x.saved.generation) is, sound.generation);
     }
+
+-- a replica that drops its ask saves what it did
+pub restarted_sound : {count events r : ℕ} {replica : Replica} → IsSound count events r replica
+    → IsSound count (events + 1) r (without_ask replica)
+restarted_sound sound = record {
+  me = sound.me;
+  members = sound.members;
+  fits = sound.fits;
+  generation = omega (arith, sound.generation);
+}

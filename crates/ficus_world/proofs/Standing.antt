@@ -1,7 +1,7 @@
 -- A world stands for one of the model, also after each event.
-use Rattle.std.proofs.Common.{◌≡◌, ℕ, ◌+◌, ◌-◌, List, [], ◌∷◌, ◌++◌, length, get_or, refl, sym, ap, subst, ◌∙◌, inl, inr, arith}
+use Rattle.std.proofs.Common.{◌≡◌, ℕ, ◌+◌, ◌-◌, List, [], ◌∷◌, ◌++◌, length, get_or, refl, sym, ap, subst, ◌∙◌, inl, inr, ◌⊎◌, arith}
 use Rattle.std.specs.Prelude.{slice_set}
-use Rattle.std.proofs.lemmas.List.{length-set}
+use Rattle.std.proofs.lemmas.List.{length-set, length_push}
 use Rattle.ficus_ids.specs.Members.{IsMember}
 use Rattle.ficus_model.specs.declared.event.Event.{Event}
 use Rattle.ficus_model.specs.declared.event.Event.TheVariants.{Serve}
@@ -9,18 +9,23 @@ use Rattle.ficus_model.specs.Events.{actor, raised}
 use Rattle.ficus_model.specs.Lawful.{Volume, MayCome}
 use Rattle.ficus_laws.proofs.Lawful.{lawful_more}
 use Rattle.ficus_replica.specs.declared.replica.Replica.{Replica}
+use Rattle.ficus_wire.specs.declared.message.Message.{Message}
 use Rattle.ficus_replica.specs.SavedOf.{StandsFor}
 use Rattle.ficus_world.specs.declared.member.Member.{Member}
 use Rattle.ficus_world.specs.declared.member.MemberState.{MemberState}
 use Rattle.ficus_world.specs.declared.member.MemberState.TheVariants.{Up}
-use Rattle.ficus_world.specs.Actions.{with_event}
+use Rattle.ficus_world.specs.Actions.{with_event, with_post}
+use Rattle.ficus_world.specs.Message.{IsMessageAt, IsSpelled}
 use Rattle.ficus_world.specs.ModelWorld.{ModelWorld}
-use Rattle.ficus_world.specs.Moves.{advanced}
+use Rattle.ficus_world.specs.Moves.{advanced, with_event as event_in, with_post as post_in}
 use Rattle.ficus_world.specs.Numbered.{IsNumbered}
-use Rattle.ficus_world.specs.World.{Whole, MemberStandsFor, WorldStandsFor}
+use Rattle.ficus_world.specs.Post.{Outbox, IsSent, HasFailed}
+use Rattle.ficus_world.specs.World.{Whole, MemberStandsFor, IsPosted, WorldStandsFor}
 use Rattle.ficus_replica.proofs.Events.{quiet_stands}
 use Rattle.ficus_world.proofs.LastPart.{length_part, part_more}
-use Rattle.ficus_world.proofs.Replaced.{number_read, replaced}
+use Rattle.ficus_world.proofs.Messages.{message_more}
+use Rattle.ficus_world.proofs.Numbers.{number_read, number_end, number_more, number_cases}
+use Rattle.ficus_world.proofs.Replaced.{replaced}
 
 -- so far each member is up
 pub is_up : (state : MemberState) → state ≡ Up
@@ -57,6 +62,16 @@ module _ (volume : Volume) (W : ModelWorld) (old : Whole) (stands : WorldStandsF
   pub raised_length : length old.events + raise ≡ length W.events
   raised_length = omega (arith, length_part old.events W.events stands.stored)
 
+  -- one event more leaves each posted message as it is
+  posted_more : (event : Event) (number position : ℕ) (bytes : List ℕ) → IsPosted volume W number position bytes
+      → IsPosted volume (with_event W event) number position bytes
+  posted_more event number position bytes posted = record {
+    numbered = posted.numbered;
+    message = posted.message;
+    is = message_more volume W.events event position posted.message posted.is;
+    spelled = posted.spelled;
+  }
+
   -- an event happens, and the members stand for what has happened then
   module _ (stored event : Event) (raises : raised raise stored ≡ event) (may : MayCome volume W.events event) where
     next_stands : (members : List Member) → length members ≡ length old.members
@@ -75,6 +90,11 @@ module _ (volume : Volume) (W : ModelWorld) (old : Whole) (stands : WorldStandsF
       };
       each = λ r member state is state_is.
           stands_up volume (W.events ++ event ∷ []) r member state (each r member is);
+      total = stands.total;
+      posted = stands.posted;
+      counted = stands.counted;
+      mail = λ number place bytes behind posts.
+          posted_more event number (place + raise) bytes (stands.mail number place bytes behind posts);
     }
 
     -- it is a member's own, and that member alone changes
@@ -102,8 +122,97 @@ module _ (volume : Volume) (W : ModelWorld) (old : Whole) (stands : WorldStandsF
   -- a member serves what it holds
   pub served_stands : (to ask position : ℕ) → ask + raise ≡ position → MayCome volume W.events (Serve to position)
       → WorldStandsFor volume (with_event W (Serve to position))
-      (record old { events = old.events ++ Serve to ask ∷ [] })
+      (event_in old (Serve to ask))
   served_stands to ask position raises may =
       next_stands (Serve to ask) (Serve to position) (ap (λ n. Serve to n) raises) may old.members refl
       (λ r member is.
       quiet_stands volume W.events r member.replica (Serve to position) (replica_stands r member is) (inr tt))
+
+  -- the link fails
+  pub failed_stands : (post : Outbox) → HasFailed old.post post → WorldStandsFor volume W (post_in old post)
+  failed_stands post failed =
+      subst (λ (p : Outbox). WorldStandsFor volume W (post_in old p)) (sym failed.same) (record {
+        count = stands.count;
+        members = stands.members;
+        states = stands.states;
+        lawful = stands.lawful;
+        stored = stands.stored;
+        each = stands.each;
+        total = stands.total;
+        posted = stands.posted;
+        counted = stands.counted;
+        mail = stands.mail;
+      })
+
+  -- the message behind a position is posted
+  module _ {tells : Type 0} (told : tells) (place position size : ℕ) (bytes : List ℕ) (number : ℕ) (post : Outbox)
+      (sent : IsSent tells old.post place bytes number post) (raises : place + raise ≡ position) (message : Message)
+      (at : IsMessageAt volume W.events position message) (spelled : IsSpelled volume.members bytes message)
+      (sized : length bytes ≡ size) where
+    still_posted : (n where_to : ℕ) (found : List ℕ) → IsPosted volume W n where_to found
+        → IsPosted volume (with_post W position size) n where_to found
+    still_posted n where_to found posted = record {
+      numbered = number_more W.posted position posted.numbered;
+      message = posted.message;
+      is = posted.is;
+      spelled = posted.spelled;
+    }
+
+    newly_posted : IsPosted volume (with_post W position size) (length old.post.behind + 1) (place + raise) bytes
+    newly_posted = record {
+      numbered =
+          subst (λ n. IsNumbered (W.posted ++ position ∷ []) (n + 1) (place + raise)) stands.posted
+          (subst (IsNumbered (W.posted ++ position ∷ []) (length W.posted + 1)) (sym raises)
+          (number_end W.posted position));
+      message = message;
+      is = subst (λ p. IsMessageAt volume W.events p message) (sym raises) at;
+      spelled = spelled;
+    }
+
+    mail_posted : (n found_place : ℕ) (found : List ℕ)
+        → IsNumbered old.post.behind n found_place ⊎ ((n ≡ length old.post.behind + 1) × (found_place ≡ place))
+        → IsNumbered old.post.posts n found ⊎ ((n ≡ length old.post.posts + 1) × (found ≡ bytes))
+        → IsPosted volume (with_post W position size) n (found_place + raise) found
+    mail_posted n found_place found (inl behind) (inl post) =
+        still_posted n (found_place + raise) found (stands.mail n found_place found behind post)
+    mail_posted n found_place found (inr behind) (inr post) =
+        subst (λ k. IsPosted volume (with_post W position size) k (found_place + raise) found) (sym behind.0)
+        (subst (λ p. IsPosted volume (with_post W position size) (length old.post.behind + 1) (p + raise) found)
+        (sym behind.1)
+        (subst (IsPosted volume (with_post W position size) (length old.post.behind + 1) (place + raise)) (sym post.1)
+        newly_posted))
+    mail_posted n found_place found (inl behind) (inr post) =
+        absurd (omega (arith, behind.member.at_most, post.0, stands.counted))
+    mail_posted n found_place found (inr behind) (inl post) =
+        absurd (omega (arith, post.member.at_most, behind.0, stands.counted))
+
+    pub sent_stands : WorldStandsFor volume (with_post W position size) (post_in old post)
+    sent_stands = record {
+      count = stands.count;
+      members = stands.members;
+      states = stands.states;
+      lawful = stands.lawful;
+      stored = stands.stored;
+      each = stands.each;
+      total = omega (arith, stands.total, sent.total, sized);
+      posted =
+          omega (
+            arith,
+            length_push W.posted position,
+            length_push old.post.behind place,
+            ap (λ (list : List ℕ). length list) sent.behind,
+            stands.posted,
+          );
+      counted =
+          omega (
+            arith,
+            sent.counted,
+            length_push old.post.behind place,
+            ap (λ (list : List ℕ). length list) sent.behind,
+            stands.counted,
+          );
+      mail = λ n found_place found behind posts.
+          mail_posted n found_place found
+          (number_cases old.post.behind place (subst (λ list. IsNumbered list n found_place) sent.behind behind))
+          (number_cases old.post.posts bytes (subst (λ list. IsNumbered list n found) (sent.told told) posts));
+    }

@@ -14,9 +14,10 @@ use Rattle.ficus_model.specs.Lawful.{Volume}
 use Rattle.ficus_replica.proofs.Events.{restarts_alone, restarted_stands}
 use Rattle.ficus_world.specs.declared.member.Member.{Member}
 use Rattle.ficus_world.specs.Numbered.{IsNumbered}
+use Rattle.ficus_world.specs.Post.{Outbox}
 use Rattle.ficus_world.specs.World.{Whole, IsSound, IsWorld, WorldStandsFor, whole_of}
 use Rattle.ficus_world.specs.Start.{default_volume, restarts, start, IsFresh, AreFresh}
-use Rattle.ficus_world.proofs.Replaced.{number_read}
+use Rattle.ficus_world.proofs.Numbers.{number_read}
 use Rattle.ficus_world.proofs.Runs.{start_lawful}
 use Rattle.ficus_world.proofs.Standing.{stands_up}
 
@@ -25,6 +26,11 @@ restarts_more count = map-range_with_len_more (λ r. Restart r) 1 count (count +
 
 pub length_restarts : (count : ℕ) → length (restarts count) ≡ count
 length_restarts count = length-map-range_with_len (λ r. Restart r) 1 count
+
+-- nothing is posted
+pub record IsEmpty (post : Outbox) : Type 0 where
+  pub behind : post.behind ≡ []
+  pub posts : post.posts ≡ []
 
 -- one more fresh member behind the others
 module _ (volume : Volume) (count : ℕ) (members : List Member) (next : Member) (fresh : AreFresh volume count members)
@@ -64,8 +70,14 @@ fresh_none volume members none = record {
 }
 
 module _ {count : ℕ} {members : List Member} (fresh : AreFresh (default_volume count) count members) where
-  pub fresh_world : (events : List Event) → IsCount count → IsWorld (whole_of members events)
-  fresh_world events counted = record { count = subst IsCount (sym fresh.counted) counted; sound = sound }
+  pub fresh_world : (events : List Event) (post : Outbox) → IsEmpty post → IsCount count
+      → IsWorld (whole_of members events post)
+  fresh_world events post empty counted = record {
+    count = subst IsCount (sym fresh.counted) counted;
+    sound = sound;
+    counted = ap (λ (list : List (List ℕ)). length list) empty.posts ∙ sym (ap (λ (list : List ℕ). length list) empty.behind);
+    few = omega (arith, ap (λ (list : List (List ℕ)). length list) empty.posts);
+  }
     where
       sound : (r : ℕ) (member : Member) → IsNumbered members r member
           → IsSound (length members) (length events) r member.replica
@@ -85,9 +97,10 @@ restarts_raised [] = refl
 restarts_raised (r ∷ members) = ap (λ (rest : List Event). Restart r ∷ rest) (restarts_raised members)
 
 -- a fresh world stands for the one that has the restarts alone
-pub fresh_world_stands : (count : ℕ) (world : Whole) → IsCount count → world.events ≡ restarts count
-    → AreFresh (default_volume count) count world.members → WorldStandsFor (default_volume count) (start count) world
-fresh_world_stands count world counted events fresh = record {
+pub fresh_world_stands : (count total : ℕ) (world : Whole) → IsCount count → world.events ≡ restarts count
+    → AreFresh (default_volume count) count world.members → IsEmpty world.post → world.post.total ≡ total
+    → WorldStandsFor (default_volume count) (start count total) world
+fresh_world_stands count total world counted events fresh empty total_is = record {
   count = counted;
   members = fresh.counted;
   states = length-replicate count _;
@@ -100,4 +113,10 @@ fresh_world_stands count world counted events fresh = record {
       stands_up (default_volume count) (restarts count) r member state
       (restarted_stands (default_volume count) (restarts count) r member.replica
       (restarts_alone (range_with_len 1 count)) (fresh.each r member is).stands);
+  total = total_is;
+  posted = sym (ap (λ (list : List ℕ). length list) empty.behind);
+  counted = ap (λ (list : List (List ℕ)). length list) empty.posts ∙ sym (ap (λ (list : List ℕ). length list) empty.behind);
+  mail = λ number place bytes behind posts.
+      let none : 0 ≡ length world.post.behind = sym (ap (λ (list : List ℕ). length list) empty.behind) in
+      absurd (omega (arith, none, behind.member.at_least, behind.member.at_most));
 }

@@ -1,12 +1,12 @@
 -- The actions of which commands consist, and what each does to a world of the model.
-use Rattle.std.specs.Prelude.{ℕ, [], ◌∷◌, ◌++◌, length, Result, Ok}
+use Rattle.std.specs.Prelude.{ℕ, ◌+◌, [], ◌∷◌, ◌++◌, length, Result, Ok, Err}
 use Rattle.ficus_ids.specs.Members.{IsMember}
 use Rattle.ficus_ids.specs.declared.refusal.Refusal.{Refusal}
-use Rattle.ficus_ids.specs.declared.refusal.Refusal.TheVariants.{Member, Stale}
+use Rattle.ficus_ids.specs.declared.refusal.Refusal.TheVariants.{Member, Link}
 use Rattle.ficus_model.specs.declared.event.Event.{Event}
-use Rattle.ficus_model.specs.declared.event.Event.TheVariants.{Update, Ask, Serve, Accept}
+use Rattle.ficus_model.specs.declared.event.Event.TheVariants.{Update}
 use Rattle.ficus_model.specs.declared.event.Op.{Op}
-use Rattle.ficus_model.specs.Lawful.{Volume, MayCome}
+use Rattle.ficus_model.specs.Lawful.{Volume}
 use Rattle.ficus_laws.specs.Updates.{next_number}
 use Rattle.ficus_commands.specs.declared.change.Change.{Change}
 use Rattle.ficus_rules.specs.Change.{ChangeRule}
@@ -14,8 +14,7 @@ use Rattle.ficus_commands.specs.declared.look.Look.{Look}
 use Rattle.ficus_rules.specs.Rule.{Where, Gives}
 use Rattle.ficus_rules.specs.View.{history_view}
 use Rattle.ficus_script.specs.declared.answer.Answer.{Answer}
-use Rattle.ficus_script.specs.declared.answer.Answer.TheVariants.{Done}
-use Rattle.ficus_world.specs.ModelWorld.{ModelWorld, IsDone, Effect, after, joined}
+use Rattle.ficus_world.specs.ModelWorld.{ModelWorld, IsDone, LinkFails, Effect, after, joined}
 use Rattle.ficus_world.specs.Sequence.{Action, Sequence, ByRule}
 use Rattle.ficus_world.specs.Answers.{answer_to, AlikeAnswer, LookAnswer}
 use Rattle.ficus_world.specs.Peers.{ArePeers}
@@ -45,6 +44,10 @@ pub data Adds {A : Type 0} (given : ModelWorld → A) (event : Event) (old : Mod
 pub data Saves {A : Type 0} (given : ModelWorld → A) (event : Event) (old : ModelWorld) :
     Result A Refusal → Effect → Type 0 where
   Saved : Saves given event old (Ok (given old)) (record { outcomes = IsDone ∷ []; after = with_event old event })
+
+-- gives this, and no refusal
+abbrev pub GivesOnly : {A : Type 0} → A → ModelAction A
+GivesOnly a = ByRule unchanged (λ W. Gives a)
 
 -- goes on where this is so, and is refused where it isn't
 abbrev pub Wants : (ModelWorld → Type 0) → Refusal → ModelAction (Unit {0})
@@ -79,19 +82,17 @@ Compares volume by other =
 abbrev pub next_position : ModelWorld → ℕ
 next_position W = length W.events
 
--- the member saves with the event where that may come, and this of the world before it is given; else it is refused
-abbrev pub SavesWhereMayCome : {A : Type 0} → Volume → (ModelWorld → A) → Event → Refusal → ModelAction A
-SavesWhereMayCome volume given event refusal =
-    First (Wants (λ W. MayCome volume W.events event) refusal) (λ may. Saves given event)
+-- the world once a message of so many bytes is posted, with this position behind it
+abbrev pub with_post : ModelWorld → ℕ → ℕ → ModelWorld
+with_post old position size = record old { posted = old.posted ++ position ∷ []; total = old.total + size }
 
--- one of two different members asks the other; gives where the ask stands
-abbrev pub Asks : Volume → ℕ → ℕ → ModelAction ℕ
-Asks volume by to = SavesWhereMayCome volume next_position (Ask by to) Member
+-- a message of so many bytes is posted, with this position behind it; gives its number. Or the link fails.
+pub data Posts (position : ModelWorld → ℕ) (size : ℕ) (old : ModelWorld) : Result ℕ Refusal → Effect → Type 0 where
+  Posted : Posts position size old (Ok (length old.posted + 1))
+      (record { outcomes = IsDone ∷ []; after = with_post old (position old) size })
+  NotPosted : Posts position size old (Err Link) (record { outcomes = LinkFails ∷ []; after = old })
 
--- the ask that stands at this position is served; gives where the Serve stands
-abbrev pub Serves : ℕ → ℕ → ModelAction ℕ
-Serves to ask = Adds next_position (Serve to ask)
-
--- what was served at this position is taken, where it answers the open ask
-abbrev pub TakesAnswer : Volume → ℕ → ℕ → ModelAction Answer
-TakesAnswer volume by serve = SavesWhereMayCome volume (λ W. Done) (Accept by serve) Stale
+-- a message is fetched, or the link fails
+pub data Fetches (old : ModelWorld) : Result (Unit {0}) Refusal → Effect → Type 0 where
+  Fetched : Fetches old (Ok tt) (record { outcomes = IsDone ∷ []; after = old })
+  NotFetched : Fetches old (Err Link) (record { outcomes = LinkFails ∷ []; after = old })

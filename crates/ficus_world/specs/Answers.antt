@@ -2,6 +2,7 @@
 use Rattle.std.specs.Prelude.{◌↔◌, Result, Ok, Err, IsTrue}
 use Rattle.ficus_ids.specs.declared.id.Id.{Id}
 use Rattle.ficus_ids.specs.declared.refusal.Refusal.{Refusal}
+use Rattle.ficus_ids.specs.declared.refusal.Refusal.TheVariants.{Memory}
 use Rattle.ficus_model.specs.declared.event.Op.{Op}
 use Rattle.ficus_model.specs.declared.event.Op.TheVariants as op
 use Rattle.ficus_commands.specs.declared.look.Look.{Look}
@@ -31,6 +32,12 @@ LookAnswer view look = Then (LookRule view look) (λ told. Gives (Told told))
 -- whether the two views are alike
 abbrev pub AlikeAnswer : View → View → Result Answer Refusal → Type 0
 AlikeAnswer one other = Tells Alike (λ alike. IsTrue alike ↔ AreAlike one other)
+
+-- so it comes to, or memory was refused
+abbrev pub OrMemory : {A : Type 0} → (Result A Refusal → Type 0) → Result A Refusal → Type 0
+OrMemory comes_to (Ok a) = comes_to (Ok a)
+OrMemory comes_to (Err Memory) = Unit {0}
+OrMemory comes_to (Err refusal) = comes_to (Err refusal)
 
 -- a refusal is an answer too
 abbrev pub answer_as : Result Answer Refusal → Answer

@@ -1,9 +1,13 @@
 pub mod Numbered
 pub mod Sequence
 pub mod ModelWorld
+pub mod Causes
+pub mod Message
+pub mod Post
 pub mod Answers
 pub mod Peers
 pub mod Actions
+pub mod Exchange
 pub mod Run
 pub mod World
 pub mod Moves

@@ -19,9 +19,14 @@ default_volume members = record { members = members; ids = 100000; bytes = 41943
 abbrev pub restarts : ℕ → List Event
 restarts members = map (λ r. Restart r) (range_with_len 1 members)
 
--- the members have restarted, and all are up
-abbrev pub start : ℕ → ModelWorld
-start members = record { events = restarts members; states = replicate members Up }
+-- the members have restarted, and all are up; nothing is posted, over a link that counts so many bytes as posted already
+abbrev pub start : ℕ → ℕ → ModelWorld
+start members total = record {
+  events = restarts members;
+  states = replicate members Up;
+  posted = [];
+  total = total;
+}
 
 -- member r has heard of nothing
 pub record IsFresh (volume : Volume) (r : ℕ) (member : Member) : Type 0 where

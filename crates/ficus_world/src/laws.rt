@@ -1,6 +1,6 @@
 ghost use Rattle.std.specs.Prelude.{◌≡◌, ◌↔◌, ℕ, List, ◌++◌, length, Result, Err, Contains};
 ghost use Rattle.ficus_ids.specs.declared.refusal.Refusal.{Refusal};
-ghost use Rattle.ficus_ids.specs.declared.refusal.Refusal.TheVariants.{Stale};
+ghost use Rattle.ficus_ids.specs.declared.refusal.Refusal.TheVariants.{BadMessage, Stale};
 ghost use Rattle.ficus_laws.specs.Laws.{KnowSameUpdates};
 ghost use Rattle.ficus_model.specs.Held.{IsHeldEntry};
 ghost use Rattle.ficus_model.specs.Known.{Knows};
@@ -19,14 +19,14 @@ ghost use Rattle.ficus_script.specs.declared.command.Command.{Command};
 ghost use Rattle.ficus_world.specs.ModelWorld.{ModelWorld, Outcome, Effect};
 ghost use Rattle.ficus_world.specs.Run.{Does, Run, EachDone};
 ghost use Rattle.ficus_world.specs.Answers.{LookAnswer};
-ghost use Rattle.ficus_script.specs.declared.command.Command.TheVariants.{Pull as Pulls};
+ghost use Rattle.ficus_script.specs.declared.command.Command.TheVariants.{Give as Gives, Pull as Pulls};
 ghost use Rattle.ficus_world.specs.Start.{default_volume, start};
 ghost use Rattle.ficus_world.specs.World.{Whole, IsReplica, WorldStandsFor};
 
 /// Commands leave a lawful history, whatever they are.
 pub fn runs_are_lawful()
-    ensures { (members : ℕ) (commands : List Command) (outcomes : List (List Outcome))
-        (answers : List Answer) (W : ModelWorld) → Run (default_volume members) (start members) commands outcomes answers W
+    ensures { (members : ℕ) (total : ℕ) (commands : List Command) (outcomes : List (List Outcome))
+        (answers : List Answer) (W : ModelWorld) → Run (default_volume members) (start members total) commands outcomes answers W
         → IsLawful (default_volume members) W.events }
 {}
 
@@ -46,16 +46,26 @@ pub fn one_run_where_all_is_done()
         → Run volume W commands other_outcomes others later → (answers ≡ others) × (after ≡ later) }
 {}
 
-/// A world of the model has one world that stands for it and has so many of its events stored.
+/// A world of the model has one world that stands for it, has so many of its events stored, and whose link has failed
+/// so often.
 pub fn one_world()
     ensures { (volume : Volume) (W : ModelWorld) (one other : Whole) → WorldStandsFor volume W one
-        → WorldStandsFor volume W other → length one.events ≡ length other.events → one ≡ other }
+        → WorldStandsFor volume W other → length one.events ≡ length other.events
+        → one.post.faults ≡ other.post.faults → one ≡ other }
 {}
 
 /// What is served in a pull is taken.
 pub fn pulls_are_never_stale()
     ensures { (volume : Volume) (W : ModelWorld) (by to : ℕ) (left : Effect)
         → Does volume (Pulls by to) W (Err Stale) left → ⊥ }
+{}
+
+/// No message is bad: neither a give nor a pull is refused so.
+pub fn no_message_is_bad()
+    ensures give { (volume : Volume) (W : ModelWorld) (number : ℕ) (left : Effect)
+        → Does volume (Gives number) W (Err BadMessage) left → ⊥ }
+    ensures pull { (volume : Volume) (W : ModelWorld) (by to : ℕ) (left : Effect)
+        → Does volume (Pulls by to) W (Err BadMessage) left → ⊥ }
 {}
 
 /// Replicas that know the same updates answer looks alike that tell of the view.

@@ -1,8 +1,10 @@
 use Rattle.std.proofs.Common.{◌≡◌, ◌⊎◌, subst, sym, ap, ◌∙◌}
+use Rattle.std.specs.Prelude.{⊤}
 use Rattle.ficus_top.specs.declared.status.Status.{Status}
-use Rattle.ficus_top.specs.Headline.{IsReadCode, IsBadLineCode}
+use Rattle.ficus_top.specs.Headline.{AnswersFront, IsReadCode, IsBadLineCode}
 use Rattle.ficus_top.specs.Status.{code_of}
 use Rattle.ficus_top.specs.Words.{texts}
+use Rattle.ficus_top.proofs.Anew.{prefix_of_code}
 use Rattle.ficus_top.proofs.Endings.{usage_of_code, within_code, too_long_code, bad_line_code, complete_code}
 use Rattle.ficus_top.proofs.replay.ficus.Goals as goal
 
@@ -41,3 +43,12 @@ returns-clause-complete g c = λ tells members commands read is_script no_fault.
     (complete_code (texts c.args.words.now.items) _ _ _ _ members read c.run.result commands _ _
     c.run.ensures.usage.0 (c.run.ensures.takes tells) c.run.ensures.read_fault c.run.ensures.write_fault is_script
     no_fault)
+
+pub returns-clause-prefix : goal.returns-clause-prefix
+returns-clause-prefix g c = λ tells members are.
+    let old = g.K.Sink.written c.args.output.now in
+    let new = g.K.Sink.written c.run.new.output in
+    let script = g.S.Source.left c.args.input.now in
+    subst (λ (status : Status). (status.code ≡ 5 → AnswersFront g.K.Sink.tells ⊥ members script old new)
+    × (status.code ≡ 3 → (c.run.new.output ≡ c.args.output.now) ⊎ AnswersFront g.K.Sink.tells ⊤ members script old new))
+    (sym c.of.ensures) (prefix_of_code c.run.result c.run.ensures.idle (c.run.ensures.prefix tells) members are)

@@ -4,13 +4,12 @@ use Rattle.std.specs.declared.alloc.Global.{Global}
 use Rattle.std.proofs.lemmas.Result.{err_from_is_err_and}
 use Rattle.ficus_script.specs.declared.command.Command.{Command}
 use Rattle.ficus_script.specs.Script.{IsScript}
-use Rattle.ficus_world.specs.ModelWorld.{ModelWorld}
-use Rattle.ficus_world.specs.Start.{default_volume, start}
 use Rattle.ficus_world.proofs.Runs.{run_lawful, start_lawful}
 use Rattle.ficus_top.specs.Headline.{Answers, AnswersFront}
-use Rattle.ficus_top.specs.Serving.{Serves, ServesFront}
+use Rattle.ficus_top.specs.Anew.{ServesAnew, ServesFrontAnew}
 use Rattle.ficus_top.specs.Words.{texts, AreWords, AreNoWords}
 use Rattle.ficus_top.proofs.Endings.{one_members}
+use Rattle.ficus_top.proofs.Anew.{cut_lawful, front_of_fault}
 use Rattle.ficus_top.proofs.Returning.{nothing_returns}
 use Rattle.ficus_top.proofs.replay.run.Goals as goal
 
@@ -23,32 +22,30 @@ moved {read = read} {commands = commands} are also same P holds =
 -- what was answered over a fresh volume, from the words and the script that were read
 module _ {tells : Type 0} {words : List (List ℕ)} {read members : ℕ} (are : AreWords words read)
     (also : AreWords words members) {script old new : List ℕ} {commands some : List Command}
-    (is_script : IsScript script commands) (same : some ≡ commands) (after : ModelWorld) where
-  answers_front : ServesFront tells (default_volume read) (start read) some after old new
-      → AnswersFront tells members script old new
-  answers_front serves =
-      let served : ServesFront tells (default_volume members) (start members) commands after old new =
-      moved are also same (λ n cs. ServesFront tells (default_volume n) (start n) cs after old new) serves in
+    (is_script : IsScript script commands) (same : some ≡ commands) where
+  answers_front : {may : Type 0} → ServesFrontAnew tells may read some old new
+      → AnswersFront tells may members script old new
+  answers_front {may} front =
+      let served : ServesFrontAnew tells may members commands old new =
+      moved are also same (λ n cs. ServesFrontAnew tells may n cs old new) front in
       record {
         commands = commands;
         read = is_script;
-        after = after;
-        serves = served;
-        lawful = run_lawful served.run (start_lawful members);
-        no_return = nothing_returns after.events;
+        served = served;
+        lawful = cut_lawful served.serves.cut (run_lawful served.serves.run (start_lawful members));
+        no_return = nothing_returns served.after.events;
       }
 
-  answers : Serves tells (default_volume read) (start read) some after old new → Answers tells members script old new
+  answers : ServesAnew tells read some old new → Answers tells members script old new
   answers serves =
-      let served : Serves tells (default_volume members) (start members) commands after old new =
-      moved are also same (λ n cs. Serves tells (default_volume n) (start n) cs after old new) serves in
+      let served : ServesAnew tells members commands old new =
+      moved are also same (λ n cs. ServesAnew tells n cs old new) serves in
       record {
         commands = commands;
         read = is_script;
-        after = after;
-        serves = served;
-        lawful = run_lawful served.run (start_lawful members);
-        no_return = nothing_returns after.events;
+        served = served;
+        lawful = run_lawful served.serves.run (start_lawful members);
+        no_return = nothing_returns served.after.events;
       }
 
 pub returns-in_default-clause-usage : goal.returns-in_default-clause-usage
@@ -67,11 +64,12 @@ returns-in_err-answer_commands-clause-prefix g c = λ source_tells.
     let are = subst (λ (words : List (String Global)). AreWords (texts words) c.in-Some.members)
     c.as_slice.ensures.value c.in-Some.ensures.found in
     let front = c.in_err-answer_commands.ensures.prefix in
-    answers_front are also (c.in_ok-commands.ensures.script source_tells).1 c.deref.ensures.value front.0 front.1)
+    front_of_fault (answers_front are also (c.in_ok-commands.ensures.script source_tells).1 c.deref.ensures.value front)
+    p.2)
 
 pub returns-clause-answers : goal.returns-clause-answers
 returns-clause-answers g c = λ source_tells members also.
     let are = subst (λ (words : List (String Global)). AreWords (texts words) c.in-Some.members)
     c.as_slice.ensures.value c.in-Some.ensures.found in
     let served = c.in_ok-answer_commands.ensures.answers in
-    answers are also (c.in_ok-commands.ensures.script source_tells).1 c.deref.ensures.value served.0 served.1
+    answers are also (c.in_ok-commands.ensures.script source_tells).1 c.deref.ensures.value served

@@ -4,40 +4,40 @@ use Rattle.std.proofs.lemmas.Result.{err_from_is_err_and}
 use Rattle.ficus_script.specs.declared.command.Command.{Command}
 use Rattle.ficus_top.specs.Serving.{ServesWorld}
 use Rattle.ficus_top.proofs.Faults.{untold}
-use Rattle.ficus_top.proofs.Serves.{serves_none, world_more, front_next}
+use Rattle.ficus_top.proofs.Serves.{world_none, world_more, front_next}
 use Rattle.ficus_top.proofs.serving.answer_all.Goals as goal
 
 pub loop-command-init : goal.loop-command-init
 loop-command-init g c = record {
-  served = λ volume W stands. record { after = W; serves = serves_none W _; stands = stands };
+  served = λ told volume W stands. world_none W _ _ stands;
   grows = omega arith;
   steady = refl;
 }
 
 pub loop-command-preserved : goal.loop-command-preserved
 loop-command-preserved g c = record {
-  served = λ volume W stands.
+  served = λ told volume W stands.
       world_more c.args.commands.now c.loop-command.command-index c.command-item.result c.answer_one.new.world
-      c.loop-command-test.true c.command-item.is (c.loop-command.invariant.served volume W stands)
-      (λ M. c.in_ok-answer_one.ensures.answer volume M);
+      c.loop-command-test.true c.command-item.is (c.loop-command.invariant.served told volume W stands)
+      (λ M. c.in_ok-answer_one.ensures.answer told volume M);
   grows = omega arith;
   steady = untold _ _ _ _ _ c.answer_one.ensures.told c.answer_one.ensures.counted c.in_ok-answer_one.was
       ∙ c.loop-command.invariant.steady;
 }
 
 pub returns-in_err-answer_one-clause-prefix : goal.returns-in_err-answer_one-clause-prefix
-returns-in_err-answer_one-clause-prefix g c =
+returns-in_err-answer_one-clause-prefix g c = λ told.
     let p = err_from_is_err_and c.from_residual.result c.from_residual.ensures.1 in
-    rw p.1 (λ volume W stands.
+    rw (p.1, p.2) (λ volume W stands.
     front_next c.args.commands.now c.loop-command.command-index c.command-item.result c.answer_one.new.world
-    c.loop-command-test.true c.command-item.is (c.loop-command.invariant.served volume W stands)
-    (λ M. c.in_err-answer_one.ensures.front volume M))
+    c.loop-command-test.true c.command-item.is (c.loop-command.invariant.served told volume W stands)
+    (λ M. c.in_err-answer_one.ensures.front told volume M))
 
 pub returns-clause-answers : goal.returns-clause-answers
-returns-clause-answers g c = λ volume W stands.
+returns-clause-answers g c = λ told volume W stands.
     let commands = c.args.commands.now in
-    let served = c.loop-command.invariant.served volume W stands in
+    let served = c.loop-command.invariant.served told volume W stands in
     let all : take c.loop-command.command-index commands ≡ commands = take_all c.loop-command.command-index commands
     c.loop-command-test.false in
-    subst (λ (some : List Command). ServesWorld g.K.Sink.tells volume W some c.loop-command.world
-    (g.K.Sink.written c.args.output.now) (g.K.Sink.written c.loop-command.output)) all served
+    subst (λ (some : List Command). ServesWorld g.K.Sink.tells volume W c.args.world.now.post.faults some
+    c.loop-command.world (g.K.Sink.written c.args.output.now) (g.K.Sink.written c.loop-command.output)) all served

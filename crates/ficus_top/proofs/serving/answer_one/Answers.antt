@@ -1,22 +1,24 @@
-use Rattle.std.proofs.Common.{[], ◌∷◌, refl}
-use Rattle.std.proofs.lemmas.Result.{on_ok_weaker, on_err_weaker, err_from_is_err_and}
-use Rattle.ficus_top.proofs.Serves.{world_nothing, world_one, world_front}
+use Rattle.std.proofs.lemmas.Result.{on_ok_weaker, err_from_is_err_and}
+use Rattle.std.proofs.Common.{refl}
+use Rattle.ficus_top.proofs.Anew.{if_front}
+use Rattle.ficus_top.proofs.Serves.{world_one, world_front, world_stopped}
 use Rattle.ficus_top.proofs.serving.answer_one.Goals as goal
 
 pub returns-in_err-answer-clause-front : goal.returns-in_err-answer-clause-front
-returns-in_err-answer-clause-front g c =
+returns-in_err-answer-clause-front g c = λ told.
     let p = err_from_is_err_and c.from_residual.result c.from_residual.ensures.1 in
-    rw p.1 (λ volume W stands. world_nothing W (c.args.command.now ∷ []) c.step.new.self _ _ refl
-    (c.in_err-answer.ensures.stays volume W stands))
+    rw p.1 (λ volume W stands.
+    world_stopped W c.args.world.now.post.faults c.args.command.now c.step.new.self _ _ p.2
+    (c.in_err-answer.ensures.stays told volume W stands) refl)
 
 pub returns-clause-answer : goal.returns-clause-answer
-returns-clause-answer g c =
+returns-clause-answer g c = λ told.
     on_ok_weaker c.put_answer.result (λ put volume W stands.
-    world_one W c.args.command.now c.in_ok-answer.answer c.step.new.self
-    (c.in_ok-answer.ensures.stands volume W stands) _ _ put) c.put_answer.ensures.put
+    world_one W c.args.world.now.post.faults c.args.command.now c.in_ok-answer.answer c.step.new.self
+    (c.in_ok-answer.ensures.stands told volume W stands) _ _ put) c.put_answer.ensures.put
 
 pub returns-clause-front : goal.returns-clause-front
-returns-clause-front g c =
-    on_err_weaker c.put_answer.result (λ put volume W stands.
-    world_front W c.args.command.now c.in_ok-answer.answer c.step.new.self
-    (c.in_ok-answer.ensures.stands volume W stands) _ _ put) c.put_answer.ensures.front
+returns-clause-front g c = λ told.
+    if_front c.put_answer.result (λ fault put volume W stands.
+    world_front W c.args.world.now.post.faults c.args.command.now c.in_ok-answer.answer c.step.new.self
+    (c.in_ok-answer.ensures.stands told volume W stands) _ _ put) c.put_answer.ensures.front

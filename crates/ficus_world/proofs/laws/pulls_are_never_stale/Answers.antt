@@ -1,4 +1,4 @@
-use Rattle.ficus_world.proofs.Runs.{pull_never_stale}
+use Rattle.ficus_world.proofs.Pulls.{pull_never_stale}
 use Rattle.ficus_world.proofs.laws.pulls_are_never_stale.Goals as goal
 
 pub returns : goal.returns

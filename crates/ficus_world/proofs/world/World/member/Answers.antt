@@ -1,9 +1,9 @@
 use Rattle.std.proofs.Common.{sym}
-use Rattle.ficus_world.proofs.Replaced.{number_read}
+use Rattle.ficus_world.proofs.Numbers.{number_read}
 use Rattle.ficus_world.proofs.world.World.member.Goals as goal
 
 pub returns-clause-sound : goal.returns-clause-sound
-returns-clause-sound c =
+returns-clause-sound g c =
     let found = c.index.result.now in
     let member = rw (← c.self.view_is) at c.requires in
     rw (← c.self.view_is)
