@@ -32,7 +32,8 @@ kept_with p y x xs false is passes rest inside = elim (here_or_there y x xs insi
   | inr later ↦ rest later
 ]
 
-into_filter : {X : Type 0} (p : X → Bool) (xs : List X) (x : X) → Contains xs x → p x ≡ true → Contains (filter p xs) x
+pub into_filter : {X : Type 0} (p : X → Bool) (xs : List X) (x : X) → Contains xs x → p x ≡ true →
+    Contains (filter p xs) x
 into_filter p [] x inside passes = inside
 into_filter p (y ∷ xs) x inside passes =
     kept_with p y x xs (p y) refl passes (λ later. into_filter p xs x later passes) inside

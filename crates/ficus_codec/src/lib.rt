@@ -12,5 +12,5 @@ pub use ficus_formats::{
     take_u16, take_u32, take_u64,
 };
 pub use ficus_saved::{BYTE_LIMIT, FILE_LIMIT, Saved, UPDATE_LIMIT};
-pub use tables::{put_tables, read_all_tables, read_tables, take_tables};
+pub use tables::{put_tables, read_all_lists, read_lists, read_tables, take_tables};
 pub use take_fault::TakeFault;

@@ -1,5 +1,6 @@
 pub mod Found
 pub mod KilledAll
+pub mod Left
 pub mod Noted
 pub mod Scanned
 pub mod Within

@@ -18,6 +18,10 @@ pub record HoldsLive (entries : List Entry) (id : Id) : Type 0 where
   pub has_id : entry.id ≡ id
   pub live : entry.state ≡ Live
 
+-- no live entry of the list has one of the identifiers
+abbrev pub NoneIsLive : List Entry → List Id → Type 0
+NoneIsLive entries ids = (id : Id) → Contains ids id → HoldsLive entries id → ⊥
+
 -- the marks stand for one replica alone
 abbrev pub IsOnly : ℕ → ℕ → Type 0
 IsOnly marks by = (replica : ℕ) → has marks replica ≡ (replica == by)

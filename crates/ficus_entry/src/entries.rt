@@ -1,8 +1,9 @@
 ghost use Rattle.std.specs.Prelude.{◌≡◌, ◌↔◌, ◌≤◌, ◌<◌, ◌==◌, [], length, slice_get, List, Some, IsTrue, IfOk, OnOk, OnErr};
 ghost use Rattle.std.specs.Option.{option_copied};
+ghost use Rattle.ficus_ids.specs.Rising.{LeavesOutBy};
 ghost use Rattle.ficus_entry.specs.declared.entry.Entry.{Entry as EntryValue};
 ghost use Rattle.ficus_entry.specs.Entry.{IsRising, Holds, HoldsUnder, AddsEntry, PutsEntry};
-ghost use Rattle.ficus_entry.specs.Kill.{HoldsLive, IsKilled};
+ghost use Rattle.ficus_entry.specs.Kill.{HoldsLive, NoneIsLive, IsKilled};
 ghost use Rattle.ficus_entry.specs.Place.{AreNoted};
 
 use crate::note::{notes, noting, renoted};
@@ -141,6 +142,20 @@ impl Entries {
         self.table.put(entry)?;
         self.index = index;
         Ok(())
+    }
+
+    /// The entries whose identifiers are none of these, which no live entry has: where only removed entries leave, the
+    /// index stays as it is. It shares with these what stays, and takes time for a logarithm of them for each identifier.
+    pub fn without(&self, ids: &[Id]) -> Result<Entries, Memory>
+        requires { NoneIsLive self.now ids.now }
+        ensures left { IfOk result (LeavesOutBy (λ entry. entry.id) self.now ids.now) }
+        ensures rising { IfOk result IsRising }
+    {
+        // Tells that the identifiers rise.
+        let _count = self.len();
+        let index = self.folded()?;
+        let table = self.table.without(ids)?;
+        Ok(Entries { table, index })
     }
 
     /// Whether a live entry has the identifier.

@@ -120,9 +120,13 @@ impl<'a> Reader<'a> {
         ensures reads { Reads id self.old result self.new }
         ensures short { OnErr result (length self.old < 5) }
     {
-        let replica = self.byte()?;
-        let number = self.number32()?;
-        Ok(Id { replica, number })
+        match self.front(5) {
+            Some(front) => Ok(Id {
+                replica: front[0],
+                number: u32::from_be_bytes([front[1], front[2], front[3], front[4]]),
+            }),
+            None => Err(ReadFault::Unspelled),
+        }
     }
 
     /// Bytes behind their length in one byte.

@@ -6,6 +6,9 @@ use crate::{ReadFault, Reader};
 use ficus_ids::{Listed, Memory};
 use std::alloc::Global;
 
+/// How many bytes a value is thought to have, for the room that a run of them has from its beginning.
+const LEAST: usize = 8;
+
 /// A way to spell values as bytes, which reads and writes them.
 pub trait Spelling {
     type Value;
@@ -53,7 +56,9 @@ where
     S::Value: Drop,
     ensures { Reads (times count (S.format spelling.now)) reader.old result reader.new }
 {
-    let mut values = Vec::new(alloc);
+    // However many are said to come, there is room at once for no more than the bytes that are left may spell.
+    let most = reader.len() / LEAST;
+    let mut values = Vec::with_capacity(alloc, most.min(count as usize))?;
     for _ in 0..count {
         values.push(spelling.read(alloc, reader)?)?;
     }

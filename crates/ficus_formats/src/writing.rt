@@ -44,8 +44,8 @@ pub fn put_u64(out: &mut Vec<u8>, value: u64) -> Result<(), Memory>
 pub fn put_id(out: &mut Vec<u8>, value: Id) -> Result<(), Memory>
     ensures { OnOk result (out.new.items ≡ out.old.items ++ id.spell value) }
 {
-    put_u8(out, value.replica)?;
-    put_u32(out, value.number)
+    let [first, second, third, fourth] = value.number.to_be_bytes();
+    put_bytes(out, &[value.replica, first, second, third, fourth])
 }
 
 /// Appends bytes, fewer than 2^8, behind their length in one byte.

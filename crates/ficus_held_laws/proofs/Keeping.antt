@@ -28,7 +28,8 @@ use Rattle.ficus_removal_laws.proofs.Dropping.{dropped_cases, dropped_now, dropp
 use Rattle.ficus_removal_laws.proofs.Marking.{marks_kept}
 use Rattle.ficus_merge_laws.specs.States.{StandsAs}
 use Rattle.ficus_merge_laws.proofs.Rows.{merge_stands}
-use Rattle.ficus_held_laws.specs.Entries.{IsKeptEntry, AreKeptEntries, IsFullyKnown, place_of}
+use Rattle.ficus_gc.specs.Reclaim.{IsFullyKnown}
+use Rattle.ficus_held_laws.specs.Entries.{IsKeptEntry, AreKeptEntries, place_of}
 use Rattle.ficus_held_laws.proofs.Standing.{SameEntry, same_entry_back, same_from_updates, kept_same, kept_once}
 
 -- a state that stands has a full second set exactly where the history says so

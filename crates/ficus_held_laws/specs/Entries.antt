@@ -1,6 +1,5 @@
 -- The entries that a replica keeps, each in its state, and what each event makes of them.
-use Rattle.std.specs.Prelude.{◌≡◌, ◌⊎◌, ◌↔◌, ℕ, List, Some, Contains}
-use Rattle.ficus_ids.specs.Marks.{IsFull}
+use Rattle.std.specs.Prelude.{◌≡◌, ◌⊎◌, ℕ, List, Some, Contains}
 use Rattle.ficus_ids.specs.declared.id.Id.{Id}
 use Rattle.ficus_entry.specs.Entry.{Holds}
 use Rattle.ficus_entry.specs.declared.entry.Entry.{Entry as Kept}
@@ -33,11 +32,6 @@ pub record AreKeptEntries (members : ℕ) (H : List Event) (replica : ℕ) (entr
 abbrev pub IsJustRemoved : ℕ → State → Type 0
 IsJustRemoved replica Live = ⊥
 IsJustRemoved replica (Dead one two) = IsKilled replica one two
-
--- removed, and the second set of marks has every member
-abbrev pub IsFullyKnown : ℕ → State → Type 0
-IsFullyKnown members Live = ⊥
-IsFullyKnown members (Dead one two) = IsFull two members
 
 -- what an update by the replica which removes these entries makes of an entry that was kept or is new
 pub record IsSteppedTo (replica : ℕ) (removes : List Id) (entry after : Kept) : Type 0 where
@@ -73,11 +67,6 @@ pub record AreEntriesStepped (replica : ℕ) (number : Id) (op : Op) (entries af
   pub from : (entry : Kept) → Contains after entry → IsFromEntry replica number op entries entry
   pub all : (entry : Kept) → Contains entries entry ⊎ IsNewEntry number op entry →
       HasSteppedEntry replica number op entry after
-
--- of the entries are left those of which not everybody is known to know that all know
-abbrev pub AreUndropped : ℕ → List Kept → List Kept → Type 0
-AreUndropped members entries after = (entry : Kept) → Contains after entry ↔
-    (Contains entries entry × (IsFullyKnown members entry.state → ⊥))
 
 -- the event is no update, takes nothing and collects nothing
 abbrev pub IsIdle : Event → Type 0

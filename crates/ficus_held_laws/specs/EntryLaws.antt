@@ -11,7 +11,8 @@ use Rattle.ficus_model.specs.Held.{IsDropped}
 use Rattle.ficus_model.specs.Lawful.{Volume, IsLawful}
 use Rattle.ficus_laws.specs.Updates.{next_number}
 use Rattle.ficus_removal_laws.specs.Laws.{IsAnswer}
-use Rattle.ficus_held_laws.specs.Entries.{IsKeptEntry, AreKeptEntries, IsFullyKnown, IsFromUpdate, AreEntriesStepped, AreUndropped, IsIdle}
+use Rattle.ficus_gc.specs.Reclaim.{IsFullyKnown, AreUndropped}
+use Rattle.ficus_held_laws.specs.Entries.{IsKeptEntry, AreKeptEntries, IsFromUpdate, AreEntriesStepped, IsIdle}
 
 -- what is kept isn't dropped
 abbrev pub HeldIsNotDropped : Type 0

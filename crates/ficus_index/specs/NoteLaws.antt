@@ -128,7 +128,9 @@ module _ {X : Type 0} (test : X → Bool) (note_of : X → Note) where
             rw (fails, same) (omega arith)
       ]
 
-  into_filter : (rows : List X) (row : X) → Contains rows row → test row ≡ true → Contains (filter test rows) row
+  -- a row that passes the test is among those that do
+  pub into_filter : (rows : List X) (row : X) → Contains rows row → test row ≡ true →
+      Contains (filter test rows) row
   into_filter [] row inside passes = absurd (not_inside_none row inside)
   into_filter (first ∷ rows) row inside passes =
       elim (here_or_there first row rows inside) [

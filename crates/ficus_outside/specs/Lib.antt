@@ -1,5 +1,3 @@
-pub mod Calls
-pub mod Faults
 pub mod Link
 pub mod MemSink
 pub mod MemSource

@@ -1,6 +1,6 @@
 -- A sink in memory.
 use Rattle.std.specs.Prelude.{ℕ, List}
-use Rattle.ficus_outside.specs.Calls.{Tally}
+use Rattle.ficus_faults.specs.Calls.{Tally}
 
 -- the bytes that were put, and the calls
 pub record SinkState : Type 0 where

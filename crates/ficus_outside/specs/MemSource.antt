@@ -1,6 +1,6 @@
 -- A source in memory.
 use Rattle.std.specs.Prelude.{ℕ, List}
-use Rattle.ficus_outside.specs.Calls.{Tally}
+use Rattle.ficus_faults.specs.Calls.{Tally}
 
 -- the bytes that are left, and the calls
 pub record SourceState : Type 0 where

@@ -1,10 +1,10 @@
 ghost use Rattle.std.specs.Prelude.{◌≡◌, ◌+◌, ◌-◌, ◌^◌, ◌<◌, ◌≤◌, ◌↔◌, ⊤, [], ◌∷◌, ◌++◌, length, slice_get, Some, Ok, Err, IfOk, OnOk, OnErr, IsErr};
-ghost use Rattle.ficus_outside.specs.Calls.{fresh, called, failed, IsNextListed};
-ghost use Rattle.ficus_outside.specs.Faults.{Rose};
+ghost use Rattle.ficus_faults.specs.Calls.{fresh, called, failed, IsNextListed};
+ghost use Rattle.ficus_faults.specs.Faults.{Rose};
 ghost use Rattle.ficus_outside.specs.Link.{FailLinkState, OnFailed, OnMemory};
 
-use crate::calls::Calls;
 use crate::{Failed, FetchFault, Link, MemLink};
+use ficus_faults::Calls;
 use ficus_ids::Memory;
 use std::alloc::Global;
 use std::marker::Model;

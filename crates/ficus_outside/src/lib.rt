@@ -1,10 +1,7 @@
 //! The outside as the program sees it: where bytes come from, where they go, and the line between replicas.
 #![tactic(auto)]
 
-mod calls;
 mod fail_link;
-mod failed;
-mod faults;
 mod link;
 mod mem_link;
 mod mem_sink;
@@ -17,7 +14,7 @@ mod std_source;
 mod writer_sink;
 
 pub use fail_link::FailLink;
-pub use failed::Failed;
+pub use ficus_faults::Failed;
 pub use link::{FetchFault, Link};
 pub use mem_link::MemLink;
 pub use mem_sink::{MEM_SINK_ROOM, MemSink};

@@ -1,10 +1,10 @@
 ghost use Rattle.std.specs.Prelude.{◌≡◌, ◌<◌, ◌≤◌, ◌↔◌, ◌⊎◌, ◌+◌, ⊤, [], ◌++◌, length, take, Ok, IfOk, OnOk, OnErr, IsErr, vec_len, vec_capacity};
-ghost use Rattle.ficus_outside.specs.Faults.{Rose};
-ghost use Rattle.ficus_outside.specs.Calls.{fresh, called, failed, IsNextListed};
+ghost use Rattle.ficus_faults.specs.Faults.{Rose};
+ghost use Rattle.ficus_faults.specs.Calls.{fresh, called, failed, IsNextListed};
 ghost use Rattle.ficus_outside.specs.MemSink.{SinkState, sink_room};
 
-use crate::calls::Calls;
 use crate::{Failed, Sink};
+use ficus_faults::Calls;
 use ficus_ids::Memory;
 use std::alloc::Global;
 use std::marker::Model;

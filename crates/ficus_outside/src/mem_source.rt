@@ -1,10 +1,10 @@
 ghost use Rattle.std.specs.Prelude.{◌≡◌, ◌<◌, ◌≤◌, ◌↔◌, ⊤, [], ◌++◌, length, take, drop, min, Ok, IfOk, OnOk, OnErr, IsErr, vec_len};
-ghost use Rattle.ficus_outside.specs.Faults.{Rose};
-ghost use Rattle.ficus_outside.specs.Calls.{fresh, called, failed, IsNextListed};
+ghost use Rattle.ficus_faults.specs.Faults.{Rose};
+ghost use Rattle.ficus_faults.specs.Calls.{fresh, called, failed, IsNextListed};
 ghost use Rattle.ficus_outside.specs.MemSource.{SourceState};
 
-use crate::calls::Calls;
 use crate::{Failed, Source};
+use ficus_faults::Calls;
 use std::marker::Model;
 
 /// A source of bytes in memory. It tells what is left, and fails at the calls that it was told.

@@ -1,5 +1,5 @@
 ghost use Rattle.std.specs.Prelude.{◌≡◌, ◌<◌, ◌≤◌, ◌⊎◌, List, ◌++◌, ℕ, length, take, Ok, IfOk, OnErr};
-ghost use Rattle.ficus_outside.specs.Faults.{Rose};
+ghost use Rattle.ficus_faults.specs.Faults.{Rose};
 
 use crate::Failed;
 

@@ -1,6 +1,6 @@
 ghost use Rattle.std.specs.Prelude.{◌≡◌, ◌≤◌, [], length, IfOk, OnOk, OnErr};
 ghost use Rattle.std.specs.Io.KnownBytes.{ReadConsumes};
-ghost use Rattle.ficus_outside.specs.Faults.{Rose};
+ghost use Rattle.ficus_faults.specs.Faults.{Rose};
 ghost use Rattle.ficus_outside.specs.Stream.{StreamState};
 
 use crate::reader_source::ReaderSource;

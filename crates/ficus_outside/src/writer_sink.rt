@@ -1,12 +1,12 @@
-ghost use Rattle.std.specs.Prelude.{◌≡◌, ◌≢◌, ◌<◌, ◌≤◌, ◌⊎◌, [], length, Ok, IfOk, IfErr, OnErr, IsErr};
+ghost use Rattle.std.specs.Prelude.{◌≡◌, ◌≢◌, ◌<◌, ◌≤◌, ◌⊎◌, [], length, Ok, IfOk, IfErr, OnOk, OnErr, IsErr};
 ghost use Rattle.std.specs.Io.{WritesAtMost};
 ghost use Rattle.std.specs.Io.KnownBytes.{WriteAppends};
 ghost use Rattle.std.specs.IoError.{error_kind};
-ghost use Rattle.ficus_outside.specs.Faults.{Rose};
+ghost use Rattle.ficus_faults.specs.Faults.{Rose};
 ghost use Rattle.ficus_outside.specs.Stream.{StreamState};
 
-use crate::faults::Faults;
 use crate::{Failed, Sink};
+use ficus_faults::Faults;
 use std::io;
 use std::io::{ErrorKind, Write};
 use std::marker::Model;
@@ -55,7 +55,22 @@ impl<W: Write + Drop> Sink for WriterSink<W> {
         ensures written { WriteAppends self.old.known self.new.known result bytes.now }
     {
         let written = write_through(&mut self.writer, bytes);
-        self.faults.judge(written, bytes)
+        judge(&mut self.faults, written, bytes)
+    }
+}
+
+// What the write of a piece came to: its count, but an error is a fault, and so is nothing of a piece that isn't empty.
+fn judge(faults: &mut Faults, written: io::Result<usize>, piece: &[u8]) -> Result<usize, Failed>
+    ensures error { OnErr written (IsErr result) }
+    ensures nothing { written ≡ Ok 0 → 0 < length piece.now → IsErr result }
+    ensures count { IfOk written (λ count. (0 < count) ⊎ (length piece.now ≡ 0) → result ≡ Ok count) }
+    ensures steady { OnOk result (faults.new ≡ faults.old) }
+    ensures rose { OnErr result (Rose faults.old faults.new) }
+    ensures kept { faults.old ≤ faults.new }
+{
+    match written {
+        Ok(count) if 0 < count || piece.is_empty() => Ok(count),
+        _ => Err(faults.raise()),
     }
 }
 

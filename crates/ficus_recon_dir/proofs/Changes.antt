@@ -9,7 +9,7 @@ use Rattle.ficus_entry.specs.declared.entry.Entry.{Entry}
 use Rattle.ficus_entry.specs.declared.entry.State.{State}
 use Rattle.ficus_entry.specs.declared.entry.State.TheVariants.{Live}
 use Rattle.ficus_recon_dir.specs.Merge.{MergesEntries, Changes}
-use Rattle.ficus_recon_dir.specs.Table.{Merges, MergesEntry}
+use Rattle.ficus_recon_dir.specs.Table.{Merges, MergesEntry, state_of}
 
 abbrev pub id_of : Entry → Id
 id_of entry = entry.id
@@ -36,10 +36,13 @@ module _ (r members : ℕ) where
   change_has_id mine theirs (Some change) changes id has_mine has_theirs =
       after_has_id mine theirs (Some change) id changes has_mine has_theirs
 
-  -- a live entry that only the peer has is taken as it stands
-  pub live_taken : (entry : Entry) → entry.state ≡ Live → Changes r members None (Some entry) (Some entry)
-  live_taken entry live = record {
-    state = subst (λ (s : State). Merges r members None (Some s) (Some s)) (sym live) refl;
+  -- what lives at both stays as it stands
+  pub live_stays : (mine theirs : Option Entry) → state_of mine ≡ Some Live → state_of theirs ≡ Some Live →
+      Changes r members mine theirs None
+  live_stays None theirs live also = cc
+  live_stays (Some mine) theirs live also = record {
+    state = subst (λ (s : Option State). Merges r members s (state_of theirs) s) (sym live)
+        (subst (λ (s : Option State). Merges r members (Some Live) s (Some Live)) (sym also) refl);
     place = refl;
   }
 

@@ -7,4 +7,4 @@ mod merge;
 mod table;
 
 pub use laws::one_merge;
-pub use merge::merge_entries;
+pub use merge::{merge_entries, merge_in_order};

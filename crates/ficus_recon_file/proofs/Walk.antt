@@ -221,12 +221,10 @@ module _ (held : List Id) (mine : List FileReplica) (their : FileReplica) where
       merges None taken None has = taken
       merges (Some file) taken None has = taken
 
-  pub change_of_theirs : {E : Type 0} (theirs : List FileReplica) (r : Result (Option FileReplica) E) →
-      AreFiles theirs → HoldsUnderBy id_of mine their.id None → Contains theirs their →
-      IfOk r (λ taken. (file : _) → HoldsUnderBy id_of theirs their.id (Some file) → IsTaken held file taken) →
-      IfOk r (λ taken. (file : _) → taken ≡ Some file → HoldsUnderBy id_of theirs their.id (Some file)) →
-      IfOk r (IsChange held mine their)
-  change_of_theirs theirs (Err fault) are none _ taken of_theirs = tt
-  change_of_theirs theirs (Ok change) are none inside taken of_theirs =
-      of_theirs_alone change none (taken their (inside, refl)) (λ file is.
-      let from = of_theirs file is in (are.each file from.0, from.1))
+  pub change_of_theirs : {E : Type 0} (r : Result (Option FileReplica) E) → IsSoundFile their →
+      HoldsUnderBy id_of mine their.id None → IfOk r (IsTaken held their) →
+      IfOk r (λ taken. (file : _) → taken ≡ Some file → file ≡ their) → IfOk r (IsChange held mine their)
+  change_of_theirs (Err fault) sound none taken of_theirs = tt
+  change_of_theirs (Ok change) sound none taken of_theirs =
+      of_theirs_alone change none taken (λ file is.
+      subst (λ (f : FileReplica). IsSoundFile f × (f.id ≡ their.id)) (sym (of_theirs file is)) (sound, refl))

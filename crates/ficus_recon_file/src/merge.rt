@@ -12,6 +12,7 @@ use crate::{NewFile, News, alone};
 use ficus_entry::Entries;
 use ficus_file::{FileReplica, Files, SharedFile};
 use ficus_ids::{Id, Memory};
+use ficus_touched::is_among;
 use std::alloc::Global;
 
 // Whether the file of theirs adds nothing to mine.
@@ -45,14 +46,6 @@ fn merged_file(
     })
 }
 
-// Whether the identifier is one of these.
-fn is_among(ids: &[Id], id: Id) -> bool
-    requires { IsRisingBy (λ other. other) ids.now }
-    ensures { IsTrue result ↔ Contains ids.now id }
-{
-    ids.binary_search(&id).is_ok()
-}
-
 // What the file of both becomes, unless mine stays.
 fn merged_change(
     alloc: Global,
@@ -73,18 +66,17 @@ fn merged_change(
 }
 
 // The file of theirs alone, where it is taken.
-fn taken(theirs: &Files, id: Id, held: &[Id]) -> Result<Option<SharedFile>, Memory>
-    requires rising { IsRisingBy (λ other. other) held.now }
-    requires there { Holds theirs.now id }
-    ensures taken { IfOk result (λ taken. (file : FileValue) → HoldsUnder theirs.now id (Some file) →
-        IsTaken held.now file taken) }
-    ensures of_theirs { IfOk result (λ taken. (file : FileValue) → taken ≡ Some file →
-        HoldsUnder theirs.now id (Some file)) }
+fn taken(alloc: Global, theirs: &FileReplica, held: &[Id]) -> Result<Option<SharedFile>, Memory>
+    requires { IsRisingBy (λ other. other) held.now }
+    ensures taken { IfOk result (IsTaken held.now theirs.now) }
+    ensures of_theirs { IfOk result (λ taken. (file : FileValue) → taken ≡ Some file → file ≡ theirs.now) }
 {
-    if !is_among(held, id) {
+    if !is_among(held, theirs.id) {
         return Ok(None);
     }
-    Ok(Some(theirs.share(id)?))
+    let file = theirs.copy(alloc)?;
+    let shared = SharedFile::of(alloc, file)?;
+    Ok(Some(shared))
 }
 
 // What stands for a new file in place of mine, unless mine stay.
@@ -104,7 +96,7 @@ fn change(
     let _count = news.len();
     match new.mine {
         Some(file) => merged_change(alloc, file, new.theirs),
-        None => taken(news.theirs(), new.theirs.id, held),
+        None => taken(alloc, new.theirs, held),
     }
 }
 
@@ -143,8 +135,7 @@ fn changes(alloc: Global, news: &News<'_>, held: &[Id]) -> Result<Vec<SharedFile
     Ok(changes)
 }
 
-/// What the files make together, as `merge_files` says of the two lists. What is taken is shared with theirs, and all that
-/// stays with mine.
+/// What the files make together, as `merge_files` says of the two lists. All that stays is shared with mine.
 pub fn merge_news(alloc: Global, news: &News<'_>, held: &Entries) -> Result<Files, Memory>
     requires { Fit news.now.mine news.now.theirs }
     ensures merged { IfOk result (AreMergedFiles (touched_by held.now) news.now.mine news.now.theirs) }

@@ -21,7 +21,7 @@ pub struct NewFile<'a> {
 #[derive(Drop)]
 pub struct News<'a> {
     mine: &'a Files,
-    theirs: &'a Files,
+    theirs: FilesInOrder<'a>,
     files: Vec<NewFile<'a>>,
 }
 
@@ -30,20 +30,20 @@ impl<'a> Model for News<'a> {
 
     ghost Value = { Sides };
 
-    ghost view = { λ n. record { mine = n.mine.now; theirs = n.theirs.now; new = theirs_of n.files.items } };
+    ghost view = { λ n. record { mine = n.mine.now; theirs = n.theirs; new = theirs_of n.files.items } };
 
-    ghost invariant = { λ n. AreNews n.mine.now n.theirs.now n.files.items };
+    ghost invariant = { λ n. AreNews n.mine.now n.theirs n.files.items };
 }
 
 impl<'a> News<'a> {
     /// What is new, by one walk along the two lists.
-    pub fn of(alloc: Global, mine: &'a Files, theirs: &'a Files) -> Result<News<'a>, Memory>
+    pub fn of(alloc: Global, mine: &'a Files, theirs: FilesInOrder<'a>) -> Result<News<'a>, Memory>
+        requires { AreFiles theirs }
         ensures mine { IfOk result (λ news. news.mine ≡ mine.now) }
-        ensures theirs { IfOk result (λ news. news.theirs ≡ theirs.now) }
+        ensures theirs { IfOk result (λ news. news.theirs ≡ theirs.entry) }
     {
         let my_files = mine.in_order()?;
-        let their_files = theirs.in_order()?;
-        let files = found(alloc, &my_files, &their_files)?;
+        let files = found(alloc, &my_files, &theirs)?;
         Ok(News {
             mine,
             theirs,
@@ -83,13 +83,6 @@ impl<'a> News<'a> {
         ensures { result.now ≡ self.now.mine }
     {
         self.mine
-    }
-
-    /// All of theirs.
-    pub(crate) fn theirs(&self) -> &'a Files
-        ensures { result.now ≡ self.now.theirs }
-    {
-        self.theirs
     }
 }
 

@@ -49,6 +49,6 @@ pub fn merge_files(
     ensures merged { IfOk result (AreMergedFiles (touched_by held.now) mine.now theirs.now) }
     ensures files { IfOk result AreFiles }
 {
-    let news = News::of(alloc, mine, theirs)?;
+    let news = News::of(alloc, mine, theirs.in_order()?)?;
     merge_news(alloc, &news, held)
 }

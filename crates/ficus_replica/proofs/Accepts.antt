@@ -1,7 +1,7 @@
 -- `accept`: what was served is taken exactly where the history allows it; the new replica stands for the history with
 -- the Accept, and fits an image.
 use Rattle.std.proofs.Common.{◌≡◌, ℕ, ◌+◌, ◌-◌, ◌^◌, ◌<◌, ◌≤◌, List, [], ◌∷◌, ◌++◌, Option, Some, None, Result, Ok, Err, cond, refl, sym, ap, ap₂, subst, ◌∙◌, inl, inr, ◌⊎◌, arith}
-use Rattle.std.specs.Prelude.{Contains}
+use Rattle.std.specs.Prelude.{Contains, IfOk}
 use Rattle.std.proofs.lemmas.Bool.{cases_order}
 use Rattle.std.proofs.lemmas.List.Elements.{All-contains_itself, All-weaker}
 use Rattle.std.proofs.lemmas.List.Sums.{sum_by-take-le}
@@ -121,7 +121,7 @@ answer_to volume H r from number entries files serve lawful served may =
     record { lawful = lawful; may = may; by = of_at served.served }
 
 -- what the entries name or lie in, in the terms of the laws
-touched_same : (entries : List Entry) → AreTouched entries (touched_by entries)
+pub touched_same : (entries : List Entry) → AreTouched entries (touched_by entries)
 touched_same entries id = (
   λ inside.
       let found = (touched_is entries id).0 inside in
@@ -296,3 +296,11 @@ accepted_fits from number entries files old new fits tables generation accepted 
     old.saved.files
     files accepted.both fits.me (tables_of fits) (record { tables = tables; past = accepted.fits.past }) merged.rising
     merged.merges merged.held merged.merges_files))
+
+pub gives_fits : (from number : ℕ) (entries : List Entry) (files : List FileReplica) (old : Replica)
+    (result : Result Replica Refusal) → FitsImage old.saved → FitsTables old.saved.members entries files →
+    old.saved.generation < 2 ^ 63 - 1 → AcceptGives old from number entries files result →
+    IfOk result (λ replica. FitsImage replica.saved)
+gives_fits from number entries files old (Ok new) fits tables generation gives =
+    accepted_fits from number entries files old new fits tables generation gives
+gives_fits from number entries files old (Err refusal) fits tables generation gives = tt

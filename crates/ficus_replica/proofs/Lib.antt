@@ -15,3 +15,6 @@ pub mod Events
 pub mod Asks
 pub mod Accepts
 pub mod Pulls
+pub mod Counting
+pub mod Leaving
+pub mod Collects

@@ -38,6 +38,9 @@ ask_is_saved r to = search rules
 pub accept_is_saved : (r serve : ℕ) → is_saved r (Accept r serve) ≡ true
 accept_is_saved r serve = search rules
 
+pub collect_is_saved : (r : ℕ) → is_saved r (Collect r) ≡ true
+collect_is_saved r = search rules
+
 pub generation_saved : (r : ℕ) (H : List Event) (event : Event) → is_saved r event ≡ true →
     generation_of r (H ++ event ∷ []) ≡ generation_of r H + 1
 generation_saved r H event is = counted_one (is_saved r) H event is

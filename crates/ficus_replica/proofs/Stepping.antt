@@ -1,10 +1,10 @@
 -- The tables that the code makes are what the operation makes of the replica's, and fit.
-use Rattle.std.proofs.Common.{◌≡◌, ◌≢◌, Bool, true, false, if◌then◌else◌, ℕ, ◌+◌, ◌≤◌, List, [], ◌∷◌, length, inl, inr, slice_get, take, Some, Result, Ok, Err, refl, sym, ap, subst, ◌∙◌, arith}
+use Rattle.std.proofs.Common.{◌≡◌, ◌≢◌, Bool, true, false, if◌then◌else◌, ℕ, ◌+◌, ◌≤◌, List, [], ◌∷◌, length, inl, inr, Some, Result, Ok, Err, refl, sym, ap, subst, ◌∙◌, arith}
 use Rattle.std.specs.Prelude.{All, Contains, codes, nat_le}
 use Rattle.std.specs.List.{AllByRecursion}
 use Rattle.std.proofs.lemmas.Bool.Decides.{leb_tells}
 use Rattle.std.proofs.lemmas.Bool.{eqb-true, eq-eqb, false≢true}
-use Rattle.std.proofs.lemmas.List.Elements.{All-contains, All-from_recursion, All-push, All-weaker}
+use Rattle.std.proofs.lemmas.List.Elements.{All-contains, All-from_recursion, All-weaker}
 use Rattle.ficus_ids.specs.ListLaws.{here, here_or_there, not_inside_none}
 use Rattle.ficus_ids.specs.Members.{IsMember}
 use Rattle.ficus_ids.specs.Name.{IsName, IsNameByte}
@@ -26,7 +26,6 @@ use Rattle.ficus_file.specs.declared.file.FileReplica.{FileReplica}
 use Rattle.ficus_model.specs.declared.event.Op.{Op}
 use Rattle.ficus_model.specs.declared.event.Op.TheVariants.{Make, Link, Remove, Move, Write, Settle, Resolve, Adopt, Discard}
 use Rattle.ficus_model.specs.Live.{entry_of}
-use Rattle.ficus_touched.proofs.Kept.{take_next}
 use Rattle.ficus_saved.specs.Saved.{FitsImage, IsEntryOfPast, IsFileOfPast}
 use Rattle.ficus_saved.specs.Laws.{FitsReplica}
 use Rattle.ficus_saved.specs.Tables.{FitsAttic, FitsFile, FitsState, HasObjectsIn}
@@ -46,12 +45,6 @@ use Rattle.ficus_answers.specs.View.{held_as, held_live}
 use Rattle.ficus_replica.specs.Effect.{GivesName, IsStepped, attic_place, MayMake, MayLink, MayRemove, MayMove, MayWrite, next_id}
 use Rattle.ficus_replica.specs.Effect.GivesName.{Links, Adopts}
 use Rattle.ficus_replica.proofs.Tables.{tables_of, entered_none, entered_one, entered_removed}
-
--- what is so of the items before an index, and of the one at it, is so of those before the next
-pub all_more : {X : Type 0} (P : X → Type 0) (xs : List X) (index : ℕ) (x : X) → slice_get xs index ≡ Some x →
-    All P (take index xs) → P x → All P (take (index + 1) xs)
-all_more P xs index x at before is =
-    subst (All P) (sym (take_next xs index x at)) (All-push P (take index xs) x before is)
 
 -- what writes enters no entry and removes none
 enters_nothing : (by : ℕ) (number : Id) (entries : List Entry) (op : Op) (file : Id) (bytes : List ℕ) →

@@ -58,6 +58,11 @@ AcceptGives old from number entries files (Err BadMessage) =
 AcceptGives old from number entries files (Err Memory) = IsOpen old from number
 AcceptGives old from number entries files (Err other) = ⊥
 
+-- the same where whose tables they are was found to be the one that was asked
+abbrev pub TakeGives : Replica → List Entry → List FileReplica → Result Replica Refusal → Type 0
+TakeGives old entries files result =
+    (from number : ℕ) → IsOpen old from number → AcceptGives old from number entries files result
+
 -- the tables are those that replica s served at a position, in answer to the ask of replica r with this number
 pub record IsServed (volume : Volume) (H : List Event) (r s number : ℕ) (entries : List Entry)
     (files : List FileReplica) (serve : ℕ) : Type 0 where

@@ -4,3 +4,4 @@ pub mod Effect
 pub mod Change
 pub mod Ask
 pub mod Accept
+pub mod Collect

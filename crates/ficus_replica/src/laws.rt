@@ -12,8 +12,10 @@ ghost use Rattle.ficus_rules.specs.Alike.{AreAlike};
 ghost use Rattle.ficus_rules.specs.View.{history_view};
 ghost use Rattle.ficus_model.specs.declared.event.Event.{Event};
 ghost use Rattle.ficus_replica.specs.Change.{ChangeGives, ChangeStands};
+ghost use Rattle.ficus_replica.specs.Collect.{CollectGives, Garbage, IsGarbage};
 ghost use Rattle.ficus_replica.specs.Look.{LookGives, LookStands};
 ghost use Rattle.ficus_replica.specs.SavedOf.{IsSavedOf, StandsFor};
+ghost use Rattle.ficus_replica.specs.declared.collect.Collected.{Collected};
 ghost use Rattle.ficus_replica.specs.declared.replica.Next.{Next};
 ghost use Rattle.ficus_replica.specs.declared.replica.Replica.{Replica};
 
@@ -51,4 +53,15 @@ pub fn changes_stand()
         → FitsImage replica.saved → ChangeGives replica change result
         → (volume : Volume) (H : List Event) → IsLawful volume H → StandsFor volume H replica.saved.me replica
         → ChangeStands volume H replica.saved.me change result }
+{}
+
+/// What a replica holds allows one outcome of a collection.
+pub fn one_collection()
+    ensures { (old : Replica) (one other : Collected) → CollectGives old one → CollectGives old other → one ≡ other }
+{}
+
+/// After a history a collection of a replica gives up one number of entries and one of objects.
+pub fn one_garbage()
+    ensures { (members : ℕ) (H : List Event) (replica : ℕ) (one other : Garbage)
+        → IsGarbage members H replica one → IsGarbage members H replica other → one ≡ other }
 {}

@@ -21,3 +21,9 @@ module _ {X : Type 0} (P : X → Type 0) where
       by_case : (other : X) → Contains old other ⊎ (other ≡ item) → P other
       by_case other (inl was) = All-contains P old other all was
       by_case other (inr is) = subst P (sym is) one
+
+  -- and of all items of a list that has only items of another
+  pub all_within : (whole part : List X) → ((x : X) → Contains part x → Contains whole x) → All P whole → All P part
+  all_within whole part within all =
+      All-weaker (Contains part) P (λ x inside. All-contains P whole x all (within x inside))
+      part (All-contains_itself part)

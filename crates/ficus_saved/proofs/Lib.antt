@@ -1,9 +1,13 @@
+pub mod AllRows
 pub mod ChangedTables
 pub mod CountFits
+pub mod Countable
 pub mod FileFits
 pub mod Held
 pub mod KilledTables
 pub mod MergeFits
 pub mod MergedFiles
 pub mod MergedTables
+pub mod ReclaimedTables
+pub mod TableFiles
 pub mod Touched

@@ -1,6 +1,6 @@
 -- The laws of tables that fit, as the law functions state them.
-use Rattle.std.specs.Prelude.{◌≢◌, ℕ, ◌+◌, ◌≤◌, List, length}
-use Rattle.ficus_ids.specs.Members.{IsMember}
+use Rattle.std.specs.Prelude.{◌≢◌, ℕ, ◌+◌, ◌^◌, ◌<◌, ◌≤◌, List, length}
+use Rattle.ficus_ids.specs.Members.{IsCount, IsMember}
 use Rattle.ficus_ids.specs.Name.{IsName}
 use Rattle.ficus_ids.specs.declared.id.Id.{Id}
 use Rattle.ficus_ids.specs.declared.id.TheConstants.{ATTIC}
@@ -15,6 +15,9 @@ use Rattle.ficus_entry.specs.declared.entry.State.TheVariants.{Live}
 use Rattle.ficus_file.specs.File.{made_file, advanced, covered_file}
 use Rattle.ficus_file.specs.Files.{AreFiles, Holds, IsChanged, HoldsFile}
 use Rattle.ficus_file.specs.declared.file.FileReplica.{FileReplica}
+use Rattle.ficus_file.specs.declared.orphan.Orphan.{Orphan}
+use Rattle.ficus_gc.specs.Reclaim.{IsReclaimed}
+use Rattle.ficus_gc.specs.declared.reclaiming.Reclaimed.{Reclaimed}
 use Rattle.ficus_recon_dir.specs.Merge.{MergesEntries}
 use Rattle.ficus_recon_file.specs.Merge.{AreMergedFiles}
 use Rattle.ficus_saved.specs.Limits.{update_limit, file_limit}
@@ -34,6 +37,13 @@ MergedTablesFit = (members me next : ℕ) (mine theirs merged : List Entry) (fil
     IsRising merged → MergesEntries me members mine theirs merged →
     AreFiles both → AreMergedFiles (touched_by merged) files others both →
     FitsReplica members me next merged both
+
+-- what a collection leaves of tables that fit fits
+abbrev pub ReclaimedTablesFit : Type 0
+ReclaimedTablesFit = (members me next : ℕ) (entries : List Entry) (files : List FileReplica) (orphans : List Orphan)
+    (reclaimed : Reclaimed) →
+    FitsReplica members me next entries files → IsReclaimed members entries files orphans reclaimed →
+    FitsReplica members me next reclaimed.entries reclaimed.files
 
 -- with one more object and an entry for it fits what fits, for the next update of the replica
 abbrev pub MadeTablesFit : Type 0
@@ -83,3 +93,13 @@ CoveredTablesFit = (members me next : ℕ) (file : Id) (entries : List Entry) (f
     FitsReplica members me next entries files →
     AreFiles after → IsChanged files after file covered_file →
     FitsReplica members me (next + 1) entries after
+
+-- so many entries and files that their number takes four bytes at most
+pub record AreCountable (entries : List Entry) (files : List FileReplica) : Type 0 where
+  pub few_entries : length entries < 2 ^ 32
+  pub few_files : length files < 2 ^ 32
+
+-- tables that fit have no more
+abbrev pub TablesAreCountable : Type 0
+TablesAreCountable = (members : ℕ) (entries : List Entry) (files : List FileReplica) → IsCount members →
+    FitsTables members entries files → AreCountable entries files

@@ -1,6 +1,6 @@
 ghost use Rattle.std.specs.Prelude.{◌≡◌};
 ghost use Rattle.ficus_saved.specs.Limits.{update_limit, byte_limit, file_limit};
-ghost use Rattle.ficus_saved.specs.Laws.{MergedTablesFit, MadeTablesFit, EnteredTablesFit, WrittenTablesFit, KilledTablesFit, CoveredTablesFit};
+ghost use Rattle.ficus_saved.specs.Laws.{MergedTablesFit, ReclaimedTablesFit, MadeTablesFit, EnteredTablesFit, WrittenTablesFit, KilledTablesFit, CoveredTablesFit, TablesAreCountable};
 
 use crate::{BYTE_LIMIT, FILE_LIMIT, UPDATE_LIMIT};
 
@@ -14,6 +14,16 @@ pub fn limits()
 /// What the merge of entries and the merge of files make of tables that fit fits too.
 pub fn merged_tables_fit()
     ensures { MergedTablesFit }
+{}
+
+/// What a collection leaves of tables that fit fits too: each entry that is left has its objects still.
+pub fn reclaimed_tables_fit()
+    ensures { ReclaimedTablesFit }
+{}
+
+/// Tables that fit have fewer than 2^32 entries and files each.
+pub fn tables_are_countable()
+    ensures { TablesAreCountable }
 {}
 
 /// What a new object with its entry, one more entry of an object that is held, removed entries, a new version and

@@ -36,7 +36,7 @@ orphan_of (Orphan id) = id
 abbrev commands_with : Option ℕ → Arguments → List Command
 commands_with (Some by) Nothing =
     command.Look by Tree ∷ command.Look by Conflicts ∷ command.Look by Orphans ∷ command.Look by Detached
-    ∷ command.Look by Marks ∷ []
+    ∷ command.Look by Marks ∷ command.Collect by ∷ []
 commands_with (Some by) (OnePath path) =
     command.Change by (MkDir path) ∷ command.Change by (Rm path) ∷ command.Change by (Resolve path)
     ∷ command.Change by (Discard (orphan_of path.base)) ∷ command.Look by (Ls path) ∷ command.Look by (Read path) ∷ command.Look by (Versions path) ∷ []
@@ -99,6 +99,7 @@ listed (command.Look by Conflicts) = record { letters = refl; found = refl }
 listed (command.Look by Orphans) = record { letters = refl; found = refl }
 listed (command.Look by Detached) = record { letters = refl; found = refl }
 listed (command.Look by Marks) = record { letters = refl; found = refl }
+listed (command.Collect by) = record { letters = refl; found = refl }
 listed (command.Ask by to) = record { letters = refl; found = refl }
 listed (command.Give mail) = record { letters = refl; found = refl }
 listed (command.Pull by to) = record { letters = refl; found = refl }

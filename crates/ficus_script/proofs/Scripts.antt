@@ -12,11 +12,11 @@ use Rattle.ficus_script.specs.Command.{IsCommand, command_text}
 use Rattle.ficus_script.specs.Line.{AddsLine}
 use Rattle.ficus_script.specs.Script.{lines_of, is_kept, IsScriptLine}
 
-abbrev AreFree : List ℕ → Type 0
+abbrev pub AreFree : List ℕ → Type 0
 AreFree line = AllByRecursion (λ byte. byte ≢ 10) line
 
 -- the first line goes up to the first byte 10
-line_cut : (line rest : List ℕ) → AreFree line → lines_of (line ++ 10 ∷ rest) ≡ line ∷ lines_of rest
+pub line_cut : (line rest : List ℕ) → AreFree line → lines_of (line ++ 10 ∷ rest) ≡ line ∷ lines_of rest
 line_cut [] rest free = refl
 line_cut (byte ∷ line) rest free =
     rw (ne_eqb byte 10 free.0) (ap (onto_first byte) (line_cut line rest free.1))

@@ -52,6 +52,7 @@ spelling_of (command.Look by Conflicts) = of_replica by (codes "conflicts") Noth
 spelling_of (command.Look by Orphans) = of_replica by (codes "orphans") Nothing
 spelling_of (command.Look by Detached) = of_replica by (codes "detached") Nothing
 spelling_of (command.Look by Marks) = of_replica by (codes "marks") Nothing
+spelling_of (command.Collect by) = of_replica by (codes "collect") Nothing
 spelling_of (command.Ask by to) = of_none (codes "ask") (TwoReplicas by to)
 spelling_of (command.Give mail) = of_none (codes "give") (OneNumber mail)
 spelling_of (command.Pull by to) = of_none (codes "pull") (TwoReplicas by to)
@@ -63,6 +64,7 @@ spelling_of (command.Restart by) = of_none (codes "restart") (OneNumber by)
 abbrev pub TakesArguments : Command → Type 0
 TakesArguments (command.Change by change) = HasFitPaths change
 TakesArguments (command.Look by look) = Unit {0}
+TakesArguments (command.Collect by) = Unit {0}
 TakesArguments (command.Ask by to) = Unit {0}
 TakesArguments (command.Give mail) = Unit {0}
 TakesArguments (command.Pull by to) = Unit {0}

@@ -11,6 +11,8 @@ pub enum Answer {
     Made(Id),
     /// It was done, and a message of this number was posted.
     Mail(u32),
+    /// It was done, and gave up so many removed entries and so many files and directories.
+    Collected { entries: u32, files: u32 },
     /// What the look told.
     Told(Told),
     /// Whether two replicas show the same.

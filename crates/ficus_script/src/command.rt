@@ -10,6 +10,9 @@ pub enum Command {
     /// A look at replica `by`: `R ls P`, `R read P`, `R versions P`, `R tree`, `R conflicts`,
     /// `R orphans`, `R detached`, `R marks`.
     Look { by: u8, look: Look },
+    /// `R collect`: replica `by` gives up each removed entry of which it knows that all members know that all know, and
+    /// the files and directories thus left.
+    Collect { by: u8 },
     /// `ask R S`: replica `by` asks replica `to` for its state.
     Ask { by: u8, to: u8 },
     /// `give M`: the message with this number is given to its receiver. An ask is served, and an answer is taken.

@@ -42,6 +42,7 @@ fn with_nothing(by: u8, verb: &[u8]) -> Option<Command>
         _ if verb == b"orphans".as_slice() => look(by, Look::Orphans),
         _ if verb == b"detached".as_slice() => look(by, Look::Detached),
         _ if verb == b"marks".as_slice() => look(by, Look::Marks),
+        _ if verb == b"collect".as_slice() => Some(Command::Collect { by }),
         _ => None,
     }
 }

@@ -1,7 +1,7 @@
 ghost use Rattle.std.specs.Prelude.{◌≡◌, [], ◌∷◌, ◌++◌, codes, IfOk, OnOk};
 ghost use Rattle.ficus_path.specs.Text.{quoted_text};
 ghost use Rattle.ficus_script.specs.Answer.{answer_text_of, told_text_of, count_line, counted_lines, mark_line, name_line, tree_line};
-ghost use Rattle.ficus_script.specs.Answer.{alike_text_of, clashes_text_of, id_line, orphan_line, vector_text, version_line};
+ghost use Rattle.ficus_script.specs.Answer.{alike_text_of, clashes_text_of, collected_text_of, id_line, orphan_line, vector_text, version_line};
 
 use crate::Answer;
 use crate::conflicts::{append_clash_lines, append_file_lines, append_orphan_line};
@@ -23,6 +23,7 @@ pub fn answer_text(alloc: Global, answer: &Answer) -> Result<Vec<u8>, Memory>
         Answer::Done => Ok(Vec::from_slice(alloc, b"ok\n")?),
         Answer::Made(id) => Ok(format!(in alloc; "ok {id}\n")?.into_bytes()),
         Answer::Mail(number) => Ok(format!(in alloc; "ok {number}\n")?.into_bytes()),
+        Answer::Collected { entries, files } => collected_text(alloc, *entries, *files),
         Answer::Told(told) => told_text(alloc, told),
         Answer::Alike(alike) => alike_text(alloc, *alike),
         Answer::Refused(refusal) => {
@@ -30,6 +31,12 @@ pub fn answer_text(alloc: Global, answer: &Answer) -> Result<Vec<u8>, Memory>
             Ok(format!(in alloc; "no {word}\n")?.into_bytes())
         }
     }
+}
+
+fn collected_text(alloc: Global, entries: u32, files: u32) -> Result<Vec<u8>, Memory>
+    ensures { IfOk result (λ text. text.items ≡ collected_text_of entries files) }
+{
+    Ok(format!(in alloc; "collected {entries} {files}\n")?.into_bytes())
 }
 
 fn alike_text(alloc: Global, alike: bool) -> Result<Vec<u8>, Memory>

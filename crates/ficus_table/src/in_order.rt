@@ -36,6 +36,15 @@ impl<'a, R: Row> InOrder<'a, R> {
         InOrder { seen }
     }
 
+    /// Rows that stand in no table, whose identifiers rise strictly.
+    pub fn over(alloc: Global, rows: &'a [R::Seen]) -> Result<InOrder<'a, R>, Memory>
+        requires { IsRisingBy R.id_of rows.now }
+        ensures { IfOk result (λ in_order. in_order ≡ rows.now) }
+    {
+        let seen = each_of(alloc, rows)?;
+        Ok(InOrder { seen })
+    }
+
     /// How many rows there are.
     pub fn len(&self) -> usize
         ensures value { result ≡ length self.now }
@@ -78,6 +87,17 @@ pub(crate) fn rows_of<R: Row>(alloc: Global, list: &PersistentList<R>) -> Result
     let mut rows = Vec::with_capacity(alloc, list.len())?;
     list.gather(&mut rows)?;
     Ok(rows)
+}
+
+/// Each of the rows, to be looked at.
+pub(crate) fn each_of<T>(alloc: Global, rows: &[T]) -> Result<Vec<&T>, Memory>
+    ensures { IfOk result (λ each. map (λ row. row.now) each.items ≡ rows.now) }
+{
+    let mut each = Vec::with_capacity(alloc, rows.len())?;
+    for row in rows {
+        each.push(row)?;
+    }
+    Ok(each)
 }
 
 // What the rows of a list show, in order.

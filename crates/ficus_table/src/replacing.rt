@@ -4,7 +4,7 @@ ghost use Rattle.ficus_ids.specs.Rising.{IsRisingBy, ReplacesBy};
 ghost use Rattle.ficus_table.specs.SideBySide.{as_list};
 
 use crate::entire::Entire;
-use crate::in_order::rows_of;
+use crate::in_order::{each_of, rows_of};
 use crate::table::putting;
 use crate::{InOrder, Row, SideBySide, Table};
 use ficus_ids::Memory;
@@ -115,15 +115,4 @@ fn push_copied<R: Row>(rows: &mut Vec<R>, row: Option<&R>) -> Result<(), Memory>
         rows.push(row.copied()?)?;
     }
     Ok(())
-}
-
-// Each of the rows, to be looked at.
-fn each_of<R: Row>(alloc: Global, rows: &[R]) -> Result<Vec<&R>, Memory>
-    ensures { IfOk result (λ each. map (λ row. row.now) each.items ≡ rows.now) }
-{
-    let mut each = Vec::with_capacity(alloc, rows.len())?;
-    for row in rows {
-        each.push(row)?;
-    }
-    Ok(each)
 }

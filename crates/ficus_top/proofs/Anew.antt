@@ -96,6 +96,7 @@ answers_where further front = record {
   };
   lawful = front.lawful;
   no_return = front.no_return;
+  final = front.final;
 }
 
 -- the fault of an answer is that of the run

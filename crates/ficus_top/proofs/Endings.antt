@@ -3,7 +3,7 @@ use Rattle.std.proofs.Common.{◌≡◌, ◌⊎◌, ℕ, ◌+◌, ◌<◌, ◌�
 use Rattle.std.specs.Prelude.{IsErrOf}
 use Rattle.std.specs.Fmt.{decimal}
 use Rattle.std.proofs.lemmas.Fmt.{decimal_injective}
-use Rattle.ficus_outside.specs.Faults.{Rose}
+use Rattle.ficus_faults.specs.Faults.{Rose}
 use Rattle.ficus_script.specs.declared.command.Command.{Command}
 use Rattle.ficus_script.specs.Script.{IsScript, IsFirstBadLine}
 use Rattle.ficus_top.specs.declared.fault.Fault.{Fault}

@@ -1,5 +1,5 @@
 ghost use Rattle.std.specs.Prelude.{◌≡◌, ◌≤◌, ◌++◌, OnOk, OnErr};
-ghost use Rattle.ficus_outside.specs.Faults.{Rose};
+ghost use Rattle.ficus_faults.specs.Faults.{Rose};
 ghost use Rattle.ficus_top.specs.Outside.{PutsFront};
 
 use ficus_outside::{Failed, Sink};

@@ -1,5 +1,5 @@
 ghost use Rattle.std.specs.Prelude.{◌≡◌, ◌↔◌, ◌+◌, ◌<◌, ◌≤◌, [], length, take, All, IfOk, OnOk, OnErr, IfErr, IsErrOf, IsTrue};
-ghost use Rattle.ficus_outside.specs.Faults.{Rose};
+ghost use Rattle.ficus_faults.specs.Faults.{Rose};
 ghost use Rattle.ficus_script.specs.Command.{IsCommand};
 ghost use Rattle.ficus_script.specs.Script.{IsScript};
 ghost use Rattle.ficus_top.specs.Headline.{script_limit};

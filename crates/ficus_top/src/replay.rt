@@ -1,6 +1,6 @@
 ghost use Rattle.std.specs.Prelude.{◌≡◌, ◌≢◌, ◌⊎◌, ◌↔◌, ◌+◌, ◌<◌, ◌≤◌, ℕ, List, [], ⊤, length, All, OnOk, IfErr, IsErrOf};
 ghost use Rattle.ficus_ids.specs.Members.{IsCount};
-ghost use Rattle.ficus_outside.specs.Faults.{Rose};
+ghost use Rattle.ficus_faults.specs.Faults.{Rose};
 ghost use Rattle.ficus_script.specs.Command.{IsCommand};
 ghost use Rattle.ficus_script.specs.Script.{IsScript, IsFirstBadLine};
 ghost use Rattle.ficus_script.specs.declared.command.Command.{Command as CommandValue};
@@ -59,7 +59,8 @@ pub fn ficus<S: Source, K: Sink>(
     ensures write_fault_comes { K.faults output.old < K.faults output.new → result.code ≡ 5 }
 
     // With code 0, what was put are the texts of the answers to the script's commands, and the source is empty. The
-    // history that they leave is lawful, and nothing removed returns in it, here and below.
+    // history that they leave is lawful, nothing removed returns in it, and what is given up is given up for good,
+    // here and below.
     ensures answers { S.tells → result.code ≡ 0 → (members : ℕ) → AreWords (texts words.now.items) members
         → Answers K.tells members (S.left input.old) (K.written output.old) (K.written output.new)
         × (S.left input.new ≡ []) }

@@ -3,4 +3,4 @@
 
 mod touching;
 
-pub use touching::touched;
+pub use touching::{is_among, touched};

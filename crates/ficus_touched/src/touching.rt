@@ -1,4 +1,4 @@
-ghost use Rattle.std.specs.Prelude.{◌≡◌, ◌↔◌, ◌∷◌, ◌++◌, [], length, List, Contains, IfOk};
+ghost use Rattle.std.specs.Prelude.{◌≡◌, ◌↔◌, ◌∷◌, ◌++◌, [], length, List, Contains, IsTrue, IfOk};
 ghost use Rattle.ficus_ids.specs.Rising.{IsRisingBy};
 ghost use Rattle.ficus_ids.specs.declared.id.Id.{Id as IdValue};
 ghost use Rattle.ficus_touched.specs.Touched.{touched_by, HasMark, AreMarked};
@@ -60,4 +60,12 @@ fn marked(alloc: Global, ids: &[Id], marks: &[bool]) -> Result<Vec<Id>, Memory>
         }
     }
     Ok(kept)
+}
+
+/// Whether the identifier is one of these, which rise strictly. It takes time for a logarithm of them alone.
+pub fn is_among(ids: &[Id], id: Id) -> bool
+    requires { IsRisingBy (λ other. other) ids.now }
+    ensures { IsTrue result ↔ Contains ids.now id }
+{
+    ids.binary_search(&id).is_ok()
 }

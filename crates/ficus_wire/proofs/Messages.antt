@@ -1,5 +1,6 @@
 -- Where bytes spell no message, and that no message's spelling begins another's.
-use Rattle.std.specs.Prelude.{◌≡◌, ℕ, List, [], ◌∷◌, ◌++◌}
+use Rattle.std.specs.Prelude.{◌≡◌, ℕ, List, [], ◌∷◌, ◌++◌, Result, Ok, Err}
+use Rattle.std.specs.Result.{IsErrAnd}
 use Rattle.std.proofs.Common.{sym, ap, ◌∙◌, arith, refl}
 use Rattle.std.proofs.lemmas.List.{append-nil}
 use Rattle.ficus_ids.specs.Members.{IsCount}
@@ -9,12 +10,15 @@ use Rattle.ficus_formats.specs.declared.fault.ReadFault.{ReadFault}
 use Rattle.ficus_formats.specs.declared.fault.ReadFault.TheVariants as read
 use Rattle.ficus_formats.specs.Format.{IsUnique, Begins, Spells, byte, number64, ◌then◌}
 use Rattle.ficus_formats.specs.Unique.{unique-byte, unique-number64, unique-then, unique-shaped, unique-meeting}
+use Rattle.ficus_saved.proofs.TableFiles.{are_files}
 use Rattle.ficus_codec.specs.Formats.{tables}
 use Rattle.ficus_codec.proofs.TableFormats.{unique-tables}
+use Rattle.ficus_wire.specs.declared.message.Letter.{Letter}
+use Rattle.ficus_wire.specs.declared.message.Letter.TheVariants as letters
 use Rattle.ficus_wire.specs.declared.message.Message.{Message}
 use Rattle.ficus_wire.specs.declared.message.Message.TheVariants.{Ask, Answer}
 use Rattle.ficus_wire.specs.declared.message.Route.{Route}
-use Rattle.ficus_wire.specs.Message.{IsRoute, route_parts, route_fields, route, answer, way, message, message_bytes, FitsMessage}
+use Rattle.ficus_wire.specs.Message.{IsRoute, route_parts, route_fields, route, answer, way, message, message_of, message_bytes, FitsMessage, HasTables, ReadsLetter}
 
 pub route_narrows : (members : ℕ) (w : Route) → IsRoute members w → route_fields.fits w
 route_narrows members w fits = (tt, (tt, fits.number))
@@ -90,3 +94,15 @@ pub read_one : (members : ℕ) (bytes : List ℕ) (n : Message) → IsCount memb
 read_one members bytes n few spells m fits is =
     (one_message members n m [] [] few spells.fits fits
     (append-nil (message_bytes members n) ∙ sym spells.is ∙ is ∙ sym (append-nil (message_bytes members m)))).0
+
+-- an error that is passed on
+pub passed_letter : (members : ℕ) (before : List ℕ) (result : Result Letter ReadFault) (fault : ReadFault) →
+    IsErrAnd result (λ given. given ≡ fault) →
+    (fault ≡ read.Unspelled → (m : Message) → Spells (message members) m before → ⊥) → ReadsLetter members before result
+passed_letter members before (Ok letter) fault is none = absurd is
+passed_letter members before (Err given) fault is none = rw is none
+
+-- the rows of a message that fits are those of lists
+pub has_tables : (members : ℕ) (letter : Letter) → FitsMessage members (message_of letter) → HasTables letter
+has_tables members (letters.Ask from to number) fits = tt
+has_tables members (letters.Answer from to number es fs) fits = (fits.1.rising, are_files members es fs fits.1)

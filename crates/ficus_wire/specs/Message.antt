@@ -1,10 +1,16 @@
 -- Messages: which there are, and how each is spelled.
-use Rattle.std.specs.Prelude.{◌≢◌, ℕ, ◌<◌, ◌^◌, List, ◌∷◌}
+use Rattle.std.specs.Prelude.{◌≡◌, ◌≢◌, ℕ, ◌<◌, ◌^◌, List, ◌∷◌, Result, Ok, Err}
 use Rattle.ficus_ids.specs.Members.{IsMember}
+use Rattle.ficus_entry.specs.Entry.{IsRising}
 use Rattle.ficus_entry.specs.declared.entry.Entry.{Entry}
+use Rattle.ficus_file.specs.Files.{AreFiles}
 use Rattle.ficus_file.specs.declared.file.FileReplica.{FileReplica}
-use Rattle.ficus_formats.specs.Format.{Format, byte, number64, ◌then◌, shaped, meeting}
+use Rattle.ficus_formats.specs.Format.{Format, byte, number64, ◌then◌, shaped, meeting, Spells}
+use Rattle.ficus_formats.specs.declared.fault.ReadFault.{ReadFault}
+use Rattle.ficus_formats.specs.declared.fault.ReadFault.TheVariants.{Unspelled}
 use Rattle.ficus_codec.specs.Formats.{tables}
+use Rattle.ficus_wire.specs.declared.message.Letter.{Letter}
+use Rattle.ficus_wire.specs.declared.message.Letter.TheVariants as letter
 use Rattle.ficus_wire.specs.declared.message.Message.{Message}
 use Rattle.ficus_wire.specs.declared.message.Message.TheVariants.{Ask, Answer}
 use Rattle.ficus_wire.specs.declared.message.Route.{Route}
@@ -47,3 +53,24 @@ FitsMessage members (Answer from to number entries files) =
 
 abbrev pub message : ℕ → Format Message
 message members = record { spell = message_bytes members; fits = FitsMessage members }
+
+-- the message that a letter is
+abbrev pub message_of : Letter → Message
+message_of (letter.Ask from to number) = Ask from to number
+message_of (letter.Answer from to number entries files) = Answer from to number entries files
+
+-- what was to be read, as messages
+abbrev pub messages_of : {E : Type 0} → Result Letter E → Result Message E
+messages_of (Ok read) = Ok (message_of read)
+messages_of (Err fault) = Err fault
+
+-- what reading a letter gives: the message that the bytes spell, from the first to the last, or a fault, `Unspelled`
+-- only where they spell none
+abbrev pub ReadsLetter : ℕ → List ℕ → Result Letter ReadFault → Type 0
+ReadsLetter members bytes (Ok read) = Spells (message members) (message_of read) bytes
+ReadsLetter members bytes (Err fault) = fault ≡ Unspelled → (m : Message) → Spells (message members) m bytes → ⊥
+
+-- the rows of an answer are those of lists: the identifiers rise, and the files may be held
+abbrev pub HasTables : Letter → Type 0
+HasTables (letter.Ask from to number) = Unit {0}
+HasTables (letter.Answer from to number entries files) = IsRising entries × AreFiles files

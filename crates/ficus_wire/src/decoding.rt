@@ -1,16 +1,16 @@
 ghost use Rattle.std.specs.Prelude.{◌≡◌, List, ℕ, ◌++◌, IfOk, IsErrOf};
 ghost use Rattle.ficus_ids.specs.Members.{IsCount};
 ghost use Rattle.ficus_formats.specs.Format.{Reads, ReadsAll};
-ghost use Rattle.ficus_wire.specs.Message.{route, answer, message, message_bytes, FitsMessage};
+ghost use Rattle.ficus_wire.specs.Message.{route, answer, message, message_of, message_bytes, FitsMessage, HasTables, ReadsLetter};
 ghost use Rattle.ficus_wire.specs.declared.message.Message.{Message as MessageValue};
 
 use crate::message::Route;
-use crate::{Message, WireFault};
-use ficus_codec::read_all_tables;
-use ficus_entry::Entries;
-use ficus_file::Files;
+use crate::{Letter, Message, WireFault};
+use ficus_codec::read_all_lists;
+use ficus_entry::{Entries, Entry};
+use ficus_file::{FileReplica, Files};
 use ficus_formats::{ReadFault, Reader};
-use ficus_ids::Members;
+use ficus_ids::{Listed, Members, Memory};
 use std::alloc::Global;
 
 // From whom to whom a message goes, two different members, and the number of its ask.
@@ -44,18 +44,18 @@ fn read_answer(
     alloc: Global,
     reader: Reader<'_>,
     members: Members,
-) -> Result<(Route, (Entries, Files)), ReadFault>
+) -> Result<(Route, (Listed<Entry>, Listed<FileReplica>)), ReadFault>
     ensures { ReadsAll (answer members) reader.entry result }
 {
     let mut rest = reader;
     let way = read_route(&mut rest, members)?;
-    let tables = read_all_tables(alloc, rest, members)?;
+    let tables = read_all_lists(alloc, rest, members)?;
     Ok((way, tables))
 }
 
-// The message that the bytes spell which are left.
-fn read_message(alloc: Global, reader: Reader<'_>, members: Members) -> Result<Message, ReadFault>
-    ensures { ReadsAll (message members) reader.entry result }
+// The message that the bytes spell which are left, from the first to the last.
+fn read_message(alloc: Global, reader: Reader<'_>, members: Members) -> Result<Letter, ReadFault>
+    ensures { ReadsLetter members reader.entry result }
 {
     let mut rest = reader;
     if rest.byte()? != 1 {
@@ -64,11 +64,11 @@ fn read_message(alloc: Global, reader: Reader<'_>, members: Members) -> Result<M
     match rest.byte()? {
         1 => {
             let Route { from, to, number } = read_ask(rest, members)?;
-            Ok(Message::Ask { from, to, number })
+            Ok(Letter::Ask { from, to, number })
         }
         2 => {
             let (Route { from, to, number }, (entries, files)) = read_answer(alloc, rest, members)?;
-            Ok(Message::Answer {
+            Ok(Letter::Answer {
                 from,
                 to,
                 number,
@@ -77,6 +77,46 @@ fn read_message(alloc: Global, reader: Reader<'_>, members: Members) -> Result<M
             })
         }
         _ => Err(ReadFault::Unspelled),
+    }
+}
+
+/// The message between members that the bytes spell, from the first to the last, as it is read. `NotMessage` comes
+/// exactly where they spell none.
+pub fn read_letter(alloc: Global, bytes: &[u8], members: Members) -> Result<Letter, WireFault>
+    ensures fits { IfOk result (λ letter. FitsMessage members (message_of letter)) }
+    ensures spelled { IfOk result (λ letter. bytes.now ≡ message_bytes members (message_of letter)) }
+    ensures not_message { IsErrOf result WireFault.NotMessage →
+        (m : MessageValue) → FitsMessage members m → bytes.now ≡ message_bytes members m → ⊥ }
+{
+    let _ = members.count();
+    let letter = read_message(alloc, Reader::new(bytes), members)?;
+    Ok(letter)
+}
+
+// The message of a letter.
+fn message_in(alloc: Global, letter: Letter) -> Result<Message, Memory>
+    requires { HasTables letter }
+    ensures { IfOk result (λ m. m ≡ message_of letter) }
+{
+    match letter {
+        Letter::Ask { from, to, number } => Ok(Message::Ask { from, to, number }),
+        Letter::Answer {
+            from,
+            to,
+            number,
+            entries,
+            files,
+        } => {
+            let entries = Entries::of(alloc, entries.items())?;
+            let files = Files::of(alloc, files.into_vec())?;
+            Ok(Message::Answer {
+                from,
+                to,
+                number,
+                entries,
+                files,
+            })
+        }
     }
 }
 
@@ -91,8 +131,11 @@ pub fn decode(alloc: Global, bytes: &[u8], members: Members) -> Result<Message, 
         (m : MessageValue) → FitsMessage members m → bytes.now ≡ message_bytes members m → ⊥ }
 {
     let _ = members.count();
-    let message = read_message(alloc, Reader::new(bytes), members)?;
-    Ok(message)
+    let letter = read_letter(alloc, bytes, members)?;
+    match message_in(alloc, letter) {
+        Ok(message) => Ok(message),
+        Err(Memory) => Err(WireFault::Memory),
+    }
 }
 
 /// The law that no message has the spelling of another, and that no spelling begins another. It does nothing when it

@@ -1,5 +1,6 @@
-use ficus_entry::Entries;
-use ficus_file::Files;
+use ficus_entry::{Entries, Entry};
+use ficus_file::{FileReplica, Files};
+use ficus_ids::Listed;
 
 /// What one replica sends to another.
 #[derive(Drop)]
@@ -17,6 +18,25 @@ pub enum Message {
         number: u64,
         entries: Entries,
         files: Files,
+    },
+}
+
+/// A message as it is read, before its tables are made from their rows: who takes them walks along them once.
+#[derive(Drop)]
+pub enum Letter {
+    /// As [`Message::Ask`].
+    Ask {
+        from: u8,
+        to: u8,
+        number: u64,
+    },
+    /// As [`Message::Answer`].
+    Answer {
+        from: u8,
+        to: u8,
+        number: u64,
+        entries: Listed<Entry>,
+        files: Listed<FileReplica>,
     },
 }
 

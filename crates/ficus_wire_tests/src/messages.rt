@@ -1,4 +1,5 @@
 // Messages that are written out, and all that differ from them in a byte or in their length.
+use crate::variants::{Grammar, reads_variants};
 use ficus_ids::{Members, Memory};
 use ficus_wire::{Message, WireFault, decode, encode};
 use std::alloc::Global;
@@ -33,54 +34,31 @@ fn is_message(bytes: &[u8]) -> bool {
     front[0] == 1 && is_routed && (is_ask || is_answer)
 }
 
-// Whether the bytes are read exactly where they are a message, and the message is spelled by them.
-fn reads_exactly(alloc: Global, bytes: &[u8], members: Members) -> Result<bool, Memory> {
-    match decode(alloc, bytes, members) {
-        Ok(message) => {
-            let again = encode(alloc, &message, members)?;
-            Ok(is_message(bytes) && again.as_slice() == bytes)
-        }
-        Err(WireFault::NotMessage) => Ok(!is_message(bytes)),
-        Err(WireFault::Memory) => Err(Memory),
-    }
-}
-
-// The same of all that differ from the bytes in the one at the index.
-fn reads_changes(
-    alloc: Global,
-    bytes: &mut [u8],
-    index: usize,
+/// Messages between so many members.
+#[derive(Drop)]
+struct Messages {
     members: Members,
-) -> Result<bool, Memory> {
-    for value in 0..256u16 {
-        if let Some(byte) = bytes.get_mut(index) {
-            *byte = value.to_be_bytes()[1];
-        }
-        if !reads_exactly(alloc, bytes, members)? {
-            return Ok(false);
-        }
-    }
-    Ok(true)
 }
 
-// The same of each front of the bytes, and of all that differ from them in one byte.
-fn reads_all(alloc: Global, bytes: &[u8], members: Members) -> Result<bool, Memory> {
-    for index in 0..bytes.len() {
-        let mut changed = bytes.to_vec(alloc)?;
-        if !reads_exactly(alloc, &bytes[..index], members)?
-            || !reads_changes(alloc, &mut changed, index, members)?
-        {
-            return Ok(false);
+impl Grammar for Messages {
+    fn reads_exactly(&self, alloc: Global, bytes: &[u8]) -> Result<bool, Memory> {
+        match decode(alloc, bytes, self.members) {
+            Ok(message) => {
+                let again = encode(alloc, &message, self.members)?;
+                Ok(is_message(bytes) && again.as_slice() == bytes)
+            }
+            Err(WireFault::NotMessage) => Ok(!is_message(bytes)),
+            Err(WireFault::Memory) => Err(Memory),
         }
     }
-    reads_exactly(alloc, bytes, members)
 }
 
 #[test]
 fn reads_the_grammar_and_nothing_else(rt: HostRuntime) -> Result<(), Fail> {
     let members = Members::new(2).ok_or("two")?;
-    assert!(rt; reads_all(rt.alloc(), &ASK, members)?);
-    assert!(rt; reads_all(rt.alloc(), &ANSWER, members)?);
+    let messages = Messages { members };
+    assert!(rt; reads_variants(&messages, rt.alloc(), &ASK)?);
+    assert!(rt; reads_variants(&messages, rt.alloc(), &ANSWER)?);
     for bytes in REFUSED {
         assert!(rt;
             matches!(

@@ -1,4 +1,5 @@
 // Tables that are written out, and what is no tables.
+use crate::variants::{Change, changed};
 use ficus_codec::{
     TakeFault, put_tables, take_id, take_tables, take_u8, take_u16, take_u32, take_u64,
 };
@@ -26,13 +27,8 @@ const APART: [u8; 44] = [
     0, 0, 0, 0, 0, 0, 0, 0, 0, 0, 0, 0, 0,
 ];
 
-/// A byte of tables that is changed, so that they are no tables any more.
-#[derive(Drop)]
-struct Change {
-    place: usize,
-    byte: u8,
-}
-
+// Bytes of tables that are changed, so that they are no tables any more.
+//
 // Of the directory: a count that is too great; an identifier of no member and one of no update; a directory that is no
 // place; a live entry of the attic; a name of no byte, and one with `#`; a target that isn't there; a state that there
 // isn't; files that aren't there; another file; a file without a version; a kind that there isn't; a directory with a
@@ -99,13 +95,10 @@ fn stay_so(alloc: Global, bytes: &[u8], members: Members) -> Result<bool, Memory
 fn is_refused(
     alloc: Global,
     bytes: &[u8],
-    change: &Change,
+    change: Change,
     members: Members,
 ) -> Result<bool, Memory> {
-    let mut changed = bytes.to_vec(alloc)?;
-    if let Some(byte) = changed.get_mut(change.place) {
-        *byte = change.byte;
-    }
+    let changed = changed(alloc, bytes, change)?;
     match take_tables(alloc, &changed, 0, members) {
         Ok(_) => Ok(false),
         Err(TakeFault::NotTables) => Ok(true),
@@ -121,7 +114,7 @@ fn are_refused(
     members: Members,
 ) -> Result<bool, Memory> {
     for change in changes {
-        if !is_refused(alloc, bytes, change, members)? {
+        if !is_refused(alloc, bytes, *change, members)? {
             return Ok(false);
         }
     }

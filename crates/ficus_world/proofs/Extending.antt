@@ -102,6 +102,9 @@ module _ (volume : Volume) where
       first_extends _ _ (by_rule_extends _)
       (λ member. first_extends _ _ (by_rule_extends _) (λ op. saves_extends _ _))
   does_extends (command.Look by look) = first_extends _ _ (by_rule_extends _) (λ member. by_rule_extends _)
+  does_extends (command.Collect by) =
+      first_extends _ _ (by_rule_extends _)
+      (λ member. first_extends _ _ (by_rule_extends _) (λ counted. saves_extends _ _))
   does_extends (command.Ask by to) = first_extends _ _ (asks_extends by to) (λ number. by_rule_extends _)
   does_extends (command.Give number) = gives_mail_extends number
   does_extends (command.Pull by to) =

@@ -9,6 +9,9 @@ use Rattle.ficus_model.specs.declared.event.Op.{Op}
 use Rattle.ficus_model.specs.Lawful.{Volume}
 use Rattle.ficus_commands.specs.declared.change.Change.{Change}
 use Rattle.ficus_replica.specs.Change.{ChangedAfter}
+use Rattle.ficus_replica.specs.Collect.{CollectGives, CollectStands, Garbage}
+use Rattle.ficus_replica.specs.SavedOf.{StandsFor}
+use Rattle.ficus_replica.specs.declared.collect.Collected.{Collected}
 use Rattle.ficus_commands.specs.declared.look.Look.{Look}
 use Rattle.ficus_script.specs.declared.command.Command.{Command}
 use Rattle.ficus_script.specs.declared.command.Command.TheVariants as command
@@ -21,9 +24,10 @@ use Rattle.ficus_world.specs.Actions.Saves.{Saved}
 use Rattle.ficus_world.specs.Answers.{answer_to}
 use Rattle.ficus_world.specs.Follows.{FollowsIn, Follows}
 use Rattle.ficus_world.specs.ModelWorld.{ModelWorld, IsDone, Effect}
-use Rattle.ficus_world.specs.Moves.{TablesMayWantMemory, without_ask, Restarts, CarriesOut, CutShort, Moves}
+use Rattle.ficus_world.specs.Moves.{TablesMayWantMemory, without_ask, KeepsCollection, Restarts, CarriesOut, CutShort, Moves}
 use Rattle.ficus_world.specs.Moves.FindsMember.{Finds, FindsNone}
 use Rattle.ficus_world.specs.Moves.FindsPeers.{FindsBoth, FindsNoPeers}
+use Rattle.ficus_world.specs.Moves.KeepsCollection.{Collects}
 use Rattle.ficus_world.specs.Moves.KeepsUpdate.{Keeps}
 use Rattle.ficus_world.specs.Moves.Restarts.{NotRestarted, Restarted}
 use Rattle.ficus_world.specs.Numbered.{IsNumbered}
@@ -44,6 +48,7 @@ use Rattle.ficus_replica.proofs.Changing.{changed_after}
 use Rattle.ficus_replica.proofs.Events.{restart_stands}
 use Rattle.ficus_replica.proofs.Views.{stands_same}
 use Rattle.ficus_world.proofs.Agreement.{alike_answer_along, look_answer_along}
+use Rattle.ficus_replica.proofs.Collects.{collect_gives_stands}
 use Rattle.ficus_world.proofs.Exchanging.{ask_lifts, give_lifts, pull_lifts, pull_cut_lifts}
 use Rattle.ficus_world.proofs.Lifts.{Lifts, CutLifts, first_lifts, gives_lifts, nothing_lifts, stays}
 use Rattle.ficus_world.proofs.Outcomes.{steady_caused}
@@ -101,6 +106,39 @@ module _ (tells : Type 0) (volume : Volume) (W : ModelWorld) (old : Whole) (stan
   follow_look by look result new (Goes (Finds {member = member} is) (Says answer)) =
       let same = stands_same stands.lawful (replica_stands volume W old stands by member is).saved in
       stays volume W old stands (Goes (at_member by member is) (Says (look_answer_along same look result answer)))
+
+  -- what a collection gives of what the member holds, it gives after what has happened
+  collected_stands : (by : ℕ) (member : Member) → IsNumbered old.members by member → (given : Collected)
+      → CollectGives member.replica given → CollectStands volume W.events by given
+  collected_stands by member is given gives =
+      let here = replica_stands volume W old stands by member is in
+      let me = here.saved.me in
+      subst (λ n. CollectStands volume W.events n given) me
+      (collect_gives_stands member.replica given gives volume W.events stands.lawful
+      (subst (λ n. StandsFor volume W.events n member.replica) (sym me) here))
+
+  -- where the member collects, it does so in the model too
+  collection_follows : (by : ℕ) (member : Member) → IsNumbered old.members by member → (result : Result Answer Refusal)
+      (new : Whole) → KeepsCollection by member old result new
+      → FollowsIn volume W old.post.faults (Does volume (command.Collect by)) result new
+  collection_follows by member is result new (Collects {given = given} gives) =
+      let now = collected_stands by member is given gives in
+      let garbage : Garbage = record { entries = given.entries; objects = given.files } in
+      record {
+        effect = saved_with W (event.Collect by);
+        does = Goes (at_member by member is) (Goes (Says (garbage, now.garbage, refl)) Saved);
+        caused = steady_caused old.post.faults;
+        stands =
+            advanced_stands volume W old stands (event.Collect by) (event.Collect by) refl now.after.lawful by member
+            given.replica is refl now.after.stands;
+      }
+
+  follow_collect : (by : ℕ) (result : Result Answer Refusal) (new : Whole)
+      → CarriesOut tells (command.Collect by) old result new
+      → FollowsIn volume W old.post.faults (Does volume (command.Collect by)) result new
+  follow_collect by result new (Ends (FindsNone none)) = stays volume W old stands (Ends (at_none by none))
+  follow_collect by result new (Goes (Finds {member = member} is) keeps) =
+      collection_follows by member is result new keeps
 
   follow_restart : (by : ℕ) (result : Result Answer Refusal) (new : Whole) → Restarts by old result new
       → FollowsIn volume W old.post.faults (Does volume (command.Restart by)) result new
@@ -164,7 +202,15 @@ module _ (tells : Type 0) (volume : Volume) (W : ModelWorld) (old : Whole) (stan
   alike_refused by other peers refusal (Ok answer) left (Goes (Says may) (Says told)) is = cc
   alike_refused by other peers refusal (Err given) left (Goes (Says may) (Says none)) is = none
 
-  -- a member restarts without a refusal
+  -- a member collects without a refusal
+  collect_refused : (by : ℕ) → IsMember volume.members by → (refusal : Refusal) → (result : Result Answer Refusal)
+      (left : Effect) → Does volume (command.Collect by) W result left → result ≡ Err refusal → ⊥
+  collect_refused by member refusal result left (Ends (Says (inl refused))) is = refused.0 member
+  collect_refused by member refusal result left (Ends (Says (inr nothing))) is = nothing.1
+  collect_refused by member refusal result left (Goes (Says may) (Ends (Says none))) is = none
+  collect_refused by member refusal result left (Goes (Says may) (Goes (Says counted) Saved)) is = cc
+
+  -- and restarts without one
   restart_refused : (by : ℕ) → IsMember volume.members by → (refusal : Refusal) → (result : Result Answer Refusal)
       (left : Effect) → Does volume (command.Restart by) W result left → result ≡ Err refusal → ⊥
   restart_refused by member refusal result left (Ends (Says (inl refused))) is = refused.0 member
@@ -181,6 +227,8 @@ module _ (tells : Type 0) (volume : Volume) (W : ModelWorld) (old : Whole) (stan
       look_refused by look (member_of volume W old stands by wanted.is.member)
       (λ other refused. wanted.so other (look_along (view_back same) look (Err other) refused)) refusal (Err refusal) left
       does refl
+  follow_wanted (command.Collect by) member = λ refusal left does.
+      collect_refused by (member_of volume W old stands by member) refusal (Err refusal) left does refl
   follow_wanted (command.Ask by to) peers = peers_of by to peers
   follow_wanted (command.Give number) some =
       subst (λ n. IsMember n number) (stands.counted ∙ sym stands.posted) some
@@ -197,6 +245,8 @@ module _ (tells : Type 0) (told : tells) (volume : Volume) where
       λ W old stands result new does. follow_change tells volume W old stands by change result new does
   follow_command (command.Look by look) =
       λ W old stands result new does. follow_look tells volume W old stands by look result new does
+  follow_command (command.Collect by) =
+      λ W old stands result new does. follow_collect tells volume W old stands by result new does
   follow_command (command.Ask by to) =
       first_lifts volume (ask_lifts tells told volume by to) (λ number. gives_lifts volume (Mail number))
   follow_command (command.Give number) = give_lifts tells told volume number
@@ -224,6 +274,7 @@ module _ (tells : Type 0) (told : tells) (volume : Volume) where
   follow_cut (command.Pull by to) = pull_cut_lifts tells told volume by to
   follow_cut (command.Change by change) = nothing_lifts volume
   follow_cut (command.Look by look) = nothing_lifts volume
+  follow_cut (command.Collect by) = nothing_lifts volume
   follow_cut (command.Ask by to) = nothing_lifts volume
   follow_cut (command.Give number) = nothing_lifts volume
   follow_cut (command.Alike by other) = nothing_lifts volume

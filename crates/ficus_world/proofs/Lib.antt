@@ -9,6 +9,7 @@ pub mod Pulls
 pub mod Agreement
 pub mod Runs
 pub mod Replaced
+pub mod Collecting
 pub mod LastPart
 pub mod Standing
 pub mod Lifts

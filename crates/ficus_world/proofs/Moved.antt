@@ -6,7 +6,7 @@ use Rattle.ficus_ids.specs.Members.{IsMember}
 use Rattle.ficus_ids.specs.declared.memory.Memory.{Memory as OutOfMemory}
 use Rattle.ficus_ids.specs.declared.refusal.Refusal.{Refusal}
 use Rattle.ficus_ids.specs.declared.refusal.Refusal.TheVariants.{Member as NoMember, Memory}
-use Rattle.ficus_model.specs.declared.event.Event.TheVariants.{Update}
+use Rattle.ficus_model.specs.declared.event.Event.TheVariants.{Update, Collect}
 use Rattle.ficus_replica.specs.declared.replica.Next.{Next}
 use Rattle.ficus_commands.specs.declared.change.Change.{Change}
 use Rattle.ficus_rules.specs.Change.{ChangeRule}
@@ -18,20 +18,23 @@ use Rattle.ficus_rules.proofs.Rules.{refusal_along}
 use Rattle.ficus_answers.specs.View.{tables_view}
 use Rattle.ficus_commands.specs.declared.told.Told.{Told}
 use Rattle.ficus_script.specs.declared.answer.Answer.{Answer}
-use Rattle.ficus_script.specs.declared.answer.Answer.TheVariants.{Alike, Done, Mail, Told as Tells}
+use Rattle.ficus_script.specs.declared.answer.Answer.TheVariants.{Alike, Done, Mail, Told as Tells, Collected as Counted}
 use Rattle.ficus_script.specs.declared.command.Command.{Command}
 use Rattle.ficus_world.specs.declared.member.Member.{Member}
 use Rattle.ficus_replica.specs.Change.{ChangeGives}
+use Rattle.ficus_replica.specs.Collect.{CollectGives}
+use Rattle.ficus_replica.specs.declared.collect.Collected.{Collected}
 use Rattle.ficus_replica.specs.Look.{LookGives}
 use Rattle.ficus_replica.specs.Effect.{next_id}
 use Rattle.ficus_world.specs.Moves.{WholeAction, FirstOf, GivesOnly, KeepsAsk, GivesMessage, GivesNextMessage, advanced, CarriesOut, ComesTo, Moves, TablesMayWantMemory}
 use Rattle.ficus_world.specs.Moves.FindsMember.{Finds, FindsNone}
 use Rattle.ficus_world.specs.Moves.FindsPeers.{FindsBoth, FindsNoPeers}
+use Rattle.ficus_world.specs.Moves.KeepsCollection.{Collects as Gathers}
 use Rattle.ficus_world.specs.Moves.KeepsUpdate.{Keeps}
 use Rattle.ficus_world.specs.Moves.KeepsAsk.{Asked}
 use Rattle.ficus_world.specs.Sequence.Sequence.{Ends, Goes}
 use Rattle.ficus_world.specs.Sequence.ByRule.{Says}
-use Rattle.ficus_script.specs.declared.command.Command.TheVariants.{Change as Changes, Look as Looks, Ask as Asks, Alike as Compares}
+use Rattle.ficus_script.specs.declared.command.Command.TheVariants.{Change as Changes, Look as Looks, Collect as Collects, Ask as Asks, Alike as Compares}
 use Rattle.ficus_world.specs.Answers.{OrMemory, answer_to, answer_as}
 use Rattle.ficus_world.specs.Numbered.{IsNumbered}
 use Rattle.ficus_world.specs.Peers.{ArePeers}
@@ -49,6 +52,9 @@ module _ (tells : Type 0) (old : Whole) (by : ℕ) where
   pub no_look : (look : Look) → (IsMember (length old.members) by → ⊥) →
       CarriesOut tells (Looks by look) old (Err NoMember) old
   no_look look none = Ends (FindsNone none)
+
+  pub no_collection : (IsMember (length old.members) by → ⊥) → CarriesOut tells (Collects by) old (Err NoMember) old
+  no_collection none = Ends (FindsNone none)
 
   module _ (member : Member) (is : IsNumbered old.members by member) where
     pub change_moves : (change : Change) (next : Next) → ChangeGives member.replica change (Ok next) →
@@ -73,6 +79,11 @@ module _ (tells : Type 0) (old : Whole) (by : ℕ) where
         refusal_along (LookRule (tables_view member.replica.saved) look)
         (λ answer. CarriesOut tells (Looks by look) old answer old) refusal
         (λ none. record { member = member; is = is; so = none }) (λ refused. Goes (Finds is) (Says (inl refused))) gives
+
+    pub collect_moves : (given : Collected) → CollectGives member.replica given →
+        CarriesOut tells (Collects by) old (Ok (Counted given.entries given.files))
+        (advanced old by member given.replica (Collect by))
+    collect_moves given gives = Goes (Finds is) (Gathers gives)
 
 module _ (tells : Type 0) (old : Whole) (by other : ℕ) where
   pub no_alike : (ArePeers (length old.members) by other → ⊥) → CarriesOut tells (Compares by other) old (Err NoMember) old

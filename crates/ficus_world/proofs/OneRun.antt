@@ -12,7 +12,7 @@ use Rattle.ficus_rules.specs.View.{View, history_view}
 use Rattle.ficus_script.specs.declared.command.Command.{Command}
 use Rattle.ficus_script.specs.declared.answer.Answer.{Answer}
 use Rattle.ficus_script.specs.declared.answer.Answer.TheVariants.{Alike, Told, Done, Mail}
-use Rattle.ficus_world.specs.Actions.{Wants, GivesOnly}
+use Rattle.ficus_world.specs.Actions.{Wants, GivesOnly, collected}
 use Rattle.ficus_world.specs.Exchange.{Composes, Asks, Behind, AnAsk, AnAnswer, LiesBehind, Handles, GivesMail, GivesNext}
 use Rattle.ficus_world.specs.Exchange.LiesBehind.{IsAsk, IsAnswer}
 use Rattle.ficus_world.specs.ModelWorld.{ModelWorld, Outcome, after}
@@ -26,6 +26,7 @@ use Rattle.ficus_rules.proofs.Looks.{look_once}
 use Rattle.ficus_rules.proofs.Sound.{history_sound}
 use Rattle.ficus_rules.proofs.Rules.{then_once, where_once, gives_once, tells_once}
 use Rattle.ficus_laws.proofs.Positions.{at_same}
+use Rattle.ficus_replica.proofs.Collects.{garbage_once}
 use Rattle.ficus_world.proofs.Messages.{message_once}
 use Rattle.ficus_world.proofs.Numbers.{number_once}
 use Rattle.ficus_world.proofs.Outcomes.{done_either}
@@ -115,6 +116,11 @@ module _ (volume : Volume) where
       (by_rule_once _ (λ old. change_once (history_view volume old.events by) (history_sound volume old.events by) change)) (λ op. saves_once _ _))
   does_once (command.Look by look) =
       first_then_once _ _ (wants_once _ _) (λ member. by_rule_once _ (λ old. look_answer_once volume old.events by look))
+  does_once (command.Collect by) =
+      first_then_once _ _ (wants_once _ _)
+      (λ member. first_then_once _ _
+      (by_rule_once _ (λ old. tells_once collected (λ one other is too. garbage_once is too)))
+      (λ counted. saves_once _ _))
   does_once (command.Ask by to) = first_then_once _ _ (asks_once by to) (λ number. gives_only_once (Mail number))
   does_once (command.Give number) = gives_mail_once number
   does_once (command.Pull by to) =

@@ -3,7 +3,7 @@ use Rattle.std.proofs.Common.{◌≡◌, ℕ, ◌+◌, ◌-◌, ◌^◌, ◌≤�
 use Rattle.std.specs.Prelude.{replicate, sum_by}
 use Rattle.std.proofs.lemmas.List.{replicate-append-replicate}
 use Rattle.std.proofs.lemmas.List.Sums.{sum_by-append}
-use Rattle.ficus_outside.specs.Faults.{Rose}
+use Rattle.ficus_faults.specs.Faults.{Rose}
 use Rattle.ficus_world.specs.Causes.{AreCaused}
 use Rattle.ficus_world.specs.ModelWorld.{Outcome, IsDone, LinkFails, AllDone, is_failure, failures}
 

@@ -122,6 +122,10 @@ module _ (volume : Volume) where
       (record { member = member.0; left = may.left; bytes = may.bytes; allowed = may.allowed })
   does_lawful (command.Look by look) W result left lawful (Ends (Says none)) = lawful
   does_lawful (command.Look by look) W result left lawful (Goes (Says member) (Says told)) = lawful
+  does_lawful (command.Collect by) W result left lawful (Ends (Says none)) = lawful
+  does_lawful (command.Collect by) W result left lawful (Goes (Says member) (Ends (Says none))) = lawful
+  does_lawful (command.Collect by) W result left lawful (Goes (Says member) (Goes (Says counted) Saved)) =
+      lawful_more volume W.events (event.Collect by) lawful member.0
   does_lawful (command.Ask by to) W result left lawful does =
       first_lawful _ _ (asks_lawful by to) (λ number. gives_only_lawful (Mail number)) W result left lawful does
   does_lawful (command.Give number) W result left lawful does = gives_mail_lawful number W result left lawful does
@@ -151,6 +155,7 @@ module _ (volume : Volume) where
       (gives_mail_lawful number m.after (Ok given) k (asks_lawful by to W (Ok number) m lawful asks) gives) same
   part_lawful (command.Change by change) W left lawful same = unchanged_lawful W left lawful same
   part_lawful (command.Look by look) W left lawful same = unchanged_lawful W left lawful same
+  part_lawful (command.Collect by) W left lawful same = unchanged_lawful W left lawful same
   part_lawful (command.Ask by to) W left lawful same = unchanged_lawful W left lawful same
   part_lawful (command.Give number) W left lawful same = unchanged_lawful W left lawful same
   part_lawful (command.Alike by other) W left lawful same = unchanged_lawful W left lawful same

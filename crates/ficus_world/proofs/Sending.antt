@@ -11,7 +11,8 @@ use Rattle.ficus_model.specs.declared.event.Event.TheVariants as event
 use Rattle.ficus_replica.specs.declared.replica.Replica.{Replica}
 use Rattle.ficus_replica.specs.Accept.{AcceptGives}
 use Rattle.ficus_script.specs.declared.answer.Answer.TheVariants.{Mail}
-use Rattle.ficus_wire.specs.Message.{message_bytes}
+use Rattle.ficus_wire.specs.Message.{message_bytes, messages_of}
+use Rattle.ficus_wire.specs.declared.message.Letter.{Letter}
 use Rattle.ficus_wire.specs.declared.message.Message.{Message}
 use Rattle.ficus_wire.specs.declared.message.Message.TheVariants as message
 use Rattle.ficus_world.specs.declared.exchange.Delivery.{Delivery}
@@ -58,9 +59,9 @@ module _ (tells : Type 0) (old : Whole) (came : Delivery) (peer : Member) (servi
 
 module _ (tells : Type 0) (old : Whole) (number : ℕ) where
   -- what was fetched is read
-  pub fetched_read : (bytes : List ℕ) → AreFetched tells old.post.posts number bytes → (result : Result Message Refusal)
-      → OrMemory (Reads (length old.members) bytes) result
-      → OrMemory (λ given. FetchesMail tells number old given old) result
+  pub fetched_read : (bytes : List ℕ) → AreFetched tells old.post.posts number bytes → (result : Result Letter Refusal)
+      → OrMemory (λ given. Reads (length old.members) bytes (messages_of given)) result
+      → OrMemory (λ given. FetchesMail tells number old (messages_of given) old) result
   fetched_read bytes fetched (Ok m) is = Read fetched is
   fetched_read bytes fetched (Err refusal.Memory) is = tt
   fetched_read bytes fetched (Err refusal.BadMessage) is = NotRead fetched is
@@ -68,10 +69,18 @@ module _ (tells : Type 0) (old : Whole) (number : ℕ) where
 
   pub fetch_failed : (post : Outbox) → IsMember (length old.post.posts) number → (r : Refusal)
       → ((r ≢ refusal.Memory) → (r ≡ refusal.Link) × HasFailed old.post post)
-      → OrMemory (λ given. FetchesMail tells number old given (with_post old post)) (Err r)
+      → OrMemory (λ (given : Result Letter Refusal). FetchesMail tells number old (messages_of given) (with_post old post))
+      (Err r)
   fetch_failed post some refusal.Memory failed = tt
   fetch_failed post some refusal.Link failed = NotFetched some (failed (λ e. cc)).1
   fetch_failed post some r failed = let e = (failed (λ e. cc)).0 in absurd (cc)
+
+  -- where no letter is given no message is
+  pub no_letter : (new : Whole) (r : Refusal)
+      → OrMemory (λ (given : Result Letter Refusal). FetchesMail tells number old (messages_of given) new) (Err r)
+      → OrMemory (λ given. FetchesMail tells number old given new) (Err r)
+  no_letter new refusal.Memory is = tt
+  no_letter new r is = is
 
 -- an answer that isn't taken leaves the world as it was
 module _ (old : Whole) (came : Delivery) (entries : List Entry) (files : List FileReplica) (was : Member)

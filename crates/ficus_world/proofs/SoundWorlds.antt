@@ -13,6 +13,8 @@ use Rattle.ficus_entry.specs.declared.entry.Entry.{Entry}
 use Rattle.ficus_file.specs.declared.file.FileReplica.{FileReplica}
 use Rattle.ficus_replica.specs.Accept.{Accepted}
 use Rattle.ficus_replica.specs.Ask.{AskGives}
+use Rattle.ficus_replica.specs.Collect.{CollectGives}
+use Rattle.ficus_replica.specs.declared.collect.Collected.{Collected}
 use Rattle.ficus_world.specs.declared.member.Member.{Member}
 use Rattle.ficus_commands.specs.declared.change.Change.{Change}
 use Rattle.ficus_replica.specs.Change.{Changed}
@@ -126,6 +128,18 @@ accepted_sound sound accepted fits =
       members = ap (λ (x : Replica). x.saved.members) is ∙ sound.members;
       fits = fits;
       generation = omega (arith, ap (λ (x : Replica). x.saved.generation) is, sound.generation);
+    }
+
+-- and so is what a collection leaves of it
+pub collected_sound : {count events r : ℕ} {old : Replica} {given : Collected} → IsSound count events r old
+    → CollectGives old given → FitsImage given.replica.saved → IsSound count (events + 1) r given.replica
+collected_sound sound gives fits =
+    let is = gives.is in
+    record {
+      me = ap (λ (x : Collected). x.replica.saved.me) is ∙ sound.me;
+      members = ap (λ (x : Collected). x.replica.saved.members) is ∙ sound.members;
+      fits = fits;
+      generation = omega (arith, ap (λ (x : Collected). x.replica.saved.generation) is, sound.generation);
     }
 
 -- a replica that drops its ask saves what it did

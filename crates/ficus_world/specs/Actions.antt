@@ -4,16 +4,18 @@ use Rattle.ficus_ids.specs.Members.{IsMember}
 use Rattle.ficus_ids.specs.declared.refusal.Refusal.{Refusal}
 use Rattle.ficus_ids.specs.declared.refusal.Refusal.TheVariants.{Member, Link}
 use Rattle.ficus_model.specs.declared.event.Event.{Event}
-use Rattle.ficus_model.specs.declared.event.Event.TheVariants.{Update}
+use Rattle.ficus_model.specs.declared.event.Event.TheVariants.{Update, Collect}
 use Rattle.ficus_model.specs.declared.event.Op.{Op}
 use Rattle.ficus_model.specs.Lawful.{Volume}
 use Rattle.ficus_laws.specs.Updates.{next_number}
 use Rattle.ficus_commands.specs.declared.change.Change.{Change}
 use Rattle.ficus_rules.specs.Change.{ChangeRule}
 use Rattle.ficus_commands.specs.declared.look.Look.{Look}
-use Rattle.ficus_rules.specs.Rule.{Where, Gives}
+use Rattle.ficus_rules.specs.Rule.{Where, Gives, Tells}
 use Rattle.ficus_rules.specs.View.{history_view}
+use Rattle.ficus_replica.specs.Collect.{Garbage, IsGarbage}
 use Rattle.ficus_script.specs.declared.answer.Answer.{Answer}
+use Rattle.ficus_script.specs.declared.answer.Answer.TheVariants.{Collected}
 use Rattle.ficus_world.specs.ModelWorld.{ModelWorld, IsDone, LinkFails, Effect, after, joined}
 use Rattle.ficus_world.specs.Sequence.{Action, Sequence, ByRule}
 use Rattle.ficus_world.specs.Answers.{answer_to, AlikeAnswer, LookAnswer}
@@ -68,6 +70,18 @@ Updates by op = Saves (λ W. answer_to (next_number by W.events) op) (Update by 
 -- the look is answered as its rule says, by what the member has heard of
 abbrev pub Sees : Volume → ℕ → Look → ModelAction Answer
 Sees volume by look = ByRule unchanged (λ W. LookAnswer (history_view volume W.events by) look)
+
+-- a collection that gives so much up is answered with the numbers
+abbrev pub collected : Garbage → Answer
+collected garbage = Collected garbage.entries garbage.objects
+
+-- what the member gives up, by the history, if it collects now
+abbrev pub Counts : Volume → ℕ → ModelAction Answer
+Counts volume by = ByRule unchanged (λ W. Tells collected (IsGarbage volume.members W.events by))
+
+-- the member collects
+abbrev pub Collects : ℕ → Answer → ModelAction Answer
+Collects by answer = Saves (λ W. answer) (Collect by)
 
 -- the numbers are those of two different members
 abbrev pub AtPeers : Volume → ℕ → ℕ → ModelAction (Unit {0})

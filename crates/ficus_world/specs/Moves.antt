@@ -11,6 +11,8 @@ use Rattle.ficus_file.specs.declared.file.FileReplica.{FileReplica}
 use Rattle.ficus_replica.specs.declared.replica.Replica.{Replica}
 use Rattle.ficus_replica.specs.Accept.{AcceptGives}
 use Rattle.ficus_replica.specs.Ask.{AskGives}
+use Rattle.ficus_replica.specs.Collect.{CollectGives, HoldsNoGarbage}
+use Rattle.ficus_replica.specs.declared.collect.Collected.{Collected}
 use Rattle.ficus_commands.specs.declared.change.Change.{Change}
 use Rattle.ficus_rules.specs.Change.{ChangeRule, MayWantMemory}
 use Rattle.ficus_rules.specs.Look.{LookRule}
@@ -21,6 +23,7 @@ use Rattle.ficus_answers.specs.View.{tables_view}
 use Rattle.ficus_script.specs.declared.command.Command.{Command}
 use Rattle.ficus_script.specs.declared.command.Command.TheVariants as command
 use Rattle.ficus_script.specs.declared.answer.Answer.{Answer}
+use Rattle.ficus_script.specs.declared.answer.Answer.TheVariants as answer
 use Rattle.ficus_script.specs.declared.answer.Answer.TheVariants.{Done, Mail}
 use Rattle.ficus_wire.specs.Message.{FitsMessage, message_bytes}
 use Rattle.ficus_wire.specs.declared.message.Message.{Message}
@@ -34,7 +37,7 @@ use Rattle.ficus_world.specs.Numbered.{IsNumbered}
 use Rattle.ficus_world.specs.Peers.{ArePeers}
 use Rattle.ficus_world.specs.Post.{Outbox, IsSent, HasFailed, AreFetched}
 use Rattle.ficus_world.specs.Sequence.{Action, Sequence, ByRule, Cut, CutSequence}
-use Rattle.ficus_world.specs.World.{Whole}
+use Rattle.ficus_world.specs.World.{Whole, IsReplica}
 
 -- an action on a world as contracts see it
 abbrev pub WholeAction : Type 0 → Type 1
@@ -89,6 +92,12 @@ pub data KeepsUpdate (by : ℕ) (was : Member) (op : Op) (old : Whole) :
 -- the look is answered as its rule says, by what the member holds
 abbrev pub TablesShow : Member → Look → WholeAction Answer
 TablesShow member look = ByRule itself (λ world. LookAnswer (tables_view member.replica.saved) look)
+
+-- the member holds what its collection leaves, and the collection is stored
+pub data KeepsCollection (by : ℕ) (was : Member) (old : Whole) : Result Answer Refusal → Whole → Type 0 where
+  Collects : {given : Collected} → CollectGives was.replica given
+      → KeepsCollection by was old (Ok (answer.Collected given.entries given.files))
+      (advanced old by was given.replica (event.Collect by))
 
 -- these bytes are posted, with this stored position behind them; gives their number. Or the link fails.
 pub data Sends (tells : Type 0) (place : ℕ) (bytes : List ℕ) (old : Whole) : Result ℕ Refusal → Whole → Type 0 where
@@ -215,6 +224,7 @@ abbrev pub CarriesOut : Type 0 → Command → WholeAction Answer
 CarriesOut tells (command.Change by change) =
     FirstOf (FindsMember by) (λ member. FirstOf (TablesDecide member change) (KeepsUpdate by member))
 CarriesOut tells (command.Look by look) = FirstOf (FindsMember by) (λ member. TablesShow member look)
+CarriesOut tells (command.Collect by) = FirstOf (FindsMember by) (KeepsCollection by)
 CarriesOut tells (command.Ask by to) = FirstOf (KeepsAsk tells by to) (λ number. GivesOnly (Mail number))
 CarriesOut tells (command.Give number) = GivesMessage tells number
 CarriesOut tells (command.Pull by to) =
@@ -235,6 +245,7 @@ TablesMayWantMemory old (command.Change by change) =
     IsWantedBy old by (λ member. MayWantMemory (tables_view member.replica.saved) change)
 TablesMayWantMemory old (command.Look by look) =
     IsWantedBy old by (λ member. RefusesNothing (LookRule (tables_view member.replica.saved) look))
+TablesMayWantMemory old (command.Collect by) = IsMember (length old.members) by
 TablesMayWantMemory old (command.Ask by to) = ArePeers (length old.members) by to
 TablesMayWantMemory old (command.Give number) = IsMember (length old.post.posts) number
 TablesMayWantMemory old (command.Pull by to) = ArePeers (length old.members) by to
@@ -263,3 +274,10 @@ pub record Moves (tells : Type 0) (old : Whole) (command : Command) (answer : An
   pub result : Result Answer Refusal
   pub does : CarriesOut tells command old result new
   pub answer_is : answer ≡ answer_as result
+
+-- where a member has collected, it holds no garbage
+abbrev pub HasCollected : Command → Answer → Whole → Type 0
+HasCollected (command.Collect by) (answer.Collected entries files) new =
+    (replica : Replica) → IsReplica new.members by replica
+    → HoldsNoGarbage replica.saved.members replica.saved.entries replica.saved.files
+HasCollected command answer new = Unit {0}

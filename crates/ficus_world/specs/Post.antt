@@ -1,7 +1,7 @@
 -- A link, with the position of the event behind each posted message.
 use Rattle.std.specs.Prelude.{◌≡◌, ℕ, ◌+◌, ◌≤◌, List, ◌∷◌, [], ◌++◌, length}
 use Rattle.ficus_ids.specs.Members.{IsMember}
-use Rattle.ficus_outside.specs.Faults.{Rose}
+use Rattle.ficus_faults.specs.Faults.{Rose}
 use Rattle.ficus_world.specs.Numbered.{IsNumbered}
 
 -- where the event behind each posted message is stored; and of the link, its messages, the bytes posted, and its faults

@@ -10,7 +10,7 @@ use Rattle.ficus_script.specs.declared.answer.Answer.{Answer}
 use Rattle.ficus_script.specs.declared.answer.Answer.TheVariants.{Done, Mail}
 use Rattle.ficus_rules.specs.Change.{MayWantMemory}
 use Rattle.ficus_rules.specs.View.{history_view}
-use Rattle.ficus_world.specs.Actions.{ModelAction, First, unchanged, AtMember, Decides, Updates, Sees, GivesOnly, Adds, AtPeers, Compares}
+use Rattle.ficus_world.specs.Actions.{ModelAction, First, unchanged, AtMember, Decides, Updates, Sees, GivesOnly, Adds, Counts, Collects, AtPeers, Compares}
 use Rattle.ficus_world.specs.Answers.{answer_as}
 use Rattle.ficus_world.specs.Exchange.{Asks, GivesMail, GivesNext}
 use Rattle.ficus_world.specs.ModelWorld.{ModelWorld, Outcome, AllDone, Effect, after, joined}
@@ -22,6 +22,8 @@ abbrev pub Does : Volume → Command → ModelAction Answer
 Does volume (command.Change by change) =
     First (AtMember volume by) (λ member. First (Decides volume by change) (Updates by))
 Does volume (command.Look by look) = First (AtMember volume by) (λ member. Sees volume by look)
+Does volume (command.Collect by) =
+    First (AtMember volume by) (λ member. First (Counts volume by) (Collects by))
 Does volume (command.Ask by to) = First (Asks volume by to) (λ number. GivesOnly (Mail number))
 Does volume (command.Give number) = GivesMail volume number
 Does volume (command.Pull by to) =

@@ -3,7 +3,7 @@ ghost use Rattle.ficus_ids.specs.Members.{IsMember};
 ghost use Rattle.ficus_ids.specs.declared.refusal.Refusal.TheVariants.{Memory as OutOfMemory};
 ghost use Rattle.ficus_saved.specs.Tables.{FitsTables};
 ghost use Rattle.ficus_script.specs.declared.command.Command.TheVariants.{Pull as Pulls};
-ghost use Rattle.ficus_wire.specs.Message.{FitsMessage, IsRoute, way};
+ghost use Rattle.ficus_wire.specs.Message.{FitsMessage, IsRoute, message_of, messages_of, way};
 ghost use Rattle.ficus_world.specs.Answers.{OrMemory};
 ghost use Rattle.ficus_world.specs.Message.{Reads};
 ghost use Rattle.ficus_world.specs.Moves.{CarriesOut, CutShort, FetchesMail, GivesMessage, GivesNextMessage, IsAsking};
@@ -14,14 +14,14 @@ ghost use Rattle.ficus_world.specs.declared.member.Member.{Member as MemberValue
 
 use crate::World;
 use crate::member::{drop_ask, hold};
-use ficus_entry::Entries;
-use ficus_file::Files;
+use ficus_entry::Entry;
+use ficus_file::FileReplica;
 use ficus_ids::{Members, Memory, Refusal};
 use ficus_model::Event;
 use ficus_outside::Link;
 use ficus_replica::Replica;
 use ficus_script::Answer;
-use ficus_wire::{Message, WireFault, decode, encode};
+use ficus_wire::{Letter, Message, WireFault, encode, read_letter};
 use std::alloc::Global;
 
 /// What is known of a message that came: its number, from whom to whom it goes, and the number of its ask.
@@ -75,7 +75,7 @@ impl<L: Link + Drop> World<L> {
         ensures memory { IsErrOf result OutOfMemory → self.new ≡ self.old }
     {
         match self.fetch(alloc, mail)? {
-            Message::Ask { from, to, number } => {
+            Letter::Ask { from, to, number } => {
                 let came = Delivery {
                     number: mail,
                     from,
@@ -84,7 +84,7 @@ impl<L: Link + Drop> World<L> {
                 };
                 self.serve(alloc, came)
             }
-            Message::Answer {
+            Letter::Answer {
                 from,
                 to,
                 number,
@@ -97,7 +97,7 @@ impl<L: Link + Drop> World<L> {
                     to,
                     ask: number,
                 };
-                self.take(alloc, came, &entries, &files)
+                self.take(alloc, came, entries.items(), files.items())
             }
         }
     }
@@ -183,11 +183,11 @@ impl<L: Link + Drop> World<L> {
     }
 
     // Fetches a message, and reads it.
-    fn fetch(&mut self, alloc: Global, mail: u32) -> Result<Message, Refusal>
-        ensures fetches { OrMemory (λ given. FetchesMail L.tells mail self.old given self.new) result }
+    fn fetch(&mut self, alloc: Global, mail: u32) -> Result<Letter, Refusal>
+        ensures fetches { OrMemory (λ given. FetchesMail L.tells mail self.old (messages_of given) self.new) result }
         ensures wants { IsErrOf result OutOfMemory → IsMember (length self.old.post.posts) mail }
         ensures there { OnOk result (IsMember (length self.old.post.posts) mail) }
-        ensures fits { IfOk result (λ message. FitsMessage (length self.new.members) message) }
+        ensures fits { IfOk result (λ letter. FitsMessage (length self.new.members) (message_of letter)) }
         ensures behind { OnOk result (IsMember (length self.new.post.behind) mail) }
         ensures same { OnOk result (self.new ≡ self.old) }
         ensures stored { self.new.events ≡ self.old.events }
@@ -244,8 +244,8 @@ impl<L: Link + Drop> World<L> {
         &mut self,
         alloc: Global,
         came: Delivery,
-        entries: &Entries,
-        files: &Files,
+        entries: &[Entry],
+        files: &[FileReplica],
     ) -> Result<Answer, Refusal>
         requires room { length self.old.events < event_limit + most_events }
         requires mail { IsMember (length self.old.post.behind) came.number }
@@ -258,7 +258,7 @@ impl<L: Link + Drop> World<L> {
         self.history.reserve(1)?;
         let serve = self.post.place(came.number);
         let replica = &self.member(came.to).replica;
-        let new = replica.accept(alloc, came.from, came.ask, entries, files)?;
+        let new = replica.accept_rows(alloc, came.from, came.ask, entries, files)?;
         hold(&mut self.members, came.to, new);
         self.history.push(Event::Accept { by: came.to, serve });
         Ok(Answer::Done)
@@ -266,11 +266,11 @@ impl<L: Link + Drop> World<L> {
 }
 
 // The message that the bytes spell.
-fn read(alloc: Global, bytes: &[u8], members: Members) -> Result<Message, Refusal>
-    ensures { OrMemory (Reads members bytes.now) result }
+fn read(alloc: Global, bytes: &[u8], members: Members) -> Result<Letter, Refusal>
+    ensures { OrMemory (λ given. Reads members bytes.now (messages_of given)) result }
 {
-    match decode(alloc, bytes, members) {
-        Ok(message) => Ok(message),
+    match read_letter(alloc, bytes, members) {
+        Ok(letter) => Ok(letter),
         Err(WireFault::NotMessage) => Err(Refusal::BadMessage),
         Err(WireFault::Memory) => Err(Refusal::Memory),
     }

@@ -2,6 +2,7 @@ ghost use Rattle.std.specs.Prelude.{◌≡◌, ◌↔◌, ℕ, List, ◌++◌, l
 ghost use Rattle.ficus_ids.specs.declared.refusal.Refusal.{Refusal};
 ghost use Rattle.ficus_ids.specs.declared.refusal.Refusal.TheVariants.{BadMessage, Stale};
 ghost use Rattle.ficus_laws.specs.Laws.{KnowSameUpdates};
+ghost use Rattle.ficus_model.specs.Final.{IsFinal};
 ghost use Rattle.ficus_model.specs.Held.{IsHeldEntry};
 ghost use Rattle.ficus_model.specs.Known.{Knows};
 ghost use Rattle.ficus_model.specs.Lawful.{Volume, IsLawful};
@@ -28,6 +29,13 @@ pub fn runs_are_lawful()
     ensures { (members : ℕ) (total : ℕ) (commands : List Command) (outcomes : List (List Outcome))
         (answers : List Answer) (W : ModelWorld) → Run (default_volume members) (start members total) commands outcomes answers W
         → IsLawful (default_volume members) W.events }
+{}
+
+/// What is given up in a run is given up for good.
+pub fn runs_are_final()
+    ensures { (members : ℕ) (total : ℕ) (commands : List Command) (outcomes : List (List Outcome))
+        (answers : List Answer) (W : ModelWorld) → Run (default_volume members) (start members total) commands outcomes answers W
+        → IsFinal members W.events }
 {}
 
 /// A run follows from its commands and from what the outside does: from one world the same commands with the same

@@ -16,10 +16,10 @@ impl<L: Link + Drop> World<L> {
     ghost use Rattle.ficus_model.specs.Lawful.{Volume};
     ghost use Rattle.ficus_commands.specs.Change.{HasFitPaths};
     ghost use Rattle.ficus_script.specs.Command.{IsCommand};
-    ghost use Rattle.ficus_script.specs.declared.command.Command.TheVariants.{Change as Changes, Look as Looks, Alike as Compares};
+    ghost use Rattle.ficus_script.specs.declared.command.Command.TheVariants.{Change as Changes, Look as Looks, Collect as Collects, Alike as Compares};
     ghost use Rattle.ficus_world.specs.ModelWorld.{ModelWorld};
     ghost use Rattle.ficus_world.specs.Follows.{Follows, Stops};
-    ghost use Rattle.ficus_world.specs.Moves.{ComesTo, CutShort, Moves};
+    ghost use Rattle.ficus_world.specs.Moves.{ComesTo, CutShort, HasCollected, Moves};
     ghost use Rattle.ficus_world.specs.Run.{CommandMayWantMemory};
     ghost use Rattle.ficus_world.specs.World.{WorldStandsFor};
 
@@ -31,6 +31,9 @@ impl<L: Link + Drop> World<L> {
         ensures moves { IfOk result (λ answer. Moves L.tells self.old command.now answer self.new) }
         ensures grows { length self.new.events ≤ length self.old.events + most_events }
         ensures memory { OnErr result (CutShort L.tells command.now self.old self.new) }
+        // A replica that has collected holds no removed entry of which everybody is known to know that all know, and no
+        // file or directory that nothing which it holds names or lies in, unless it is an orphan.
+        ensures collected { IfOk result (λ answer. HasCollected command.now answer self.new) }
         // Whatever the world stood for before, over a link that tells its posts: the model allows the answer there, and
         // the world stands for what it leads to; after `Memory`, for what the command has done.
         ensures stands { L.tells → (volume : Volume) (W : ModelWorld) → WorldStandsFor volume W self.old
@@ -54,6 +57,7 @@ impl<L: Link + Drop> World<L> {
         match command {
             Command::Change { by, change } => self.change(alloc, *by, change),
             Command::Look { by, look } => self.look(alloc, *by, look),
+            Command::Collect { by } => self.collect(alloc, *by),
             Command::Ask { by, to } => Ok(Answer::Mail(self.ask(alloc, *by, *to)?)),
             Command::Give { mail } => self.give(alloc, *mail),
             Command::Pull { by, to } => self.pull(alloc, *by, *to),
@@ -91,6 +95,27 @@ impl<L: Link + Drop> World<L> {
         }
         let told = self.member(by).replica.look(alloc, look)?;
         Ok(Answer::Told(told))
+    }
+
+    // All memory is taken before anything changes.
+    fn collect(&mut self, alloc: Global, by: u8) -> Result<Answer, Refusal>
+        requires room { length self.old.events < event_limit }
+        ensures moves { ComesTo L.tells self.old (Collects by) result self.new }
+        ensures stored { OnOk result (length self.new.events ≡ length self.old.events + 1) }
+        ensures refused { OnErr result (self.new ≡ self.old) }
+    {
+        if !self.has(by) {
+            return Err(Refusal::Member);
+        }
+        let collected = self.member(by).replica.collect(alloc)?;
+        self.history.reserve(1)?;
+        let answer = Answer::Collected {
+            entries: collected.entries,
+            files: collected.files,
+        };
+        self.history.push(Event::Collect { by });
+        hold(&mut self.members, by, collected.replica);
+        Ok(answer)
     }
 
     fn alike(&self, alloc: Global, by: u8, other: u8) -> Result<Answer, Refusal>

@@ -1,4 +1,3 @@
-use Rattle.std.proofs.Common.{refl}
 use Rattle.ficus_recon_file.proofs.Walk.{change_of_both, change_of_theirs}
 use Rattle.ficus_recon_file.proofs.merge.change.Goals as goal
 
@@ -15,10 +14,6 @@ merged_change-requires-clause-mine c =
 pub merged_change-requires-clause-theirs : goal.merged_change-requires-clause-theirs
 merged_change-requires-clause-theirs c = c.len-count.ensures.theirs.each c.args.new.theirs.now c.requires.theirs
 
-pub taken-requires-clause-there : goal.taken-requires-clause-there
-taken-requires-clause-there c =
-    rw c.theirs.ensures (record { item = c.args.new.theirs.now; inside = c.requires.theirs; has_id = refl })
-
 pub returns-in-Some : goal.returns-in-Some
 returns-in-Some c =
     let found = rw c.in-Some.is at c.requires.mine in
@@ -28,6 +23,6 @@ returns-in-Some c =
 pub returns-in-None : goal.returns-in-None
 returns-in-None c =
     let none = rw c.in-None.is at c.requires.mine in
-    change_of_theirs c.args.held.now c.args.news.now.mine c.args.new.theirs.now c.args.news.now.theirs c.taken.result
-    c.len-count.ensures.theirs none c.requires.theirs (rw c.theirs.ensures at c.taken.ensures.taken)
-    (rw c.theirs.ensures at c.taken.ensures.of_theirs)
+    change_of_theirs c.args.held.now c.args.news.now.mine c.args.new.theirs.now c.taken.result
+    (c.len-count.ensures.theirs.each c.args.new.theirs.now c.requires.theirs) none c.taken.ensures.taken
+    c.taken.ensures.of_theirs

@@ -10,7 +10,7 @@ use Rattle.ficus_top.specs.Anew.{ServesAnew, ServesFrontAnew}
 use Rattle.ficus_top.specs.Words.{texts, AreWords, AreNoWords}
 use Rattle.ficus_top.proofs.Endings.{one_members}
 use Rattle.ficus_top.proofs.Anew.{cut_lawful, front_of_fault}
-use Rattle.ficus_top.proofs.Returning.{nothing_returns}
+use Rattle.ficus_top.proofs.Returning.{final_throughout, nothing_returns}
 use Rattle.ficus_top.proofs.replay.run.Goals as goal
 
 -- what holds of the words and the commands that were read, holds of these
@@ -28,24 +28,28 @@ module _ {tells : Type 0} {words : List (List ℕ)} {read members : ℕ} (are : 
   answers_front {may} front =
       let served : ServesFrontAnew tells may members commands old new =
       moved are also same (λ n cs. ServesFrontAnew tells may n cs old new) front in
+      let lawful = cut_lawful served.serves.cut (run_lawful served.serves.run (start_lawful members)) in
       record {
         commands = commands;
         read = is_script;
         served = served;
-        lawful = cut_lawful served.serves.cut (run_lawful served.serves.run (start_lawful members));
+        lawful = lawful;
         no_return = nothing_returns served.after.events;
+        final = final_throughout members served.after.events lawful;
       }
 
   answers : ServesAnew tells read some old new → Answers tells members script old new
   answers serves =
       let served : ServesAnew tells members commands old new =
       moved are also same (λ n cs. ServesAnew tells n cs old new) serves in
+      let lawful = run_lawful served.serves.run (start_lawful members) in
       record {
         commands = commands;
         read = is_script;
         served = served;
-        lawful = run_lawful served.serves.run (start_lawful members);
+        lawful = lawful;
         no_return = nothing_returns served.after.events;
+        final = final_throughout members served.after.events lawful;
       }
 
 pub returns-in_default-clause-usage : goal.returns-in_default-clause-usage

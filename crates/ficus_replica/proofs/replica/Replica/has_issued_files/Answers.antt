@@ -6,7 +6,7 @@ use Rattle.std.proofs.lemmas.List.Elements.{All-contains}
 use Rattle.ficus_file.specs.declared.file.FileReplica.{FileReplica}
 use Rattle.ficus_saved.specs.Saved.{IsFileOfPast}
 use Rattle.ficus_file.proofs.Changed.{contains_at}
-use Rattle.ficus_replica.proofs.Stepping.{all_more}
+use Rattle.ficus_saved.proofs.AllRows.{all_more}
 use Rattle.ficus_recon_file.proofs.Taking.{all_of_theirs}
 use Rattle.ficus_replica.proofs.replica.Replica.has_issued_files.Goals as goal
 

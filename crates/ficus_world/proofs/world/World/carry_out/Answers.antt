@@ -16,6 +16,9 @@ returns-in-Look-clause-moves g c = rw c.in-Look.is c.look.ensures
 pub returns-in-Alike-clause-moves : goal.returns-in-Alike-clause-moves
 returns-in-Alike-clause-moves g c = rw c.in-Alike.is c.alike.ensures
 
+pub returns-in-Collect-clause-moves : goal.returns-in-Collect-clause-moves
+returns-in-Collect-clause-moves g c = rw c.in-Collect.is c.collect.ensures.moves
+
 pub returns-in_err-ask-in-Ask-clause-moves : goal.returns-in_err-ask-in-Ask-clause-moves
 returns-in_err-ask-in-Ask-clause-moves g c =
     let refused = err_from_is_err_and c.from_residual.result c.from_residual.ensures.1 in

@@ -1,6 +1,9 @@
-use Rattle.std.proofs.Common.{◌≡◌, Err, subst}
+use Rattle.std.proofs.Common.{◌≡◌, Result, Err, subst}
 use Rattle.std.proofs.lemmas.Result.{err_from_is_err_and}
+use Rattle.ficus_ids.specs.declared.refusal.Refusal.{Refusal}
 use Rattle.ficus_ids.specs.declared.refusal.Refusal.TheVariants as refusal
+use Rattle.ficus_wire.specs.Message.{messages_of}
+use Rattle.ficus_wire.specs.declared.message.Letter.{Letter}
 use Rattle.ficus_world.specs.Answers.{OrMemory}
 use Rattle.ficus_world.specs.Moves.{FetchesMail, with_post}
 use Rattle.ficus_world.specs.Moves.FetchesMail.{NoMail}
@@ -19,7 +22,8 @@ returns-in_err-bytes-clause-fetches g c =
     let refused = err_from_is_err_and c.from_residual.result c.from_residual.ensures.1 in
     let old = whole_of c.self.inside.members.items c.self.inside.history.events c.self.inside.post.now in
     let r = c.in_err-bytes.field-0.0 in
-    let fails = λ (w : Whole). OrMemory (λ given. FetchesMail g.L.Link.tells c.args.mail w given (with_post old c.fetch.new.self.now)) (Err r) in
+    let fails = λ (w : Whole). OrMemory (λ (given : Result Letter Refusal).
+    FetchesMail g.L.Link.tells c.args.mail w (messages_of given) (with_post old c.fetch.new.self.now)) (Err r) in
     rw (refused.1, refused.2)
     (subst fails c.self.view_is (fetch_failed g.L.Link.tells old c.args.mail c.fetch.new.self.now
     (c.has.ensures.0 c.if-not-has.false) r

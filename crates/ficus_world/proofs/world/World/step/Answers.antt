@@ -1,8 +1,9 @@
 use Rattle.std.proofs.Common.{refl}
 use Rattle.std.proofs.lemmas.Result.{IfOk-weaker, on_err_weaker}
 use Rattle.ficus_world.specs.Follows.{Follows}
-use Rattle.ficus_world.specs.Moves.{Moves, CutShort}
+use Rattle.ficus_world.specs.Moves.{Moves, CutShort, HasCollected}
 use Rattle.ficus_world.specs.Run.{CommandMayWantMemory}
+use Rattle.ficus_world.proofs.Collecting.{moves_collected}
 use Rattle.ficus_world.proofs.Following.{follow, follow_cut, follow_wanted}
 use Rattle.ficus_world.proofs.Moved.{answered_moves, answered_cut, answered_wants}
 use Rattle.ficus_world.proofs.world.World.step.Goals as goal
@@ -16,6 +17,17 @@ pub returns-clause-memory : goal.returns-clause-memory
 returns-clause-memory g c =
     answered_cut (CutShort g.L.Link.tells c.args.command.now c.args.self.now c.carry_out.new.self) c.carry_out.result
     c.answered.result c.carry_out.ensures.memory c.answered.ensures.memory
+
+pub returns-clause-collected : goal.returns-clause-collected
+returns-clause-collected g c =
+    let old = c.args.self.now in
+    let new = c.carry_out.new.self in
+    let command = c.args.command.now in
+    IfOk-weaker c.answered.result (λ answer. Moves g.L.Link.tells old command answer new)
+    (λ answer. HasCollected command answer new)
+    (λ answer moves. moves_collected g.L.Link.tells old new command answer moves)
+    (answered_moves g.L.Link.tells old new command c.carry_out.result c.answered.result c.carry_out.ensures.moves
+    c.answered.ensures.answer)
 
 pub returns-clause-stands : goal.returns-clause-stands
 returns-clause-stands g c = λ told volume W stands.

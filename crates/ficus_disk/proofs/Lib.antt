@@ -1,0 +1,5 @@
+mod Patches
+mod Overlays
+mod Crashes
+mod Traces
+mod Replays

@@ -1,0 +1,130 @@
+ghost use Rattle.std.specs.Prelude.{◌≡◌, ◌^◌, ◌≤◌, ⊤, IfOk, IsOk, IsErr, OnOk, OnErr, [], None, ℕ, Ok};
+ghost use Rattle.ficus_faults.specs.Faults.{Rose, next_fault};
+
+use crate::stored_file::StoredFile;
+use ficus_disk::{Disk, Failed};
+use ficus_faults::Faults;
+use ficus_ids::Memory;
+use std::io;
+use std::marker::Model;
+use std::rt::Files;
+
+/// A file of the system as a disk without a fuse. It tells nothing of what it holds.
+///
+/// Nothing is touched before the first call. A file that the system says isn't there has size 0; its `sync` and `again`
+/// make nothing and answer `Ok`, and its first `write` makes it, with the folders that are missing. Each of these, and
+/// the one above them, is synced with the file at the next `sync`, and the folder of a file that was there at the first.
+/// Any other refusal of the system is a fault, and so is the end of the file within a read.
+#[derive(Drop)]
+pub struct FileDisk<R: Files + Clone + Drop> {
+    file: StoredFile<R>,
+    faults: Faults,
+}
+
+// Contracts see the count of faults alone.
+impl<R: Files + Clone + Drop> Model for FileDisk<R> {
+    ghost Value = { ℕ };
+
+    ghost view = { λ d. d.faults };
+}
+
+impl<R: Files + Clone + Drop> FileDisk<R> {
+    /// The file at `path`, in the runtime's own terms, with no fault counted.
+    pub fn new(rt: R, path: String) -> FileDisk<R>
+        ensures { result ≡ 0 }
+    {
+        FileDisk {
+            file: StoredFile::new(rt, path),
+            faults: Faults::new(),
+        }
+    }
+}
+
+// The system's answer, with one fault more where it is an error.
+fn counted<T: Drop>(faults: &mut Faults, answer: io::Result<T>) -> Result<T, Failed>
+    ensures answered { IfOk answer (λ value. result ≡ Ok value) }
+    ensures refused { OnErr answer (IsErr result) }
+    ensures steady { OnOk result (faults.new ≡ faults.old) }
+    ensures counted { OnErr result (faults.new ≡ next_fault faults.old) }
+    ensures failed { OnErr result (Rose faults.old faults.new) }
+    ensures risen { faults.old ≤ faults.new }
+{
+    match answer {
+        Ok(value) => Ok(value),
+        Err(_) => Err(faults.raise()),
+    }
+}
+
+impl<R: Files + Clone + Drop> Disk for FileDisk<R> {
+    ghost use Rattle.ficus_disk.specs.declared.fuse.Fuse.TheVariants.{Unarmed};
+
+    ghost tells = { ⊥ };
+
+    ghost tells_moments = { ⊥ };
+
+    ghost tells_fuse = { ⊥ };
+
+    ghost seen = { λ _. [] };
+
+    ghost may_leave = { λ _ _. ⊤ };
+
+    ghost moment = { λ _. 0 };
+
+    ghost left_since = { λ _ _ _. ⊤ };
+
+    ghost room = { λ _. 2 ^ 64 };
+
+    ghost faults = { λ faults. faults };
+
+    ghost armings = { λ _. None };
+
+    ghost fuse = { λ _. Unarmed };
+
+    ghost image = { λ _ _. [] };
+
+    ghost seen_may_be_left = { λ none d. absurd none };
+
+    ghost image_may_be_left = { λ none d pick. absurd none };
+
+    ghost left_now = { λ none d t c le left. absurd none };
+
+    ghost only_now = { λ d c left. left };
+
+    ghost left_earlier = { λ d t u c le left. left };
+
+    fn size(&mut self) -> Result<u64, Failed> {
+        counted(&mut self.faults, self.file.size())
+    }
+
+    fn read(&mut self, at: u64, into: &mut [u8]) -> Result<(), Failed> {
+        counted(&mut self.faults, self.file.read(at, into))
+    }
+
+    fn reserve(&mut self, upto: u64) -> Result<(), Memory>
+        ensures reserved { OnOk result (upto ≤ 2 ^ 64) }
+
+        // A write takes no memory anyway.
+        ensures always { IsOk result }
+        ensures kept { self.new ≡ self.old }
+    {
+        Ok(())
+    }
+
+    fn write(&mut self, at: u64, bytes: &[u8]) -> Result<(), Failed> {
+        counted(&mut self.faults, self.file.write(at, bytes))
+    }
+
+    fn sync(&mut self) -> Result<(), Failed> {
+        counted(&mut self.faults, self.file.sync())
+    }
+
+    fn fused(&self) -> bool {
+        false
+    }
+
+    fn arm(&mut self, _calls: u32, _pick: u8) {}
+
+    fn again(&mut self) -> Result<(), Failed> {
+        counted(&mut self.faults, self.file.again())
+    }
+}

@@ -1,0 +1,9 @@
+//! A disk over a file of the system: with the standard streams, the edge that is trusted. The program doesn't use it
+//! yet; whoever does finds it beside the streams.
+#![tactic(auto)]
+
+mod file_disk;
+mod folders;
+mod stored_file;
+
+pub use file_disk::FileDisk;

@@ -1,0 +1,43 @@
+// Calls of a disk with what each answers.
+use ficus_disk::{Disk, Failed};
+use ficus_file_disk::FileDisk;
+use std::rt::Files;
+
+/// A call, and what it answers.
+#[derive(Clone, Copy, PartialEq)]
+pub enum Call {
+    Size(Result<u64, Failed>),
+    /// Three bytes from this place on.
+    Read(u32, Result<[u8; 3], Failed>),
+    Write(u32, &'static [u8], Result<(), Failed>),
+    Sync(Result<(), Failed>),
+    Again(Result<(), Failed>),
+}
+
+impl Call {
+    /// The same call with the answer that the disk gives now.
+    pub fn made<R: Files + Clone + Drop>(self, disk: &mut FileDisk<R>) -> Call {
+        match self {
+            Call::Size(_) => Call::Size(disk.size()),
+            Call::Read(at, _) => {
+                let mut into = [0; 3];
+                let answer = disk.read(at.into(), &mut into);
+                Call::Read(at, answer.map(|()| into))
+            }
+            Call::Write(at, bytes, _) => Call::Write(at, bytes, disk.write(at.into(), bytes)),
+            Call::Sync(_) => Call::Sync(disk.sync()),
+            Call::Again(_) => Call::Again(disk.again()),
+        }
+    }
+
+    /// The same call, answered by a fault.
+    pub fn failed(self) -> Call {
+        match self {
+            Call::Size(_) => Call::Size(Err(Failed)),
+            Call::Read(at, _) => Call::Read(at, Err(Failed)),
+            Call::Write(at, bytes, _) => Call::Write(at, bytes, Err(Failed)),
+            Call::Sync(_) => Call::Sync(Err(Failed)),
+            Call::Again(_) => Call::Again(Err(Failed)),
+        }
+    }
+}

@@ -1,0 +1,12 @@
+//! Tests of the disk over a file, of which no clause says what it asks of the system: over the system's own files, and
+//! over a system that notes what it is asked, and fails.
+#![tactic(auto)]
+
+#[cfg(test)]
+mod calls;
+#[cfg(test)]
+mod files;
+#[cfg(test)]
+mod noted;
+#[cfg(test)]
+mod system;

@@ -1,0 +1,4 @@
+mod Growing
+mod LineLaws
+mod PathTexts
+mod ScriptLines

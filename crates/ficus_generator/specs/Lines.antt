@@ -1,0 +1,13 @@
+-- What the lines of a generated script are.
+use Rattle.std.specs.Prelude.{◌≡◌, ℕ, ◌+◌, List, length}
+use Rattle.ficus_script.specs.Script.{IsScript, lines_of}
+use Rattle.ficus_script.specs.declared.command.Command.{Command}
+use Rattle.ficus_generator.specs.Script.{script_lines, text_of}
+
+-- The lines of the script are those that were written, and it is one of as many commands: one for each of four
+-- directories, one for each member but the first, and one for each step.
+pub record HasLines (seed steps members : ℕ) : Type 0 where
+  pub lines : lines_of (text_of (script_lines seed steps members)) ≡ script_lines seed steps members
+  pub commands : List Command
+  pub script : IsScript (text_of (script_lines seed steps members)) commands
+  pub counted : length commands + 1 ≡ 4 + members + steps

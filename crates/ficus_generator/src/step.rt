@@ -1,0 +1,106 @@
+ghost use Rattle.std.specs.Prelude.{◌≡◌, ◌<◌, [], ◌∷◌, ◌++◌, IfOk, string_bytes};
+ghost use Rattle.ficus_ids.specs.Members.{IsMember};
+ghost use Rattle.ficus_generator.specs.Draws.{state_after};
+ghost use Rattle.ficus_generator.specs.Script.{peer_of, step_line};
+ghost use Rattle.ficus_generator.specs.Step.{action_of, step_from};
+
+use crate::draws::Draws;
+use ficus_ids::{Members, Memory};
+use std::alloc::Global;
+
+/// What a step does, by the verb of its line.
+#[derive(Clone, Copy)]
+pub(crate) enum Action {
+    MkDir,
+    Create,
+    Write,
+    Rm,
+    Mv,
+    Resolve,
+    Collect,
+    Pull,
+}
+
+/// A step of a script: its number, counted from 1, the replica that acts, and at which of eight places.
+#[derive(Clone, Copy)]
+pub(crate) struct Step {
+    pub(crate) number: u32,
+    pub(crate) by: u8,
+    pub(crate) action: Action,
+    pub(crate) place: u8,
+}
+
+impl Step {
+    /// The step of this number, by three draws.
+    pub(crate) fn draw(draws: &mut Draws, members: Members, number: u32) -> Step
+        ensures step { result ≡ step_from members draws.old number }
+        ensures state { draws.new ≡ state_after draws.old 3 }
+        ensures member { IsMember members result.by }
+        ensures place { result.place < 8 }
+    {
+        let by = 1 + draws.draw(members.count());
+        let action = action_of(draws.draw(10));
+        let place = draws.draw(8);
+        Step {
+            number,
+            by,
+            action,
+            place,
+        }
+    }
+
+    /// The line of the step, ended by byte 10.
+    pub(crate) fn line(self, alloc: Global, members: Members) -> Result<String, Memory>
+        requires member { IsMember members self.by }
+        requires place { self.place < 8 }
+        ensures { IfOk result (λ line. string_bytes line ≡ step_line members self ++ 10 ∷ []) }
+    {
+        let Step {
+            number,
+            by,
+            action,
+            place,
+        } = self;
+        let dir = place % 4;
+        let next = (place + 1) % 4;
+        let peer = peer_of(members, by, place);
+        match action {
+            Action::MkDir => Ok(format!(in alloc; "{by} mkdir /d{dir}\n")?),
+            Action::Create => Ok(format!(in alloc; "{by} create /d{dir}/f{place} lines\n")?),
+            Action::Write => {
+                Ok(format!(in alloc; "{by} write /d{dir}/f{place} \"s{number}\\n\"\n")?)
+            }
+            Action::Rm => Ok(format!(in alloc; "{by} rm /d{dir}/f{place}\n")?),
+            Action::Mv => Ok(format!(in alloc; "{by} mv /d{dir}/f{place} /d{next}/f{place}\n")?),
+            Action::Resolve => Ok(format!(in alloc; "{by} resolve /d{dir}/f{place}\n")?),
+            Action::Collect => Ok(format!(in alloc; "{by} collect\n")?),
+            Action::Pull => Ok(format!(in alloc; "pull {by} {peer}\n")?),
+        }
+    }
+}
+
+// What the number below ten stands for.
+fn action_of(choice: u8) -> Action
+    ensures { result ≡ action_of choice }
+{
+    match choice {
+        0 => Action::MkDir,
+        1 => Action::Create,
+        2 | 3 => Action::Write,
+        4 => Action::Rm,
+        5 => Action::Mv,
+        6 => Action::Resolve,
+        7 => Action::Collect,
+        _ => Action::Pull,
+    }
+}
+
+// Another member, of which the replica hears at the place.
+fn peer_of(members: Members, by: u8, place: u8) -> u8
+    requires member { IsMember members by }
+    requires place { place < 8 }
+    ensures { result ≡ peer_of members by place }
+{
+    let count = members.count();
+    1 + (by + place % (count - 1)) % count
+}

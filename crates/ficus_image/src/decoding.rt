@@ -1,0 +1,129 @@
+ghost use Rattle.std.specs.Prelude.{◌≡◌, ◌↔◌, List, ℕ, ◌++◌, IsTrue, IfOk, IsErrOf};
+ghost use Rattle.ficus_codec.specs.Formats.{tables};
+ghost use Rattle.ficus_formats.specs.Format.{ReadsAll};
+ghost use Rattle.ficus_ids.specs.Members.{IsMember};
+ghost use Rattle.ficus_saved.specs.Saved.{FitsImage, HasOwnPast};
+ghost use Rattle.ficus_saved.specs.Tables.{FitsTables};
+ghost use Rattle.ficus_saved.specs.declared.saved.Saved.{Saved as SavedValue};
+ghost use Rattle.ficus_image.specs.Image.{image, image_parts, image_bytes};
+
+use crate::ImageFault;
+use crate::front::read_front;
+use ficus_codec::{BYTE_LIMIT, ReadFault, Reader, Saved, UPDATE_LIMIT, read_tables};
+use ficus_entry::Entries;
+use ficus_file::Files;
+use ficus_ids::{Members, Memory};
+use std::alloc::Global;
+
+// The tables that the bytes spell which are left, from the first to the last.
+fn read_all_tables(
+    alloc: Global,
+    reader: Reader<'_>,
+    members: Members,
+) -> Result<(Entries, Files), ReadFault>
+    ensures { ReadsAll (tables members) reader.entry result }
+{
+    let _ = members.count();
+    let mut rest = reader;
+    let tables = read_tables(alloc, &mut rest, members)?;
+    if rest.is_empty() {
+        Ok(tables)
+    } else {
+        Err(ReadFault::Unspelled)
+    }
+}
+
+// What stands in front of the tables, and the tables to the end.
+fn read_parts(alloc: Global, reader: Reader<'_>) -> Result<Saved, ReadFault>
+    ensures { ReadsAll image_parts reader.entry result }
+{
+    let mut rest = reader;
+    let front = read_front(&mut rest)?;
+    let (entries, files) = read_all_tables(alloc, rest, front.members)?;
+    Ok(Saved {
+        me: front.me,
+        members: front.members,
+        ids: front.ids,
+        bytes: front.bytes,
+        next: front.next,
+        used: front.used,
+        generation: front.generation,
+        entries,
+        files,
+    })
+}
+
+// Whether the limits are those of a volume, and what the replica has used up lies within them.
+fn is_within_limits(saved: &Saved) -> bool
+    requires me { IsMember saved.now.members saved.now.me }
+    requires tables { FitsTables saved.now.members saved.now.entries saved.now.files }
+    ensures fits { IsTrue result → HasOwnPast saved.now.me saved.now.next saved.now.entries saved.now.files →
+        FitsImage saved.now }
+    ensures within { FitsImage saved.now → IsTrue result }
+{
+    let _ = saved.members.count();
+    (1..=UPDATE_LIMIT).contains(&saved.ids)
+        && saved.bytes <= BYTE_LIMIT
+        && (1..=saved.ids + 1).contains(&saved.next)
+        && saved.used <= saved.bytes
+        && saved.generation < 1 << 63
+}
+
+// Whether the tables hold nothing of the replica's own that it hasn't made.
+fn has_own_past(saved: &Saved) -> Result<bool, Memory>
+    requires { IsMember saved.now.members saved.now.me }
+    ensures { IfOk result (λ past. IsTrue past
+        ↔ HasOwnPast saved.now.me saved.now.next saved.now.entries saved.now.files) }
+{
+    let entries = saved.entries.in_order()?;
+    if !saved.has_issued_entries(&entries) {
+        return Ok(false);
+    }
+    let files = saved.files.in_order()?;
+    Ok(saved.has_issued_files(&files))
+}
+
+// Whether what is saved, with tables that may be, may stand in an image.
+fn fits_image(saved: &Saved) -> Result<bool, Memory>
+    requires { FitsTables saved.now.members saved.now.entries saved.now.files }
+    ensures { IfOk result (λ fits. IsTrue fits ↔ FitsImage saved.now) }
+{
+    if !saved.members.has(saved.me) || !is_within_limits(saved) {
+        return Ok(false);
+    }
+    let past = has_own_past(saved)?;
+    Ok(past)
+}
+
+// What the bytes spell that are left.
+fn read_image(alloc: Global, reader: Reader<'_>) -> Result<Saved, ReadFault>
+    ensures { ReadsAll image reader.entry result }
+{
+    let saved = read_parts(alloc, reader)?;
+    if fits_image(&saved)? {
+        Ok(saved)
+    } else {
+        Err(ReadFault::Unspelled)
+    }
+}
+
+/// What the bytes spell, from the first to the last. `NotImage` comes exactly where they spell nothing that a replica
+/// may save.
+pub fn decode_image(alloc: Global, bytes: &[u8]) -> Result<Saved, ImageFault>
+    ensures fits { IfOk result (λ saved. FitsImage saved) }
+    ensures spelled { IfOk result (λ saved. bytes.now ≡ image_bytes saved) }
+    ensures one { (saved : SavedValue) → FitsImage saved → bytes.now ≡ image_bytes saved
+        → IfOk result (λ read. read ≡ saved) }
+    ensures not_image { IsErrOf result ImageFault.NotImage →
+        (saved : SavedValue) → FitsImage saved → bytes.now ≡ image_bytes saved → ⊥ }
+{
+    let saved = read_image(alloc, Reader::new(bytes))?;
+    Ok(saved)
+}
+
+/// The law that nothing has the spelling of something else, and that no spelling begins another. It does nothing when
+/// it runs.
+pub fn one_image()
+    ensures { (m n : SavedValue) (a b : List ℕ) → FitsImage m → FitsImage n → image_bytes m ++ a ≡ image_bytes n ++ b →
+        (m ≡ n) × (a ≡ b) }
+{}

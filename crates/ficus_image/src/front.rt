@@ -1,0 +1,67 @@
+ghost use Rattle.std.specs.Prelude.{◌≡◌, ◌++◌, OnOk};
+ghost use Rattle.ficus_formats.specs.Format.{Reads};
+ghost use Rattle.ficus_image.specs.Image.{magic, member_count, front, front_of};
+
+use ficus_codec::{ReadFault, Reader, Saved, put_bytes, put_u8, put_u32, put_u64};
+use ficus_ids::{Members, Memory};
+
+/// What stands in front of the tables.
+#[derive(Clone, Copy)]
+pub(crate) struct Front {
+    pub(crate) me: u8,
+    pub(crate) members: Members,
+    pub(crate) ids: u32,
+    pub(crate) bytes: u32,
+    pub(crate) next: u32,
+    pub(crate) used: u32,
+    pub(crate) generation: u64,
+}
+
+// The bytes with which every image begins.
+fn read_magic(reader: &mut Reader<'_>) -> Result<(), ReadFault>
+    ensures { Reads magic reader.old result reader.new }
+{
+    match reader.front(4) {
+        Some(front) if front == b"FIC1".as_slice() => Ok(()),
+        _ => Err(ReadFault::Unspelled),
+    }
+}
+
+// How many members there are.
+fn read_member_count(reader: &mut Reader<'_>) -> Result<Members, ReadFault>
+    ensures { Reads member_count reader.old result reader.new }
+{
+    let count = reader.byte()?;
+    Members::new(count).ok_or(ReadFault::Unspelled)
+}
+
+/// Reads what stands in front of the tables.
+pub(crate) fn read_front(reader: &mut Reader<'_>) -> Result<Front, ReadFault>
+    ensures { Reads front reader.old result reader.new }
+{
+    read_magic(reader)?;
+    Ok(Front {
+        me: reader.byte()?,
+        members: read_member_count(reader)?,
+        ids: reader.number32()?,
+        bytes: reader.number32()?,
+        next: reader.number32()?,
+        used: reader.number32()?,
+        generation: reader.number64()?,
+    })
+}
+
+/// Appends what stands in front of the tables.
+pub(crate) fn put_front(out: &mut Vec<u8>, saved: &Saved) -> Result<(), Memory>
+    ensures { OnOk result (out.new.items ≡ out.old.items ++ front.spell (front_of saved.now)) }
+{
+    put_bytes(out, b"FIC1")?;
+    put_u8(out, saved.me)?;
+    put_u8(out, saved.members.count())?;
+    put_u32(out, saved.ids)?;
+    put_u32(out, saved.bytes)?;
+    put_u32(out, saved.next)?;
+    put_u32(out, saved.used)?;
+    put_u64(out, saved.generation)?;
+    Ok(())
+}

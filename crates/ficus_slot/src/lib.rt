@@ -1,0 +1,10 @@
+//! A slot on one disk: how it is read, and how it is saved so that a crash leaves the old one, none or the new one.
+#![tactic(auto)]
+
+mod range;
+mod reading;
+mod saving;
+
+pub use range::save_range;
+pub use reading::{Slot, is_shut, read_all, read_slot};
+pub use saving::save_slot;

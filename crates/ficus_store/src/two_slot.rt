@@ -1,0 +1,134 @@
+ghost use Rattle.std.specs.Prelude.{◌≡◌, ◌+◌, ◌^◌, ◌≤◌, List, ℕ, OnOk, IfOk, vec_capacity};
+ghost use Rattle.ficus_keep.specs.Kept.{image_alone, kept_of};
+ghost use Rattle.ficus_store.specs.Slots.{StandsOn};
+ghost use Rattle.ficus_store.specs.TwoSlot.{Fits};
+
+use crate::choosing::{Choice, choose};
+use ficus_disk::{Disk, Pair};
+use ficus_faults::Failed;
+use ficus_ids::{Listed, Memory};
+use ficus_keep::{Keep, MakeFault, Opened, StoreFault, Wants};
+use ficus_slot::{read_all, save_slot};
+use std::alloc::Global;
+
+/// A keeper with one slot on each disk of a pair. It always wants an image, and keeps no records.
+#[derive(Drop)]
+pub struct TwoSlot {
+    // The slot in force, and on which disk it lies.
+    generation: u64,
+    on_a: bool,
+    // Whether the gate of the other disk is closed.
+    shut: bool,
+    // What goes to a disk as one range is joined here.
+    buffer: Vec<u8>,
+}
+
+impl Keep for TwoSlot {
+    ghost use Rattle.std.specs.Prelude.{◌+◌, ◌==◌, ◌%◌, true};
+    ghost use Rattle.ficus_slot.specs.Slot.{range_size};
+    ghost use Rattle.ficus_store.specs.Slots.{IsRegular, kept_in};
+    ghost use Rattle.ficus_store.specs.TwoSlot.{Fits, room_in};
+
+    ghost kept = { kept_in };
+
+    ghost fits = { Fits };
+
+    ghost wants_image = { λ _. true };
+
+    ghost room = { room_in };
+
+    ghost buffered = { λ _ length. range_size + length };
+
+    ghost size_of = { λ _ length. 1 + range_size + length };
+
+    ghost calls = { λ _. 6 };
+
+    ghost is_on_a = { λ generation. generation % 2 == 0 };
+
+    ghost Regular = { IsRegular };
+
+    fn make<D: Disk>(alloc: Global, disks: &mut Pair<D>, image: &[u8]) -> Result<(), MakeFault> {
+        let mut buffer = Vec::new(alloc);
+        reserve(&mut buffer, image.len() as u64)?;
+        disks.a.reserve(image.len() as u64 + 18)?;
+        save_slot(&mut disks.a, &mut buffer, false, 0, image)?;
+        Ok(())
+    }
+
+    fn open<D: Disk>(alloc: Global, disks: &mut Pair<D>) -> Result<(TwoSlot, Opened), StoreFault> {
+        disks.a.sync()?;
+        disks.b.sync()?;
+        let a = read_all(alloc, &mut disks.a)?;
+        let b = read_all(alloc, &mut disks.b)?;
+        match choose(&a, &b) {
+            Some(choice) => Ok(opened(alloc, choice)?),
+            None => Err(StoreFault::NoImage),
+        }
+    }
+
+    fn wants(&self) -> Wants {
+        Wants::Image
+    }
+
+    fn prepare<D: Disk>(&mut self, disks: &mut Pair<D>, length: u64) -> Result<(), Memory> {
+        reserve(&mut self.buffer, length)?;
+        disks.a.reserve(length + 18)?;
+        disks.b.reserve(length + 18)
+    }
+
+    fn commit<D: Disk>(
+        &mut self,
+        disks: &mut Pair<D>,
+        generation: u64,
+        bytes: &[u8],
+    ) -> Result<(), Failed> {
+        // After a failure nothing is promised of the keeper.
+        let shut = self.shut;
+        self.generation = generation;
+        self.shut = false;
+        if self.on_a {
+            self.on_a = false;
+            save_slot(&mut disks.b, &mut self.buffer, shut, generation, bytes)
+        } else {
+            self.on_a = true;
+            save_slot(&mut disks.a, &mut self.buffer, shut, generation, bytes)
+        }
+    }
+}
+
+// Room for what goes to a disk behind the gate, with a body of so many bytes, in place of what the buffer holds.
+fn reserve(buffer: &mut Vec<u8>, length: u64) -> Result<(), Memory>
+    ensures room { OnOk result (17 + length ≤ vec_capacity buffer.new) }
+    ensures small { OnOk result (length ≤ 2 ^ 60) }
+{
+    if length > 1 << 60 {
+        return Err(Memory);
+    }
+    buffer.clear();
+    buffer.reserve(length as usize + 17)?;
+    Ok(())
+}
+
+// The keeper of the slot in force, and what it keeps.
+fn opened(alloc: Global, choice: Choice) -> Result<(TwoSlot, Opened), Memory>
+    ensures opened { IfOk result (λ found. kept_of found.1
+        ≡ image_alone choice.entry.slot.generation choice.entry.slot.body.now) }
+    ensures keeper { IfOk result (λ found. (a b : List ℕ)
+        → StandsOn choice.entry.on_a choice.entry.slot.generation choice.entry.shut a b → Fits found.0 a b) }
+{
+    let generation = choice.slot.generation;
+    let image = choice.slot.body.to_vec(alloc)?;
+    Ok((
+        TwoSlot {
+            generation,
+            on_a: choice.on_a,
+            shut: choice.shut,
+            buffer: Vec::new(alloc),
+        },
+        Opened {
+            generation,
+            image: Listed::of(image),
+            records: Listed::of(Vec::new(alloc)),
+        },
+    ))
+}

@@ -1,0 +1,77 @@
+// The program's loop over a link that fails at each call in turn, and over one that is nearly full.
+ghost use Rattle.std.specs.Prelude.{◌≡◌, []};
+
+use ficus_ids::Members;
+use ficus_outside::{FailLink, Link, MemLink, MemSink};
+use ficus_script::read_script;
+use ficus_top::serve;
+use ficus_world::World;
+use std::alloc::Global;
+use std::test::Fail;
+
+// Whether two members, over this link, answer the script so.
+fn answer_so<L: Link + Drop>(
+    alloc: Global,
+    link: L,
+    script: &str,
+    answers: &str,
+) -> Result<bool, Fail>
+    requires { L.posts link ≡ [] }
+{
+    let members = Members::new(2).ok_or("two members")?;
+    let mut world = World::fresh(alloc, members, link)?;
+    let commands = read_script(alloc, script.as_bytes())?;
+    let mut output = MemSink::new(alloc, Vec::new(alloc))?;
+    if commands.len() > 10 || world.history().len() >= 100 {
+        return Err("more than a test serves".into());
+    }
+    let status = serve(alloc, &mut world, &commands, &mut output);
+    Ok(status.code == 0 && output.written() == answers.as_bytes())
+}
+
+// Scripts with their answers over a link that counts so many bytes as posted already. A message that asks has 12.
+const NEARLY_FULL: &[(u64, &str, &str)] = &[
+    (
+        1_073_741_812,
+        "ask 1 2\ngive 1\nask 1 2\npull 2 1\n",
+        "ok 1\nno linkfull\nno linkfull\nno linkfull\n",
+    ),
+    (
+        1_073_741_813,
+        "ask 1 2\n1 mkdir /a\n",
+        "no linkfull\nok 1.1\n",
+    ),
+];
+
+#[test]
+fn a_link_takes_what_fits_and_no_more(rt: HostRuntime) -> Result<(), Fail> {
+    for &(total, script, answers) in NEARLY_FULL {
+        let link = MemLink::after(rt.alloc(), total);
+        let so = answer_so(rt.alloc(), link, script, answers)?;
+        assert!(rt; so, "{total} {script:?}");
+    }
+    Ok(())
+}
+
+const ASKED: &str = "ask 1 2\ngive 1\ngive 1\ngive 2\n";
+
+// Which call of the link fails, a script, and its answers: what failed is done when it is asked for once more, but an ask
+// that wasn't posted has no message to give.
+const FAILING: &[(u32, &str, &str)] = &[
+    (1, ASKED, "no link\nno nomail\nno nomail\nno nomail\n"),
+    (2, ASKED, "ok 1\nno link\nok 2\nok\n"),
+    (3, ASKED, "ok 1\nno link\nok 2\nok\n"),
+    (4, ASKED, "ok 1\nok 2\nno link\nok\n"),
+    (6, ASKED, "ok 1\nok 2\nok 3\nno link\n"),
+    (3, "pull 1 2\npull 1 2\n", "no link\nok\n"),
+];
+
+#[test]
+fn a_link_fails_at_each_call_in_turn(rt: HostRuntime) -> Result<(), Fail> {
+    for &(call, script, answers) in FAILING {
+        let link = FailLink::new(rt.alloc(), [call].to_vec(rt.alloc())?);
+        let so = answer_so(rt.alloc(), link, script, answers)?;
+        assert!(rt; so, "{call} {script:?}");
+    }
+    Ok(())
+}

@@ -1,0 +1,11 @@
+mod Built
+mod Distinct
+mod Failing
+mod Found
+mod NumberLaws
+mod OneMode
+mod Settling
+mod Spelling
+mod Turns
+mod Uses
+mod Walk

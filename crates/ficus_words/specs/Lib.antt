@@ -1,0 +1,4 @@
+pub mod Clap
+pub mod Given
+pub mod Grammar
+pub mod Mode

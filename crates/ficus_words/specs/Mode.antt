@@ -1,0 +1,76 @@
+-- The words of each mode.
+use Rattle.std.specs.Prelude.{◌≡◌, ℕ, List, Some, None, codes, Result, Ok, Err}
+use Rattle.ficus_words.specs.Grammar.{Text, Use, Gives}
+use Rattle.ficus_words.specs.Given.{Texts, texts_of, IsNumber, IsNumberOrMost, IsSomeText}
+use Rattle.ficus_words.specs.declared.mode.Mode.{Mode}
+use Rattle.ficus_words.specs.declared.mode.Mode.TheVariants.{Init, Run, Replay, Gen}
+use Rattle.ficus_words.specs.declared.mode.Size.{Size}
+use Rattle.ficus_words.specs.declared.fault.WordsFault.{WordsFault}
+use Rattle.ficus_words.specs.declared.fault.WordsFault.TheVariants.{Usage, Memory}
+
+-- how large the texts want a volume
+pub record IsSize (texts : Texts) (size : Size) : Type 0 where
+  pub members : IsNumber 2 8 texts.members size.members
+  pub ids : IsNumberOrMost 1 100000 texts.ids size.ids
+  pub bytes : IsNumberOrMost 0 4194304 texts.bytes size.bytes
+
+-- no limit is given
+pub record HasNoLimit (texts : Texts) : Type 0 where
+  pub ids : texts.ids ≡ None
+  pub bytes : texts.bytes ≡ None
+
+-- nothing to make a script from is given
+pub record HasNoScript (texts : Texts) : Type 0 where
+  pub seed : texts.seed ≡ None
+  pub steps : texts.steps ≡ None
+
+-- the texts of each mode: what is listed for it, and nothing else
+pub record IsInit (texts : Texts) (size : Size) (root : Text) : Type 0 where
+  pub mode : texts.mode ≡ Some (codes "init")
+  pub sized : IsSize texts size
+  pub folder : IsSomeText texts.root root
+  pub no_script : HasNoScript texts
+
+pub record IsRun (texts : Texts) (root : Text) : Type 0 where
+  pub mode : texts.mode ≡ Some (codes "run")
+  pub folder : IsSomeText texts.root root
+  pub no_members : texts.members ≡ None
+  pub no_limit : HasNoLimit texts
+  pub no_script : HasNoScript texts
+
+pub record IsReplay (texts : Texts) (size : Size) : Type 0 where
+  pub mode : texts.mode ≡ Some (codes "replay")
+  pub sized : IsSize texts size
+  pub no_folder : texts.root ≡ None
+  pub no_script : HasNoScript texts
+
+pub record IsGen (texts : Texts) (members seed steps : ℕ) : Type 0 where
+  pub mode : texts.mode ≡ Some (codes "gen")
+  pub count : IsNumber 2 8 texts.members members
+  pub from_seed : IsNumber 0 2147483647 texts.seed seed
+  pub over_steps : IsNumber 0 5000 texts.steps steps
+  pub no_folder : texts.root ≡ None
+  pub no_limit : HasNoLimit texts
+
+-- the texts ask for this mode
+abbrev pub AsksFor : Texts → Mode → Type 0
+AsksFor texts (Init size root) = IsInit texts size root
+AsksFor texts (Run root) = IsRun texts root
+AsksFor texts (Replay size) = IsReplay texts size
+AsksFor texts (Gen members seed steps) = IsGen texts members seed steps
+
+-- the mode that the texts ask for, `Usage` where they ask for none, or memory was refused
+abbrev pub IsReadingOf : Texts → Result Mode WordsFault → Type 0
+IsReadingOf texts (Ok mode) = AsksFor texts mode
+IsReadingOf texts (Err Usage) = (mode : Mode) → AsksFor texts mode → ⊥
+IsReadingOf texts (Err Memory) = Unit {0}
+
+-- the words, the program's name first, are those of this mode
+pub record AreWords (words : List Text) (mode : Mode) : Type 0 where
+  pub uses : List Use
+  pub gives : Gives words uses
+  pub asks : AsksFor (texts_of uses) mode
+
+-- they are those of no mode
+abbrev pub AreNoWords : List Text → Type 0
+AreNoWords words = (mode : Mode) → AreWords words mode → ⊥

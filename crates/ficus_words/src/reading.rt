@@ -1,0 +1,16 @@
+ghost use Rattle.std.specs.Prelude.{◌≡◌, IfOk, IsErrOf, map, string_bytes};
+ghost use Rattle.ficus_words.specs.Mode.{AreWords, AreNoWords};
+
+use crate::given::read_given;
+use crate::mode::read_mode;
+use crate::{Mode, WordsFault};
+use std::alloc::Global;
+
+/// The mode that the words ask for, the program's name first. `Usage` comes exactly where they are those of no mode.
+pub fn read_words(alloc: Global, words: &[String]) -> Result<Mode, WordsFault>
+    ensures read { IfOk result (AreWords (map string_bytes words.now)) }
+    ensures usage { IsErrOf result WordsFault.Usage → AreNoWords (map string_bytes words.now) }
+{
+    let given = read_given(alloc, words)?;
+    read_mode(alloc, &given)
+}
