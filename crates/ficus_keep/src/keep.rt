@@ -150,4 +150,10 @@ pub trait Keep {
             → FusedSave kept D.seen D.image D.fuse (calls generation) (is_on_a generation) disks.old disks.new
             (is_ok result)
             (after_commit (wants_image self.old) generation bytes.now (found_in kept D.seen disks.old)) };
+
+    /// Nothing is kept on empty disks.
+    ghost none_at_first: { kept [] [] ≡ None };
+
+    /// Each commit saves an image. A keeper of records gives this law up.
+    ghost only_images: { (keeper : Self) → wants_image keeper ≡ true };
 }

@@ -24,7 +24,7 @@ pub struct TwoSlot {
 }
 
 impl Keep for TwoSlot {
-    ghost use Rattle.std.specs.Prelude.{◌+◌, ◌==◌, ◌%◌, true};
+    ghost use Rattle.std.specs.Prelude.{◌+◌, ◌==◌, ◌%◌, true, refl};
     ghost use Rattle.ficus_slot.specs.Slot.{range_size};
     ghost use Rattle.ficus_store.specs.Slots.{IsRegular, kept_in};
     ghost use Rattle.ficus_store.specs.TwoSlot.{Fits, room_in};
@@ -46,6 +46,10 @@ impl Keep for TwoSlot {
     ghost is_on_a = { λ generation. generation % 2 == 0 };
 
     ghost Regular = { IsRegular };
+
+    ghost none_at_first = { refl };
+
+    ghost only_images = { λ _. refl };
 
     fn make<D: Disk>(alloc: Global, disks: &mut Pair<D>, image: &[u8]) -> Result<(), MakeFault> {
         let mut buffer = Vec::new(alloc);

@@ -1,0 +1,31 @@
+-- How a keeper stands to its pair of disks, before a save and once it is prepared.
+use Rattle.std.specs.Prelude.{◌≡◌, ℕ, ◌+◌, ◌≤◌, List, length, Option}
+use Rattle.ficus_disk.specs.declared.pair.Pair.{Pair}
+use Rattle.ficus_keep.specs.Kept.{Kept, Settled, found_in}
+use Rattle.ficus_saved.specs.declared.saved.Saved.{Saved}
+use Rattle.ficus_image.specs.Image.{image_bytes}
+use Rattle.ficus_stable.specs.Holds.{Holds}
+use Rattle.ficus_stable.specs.declared.stable.Stable.{Stable}
+
+-- the pair holds this, the keeper fits it, and nothing is unsynced
+pub record IsReady {K D : Type 0} (kept : List ℕ → List ℕ → Option Kept) (fits : K → List ℕ → List ℕ → Type 0)
+    (seen : D → List ℕ) (may_leave : D → List ℕ → Type 0) (stable : Stable K) (pair : Pair D) (saved : Saved)
+    : Type 0 where
+  pub holds : Holds (found_in kept seen pair) saved
+  pub settled : Settled fits seen may_leave stable.keeper pair
+
+-- the keeper is ready, and this is of the generation above the one that the pair holds
+pub record MayFollow {K D : Type 0} (kept : List ℕ → List ℕ → Option Kept) (fits : K → List ℕ → List ℕ → Type 0)
+    (seen : D → List ℕ) (may_leave : D → List ℕ → Type 0) (stable : Stable K) (pair : Pair D) (next : Saved)
+    : Type 0 where
+  pub saved : Saved
+  pub ready : IsReady kept fits seen may_leave stable pair saved
+  pub above : next.generation ≡ saved.generation + 1
+
+-- the image of this is built, and the keeper and both disks have room for it
+pub record IsPrepared {K D : Type 0} (buffered : K → ℕ → ℕ) (room : K → ℕ) (size_of : K → ℕ → ℕ) (disk_room : D → ℕ)
+    (stable : Stable K) (pair : Pair D) (next : Saved) : Type 0 where
+  pub image : stable.image.items ≡ image_bytes next
+  pub buffer : buffered stable.keeper (length (image_bytes next)) ≤ room stable.keeper
+  pub room_a : size_of stable.keeper (length (image_bytes next)) ≤ disk_room pair.a
+  pub room_b : size_of stable.keeper (length (image_bytes next)) ≤ disk_room pair.b
