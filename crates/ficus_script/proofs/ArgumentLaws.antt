@@ -4,6 +4,7 @@ use Rattle.std.specs.Fmt.{decimal}
 use Rattle.std.specs.List.{join_with_byte}
 use Rattle.std.specs.Result.{IsErrOf}
 use Rattle.std.proofs.lemmas.Bool.{ne_eqb}
+use Rattle.std.proofs.lemmas.List.{append-nil}
 use Rattle.ficus_ids.specs.Kind.{kind_word}
 use Rattle.ficus_ids.specs.declared.kind.Kind.{Kind}
 use Rattle.ficus_ids.specs.declared.kind.Kind.TheVariants.{Dir, Plain, Lines, Max, Keep}
@@ -22,7 +23,7 @@ use Rattle.ficus_path.specs.Spelling.{path_text}
 use Rattle.ficus_path.specs.Text.{quoted_text}
 use Rattle.ficus_path.proofs.TextLaws.{quoted_text_injective}
 use Rattle.ficus_script.specs.declared.arguments.Arguments.{Arguments}
-use Rattle.ficus_script.specs.declared.arguments.Arguments.TheVariants.{Nothing, OnePath, PathAndKind, PathAndText, TwoPaths, OneNumber, TwoReplicas}
+use Rattle.ficus_script.specs.declared.arguments.Arguments.TheVariants.{Nothing, OnePath, PathAndKind, PathAndText, TwoPaths, OneNumber, TwoReplicas, Arming}
 use Rattle.ficus_script.specs.Arguments.{AreArguments, IsReplicaNumber, Begins, IsReadingBehind, IsReadingWords, BeginsPath, BeginsText, argument_words, left_of}
 use Rattle.ficus_script.specs.declared.line.LineFault.{LineFault}
 use Rattle.ficus_script.specs.declared.line.LineFault.TheVariants.{NotCommand, Memory as OutOfMemory}
@@ -30,11 +31,13 @@ use Rattle.ficus_script.specs.Line.{fault_of, fault_of_text}
 use Rattle.ficus_script.proofs.Cuts.{join_first, one_first_word, spaced}
 use Rattle.ficus_script.proofs.Numbers.{IsFreeOf-number, IsFreeOf-replica, same_number, same_replica, first_digit}
 
--- The shapes have numbers, and the first word and what is left behind it tell the shape.
+-- The shapes have numbers, and the first word and what is left behind it tell the shape. The two with a number behind
+-- that of a replica share theirs: they differ in a space that stands further behind.
 abbrev shape_of : Arguments → ℕ
 shape_of Nothing = 0
 shape_of (OnePath path) = 1
 shape_of (TwoReplicas first second) = 2
+shape_of (Arming by calls pick) = 2
 shape_of (PathAndText path text) = 3
 shape_of (PathAndKind path kind) = 4
 shape_of (TwoPaths one two) = 5
@@ -133,6 +136,8 @@ shape_is (OneNumber number) first rest are words =
     number_shape first rest (no_path_begins first number are words.0) ∙ ap behind_number words.1
 shape_is (TwoReplicas one other) first rest are words =
     number_shape first rest (no_replica_begins first one are.0 words.0) ∙ ap behind_number words.1
+shape_is (Arming by calls pick) first rest are words =
+    number_shape first rest (no_replica_begins first by are.0 words.0) ∙ ap behind_number words.1
 
 -- the word of a kind tells the kind, by its first letter
 abbrev kind_at : List ℕ → Kind
@@ -149,6 +154,15 @@ kind_found Keep = refl
 
 kind_word_injective : (kind other : Kind) → kind_word kind ≡ kind_word other → kind ≡ other
 kind_word_injective kind other same = sym (kind_found kind) ∙ ap kind_at same ∙ kind_found other
+
+-- the number of a replica is no number with a word behind it
+not_alone : (replica number : ℕ) (word : List ℕ) → IsReplicaNumber replica → number < 2 ^ 32 →
+    decimal replica ≡ decimal number ++ spaced (Some word) → ⊥
+not_alone replica number word is fits same =
+    let cut = one_first_word (decimal replica) (decimal number) None (Some word) (IsFreeOf-replica replica is)
+    (IsFreeOf-number number fits) (append-nil (decimal replica) ∙ same) in
+    let nothing : None ≡ Some word = cut.1 in
+    cc
 
 -- the words of one shape spell one list of arguments
 one_of_words : (arguments others : Arguments) (first : List ℕ) (rest : Option (List ℕ)) → AreArguments arguments →
@@ -175,6 +189,22 @@ one_of_words (TwoReplicas one two) (TwoReplicas other another) first rest are al
     let seconds : Some (decimal two) ≡ Some (decimal another) = sym words.1 ∙ same.1 in
     ap (λ (n : ℕ). TwoReplicas n two) (same_replica one other are.0 also.0 (sym words.0 ∙ same.0))
     ∙ ap (λ (n : ℕ). TwoReplicas other n) (same_replica two another are.1 also.1 (cc))
+one_of_words (Arming one calls pick) (Arming other others choice) first rest are also words same =
+    let spelled : Some (decimal calls ++ 32 ∷ decimal pick) ≡ Some (decimal others ++ 32 ∷ decimal choice) =
+    sym words.1 ∙ same.1 in
+    let cut = one_first_word (decimal calls) (decimal others) (Some (decimal pick)) (Some (decimal choice))
+    (IsFreeOf-number calls are.1) (IsFreeOf-number others also.1) (cc) in
+    let picks : Some (decimal pick) ≡ Some (decimal choice) = cut.1 in
+    ap (λ (n : ℕ). Arming n calls pick) (same_replica one other are.0 also.0 (sym words.0 ∙ same.0))
+    ∙ ap (λ (n : ℕ). Arming other n pick) (same_number calls others are.1 also.1 cut.0)
+    ∙ ap (λ (n : ℕ). Arming other others n)
+    (same_number pick choice (omega (arith, are.2)) (omega (arith, also.2)) (cc))
+one_of_words (TwoReplicas one two) (Arming other calls pick) first rest are also words same =
+    let spelled : Some (decimal two) ≡ Some (decimal calls ++ spaced (Some (decimal pick))) = sym words.1 ∙ same.1 in
+    absurd (not_alone two calls (decimal pick) are.1 also.1 (cc))
+one_of_words (Arming one calls pick) (TwoReplicas other two) first rest are also words same =
+    let spelled : Some (decimal two) ≡ Some (decimal calls ++ spaced (Some (decimal pick))) = sym same.1 ∙ words.1 in
+    absurd (not_alone two calls (decimal pick) also.1 are.1 (cc))
 one_of_words arguments others first rest are also words same =
     let shapes : shape_of arguments ≡ shape_of others = sym (shape_is arguments first rest are words) ∙ shape_is others first rest also same in
     cc
@@ -195,6 +225,7 @@ first_free (PathAndKind path kind) first rest are words = rw words.0 (IsFreeOf-p
 first_free (TwoPaths one two) first rest are words = rw words.0 (IsFreeOf-path one are.0)
 first_free (OneNumber number) first rest are words = rw words.0 (IsFreeOf-number number are)
 first_free (TwoReplicas one two) first rest are words = rw words.0 (IsFreeOf-replica one are.0)
+first_free (Arming by calls pick) first rest are words = rw words.0 (IsFreeOf-replica by are.0)
 
 -- words that are joined again are the first one and what is left
 joined : (first : List ℕ) (rest : Option (List ℕ)) (words : List (List ℕ)) → Begins first rest words →
@@ -264,6 +295,37 @@ no_path first rest path_fault.NotPath begins none = go
     go (TwoPaths one two) are words = none refl one are.0 words.0
     go (OneNumber number) are words = no_path_begins first number are words.0 begins
     go (TwoReplicas one two) are words = no_replica_begins first one are.0 words.0 begins
+    go (Arming by calls pick) are words = no_replica_begins first by are.0 words.0 begins
+
+-- a word that no path begins, and behind which stands neither the number of a replica, alone, nor a number and a pick,
+-- begins no arguments
+pub no_numbers : (first words second : List ℕ) (last : Option (List ℕ)) → (BeginsPath first → ⊥) →
+    words ≡ second ++ spaced last → IsFreeOf 32 second →
+    ((replica : ℕ) → IsReplicaNumber replica → second ≡ decimal replica → last ≡ None → ⊥) →
+    ((calls pick : ℕ) → calls < 2 ^ 32 → pick < 4 → second ≡ decimal calls → last ≡ Some (decimal pick) → ⊥) →
+    (arguments : Arguments) → AreArguments arguments → Begins first (Some words) (argument_words arguments) → ⊥
+no_numbers first words second last no_path whole free no_replica no_pick = go
+  where
+    led : (path : Path) → first ≡ path_text path → ⊥
+    led path same = no_path (subst BeginsPath (sym same) (path_begins path))
+
+    go : (arguments : Arguments) → AreArguments arguments → Begins first (Some words) (argument_words arguments) → ⊥
+    go Nothing are begins = absurd begins
+    go (OnePath path) are begins = led path begins.0
+    go (PathAndText path text) are begins = led path begins.0
+    go (PathAndKind path kind) are begins = led path begins.0
+    go (TwoPaths one two) are begins = led one begins.0
+    go (OneNumber number) are begins = let something : Some words ≡ None = begins.1 in cc
+    go (TwoReplicas one two) are begins =
+        let spelled : Some words ≡ Some (decimal two) = begins.1 in
+        let cut = one_first_word second (decimal two) last None free (IsFreeOf-replica two are.1)
+        (sym whole ∙ (cc) ∙ sym (append-nil (decimal two))) in
+        no_replica two are.1 cut.0 cut.1
+    go (Arming by calls pick) are begins =
+        let spelled : Some words ≡ Some (decimal calls ++ spaced (Some (decimal pick))) = begins.1 in
+        let cut = one_first_word second (decimal calls) last (Some (decimal pick)) free (IsFreeOf-number calls are.1)
+        (sym whole ∙ (cc)) in
+        no_pick calls pick are.1 are.2 cut.0 cut.1
 
 -- what stands behind a path tells the shape
 last_shape : (path : Path) (last : List ℕ) (arguments : Arguments) → AreArguments arguments →

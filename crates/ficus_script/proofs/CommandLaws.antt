@@ -15,7 +15,7 @@ use Rattle.ficus_path.proofs.CutLaws.{IsFreeOf}
 use Rattle.ficus_commands.specs.declared.change.Change.TheVariants.{MkDir, Create, Write, Settle, Resolve, Rm, Ln, Mv, Adopt, Discard}
 use Rattle.ficus_commands.specs.declared.look.Look.TheVariants.{Ls, Read, Versions, Tree, Conflicts, Orphans, Detached, Marks}
 use Rattle.ficus_script.specs.declared.arguments.Arguments.{Arguments}
-use Rattle.ficus_script.specs.declared.arguments.Arguments.TheVariants.{Nothing, OnePath, PathAndKind, PathAndText, TwoPaths, OneNumber, TwoReplicas}
+use Rattle.ficus_script.specs.declared.arguments.Arguments.TheVariants.{Nothing, OnePath, PathAndKind, PathAndText, TwoPaths, OneNumber, TwoReplicas, Arming}
 use Rattle.ficus_script.specs.declared.command.Command.{Command}
 use Rattle.ficus_script.specs.declared.command.Command.TheVariants as command
 use Rattle.ficus_script.specs.declared.line.LineFault.{LineFault}
@@ -48,8 +48,10 @@ commands_with (Some by) (TwoPaths from path) =
     ∷ command.Change by (Adopt (orphan_of from.base) path) ∷ []
 commands_with None (OneNumber number) = command.Give number ∷ command.Restart number ∷ []
 commands_with None (TwoReplicas by to) = command.Ask by to ∷ command.Pull by to ∷ command.Alike by to ∷ []
+commands_with None (Arming by calls pick) = command.Stop by calls pick ∷ []
 commands_with (Some by) (OneNumber number) = []
 commands_with (Some by) (TwoReplicas first second) = []
+commands_with (Some by) (Arming replica calls pick) = []
 commands_with None Nothing = []
 commands_with None (OnePath path) = []
 commands_with None (PathAndKind path kind) = []
@@ -105,6 +107,7 @@ listed (command.Give mail) = record { letters = refl; found = refl }
 listed (command.Pull by to) = record { letters = refl; found = refl }
 listed (command.Alike by other) = record { letters = refl; found = refl }
 listed (command.Restart by) = record { letters = refl; found = refl }
+listed (command.Stop by calls pick) = record { letters = refl; found = refl }
 
 -- the table has one command for a spelling
 one_command : (command other : Command) → spelling_of command ≡ spelling_of other → command ≡ other

@@ -9,7 +9,7 @@ use Rattle.ficus_path.specs.Path.{IsPath}
 use Rattle.ficus_path.specs.Spelling.{path_text}
 use Rattle.ficus_path.specs.Text.{quoted_text}
 use Rattle.ficus_script.specs.declared.arguments.Arguments.{Arguments}
-use Rattle.ficus_script.specs.declared.arguments.Arguments.TheVariants.{Nothing, OnePath, PathAndKind, PathAndText, TwoPaths, OneNumber, TwoReplicas}
+use Rattle.ficus_script.specs.declared.arguments.Arguments.TheVariants.{Nothing, OnePath, PathAndKind, PathAndText, TwoPaths, OneNumber, TwoReplicas, Arming}
 use Rattle.ficus_script.specs.declared.line.LineFault.{LineFault}
 use Rattle.ficus_script.specs.declared.line.LineFault.TheVariants.{NotCommand, Memory as OutOfMemory}
 
@@ -18,7 +18,7 @@ pub record IsReplicaNumber (replica : ℕ) : Type 0 where
   pub at_least : 1 ≤ replica
   pub at_most : replica ≤ 255
 
--- paths are paths, kinds are those of files, numbers have 32 bits, and those of replicas are such
+-- paths are paths, kinds are those of files, numbers have 32 bits, those of replicas are such, and there are four picks
 abbrev pub AreArguments : Arguments → Type 0
 AreArguments Nothing = Unit {0}
 AreArguments (OnePath path) = IsPath path
@@ -27,6 +27,7 @@ AreArguments (PathAndText path text) = IsPath path
 AreArguments (TwoPaths first second) = IsPath first × IsPath second
 AreArguments (OneNumber number) = number < 2 ^ 32
 AreArguments (TwoReplicas first second) = IsReplicaNumber first × IsReplicaNumber second
+AreArguments (Arming by calls pick) = IsReplicaNumber by × (calls < 2 ^ 32) × (pick < 4)
 
 -- the words that spell them, in order; a text is the last one, and spaces may stand in it
 abbrev pub argument_words : Arguments → List (List ℕ)
@@ -37,6 +38,7 @@ argument_words (PathAndText path text) = path_text path ∷ quoted_text text ∷
 argument_words (TwoPaths first second) = path_text first ∷ path_text second ∷ []
 argument_words (OneNumber number) = decimal number ∷ []
 argument_words (TwoReplicas first second) = decimal first ∷ decimal second ∷ []
+argument_words (Arming by calls pick) = decimal by ∷ decimal calls ∷ decimal pick ∷ []
 
 -- what stands behind a word and a space, where these words follow it, or nothing
 abbrev pub left_of : List (List ℕ) → Option (List ℕ)

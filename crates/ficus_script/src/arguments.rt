@@ -9,6 +9,7 @@ ghost use Rattle.ficus_script.specs.declared.line.LineFault.TheVariants.{NotComm
 
 use crate::cut::cut_at;
 use crate::line::LineFault;
+use crate::pick::read_pick;
 use crate::replica::read_replica;
 use ficus_ids::{Kind, Listed, read_number};
 use ficus_path::{Path, read_path, read_text};
@@ -31,6 +32,8 @@ pub(crate) enum Arguments {
     OneNumber(u32),
     /// The numbers of two replicas.
     TwoReplicas(u8, u8),
+    /// The number of a replica, a number of calls, and a pick.
+    Arming(u8, u32, u8),
 }
 
 /// The arguments that stand behind a verb, where a space and these bytes do, or nothing.
@@ -113,6 +116,19 @@ fn number_first(first: &[u8], rest: Option<&[u8]>) -> Option<Arguments>
 {
     match rest {
         None => Some(Arguments::OneNumber(read_number(first)?)),
-        Some(second) => Some(Arguments::TwoReplicas(read_replica(first)?, read_replica(second)?)),
+        Some(words) => replica_first(first, words),
+    }
+}
+
+// The shapes whose first word is the number of a replica, with something behind it.
+fn replica_first(first: &[u8], words: &[u8]) -> Option<Arguments>
+    requires { BeginsPath first.now → ⊥ }
+    ensures { IsReadingWords first.now (Some words.now) (ok_or result NotCommand) }
+{
+    let by = read_replica(first)?;
+    let (second, last) = cut_at(words, b' ');
+    match last {
+        None => Some(Arguments::TwoReplicas(by, read_replica(second)?)),
+        Some(last) => Some(Arguments::Arming(by, read_number(second)?, read_pick(last)?)),
     }
 }

@@ -23,4 +23,7 @@ pub enum Command {
     Alike { by: u8, other: u8 },
     /// `restart R`: the replica restarts. It no longer takes an answer to an earlier ask.
     Restart { by: u8 },
+    /// `stop R K PICK`: the disks of replica `by` stop after `calls` more calls that write or sync; `pick`, from 0 to
+    /// 3, says which of the images that a crash may then leave is found by the next restart.
+    Stop { by: u8, calls: u32, pick: u8 },
 }

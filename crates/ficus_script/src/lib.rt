@@ -10,6 +10,7 @@ mod fault;
 mod laws;
 mod line;
 mod marks;
+mod pick;
 mod replica;
 mod script;
 mod verbs;

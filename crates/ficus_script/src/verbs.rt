@@ -1,11 +1,11 @@
-ghost use Rattle.std.specs.Prelude.{◌≡◌, ◌≢◌, Some, IfSome, IfNone, codes};
+ghost use Rattle.std.specs.Prelude.{◌≡◌, ◌≢◌, ◌<◌, Some, IfSome, IfNone, codes};
 ghost use Rattle.ficus_ids.specs.declared.kind.Kind.TheVariants.{Dir};
 ghost use Rattle.ficus_ids.specs.declared.id.Id.{Id};
 ghost use Rattle.ficus_path.specs.Path.{IsNew, IsPath};
 ghost use Rattle.ficus_script.specs.Arguments.{AreArguments, IsReplicaNumber};
 ghost use Rattle.ficus_script.specs.Command.{Spelling, IsCommandOf, at_orphan, of_none, of_replica};
 ghost use Rattle.ficus_script.specs.declared.command.Command.TheVariants as command;
-ghost use Rattle.ficus_script.specs.declared.arguments.Arguments.TheVariants.{Nothing, OnePath, PathAndKind, PathAndText, TwoPaths, OneNumber, TwoReplicas};
+ghost use Rattle.ficus_script.specs.declared.arguments.Arguments.TheVariants.{Nothing, OnePath, PathAndKind, PathAndText, TwoPaths, OneNumber, TwoReplicas, Arming};
 
 use crate::Command;
 use crate::arguments::Arguments;
@@ -28,6 +28,7 @@ pub(crate) fn command_of(by: Option<u8>, verb: &[u8], behind: Arguments) -> Opti
         (Some(by), Arguments::TwoPaths(from, path)) => with_paths(by, verb, from, path),
         (None, Arguments::OneNumber(number)) => with_number(verb, number),
         (None, Arguments::TwoReplicas(first, second)) => with_replicas(verb, first, second),
+        (None, Arguments::Arming(by, calls, pick)) => with_arming(verb, by, calls, pick),
         _ => None,
     }
 }
@@ -160,6 +161,17 @@ fn with_replicas(verb: &[u8], by: u8, to: u8) -> Option<Command>
         _ if verb == b"ask".as_slice() => Some(Command::Ask { by, to }),
         _ if verb == b"pull".as_slice() => Some(Command::Pull { by, to }),
         _ if verb == b"alike".as_slice() => Some(Command::Alike { by, other: to }),
+        _ => None,
+    }
+}
+
+fn with_arming(verb: &[u8], by: u8, calls: u32, pick: u8) -> Option<Command>
+    requires replica { IsReplicaNumber by }
+    requires pick { pick < 4 }
+    ensures { IsCommandOf (of_none verb.now (Arming by calls pick)) result }
+{
+    match verb {
+        _ if verb == b"stop".as_slice() => Some(Command::Stop { by, calls, pick }),
         _ => None,
     }
 }

@@ -112,6 +112,9 @@ module _ (volume : Volume) where
       (λ number. first_extends _ _ (gives_mail_extends number) gives_next_extends)
   does_extends (command.Alike by other) = first_extends _ _ (by_rule_extends _) (λ peers. by_rule_extends _)
   does_extends (command.Restart by) = first_extends _ _ (by_rule_extends _) (λ member. adds_extends _ _)
+  does_extends (command.Stop by calls pick) =
+      first_extends _ _ (by_rule_extends _)
+      (λ member. first_extends _ _ (by_rule_extends _) (λ fused. by_rule_extends _))
 
 step_extends : {volume : Volume} {old new : ModelWorld} {command : Command} {outcomes : List Outcome} {answer : Answer}
     → Step volume old command outcomes answer new → Extends old.events new.events

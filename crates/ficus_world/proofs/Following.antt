@@ -155,6 +155,15 @@ module _ (tells : Type 0) (volume : Volume) (W : ModelWorld) (old : Whole) (stan
             (restart_stands volume W.events by was.replica.saved (without_ask was.replica) saved refl refl);
       }
 
+  follow_stop : (by calls pick : ℕ) (result : Result Answer Refusal) (new : Whole)
+      → CarriesOut tells (command.Stop by calls pick) old result new
+      → FollowsIn volume W old.post.faults (Does volume (command.Stop by calls pick)) result new
+  follow_stop by calls pick result new (Ends (FindsNone none)) = stays volume W old stands (Ends (at_none by none))
+  follow_stop by calls pick result new (Goes (Finds {member = member} is) (Ends (Says refused))) =
+      stays volume W old stands (Goes (at_member by member is) (Ends (Says refused)))
+  follow_stop by calls pick result new (Goes (Finds {member = member} is) (Goes (Says fused) (Says done))) =
+      stays volume W old stands (Goes (at_member by member is) (Goes (Says fused) (Says done)))
+
   -- what two different members are in the model, and the other way round
   peers_of : (by other : ℕ) → ArePeers (length old.members) by other → ArePeers volume.members by other
   peers_of by other peers = record {
@@ -237,6 +246,7 @@ module _ (tells : Type 0) (volume : Volume) (W : ModelWorld) (old : Whole) (stan
       alike_refused by other (peers_of by other peers) refusal (Err refusal) left does refl
   follow_wanted (command.Restart by) member = λ refusal left does.
       restart_refused by (member_of volume W old stands by member) refusal (Err refusal) left does refl
+  follow_wanted (command.Stop by calls pick) none = absurd none
 
 -- over a link that tells its posts
 module _ (tells : Type 0) (told : tells) (volume : Volume) where
@@ -255,6 +265,8 @@ module _ (tells : Type 0) (told : tells) (volume : Volume) where
       λ W old stands result new does. follow_alike tells volume W old stands by other result new does
   follow_command (command.Restart by) =
       λ W old stands result new does. follow_restart tells volume W old stands by result new does
+  follow_command (command.Stop by calls pick) =
+      λ W old stands result new does. follow_stop tells volume W old stands by calls pick result new does
 
   -- whatever a command does to the world, it does to what the world stands for
   pub follow : (W : ModelWorld) (old : Whole) → WorldStandsFor volume W old → (command : Command) (answer : Answer)
@@ -279,3 +291,4 @@ module _ (tells : Type 0) (told : tells) (volume : Volume) where
   follow_cut (command.Give number) = nothing_lifts volume
   follow_cut (command.Alike by other) = nothing_lifts volume
   follow_cut (command.Restart by) = nothing_lifts volume
+  follow_cut (command.Stop by calls pick) = nothing_lifts volume

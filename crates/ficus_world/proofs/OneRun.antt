@@ -130,6 +130,9 @@ module _ (volume : Volume) where
       (λ peers. by_rule_once _ (λ old.
       alike_answer_once (history_view volume old.events by) (history_view volume old.events other)))
   does_once (command.Restart by) = first_then_once _ _ (wants_once _ _) (λ member. adds_once _ _)
+  does_once (command.Stop by calls pick) =
+      first_then_once _ _ (wants_once _ _)
+      (λ member. first_then_once _ _ (wants_once _ _) (λ fused. gives_only_once Done))
 
 -- where what became of one step is what became of the other, whatever comes behind
 module _ {volume : Volume} {old new other : ModelWorld} {command : Command} {outcomes more : List Outcome}

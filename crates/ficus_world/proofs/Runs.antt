@@ -137,6 +137,10 @@ module _ (volume : Volume) where
   does_lawful (command.Restart by) W result left lawful (Ends (Says none)) = lawful
   does_lawful (command.Restart by) W result left lawful (Goes (Says member) Added) =
       lawful_more volume W.events (event.Restart by) lawful member.0
+  does_lawful (command.Stop by calls pick) W result left lawful (Ends (Says none)) = lawful
+  does_lawful (command.Stop by calls pick) W result left lawful (Goes (Says member) (Ends (Says none))) = lawful
+  does_lawful (command.Stop by calls pick) W result left lawful (Goes (Says member) (Goes (Says fused) (Says done))) =
+      lawful
 
   unchanged_lawful : (W : ModelWorld) (left : Effect) → IsLawful volume W.events → left ≡ unchanged W
       → IsLawful volume left.after.events
@@ -160,6 +164,7 @@ module _ (volume : Volume) where
   part_lawful (command.Give number) W left lawful same = unchanged_lawful W left lawful same
   part_lawful (command.Alike by other) W left lawful same = unchanged_lawful W left lawful same
   part_lawful (command.Restart by) W left lawful same = unchanged_lawful W left lawful same
+  part_lawful (command.Stop by calls pick) W left lawful same = unchanged_lawful W left lawful same
 
 step_lawful : {volume : Volume} {old new : ModelWorld} {command : Command} {outcomes : List Outcome} {answer : Answer}
     → Step volume old command outcomes answer new → IsLawful volume old.events → IsLawful volume new.events

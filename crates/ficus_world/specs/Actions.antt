@@ -2,7 +2,7 @@
 use Rattle.std.specs.Prelude.{ℕ, ◌+◌, [], ◌∷◌, ◌++◌, length, Result, Ok, Err}
 use Rattle.ficus_ids.specs.Members.{IsMember}
 use Rattle.ficus_ids.specs.declared.refusal.Refusal.{Refusal}
-use Rattle.ficus_ids.specs.declared.refusal.Refusal.TheVariants.{Member, Link}
+use Rattle.ficus_ids.specs.declared.refusal.Refusal.TheVariants.{Member, Link, NoFuse}
 use Rattle.ficus_model.specs.declared.event.Event.{Event}
 use Rattle.ficus_model.specs.declared.event.Event.TheVariants.{Update, Collect}
 use Rattle.ficus_model.specs.declared.event.Op.{Op}
@@ -54,6 +54,10 @@ GivesOnly a = ByRule unchanged (λ W. Gives a)
 -- goes on where this is so, and is refused where it isn't
 abbrev pub Wants : (ModelWorld → Type 0) → Refusal → ModelAction (Unit {0})
 Wants good refusal = ByRule unchanged (λ W. Where (good W) refusal (Gives tt))
+
+-- no replica has a fuse, since none has disks
+abbrev pub HasFuse : ModelAction (Unit {0})
+HasFuse = Wants (λ W. ⊥) NoFuse
 
 -- the number is a member's
 abbrev pub AtMember : Volume → ℕ → ModelAction (Unit {0})

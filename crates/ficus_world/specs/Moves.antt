@@ -16,7 +16,7 @@ use Rattle.ficus_replica.specs.declared.collect.Collected.{Collected}
 use Rattle.ficus_commands.specs.declared.change.Change.{Change}
 use Rattle.ficus_rules.specs.Change.{ChangeRule, MayWantMemory}
 use Rattle.ficus_rules.specs.Look.{LookRule}
-use Rattle.ficus_rules.specs.Rule.{Gives, RefusesNothing, UnlessMemoryWhere}
+use Rattle.ficus_rules.specs.Rule.{Gives, RefusesNothing, UnlessMemoryWhere, Where}
 use Rattle.ficus_replica.specs.Effect.{Applied, next_id}
 use Rattle.ficus_commands.specs.declared.look.Look.{Look}
 use Rattle.ficus_answers.specs.View.{tables_view}
@@ -203,6 +203,10 @@ pub data Restarts (by : ℕ) (old : Whole) : Result Answer Refusal → Whole →
   Restarted : {was : Member} → IsNumbered old.members by was
       → Restarts by old (Ok Done) (advanced old by was (without_ask was.replica) (event.Restart by))
 
+-- no replica has a fuse, since none has disks
+abbrev pub NeedsFuse : WholeAction (Unit {0})
+NeedsFuse = ByRule itself (λ world. Where ⊥ refusal.NoFuse (Gives tt))
+
 -- the two members that are compared
 pub record Compared : Type 0 where
   pub one : Member
@@ -231,6 +235,8 @@ CarriesOut tells (command.Pull by to) =
     FirstOf (KeepsAsk tells by to) (λ number. FirstOf (GivesMessage tells number) (GivesNextMessage tells))
 CarriesOut tells (command.Alike by other) = FirstOf (FindsPeers by other) TablesCompare
 CarriesOut tells (command.Restart by) = Restarts by
+CarriesOut tells (command.Stop by calls pick) =
+    FirstOf (FindsMember by) (λ member. FirstOf NeedsFuse (λ fused. GivesOnly Done))
 
 -- a member may want memory for what it holds
 pub record IsWantedBy (old : Whole) (by : ℕ) (may : Member → Type 0) : Type 0 where
@@ -251,6 +257,7 @@ TablesMayWantMemory old (command.Give number) = IsMember (length old.post.posts)
 TablesMayWantMemory old (command.Pull by to) = ArePeers (length old.members) by to
 TablesMayWantMemory old (command.Alike by other) = ArePeers (length old.members) by other
 TablesMayWantMemory old (command.Restart by) = IsMember (length old.members) by
+TablesMayWantMemory old (command.Stop by calls pick) = ⊥
 
 -- what the command comes to, which may be want of memory there
 abbrev pub ComesTo : Type 0 → Whole → Command → Result Answer Refusal → Whole → Type 0

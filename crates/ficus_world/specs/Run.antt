@@ -10,7 +10,7 @@ use Rattle.ficus_script.specs.declared.answer.Answer.{Answer}
 use Rattle.ficus_script.specs.declared.answer.Answer.TheVariants.{Done, Mail}
 use Rattle.ficus_rules.specs.Change.{MayWantMemory}
 use Rattle.ficus_rules.specs.View.{history_view}
-use Rattle.ficus_world.specs.Actions.{ModelAction, First, unchanged, AtMember, Decides, Updates, Sees, GivesOnly, Adds, Counts, Collects, AtPeers, Compares}
+use Rattle.ficus_world.specs.Actions.{ModelAction, First, unchanged, AtMember, Decides, Updates, Sees, GivesOnly, HasFuse, Adds, Counts, Collects, AtPeers, Compares}
 use Rattle.ficus_world.specs.Answers.{answer_as}
 use Rattle.ficus_world.specs.Exchange.{Asks, GivesMail, GivesNext}
 use Rattle.ficus_world.specs.ModelWorld.{ModelWorld, Outcome, AllDone, Effect, after, joined}
@@ -30,6 +30,8 @@ Does volume (command.Pull by to) =
     First (Asks volume by to) (λ number. First (GivesMail volume number) (GivesNext volume))
 Does volume (command.Alike by other) = First (AtPeers volume by other) (λ peers. Compares volume by other)
 Does volume (command.Restart by) = First (AtMember volume by) (λ member. Adds (λ W. Done) (Restart by))
+Does volume (command.Stop by calls pick) =
+    First (AtMember volume by) (λ member. First HasFuse (λ fused. GivesOnly Done))
 
 -- nothing refuses the command
 abbrev pub IsUnrefused : Volume → ModelWorld → Command → Type 0

@@ -1,4 +1,4 @@
-ghost use Rattle.std.specs.Prelude.{◌≡◌, ◌≢◌, ◌+◌, ◌<◌, ◌≤◌, Err, length, IfOk, OnOk, OnErr, IsErrOf};
+ghost use Rattle.std.specs.Prelude.{◌≡◌, ◌≢◌, ℕ, ◌+◌, ◌<◌, ◌≤◌, Err, length, IfOk, OnOk, OnErr, IsErrOf};
 ghost use Rattle.ficus_ids.specs.declared.refusal.Refusal.TheVariants.{Memory as OutOfMemory};
 ghost use Rattle.ficus_world.specs.Answers.{answer_as, answer_to};
 ghost use Rattle.ficus_world.specs.World.{event_limit, most_events};
@@ -16,7 +16,7 @@ impl<L: Link + Drop> World<L> {
     ghost use Rattle.ficus_model.specs.Lawful.{Volume};
     ghost use Rattle.ficus_commands.specs.Change.{HasFitPaths};
     ghost use Rattle.ficus_script.specs.Command.{IsCommand};
-    ghost use Rattle.ficus_script.specs.declared.command.Command.TheVariants.{Change as Changes, Look as Looks, Collect as Collects, Alike as Compares};
+    ghost use Rattle.ficus_script.specs.declared.command.Command.TheVariants.{Change as Changes, Look as Looks, Collect as Collects, Alike as Compares, Stop as StopsDisks};
     ghost use Rattle.ficus_world.specs.ModelWorld.{ModelWorld};
     ghost use Rattle.ficus_world.specs.Follows.{Follows, Stops};
     ghost use Rattle.ficus_world.specs.Moves.{ComesTo, CutShort, HasCollected, Moves};
@@ -63,6 +63,7 @@ impl<L: Link + Drop> World<L> {
             Command::Pull { by, to } => self.pull(alloc, *by, *to),
             Command::Alike { by, other } => self.alike(alloc, *by, *other),
             Command::Restart { by } => self.restart(*by),
+            Command::Stop { by, .. } => self.stop(*by),
         }
     }
 
@@ -129,6 +130,17 @@ impl<L: Link + Drop> World<L> {
             .replica
             .alike(alloc, &self.member(other).replica)?;
         Ok(Answer::Alike(alike))
+    }
+
+    // Lets the disks of a member stop. No member has disks yet.
+    fn stop(&self, by: u8) -> Result<Answer, Refusal>
+        ensures { (calls pick : ℕ) → ComesTo L.tells self.now (StopsDisks by calls pick) result self.now }
+    {
+        if self.has(by) {
+            Err(Refusal::NoFuse)
+        } else {
+            Err(Refusal::Member)
+        }
     }
 }
 

@@ -49,3 +49,6 @@ returns-in-Restart-clause-moves g c =
     rw c.in-Restart.is
     (wanted_where _ (λ answer. CarriesOut g.L.Link.tells (command.Restart c.in-Restart.by) c.args.self.now answer c.restart.new.self)
     c.restart.result c.restart.ensures.restarts c.restart.ensures.wants)
+
+pub returns-in-Stop-clause-moves : goal.returns-in-Stop-clause-moves
+returns-in-Stop-clause-moves g c = rw c.in-Stop.is (c.stop.ensures c.in-Stop.calls c.in-Stop.pick)
