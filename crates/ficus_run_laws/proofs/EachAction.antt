@@ -1,0 +1,110 @@
+-- What holds of each action, and of one after the other, holds of what a command does.
+use Rattle.std.proofs.Common.{◌≡◌, ℕ, Result, refl}
+use Rattle.ficus_ids.specs.declared.refusal.Refusal.{Refusal}
+use Rattle.ficus_model.specs.declared.event.Event.{Event}
+use Rattle.ficus_model.specs.Lawful.{Volume}
+use Rattle.ficus_rules.specs.Rule.{Once}
+use Rattle.ficus_rules.specs.View.{history_view}
+use Rattle.ficus_rules.proofs.Changes.{change_once}
+use Rattle.ficus_rules.proofs.Rules.{gives_once, tells_once}
+use Rattle.ficus_rules.proofs.Sound.{history_sound}
+use Rattle.ficus_script.specs.declared.answer.Answer.{Answer}
+use Rattle.ficus_script.specs.declared.answer.Answer.TheVariants.{Done, Mail}
+use Rattle.ficus_script.specs.declared.command.Command.{Command}
+use Rattle.ficus_script.specs.declared.command.Command.TheVariants as command
+use Rattle.ficus_script.specs.declared.command.Command.TheVariants.{Stop}
+use Rattle.ficus_runs.specs.Actions.{ModelAction, Adds, Saves, Posts, Fetches, Opens, Arms, Wants, GivesOnly, AtMember, AtPeers}
+use Rattle.ficus_runs.specs.Exchange.{Composes, Asks, Behind, AnAsk, AnAnswer, Handles, GivesMail, GivesNext}
+use Rattle.ficus_runs.specs.ModelWorld.{ModelWorld}
+use Rattle.ficus_runs.specs.Run.{Does}
+use Rattle.ficus_runs.specs.Sequence.{First, ByRule}
+use Rattle.ficus_run_laws.proofs.Rules.{look_answer_once, alike_answer_once, wants_once, composes_once, counts_once, behind_once}
+
+-- It holds of one action after the other where it holds of both, of each rule that gives one thing, and of each other
+-- action but that of a stop.
+pub record HoldsOfActions (volume : Volume) (P : (A : Type 0) → ModelAction A → Type 0) : Type 1 where
+  pub behind : {A B : Type 0} (first : ModelAction A) (rest : A → ModelAction B) → P A first
+      → ((a : A) → P B (rest a)) → P B (First first rest)
+  pub by_rule : {A : Type 0} (rule : ModelWorld → Result A Refusal → Type 0) → ((W : ModelWorld) → Once (rule W))
+      → P A (ByRule rule)
+  pub adds : {A : Type 0} (given : ModelWorld → A) (event : Event) → P A (Adds given event)
+  pub saves : {A : Type 0} (given : ModelWorld → A) (by : ℕ) (event : Event) → P A (Saves given by event)
+  pub posts : (position : ModelWorld → ℕ) (size : ℕ) → P ℕ (Posts position size)
+  pub fetches : P (Unit {0}) Fetches
+  pub opens : (by : ℕ) → P Answer (Opens volume by)
+
+module _ (volume : Volume) (P : (A : Type 0) → ModelAction A → Type 0) (holds : HoldsOfActions volume P) where
+  wants_holds : (good : ModelWorld → Type 0) (refusal : Refusal) → P (Unit {0}) (Wants good refusal)
+  wants_holds good refusal = holds.by_rule _ (λ W. wants_once (good W) refusal)
+
+  gives_only_holds : {A : Type 0} (a : A) → P A (GivesOnly a)
+  gives_only_holds a = holds.by_rule _ (λ W. gives_once a)
+
+  composes_holds : (event : Event) → P _ (Composes volume event)
+  composes_holds event = holds.by_rule _ (composes_once volume event)
+
+  at_member_holds : (by : ℕ) → P (Unit {0}) (AtMember volume by)
+  at_member_holds by = holds.behind _ _ (wants_holds _ _) (λ member. wants_holds _ _)
+
+  at_peers_holds : (by other : ℕ) → P (Unit {0}) (AtPeers volume by other)
+  at_peers_holds by other = holds.behind _ _ (wants_holds _ _) (λ peers. wants_holds _ _)
+
+  asks_holds : (by to : ℕ) → P ℕ (Asks volume by to)
+  asks_holds by to =
+      holds.behind _ _ (wants_holds _ _)
+      (λ may. holds.behind _ _ (wants_holds _ _)
+      (λ up. holds.behind _ _ (composes_holds _)
+      (λ message. holds.behind _ _ (wants_holds _ _)
+      (λ room. holds.behind _ _ (holds.saves _ _ _) (λ position. holds.posts _ _)))))
+
+  handles_holds : (behind : Behind) → P Answer (Handles volume behind)
+  handles_holds (AnAsk position server) =
+      holds.behind _ _ (composes_holds _)
+      (λ message. holds.behind _ _ (wants_holds _ _)
+      (λ room. holds.behind _ _ (holds.posts _ _) (λ number. holds.adds _ _)))
+  handles_holds (AnAnswer position asker) =
+      holds.behind _ _ (wants_holds _ _) (λ answers. holds.saves _ _ _)
+
+  gives_mail_holds : (number : ℕ) → P Answer (GivesMail volume number)
+  gives_mail_holds number =
+      holds.behind _ _ (wants_holds _ _)
+      (λ some. holds.behind _ _ holds.fetches
+      (λ fetched. holds.behind _ _ (holds.by_rule _ (λ W. tells_once (λ behind. behind) (behind_once W number)))
+      (λ found. holds.behind _ _ (wants_holds _ _) (λ up. handles_holds found))))
+
+  gives_next_holds : (answer : Answer) → P Answer (GivesNext volume answer)
+  gives_next_holds (Mail number) =
+      holds.behind _ _ (gives_mail_holds number) (λ given. gives_only_holds Done)
+  gives_next_holds other = gives_only_holds Done
+
+  -- so it holds of what a command does, where it holds of arming, if the command is a stop
+  pub does_holds : (command : Command)
+      → ((by calls pick : ℕ) → command ≡ Stop by calls pick → P Answer (Arms by calls pick))
+      → P Answer (Does volume command)
+  does_holds (command.Change by change) arms =
+      holds.behind _ _ (at_member_holds by)
+      (λ member. holds.behind _ _
+      (holds.by_rule _ (λ W. change_once (history_view volume W.events by) (history_sound volume W.events by) change))
+      (λ op. holds.saves _ _ _))
+  does_holds (command.Look by look) arms =
+      holds.behind _ _ (at_member_holds by)
+      (λ member. holds.by_rule _ (λ W. look_answer_once volume W.events by look))
+  does_holds (command.Collect by) arms =
+      holds.behind _ _ (at_member_holds by)
+      (λ member. holds.behind _ _ (holds.by_rule _ (λ W. counts_once volume.members W.events by))
+      (λ counted. holds.saves _ _ _))
+  does_holds (command.Ask by to) arms =
+      holds.behind _ _ (asks_holds by to) (λ number. gives_only_holds (Mail number))
+  does_holds (command.Give number) arms = gives_mail_holds number
+  does_holds (command.Pull by to) arms =
+      holds.behind _ _ (at_peers_holds by to)
+      (λ peers. holds.behind _ _ (asks_holds by to)
+      (λ number. holds.behind _ _ (gives_mail_holds number) gives_next_holds))
+  does_holds (command.Alike by other) arms =
+      holds.behind _ _ (at_peers_holds by other)
+      (λ peers. holds.by_rule _ (λ W.
+      alike_answer_once (history_view volume W.events by) (history_view volume W.events other)))
+  does_holds (command.Restart by) arms = holds.behind _ _ (wants_holds _ _) (λ member. holds.opens by)
+  does_holds (Stop by calls pick) arms =
+      holds.behind _ _ (at_member_holds by)
+      (λ member. holds.behind _ _ (wants_holds _ _) (λ fused. arms by calls pick refl))

@@ -1,0 +1,16 @@
+pub mod Numbers
+pub mod Replaced
+pub mod Messages
+pub mod Rules
+pub mod EachAction
+pub mod Oracles
+pub mod Outcomes
+pub mod OneRun
+pub mod Extending
+pub mod Up
+pub mod Arming
+pub mod Runs
+pub mod Starts
+pub mod Agreement
+pub mod Never
+pub mod Pulls

@@ -1,0 +1,12 @@
+pub mod Numbered
+pub mod Outcome
+pub mod Sequence
+pub mod ModelWorld
+pub mod Message
+pub mod Answers
+pub mod Peers
+pub mod Actions
+pub mod Exchange
+pub mod Run
+pub mod Start
+pub mod Fuses

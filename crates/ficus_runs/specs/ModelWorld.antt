@@ -1,0 +1,26 @@
+-- Worlds of the model.
+use Rattle.std.specs.Prelude.{ℕ, Bool, true, List, Option}
+use Rattle.ficus_model.specs.declared.event.Event.{Event}
+use Rattle.ficus_runs.specs.Numbered.{IsNumbered}
+
+-- how a member stands: it takes commands; or it is down, with at most one event whose save failed
+pub data Standing : Type 0 where
+  Up : Standing
+  Down : Option Event → Standing
+
+-- all that has happened; how each member stands; whether both of its disks have a fuse; the position of the event behind
+-- each posted message; and how many bytes were posted
+pub record ModelWorld : Type 0 where
+  pub events : List Event
+  pub standings : List Standing
+  pub fused : List Bool
+  pub posted : List ℕ
+  pub total : ℕ
+
+-- the member takes commands
+abbrev pub IsUp : ℕ → ModelWorld → Type 0
+IsUp by W = IsNumbered W.standings by Up
+
+-- both disks of the member have a fuse
+abbrev pub IsFused : ℕ → ModelWorld → Type 0
+IsFused by W = IsNumbered W.fused by true
