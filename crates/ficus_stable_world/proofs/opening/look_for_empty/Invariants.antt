@@ -1,0 +1,11 @@
+use Rattle.ficus_stable_world.specs.Opening.{Steady}
+use Rattle.ficus_stable_world.proofs.Making.{FoundSo}
+use Rattle.ficus_stable_world.proofs.opening.look_for_empty.Given as goal
+
+abbrev pub invariant-loop-before : goal.invariant-loop-before
+invariant-loop-before g l = record {
+  found : g.D.Disk.tells → FoundSo g.D.Disk.seen l.fn.disks.items l.before l.occupied;
+  seen : g.D.Disk.tells → Steady g.D.Disk.seen l.fn.disks.items l.disks.items;
+  faults : Steady g.D.Disk.faults l.fn.disks.items l.disks.items;
+  armings : Steady g.D.Disk.armings l.fn.disks.items l.disks.items;
+}

@@ -1,0 +1,46 @@
+use Rattle.std.proofs.Common.{sym, refl}
+use Rattle.std.proofs.lemmas.Result.{on_err_weaker}
+use Rattle.ficus_stable_world.proofs.Disks.{follows_at}
+use Rattle.ficus_run_laws.proofs.Numbers.{number_read}
+use Rattle.ficus_stable_world.proofs.Saves.{disks_saved, on_ok, save_failed}
+use Rattle.ficus_stable_world.proofs.saving.commit_at.Goals as goal
+
+pub returns-clause-disks : goal.returns-clause-disks
+returns-clause-disks g c old new saves are =
+    let is_stable = number_read c.args.stables.now.items c.args.by c.index_mut.result.now _ c.requires.member
+    (sym c.index_mut.ensures.value) in
+    let is_pair = number_read c.args.disks.now.items c.args.by c.index_mut-2.result.now _ c.requires.pair
+    (sym c.index_mut-2.ensures.value) in
+    disks_saved g.D.Disk.tells g.K.Keep.kept g.K.Keep.fits g.D.Disk.seen g.D.Disk.may_leave g.D.Disk.armings c.args.by
+    c.args.next.now c.commit.result _ _ _ _ is_stable is_pair c.commit.ensures.armings c.commit.ensures.ready
+    c.commit.ensures.crash saves are
+
+pub commit-requires-clause-prepared : goal.commit-requires-clause-prepared
+commit-requires-clause-prepared g c =
+    let is_stable = number_read c.args.stables.now.items c.args.by c.index_mut.result.now _ c.requires.member
+    (sym c.index_mut.ensures.value) in
+    let is_pair = number_read c.args.disks.now.items c.args.by c.index_mut-2.result.now _ c.requires.pair
+    (sym c.index_mut-2.ensures.value) in
+    c.requires.prepared.each _ _ is_stable is_pair
+
+pub commit-requires-clause-follows : goal.commit-requires-clause-follows
+commit-requires-clause-follows g c told =
+    let is_stable = number_read c.args.stables.now.items c.args.by c.index_mut.result.now _ c.requires.member
+    (sym c.index_mut.ensures.value) in
+    let is_pair = number_read c.args.disks.now.items c.args.by c.index_mut-2.result.now _ c.requires.pair
+    (sym c.index_mut-2.ensures.value) in
+    c.requires.follows told _ _ is_stable is_pair
+
+pub returns-clause-saved : goal.returns-clause-saved
+returns-clause-saved g c =
+    let is_pair = number_read c.args.disks.now.items c.args.by c.index_mut-2.result.now _ c.requires.pair
+    (sym c.index_mut-2.ensures.value) in
+    on_ok c.commit.result (follows_at c.args.by is_pair
+    (record { rose = c.commit.ensures.risen; unarmed = λ none. c.commit.ensures.armings }) (λ r differs. refl)
+    (λ r differs. refl))
+
+pub returns-clause-failed : goal.returns-clause-failed
+returns-clause-failed g c =
+    let is_pair = number_read c.args.disks.now.items c.args.by c.index_mut-2.result.now _ c.requires.pair
+    (sym c.index_mut-2.ensures.value) in
+    on_err_weaker c.commit.result (λ rose. save_failed c.args.by is_pair rose c.commit.ensures.armings) c.commit.ensures.failed

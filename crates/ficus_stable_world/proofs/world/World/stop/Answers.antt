@@ -1,0 +1,42 @@
+use Rattle.std.proofs.Common.{◌∷◌, [], Err, subst}
+use Rattle.std.proofs.lemmas.Result.{err_from_is_err_and}
+use Rattle.ficus_script.specs.declared.command.Command.TheVariants.{Stop as Stops}
+use Rattle.ficus_runs.specs.Numbered.{IsNumbered}
+use Rattle.ficus_runs.specs.Outcome.{IsArmed}
+use Rattle.ficus_runs.specs.Sequence.{unchanged}
+use Rattle.ficus_runs.specs.Sequence.First.{Goes}
+use Rattle.ficus_stable_world.specs.Moves.{FindsUp}
+use Rattle.ficus_stable_world.specs.Moves.ArmsDisks.{Arms, ArmsNone}
+use Rattle.ficus_stable_world.specs.Moves.FindsUp.{FindsAt}
+use Rattle.ficus_stable_world.specs.World.{Whole}
+use Rattle.ficus_stable_world.proofs.Carrying.{whole_is}
+use Rattle.ficus_stable_world.proofs.Moved.{comes_to_none, up_ends}
+use Rattle.ficus_stable_world.proofs.world.World.stop.Goals as goal
+
+pub returns-in_err-up-clause-moves : goal.returns-in_err-up-clause-moves
+returns-in_err-up-clause-moves g c =
+    let refused = err_from_is_err_and c.from_residual.result c.from_residual.ensures.1 in
+    let old = c.args.self.now.whole in
+    let finds = subst (λ (w : Whole). FindsUp c.args.by w (Err c.in_err-up.field-0.0) (unchanged w))
+    (whole_is c.self.view_is) c.in_err-up.ensures.refused in
+    rw (refused.1, refused.2)
+    (comes_to_none g.L.Link.tells g.D.Disk.tells old (Stops c.args.by c.args.calls c.args.pick) _ c.args.disks.now.items
+    (up_ends _ _ c.args.by old c.in_err-up.field-0.0 (unchanged old) finds))
+
+pub returns-then-not-branch-clause-moves : goal.returns-then-not-branch-clause-moves
+returns-then-not-branch-clause-moves g c =
+    let old = c.args.self.now.whole in
+    let was = c.in_ok-up.field-0.now in
+    let is = subst (λ (w : Whole). IsNumbered w.members c.args.by was) (whole_is c.self.view_is) c.in_ok-up.ensures.is in
+    comes_to_none g.L.Link.tells g.D.Disk.tells old (Stops c.args.by c.args.calls c.args.pick) _ c.args.disks.now.items
+    (Goes (FindsAt is c.in_ok-up.ensures.up) (ArmsNone c.if-not-branch.true))
+
+pub returns-clause-moves : goal.returns-clause-moves
+returns-clause-moves g c =
+    let was = c.in_ok-up.field-0.now in
+    let is = subst (λ (w : Whole). IsNumbered w.members c.args.by was) (whole_is c.self.view_is) c.in_ok-up.ensures.is in
+    record {
+      outcomes = IsArmed c.args.by c.args.calls c.args.pick ∷ [];
+      does = Goes (FindsAt is c.in_ok-up.ensures.up) (Arms c.if-not-branch.false);
+      disks = c.arm_at.ensures.follows;
+    }

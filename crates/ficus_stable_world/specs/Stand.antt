@@ -1,0 +1,39 @@
+-- What it means that disks stand for what has happened.
+use Rattle.std.specs.Prelude.{◌⊎◌, ℕ, ◌++◌, ◌∷◌, [], List, Option, Some, None}
+use Rattle.ficus_disk.specs.declared.pair.Pair.{Pair}
+use Rattle.ficus_keep.specs.Kept.{Kept, found_in}
+use Rattle.ficus_ids.specs.Members.{IsMember}
+use Rattle.ficus_model.specs.declared.event.Event.{Event}
+use Rattle.ficus_model.specs.Lawful.{Volume}
+use Rattle.ficus_replica.specs.SavedOf.{IsSavedOf}
+use Rattle.ficus_saved.specs.Saved.{FitsImage}
+use Rattle.ficus_saved.specs.declared.saved.Saved.{Saved}
+use Rattle.ficus_stable.specs.Holds.{Holds}
+use Rattle.ficus_runs.specs.ModelWorld.{ModelWorld, Standing, Up, Down}
+use Rattle.ficus_runs.specs.Numbered.{IsNumbered}
+
+-- what was found is an image of what the member saves after the history
+pub record KeepsOf (volume : Volume) (H : List Event) (r : ℕ) (found : Option Kept) : Type 0 where
+  pub saved : Saved
+  pub is : IsSavedOf volume H r saved
+  pub fits : FitsImage saved
+  pub holds : Holds found saved
+
+-- the same; where the member is down, maybe of the history with the event that is pending
+abbrev pub KeepsFor : Volume → List Event → ℕ → Option Kept → Standing → Type 0
+KeepsFor volume H r found Up = KeepsOf volume H r found
+KeepsFor volume H r found (Down None) = KeepsOf volume H r found
+KeepsFor volume H r found (Down (Some event)) =
+    KeepsOf volume H r found ⊎ KeepsOf volume (H ++ event ∷ []) r found
+
+-- the pairs of the members stand for what has happened, and for how the members stand
+pub record DisksStand {D : Type 0} (kept : List ℕ → List ℕ → Option Kept) (seen : D → List ℕ) (volume : Volume)
+    (W : ModelWorld) (disks : List (Pair D)) : Type 0 where
+  pub each : (r : ℕ) (pair : Pair D) (standing : Standing) → IsNumbered disks r pair
+      → IsNumbered W.standings r standing → KeepsFor volume W.events r (found_in kept seen pair) standing
+
+-- the pairs of the members stand for the history
+pub record DisksKeep {D : Type 0} (kept : List ℕ → List ℕ → Option Kept) (seen : D → List ℕ) (volume : Volume)
+    (H : List Event) (disks : List (Pair D)) : Type 0 where
+  pub each : (r : ℕ) (pair : Pair D) → IsNumbered disks r pair → IsMember volume.members r
+      → KeepsOf volume H r (found_in kept seen pair)

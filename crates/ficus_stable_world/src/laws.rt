@@ -1,0 +1,53 @@
+//! What worlds stand for.
+ghost use Rattle.std.specs.Prelude.{◌≡◌, ◌↔◌, ℕ, length, Contains};
+ghost use Rattle.ficus_answers.specs.View.{held_dead};
+ghost use Rattle.ficus_model.specs.Held.{IsHeldEntry};
+ghost use Rattle.ficus_model.specs.Lawful.{Volume};
+ghost use Rattle.ficus_model.specs.Live.{ModelEntry};
+ghost use Rattle.ficus_removal_laws.specs.Marks.{IsMarked};
+ghost use Rattle.ficus_runs.specs.ModelWorld.{ModelWorld};
+ghost use Rattle.ficus_runs.specs.Numbered.{IsNumbered};
+ghost use Rattle.ficus_stable_world.specs.Disks.{AreDisksOf};
+ghost use Rattle.ficus_stable_world.specs.Stand.{DisksStand};
+ghost use Rattle.ficus_stable_world.specs.World.{Whole, WorldStandsFor};
+ghost use Rattle.ficus_stable_world.specs.declared.member.Member.{Member as MemberValue};
+
+use crate::World;
+use ficus_disk::{Disk, Pair};
+use ficus_keep::Keep;
+use ficus_outside::Link;
+
+/// A world of the model has one world that stands for it, has so many of its events stored, and whose link has failed
+/// so often.
+pub fn one_world()
+    ensures { (volume : Volume) (W : ModelWorld) (one other : Whole) → WorldStandsFor volume W one
+        → WorldStandsFor volume W other → length one.events ≡ length other.events
+        → one.post.faults ≡ other.post.faults → one ≡ other }
+{}
+
+/// In a world that stands for one of the model a member, up or down, holds a removed entry with two sets exactly where
+/// by the history it holds the entry, the first set has exactly the members of which it knows that they know of the
+/// removal, and the second exactly those of which it knows that they know that all know.
+pub fn knowledge_is_held()
+    ensures { (volume : Volume) (W : ModelWorld) (world : Whole) (number : ℕ) (member : MemberValue)
+        (entry : ModelEntry) (knowing knowing_all_know : ℕ) → WorldStandsFor volume W world
+        → IsNumbered world.members number member
+        → Contains member.replica.saved.entries (held_dead entry knowing knowing_all_know)
+        ↔ (IsHeldEntry volume.members W.events number entry
+        × IsMarked volume.members W.events number entry.id knowing knowing_all_know) }
+{}
+
+/// The disks of a world stand for what it stands for.
+pub fn disks_stand<K: Keep + Drop, L: Link + Drop, D: Disk>(
+    world: &World<K, L>,
+    disks: &Vec<Pair<D>>,
+)
+    requires { AreDisksOf D.tells K.kept K.fits D.seen D.may_leave D.armings world.now.whole.members world.now.stables
+        disks.now.items }
+    ensures { D.tells → (volume : Volume) (W : ModelWorld) → WorldStandsFor volume W world.now.whole
+        → DisksStand K.kept D.seen volume W disks.now.items }
+{
+    // Reading its fields tells what holds of every world.
+    let _ = &world.stables;
+    let _ = &world.group.members;
+}

@@ -1,0 +1,19 @@
+//! A world of replicas that exchange messages over a link and save what they do on their disks: one command after the
+//! other, each made of atomic events of one replica.
+#![tactic(auto)]
+
+mod exchange;
+mod group;
+mod keeping;
+mod laws;
+mod member;
+mod opening;
+mod post;
+mod restart;
+mod saving;
+mod step;
+mod world;
+
+pub use laws::{disks_stand, knowledge_is_held, one_world};
+pub use opening::{WorldFault, what_is_made_stands};
+pub use world::{DEFAULT_BYTES, DEFAULT_IDS, World};
