@@ -1,0 +1,214 @@
+-- What is known of a run by how it ended: what was taken, and that it comes to an end.
+use Rattle.std.proofs.Common.{◌≡◌, ◌≢◌, ◌⊎◌, ◌↔◌, ℕ, ◌+◌, ◌<◌, ◌≤◌, List, [], length, Result, Ok, Err, refl, inl, inr, arith}
+use Rattle.std.specs.Prelude.{IfErr, IsErrAnd, IsErrOf}
+use Rattle.ficus_faults.specs.Faults.{Rose}
+use Rattle.ficus_script.specs.declared.command.Command.{Command}
+use Rattle.ficus_script.specs.Script.{IsScript, IsFirstBadLine}
+use Rattle.ficus_script.proofs.ScriptLaws.{no_bad_line, one_bad_line}
+use Rattle.ficus_stable_top.specs.Ending.{IsInterruption, IsOfMaking, TakesAsEnded, TakesIn}
+use Rattle.ficus_stable_top.specs.Headline.{IsBadLineCode, IsRead, IsReadCode, IsUntouchedCode, script_limit}
+use Rattle.ficus_stable_top.specs.Outside.{GivesCount}
+use Rattle.ficus_stable_top.specs.Status.{code_of, line_of, replica_of}
+use Rattle.ficus_stable_top.specs.Words.{ReadsScript}
+use Rattle.ficus_stable_top.specs.declared.fault.Fault.{Fault}
+use Rattle.ficus_stable_top.specs.declared.fault.Fault.TheVariants.{Usage, Reading, Storing, Answering}
+use Rattle.ficus_stable_top.specs.declared.fault.ReadingFault.TheVariants.{BadLine, Memory, Source, TooLong}
+use Rattle.ficus_stable_top.specs.declared.fault.AnsweringFault.TheVariants.{Memory as NoMemory, Sink}
+use Rattle.ficus_stable_top.specs.declared.words.Mode.{Mode}
+use Rattle.ficus_stable_top.specs.declared.words.Mode.TheVariants.{Init, Replay, Run}
+use Rattle.ficus_stable_world.specs.declared.opening.WorldFault.TheVariants as world
+
+one_unread : IsReadCode 1 → ⊥
+one_unread code = grind arith
+
+three_unread : IsReadCode 3 → ⊥
+three_unread code = grind arith
+
+four_unread : IsReadCode 4 → ⊥
+four_unread code = grind arith
+
+eight_unread : IsReadCode 8 → ⊥
+eight_unread code = grind arith
+
+-- a mode that reads a script takes it as the run ended
+pub takes_as_ended : {Done : Type 0} (mode : Mode) (script left : List ℕ) (ended : Result Done Fault)
+    → ReadsScript mode → TakesIn mode script left ended → TakesAsEnded script left ended
+takes_as_ended (Init members) script left ended reads takes = absurd reads
+takes_as_ended Run script left ended reads takes = takes
+takes_as_ended (Replay members) script left ended reads takes = takes
+
+-- no volume was refused, and no disk failed: want of memory alone may have kept it from being made or opened
+pub record IsStored {Done : Type 0} (ended : Result Done Fault) : Type 0 where
+  pub store : (r : ℕ) → IsErrOf ended (Storing (world.Store r)) → ⊥
+  pub image : (r : ℕ) → IsErrOf ended (Storing (world.Image r)) → ⊥
+  pub occupied : (r : ℕ) → IsErrOf ended (Storing (world.Occupied r)) → ⊥
+
+not_too_long : {words : List (List ℕ)} {mode : Mode} {script : List ℕ} {before after : ℕ} (left : List ℕ)
+    → IsRead words mode script before after → GivesCount script (script_limit + 1) left → ⊥
+not_too_long left read gives = omega (arith, read.within)
+
+module _ {Done : Type 0} where
+  -- where the code is that of a script that was read, the source had no more bytes than a script may have
+  pub within_of_code : (script left : List ℕ) (ended : Result Done Fault) → TakesAsEnded script left ended
+      → IsReadCode (code_of ended) → length script ≤ script_limit
+  within_of_code script left (Ok done) takes code = takes.all.within
+  within_of_code script left (Err Usage) takes code = absurd (one_unread code)
+  within_of_code script left (Err (Reading (BadLine line))) takes code = takes.0.within
+  within_of_code script left (Err (Reading Memory)) takes code = absurd (three_unread code)
+  within_of_code script left (Err (Reading Source)) takes code = absurd (four_unread code)
+  within_of_code script left (Err (Reading TooLong)) takes code = absurd (eight_unread code)
+  within_of_code script left (Err (Storing fault)) takes code = takes.all.within
+  within_of_code script left (Err (Answering fault)) takes code = takes.all.within
+
+  -- the script is too long exactly where the source gave a byte more than one may have
+  pub too_long_of_code : (script left : List ℕ) (ended : Result Done Fault) → (IsErrOf ended Usage → ⊥)
+      → TakesAsEnded script left ended → (code_of ended ≡ 8) ↔ GivesCount script (script_limit + 1) left
+  too_long_of_code script left (Ok done) words takes =
+      (λ code. absurd (cc), λ gives. absurd (omega (arith, takes.all.within)))
+  too_long_of_code script left (Err Usage) words takes = absurd (words refl)
+  too_long_of_code script left (Err (Reading (BadLine line))) words takes =
+      (λ code. absurd (cc), λ gives. absurd (omega (arith, takes.0.within)))
+  too_long_of_code script left (Err (Reading Memory)) words takes =
+      (λ code. absurd (cc), λ gives. absurd (omega (arith, takes.gives, takes.below)))
+  too_long_of_code script left (Err (Reading Source)) words takes =
+      (λ code. absurd (cc), λ gives. absurd (omega (arith, takes.gives, takes.below)))
+  too_long_of_code script left (Err (Reading TooLong)) words takes = (λ code. takes, λ gives. refl)
+  too_long_of_code script left (Err (Storing world.Memory)) words takes =
+      (λ code. absurd (cc), λ gives. absurd (omega (arith, takes.all.within)))
+  too_long_of_code script left (Err (Storing (world.Store r))) words takes =
+      (λ code. absurd (cc), λ gives. absurd (omega (arith, takes.all.within)))
+  too_long_of_code script left (Err (Storing (world.Image r))) words takes =
+      (λ code. absurd (cc), λ gives. absurd (omega (arith, takes.all.within)))
+  too_long_of_code script left (Err (Storing (world.Occupied r))) words takes =
+      (λ code. absurd (cc), λ gives. absurd (omega (arith, takes.all.within)))
+  too_long_of_code script left (Err (Answering NoMemory)) words takes =
+      (λ code. absurd (cc), λ gives. absurd (omega (arith, takes.all.within)))
+  too_long_of_code script left (Err (Answering Sink)) words takes =
+      (λ code. absurd (cc), λ gives. absurd (omega (arith, takes.all.within)))
+
+  -- where the source has more bytes than a script may have, it is too long, it has failed, or memory was wanted
+  pub too_long_comes : (script left : List ℕ) (before after : ℕ) (ended : Result Done Fault)
+      → (IsErrOf ended Usage → ⊥) → TakesAsEnded script left ended → (IsErrOf ended (Reading Source) → Rose before after)
+      → (Rose before after → ⊥) → script_limit < length script → (code_of ended ≡ 8) ⊎ (code_of ended ≡ 3)
+  too_long_comes script left before after (Ok done) words takes fault no_fault longer =
+      absurd (omega (arith, takes.all.within))
+  too_long_comes script left before after (Err Usage) words takes fault no_fault longer = absurd (words refl)
+  too_long_comes script left before after (Err (Reading (BadLine line))) words takes fault no_fault longer =
+      absurd (omega (arith, takes.0.within))
+  too_long_comes script left before after (Err (Reading Memory)) words takes fault no_fault longer = inr refl
+  too_long_comes script left before after (Err (Reading Source)) words takes fault no_fault longer =
+      absurd (no_fault (fault refl))
+  too_long_comes script left before after (Err (Reading TooLong)) words takes fault no_fault longer = inl refl
+  too_long_comes script left before after (Err (Storing fault')) words takes fault no_fault longer =
+      absurd (omega (arith, takes.all.within))
+  too_long_comes script left before after (Err (Answering fault')) words takes fault no_fault longer =
+      absurd (omega (arith, takes.all.within))
+
+  -- with code 0 nothing is left
+  pub nothing_left : (script left : List ℕ) (ended : Result Done Fault) → TakesAsEnded script left ended
+      → code_of ended ≡ 0 → left ≡ []
+  nothing_left script left (Ok done) takes code = takes.all.empty
+  nothing_left script left (Err (Reading Memory)) takes code = absurd (cc)
+  nothing_left script left (Err (Storing world.Memory)) takes code = absurd (cc)
+  nothing_left script left (Err (Answering Sink)) takes code = absurd (cc)
+  nothing_left script left other takes code = absurd (cc)
+
+  -- with code 2 the first bad line is named
+  pub bad_line_told : (script left : List ℕ) (ended : Result Done Fault) → TakesAsEnded script left ended
+      → code_of ended ≡ 2 → IsFirstBadLine script (line_of ended)
+  bad_line_told script left (Err (Reading (BadLine line))) takes code = takes.1
+  bad_line_told script left (Err (Reading Memory)) takes code = absurd (cc)
+  bad_line_told script left (Err (Storing world.Memory)) takes code = absurd (cc)
+  bad_line_told script left (Err (Answering Sink)) takes code = absurd (cc)
+  bad_line_told script left other takes code = absurd (cc)
+
+  -- making a volume names no line
+  pub making_names_none : (ended : Result Done Fault) → IfErr ended IsOfMaking → code_of ended ≢ 2
+  making_names_none (Ok done) making code = cc
+  making_names_none (Err Usage) making code = making
+  making_names_none (Err (Reading fault)) making code = making
+  making_names_none (Err (Storing world.Memory)) making code = cc
+  making_names_none (Err (Storing (world.Store r))) making code = cc
+  making_names_none (Err (Storing (world.Image r))) making code = making
+  making_names_none (Err (Storing (world.Occupied r))) making code = cc
+  making_names_none (Err (Answering fault)) making code = making
+
+  module _ (words : List (List ℕ)) (mode : Mode) (script left : List ℕ) (before after : ℕ)
+      (read : IsRead words mode script before after) where
+    -- where there is a bad line, the first one is named, or memory was wanted
+    pub bad_line_comes : (ended : Result Done Fault) (line : ℕ) → (IsErrOf ended Usage → ⊥)
+        → TakesAsEnded script left ended → (IsErrOf ended (Reading Source) → Rose before after)
+        → IsFirstBadLine script line → IsBadLineCode line (code_of ended) (line_of ended)
+    bad_line_comes (Ok done) line usage takes fault first =
+        absurd (no_bad_line script takes.commands line takes.read first)
+    bad_line_comes (Err Usage) line usage takes fault first = absurd (usage refl)
+    bad_line_comes (Err (Reading (BadLine number))) line usage takes fault first =
+        inl (refl, one_bad_line script number line takes.1 first)
+    bad_line_comes (Err (Reading Memory)) line usage takes fault first = inr refl
+    bad_line_comes (Err (Reading Source)) line usage takes fault first = absurd (read.no_fault (fault refl))
+    bad_line_comes (Err (Reading TooLong)) line usage takes fault first = absurd (not_too_long left read takes)
+    bad_line_comes (Err (Storing fault')) line usage takes fault first =
+        absurd (no_bad_line script takes.commands line takes.read first)
+    bad_line_comes (Err (Answering fault')) line usage takes fault first =
+        absurd (no_bad_line script takes.commands line takes.read first)
+
+    -- a script is answered, unless memory was wanted
+    pub complete_of_code : (ended : Result Done Fault) (commands : List Command) (sink_before sink_after : ℕ)
+        → (IsErrOf ended Usage → ⊥) → TakesAsEnded script left ended
+        → (IsErrOf ended (Reading Source) → Rose before after) → IsStored ended
+        → (IsErrOf ended (Answering Sink) → Rose sink_before sink_after) → IsScript script commands
+        → (Rose sink_before sink_after → ⊥) → (code_of ended ≡ 0) ⊎ (code_of ended ≡ 3)
+    complete_of_code (Ok done) commands sink_before sink_after usage takes fault stored sink_fault is_script no_fault =
+        inl refl
+    complete_of_code (Err Usage) commands sink_before sink_after usage takes fault stored sink_fault is_script no_fault =
+        absurd (usage refl)
+    complete_of_code (Err (Reading (BadLine number))) commands sink_before sink_after usage takes fault stored sink_fault
+        is_script no_fault = absurd (no_bad_line script commands number is_script takes.1)
+    complete_of_code (Err (Reading Memory)) commands sink_before sink_after usage takes fault stored sink_fault is_script
+        no_fault = inr refl
+    complete_of_code (Err (Reading Source)) commands sink_before sink_after usage takes fault stored sink_fault is_script
+        no_fault = absurd (read.no_fault (fault refl))
+    complete_of_code (Err (Reading TooLong)) commands sink_before sink_after usage takes fault stored sink_fault is_script
+        no_fault = absurd (not_too_long left read takes)
+    complete_of_code (Err (Storing world.Memory)) commands sink_before sink_after usage takes fault stored sink_fault
+        is_script no_fault = inr refl
+    complete_of_code (Err (Storing (world.Store r))) commands sink_before sink_after usage takes fault stored sink_fault
+        is_script no_fault = absurd (stored.store r refl)
+    complete_of_code (Err (Storing (world.Image r))) commands sink_before sink_after usage takes fault stored sink_fault
+        is_script no_fault = absurd (stored.image r refl)
+    complete_of_code (Err (Storing (world.Occupied r))) commands sink_before sink_after usage takes fault stored
+        sink_fault is_script no_fault = absurd (stored.occupied r refl)
+    complete_of_code (Err (Answering NoMemory)) commands sink_before sink_after usage takes fault stored sink_fault
+        is_script no_fault = inr refl
+    complete_of_code (Err (Answering Sink)) commands sink_before sink_after usage takes fault stored sink_fault is_script
+        no_fault = absurd (no_fault (sink_fault refl))
+
+  -- a volume is made, unless memory was wanted
+  pub made_of_code : (ended : Result Done Fault) → IfErr ended IsOfMaking → IsStored ended
+      → (code_of ended ≡ 0) ⊎ (code_of ended ≡ 3)
+  made_of_code (Ok done) making stored = inl refl
+  made_of_code (Err Usage) making stored = absurd making
+  made_of_code (Err (Reading fault)) making stored = absurd making
+  made_of_code (Err (Storing world.Memory)) making stored = inr refl
+  made_of_code (Err (Storing (world.Store r))) making stored = absurd (stored.store r refl)
+  made_of_code (Err (Storing (world.Image r))) making stored = absurd (stored.image r refl)
+  made_of_code (Err (Storing (world.Occupied r))) making stored = absurd (stored.occupied r refl)
+  made_of_code (Err (Answering fault)) making stored = absurd making
+
+  -- what is left of a volume that isn't made where something is held: it is said, or a fault came before
+  pub occupied_comes : (ended : Result Done Fault) (r : ℕ)
+      → IsErrAnd ended (λ fault. (fault ≡ Storing (world.Occupied r)) ⊎ IsInterruption fault)
+      → ((code_of ended ≡ 9) × (replica_of ended ≡ r)) ⊎ IsUntouchedCode (code_of ended) ⊎ (code_of ended ≡ 3)
+      ⊎ (code_of ended ≡ 6)
+  occupied_comes (Ok done) r said = absurd said
+  occupied_comes (Err fault) r (inl is) = rw is (inl (refl, refl))
+  occupied_comes (Err Usage) r (inr said) = absurd said
+  occupied_comes (Err (Reading (BadLine line))) r (inr said) = inr (inl (inr refl))
+  occupied_comes (Err (Reading Memory)) r (inr said) = inr (inr (inl refl))
+  occupied_comes (Err (Reading Source)) r (inr said) = inr (inl (inl (inr (inl refl))))
+  occupied_comes (Err (Reading TooLong)) r (inr said) = inr (inl (inl (inr (inr refl))))
+  occupied_comes (Err (Storing world.Memory)) r (inr said) = inr (inr (inl refl))
+  occupied_comes (Err (Storing (world.Store q))) r (inr said) = inr (inr (inr refl))
+  occupied_comes (Err (Storing (world.Image q))) r (inr said) = absurd said
+  occupied_comes (Err (Storing (world.Occupied q))) r (inr said) = absurd said
+  occupied_comes (Err (Answering fault)) r (inr said) = absurd said

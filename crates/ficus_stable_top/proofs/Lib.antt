@@ -1,0 +1,13 @@
+pub mod Answering
+pub mod Codes
+pub mod Earlier
+pub mod Endings
+pub mod Ends
+pub mod Faults
+pub mod Fronts
+pub mod Lines
+pub mod Members
+pub mod OneMode
+pub mod Returning
+pub mod Serves
+pub mod Stored

@@ -1,0 +1,19 @@
+-- What the reading of the script takes, from a source that tells.
+use Rattle.std.specs.Prelude.{◌≡◌, ℕ, ◌+◌, ◌≤◌, List, [], length}
+use Rattle.ficus_script.specs.Script.{IsFirstBadLine}
+use Rattle.ficus_stable_top.specs.Headline.{script_limit}
+use Rattle.ficus_stable_top.specs.Outside.{GivesCount, GivesBelow}
+use Rattle.ficus_stable_top.specs.declared.fault.ReadingFault.{ReadingFault}
+use Rattle.ficus_stable_top.specs.declared.fault.ReadingFault.TheVariants.{BadLine, Memory, Source, TooLong}
+
+-- all that the source had was taken, and it was no more than a script may have
+pub record TakesAll (old new : List ℕ) : Type 0 where
+  pub within : length old ≤ script_limit
+  pub empty : new ≡ []
+
+-- what was taken where the reading ended so
+abbrev pub TakesUntil : List ℕ → List ℕ → ReadingFault → Type 0
+TakesUntil old new (BadLine line) = TakesAll old new × IsFirstBadLine old line
+TakesUntil old new TooLong = GivesCount old (script_limit + 1) new
+TakesUntil old new Source = GivesBelow old (script_limit + 1) new
+TakesUntil old new Memory = GivesBelow old (script_limit + 1) new

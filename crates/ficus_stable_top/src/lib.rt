@@ -1,0 +1,18 @@
+//! The program as one call: it reads the words and the script, makes or opens the volume, and answers each command.
+#![tactic(auto)]
+
+mod fault;
+mod laws;
+mod program;
+mod put;
+mod read;
+mod running;
+mod serving;
+mod status;
+mod words;
+
+pub use laws::{all_but_the_last_are_put, fronts_go_on, idle_codes, read_codes};
+pub use program::ficus;
+pub use serving::serve;
+pub use status::{Status, status_text};
+pub use words::{Mode, root_of};
