@@ -11,9 +11,9 @@ use std::io;
 use std::io::{ErrorKind, Write};
 use std::process::ExitCode;
 
-/// How the program ends where it doesn't get its words: 3 for want of memory; 10, which the library never answers,
-/// where the system doesn't give them as text.
-pub(crate) fn status_without_words(cause: ErrorKind) -> Status
+/// How the program ends where it doesn't come to call the library: 3 for want of memory; 10, which the library never
+/// answers, where the system doesn't give the words as text.
+pub(crate) fn status_without_call(cause: ErrorKind) -> Status
     ensures memory { cause ≡ ErrorKind.OutOfMemory → result ≡ record { code = 3; line = 0; replica = 0 } }
     ensures no_text { cause ≢ ErrorKind.OutOfMemory → result ≡ record { code = 10; line = 0; replica = 0 } }
 {
@@ -34,7 +34,7 @@ pub(crate) fn status_without_words(cause: ErrorKind) -> Status
 pub(crate) fn end<W: Write>(alloc: Global, status: &Status, errors: &mut W) -> ExitCode
     ensures status { exit_status result ≡ status.now.code }
     ensures line { AppendsFront (W.contents errors.old) (W.contents errors.new)
-        (status_text_of status.now.code status.now.line) }
+        (status_text_of status.now.code status.now.line status.now.replica) }
 {
     let _ = write_line(alloc, status, errors);
     ExitCode::from(status.code)
@@ -42,10 +42,10 @@ pub(crate) fn end<W: Write>(alloc: Global, status: &Status, errors: &mut W) -> E
 
 // Writes the line of the status, and nothing else.
 fn write_line<W: Write>(alloc: Global, status: &Status, errors: &mut W) -> io::Result<()>
-    ensures whole { OnOk result
-        (Appends (W.contents errors.old) (W.contents errors.new) (status_text_of status.now.code status.now.line)) }
+    ensures whole { OnOk result (Appends (W.contents errors.old) (W.contents errors.new)
+        (status_text_of status.now.code status.now.line status.now.replica)) }
     ensures front { AppendsFront (W.contents errors.old) (W.contents errors.new)
-        (status_text_of status.now.code status.now.line) }
+        (status_text_of status.now.code status.now.line status.now.replica) }
 {
     let text = status_text(alloc, status).map_err(|_| ErrorKind::OutOfMemory)?;
     write_bytes(errors, &text)

@@ -1,35 +1,48 @@
-ghost use Rattle.std.specs.Prelude.{◌≡◌, ◌≢◌, ◌↔◌, ◌<◌};
+ghost use Rattle.std.specs.Prelude.{◌≡◌, ◌≢◌, ◌⊎◌, ◌<◌, length};
 ghost use Rattle.ficus_faults.specs.Faults.{Rose};
-ghost use Rattle.ficus_top.specs.Headline.{IsCode, IsIdleCode};
-ghost use Rattle.ficus_top.specs.Words.{texts, AreNoWords};
+ghost use Rattle.ficus_top.specs.Codes.{IsCode, IsIdleCode, IsUntouchedCode, NamesReplica};
+ghost use Rattle.ficus_top.specs.Words.{texts};
+ghost use Rattle.ficus_words.specs.Mode.{AreNoWords};
+ghost use Rattle.ficus_world.specs.Opening.{IsAtFault};
 
+use ficus_disk::{Disk, Pair};
 use ficus_outside::{StdSink, StdSource};
 use ficus_top::{Status, ficus};
 use std::alloc::Global;
 use std::io::{Input, Print};
 
-/// Runs the program over the standard streams of a runtime, and says how it ended. These streams tell nothing of what
-/// they give and take, so no clause speaks of the script and of the answers.
-pub(crate) fn run<R: Input + Print + Clone + Drop>(
+/// Runs the program over the standard streams of a runtime and over these disks, and says how it ended. The streams tell
+/// nothing of what they give and take, so no clause speaks of the script and of the answers.
+pub(crate) fn run<R: Input + Print + Clone + Drop, D: Disk>(
     alloc: Global,
     words: &Vec<String>,
     input: &mut StdSource<R>,
     output: &mut StdSink<R>,
+    disks: &mut Vec<Pair<D>>,
 ) -> Status
-    // Code 1 comes exactly where the words aren't those of a mode. The input isn't asked then.
-    ensures usage { (result.code ≡ 1) ↔ AreNoWords (texts words.now.items) }
-    ensures unasked { result.code ≡ 1 → input.new ≡ input.old }
+    requires pairs { length disks.old.items ≡ 8 }
 
-    // Codes 4 and 5 come only where the input or the output has failed in this call, and wherever one has.
+    // Code 1 comes only where the words aren't those of a mode, and wherever they aren't, unless memory was wanted. Nothing
+    // is asked of the outside then.
+    ensures usage { result.code ≡ 1 → AreNoWords (texts words.now.items) }
+    ensures usage_comes { AreNoWords (texts words.now.items) → (result.code ≡ 1) ⊎ (result.code ≡ 3) }
+    ensures unasked { AreNoWords (texts words.now.items)
+        → (input.new ≡ input.old) × (output.new ≡ output.old) × (disks.new ≡ disks.old) }
+
+    // Codes 4, 5 and 6 come only where the input, the output or a disk of the named replica has failed in this call; 4 and
+    // 5 wherever the input or the output has.
     ensures read_fault { result.code ≡ 4 → Rose input.old.faults input.new.faults }
     ensures read_fault_comes { input.old.faults < input.new.faults → result.code ≡ 4 }
     ensures write_fault { result.code ≡ 5 → Rose output.old.faults output.new.faults }
     ensures write_fault_comes { output.old.faults < output.new.faults → result.code ≡ 5 }
+    ensures store_fault { result.code ≡ 6 → IsAtFault D.faults disks.old.items disks.new.items result.replica }
 
-    // No other code comes, and nothing is put before the commands.
+    // No other code comes, nothing is put before the commands, and no disk is touched before the script was read.
     ensures codes { IsCode result.code }
     ensures idle { IsIdleCode result.code → output.new ≡ output.old }
-    ensures numbers { (result.code ≢ 2 → result.line ≡ 0) × (result.replica ≡ 0) }
+    ensures untouched { IsUntouchedCode result.code → disks.new ≡ disks.old }
+    ensures line { result.code ≢ 2 → result.line ≡ 0 }
+    ensures replica { (NamesReplica result.code → ⊥) → result.replica ≡ 0 }
 {
-    ficus(alloc, words, input, output)
+    ficus(alloc, words, input, output, disks)
 }

@@ -1,5 +1,4 @@
-//! A disk over a file of the system: with the standard streams, the edge that is trusted. The program doesn't use it
-//! yet; whoever does finds it beside the streams.
+//! A disk over a file of the system: with the standard streams, the edge that is trusted.
 #![tactic(auto)]
 
 mod file_disk;

@@ -19,6 +19,7 @@ use Rattle.ficus_script.proofs.Numbers.{first_digit_of_replica}
 use Rattle.ficus_script.specs.declared.command.Command.TheVariants as command
 use Rattle.ficus_generator.specs.declared.step.Action.{Action}
 use Rattle.ficus_generator.specs.declared.step.Action.TheVariants.{MkDir, Create, Write, Rm, Mv, Resolve, Collect, Pull}
+use Rattle.ficus_generator.specs.Lines.{StopsNothing}
 use Rattle.ficus_generator.specs.Script.{action_line, dir_text, file_text, mkdir_line, pull_line, peer_of}
 use Rattle.ficus_generator.proofs.PathTexts.{dir_path, file_path, dir_spelled, file_spelled, is_dir_path, is_file_path, dir_is_new, file_is_new, file_is_entry, written, written_spelled}
 
@@ -73,11 +74,11 @@ kept_path by verb path number = kept_more (decimal by ++ verb) path (kept_verb b
 
 -- ---- lines that spell a command
 
--- a line of a script: a command, in one line, which isn't passed over
+-- a line of a script: a command that stops nothing, in one line, which isn't passed over
 abbrev pub IsLine : List ℕ → Type 0
-IsLine line = IsCommandLine line × IsFreeOf 10 line × (is_kept line ≡ true)
+IsLine line = (spelled : IsCommandLine line) × IsFreeOf 10 line × (is_kept line ≡ true) × StopsNothing spelled.0
 
-change_line : (by : ℕ) (asked : Change) (line : List ℕ) → IsCommand (command.Change by asked) →
+abbrev change_line : (by : ℕ) (asked : Change) (line : List ℕ) → IsCommand (command.Change by asked) →
     line ≡ command_text (command.Change by asked) → IsCommandLine line
 change_line by asked line is spelled = (command.Change by asked, is, spelled)
 
@@ -102,6 +103,7 @@ mkdir_is by dir number lt = (
   free_both (decimal by ++ codes " mkdir ") (dir_text dir) (free_verb by (codes " mkdir ") (omega (arith, number.at_most)) refl)
       (free_dir dir (omega arith)),
   kept_path by (codes " mkdir ") (dir_text dir) number,
+  tt,
 )
 
 pub pull_is : (by peer : ℕ) → IsReplicaNumber by → IsReplicaNumber peer → IsLine (pull_line by peer)
@@ -117,6 +119,7 @@ pull_is by peer number other = (
       (free_text (codes " ") refl))
       (free_number peer (omega (arith, other.at_most))),
   refl,
+  tt,
 )
 
 -- a verb with the path of a file
@@ -136,6 +139,7 @@ module _ (by dir file : ℕ) (number : IsReplicaNumber by) (lt : dir < 10) (also
         (free_verb_file by (codes " create ") dir file number lt also refl) (free_text (codes " lines") refl),
     kept_more (decimal by ++ codes " create " ++ file_text dir file) (codes " lines")
         (kept_path by (codes " create ") (file_text dir file) number),
+    tt,
   )
 
   write_is : (step : ℕ) → step < 2 ^ 64 →
@@ -159,6 +163,7 @@ module _ (by dir file : ℕ) (number : IsReplicaNumber by) (lt : dir < 10) (also
         kept_more (start ++ codes " \"s" ++ decimal step) (codes "\\n\"")
             (kept_more (start ++ codes " \"s") (decimal step)
             (kept_more start (codes " \"s") (kept_path by (codes " write ") (file_text dir file) number))),
+        tt,
       )
 
   rm_is : IsLine (decimal by ++ codes " rm " ++ file_text dir file)
@@ -168,6 +173,7 @@ module _ (by dir file : ℕ) (number : IsReplicaNumber by) (lt : dir < 10) (also
         (one_path by (codes " rm ") (file_text dir file) _ (file_spelled dir file lt also)),
     free_verb_file by (codes " rm ") dir file number lt also refl,
     kept_path by (codes " rm ") (file_text dir file) number,
+    tt,
   )
 
   resolve_is : IsLine (decimal by ++ codes " resolve " ++ file_text dir file)
@@ -177,6 +183,7 @@ module _ (by dir file : ℕ) (number : IsReplicaNumber by) (lt : dir < 10) (also
         (one_path by (codes " resolve ") (file_text dir file) _ (file_spelled dir file lt also)),
     free_verb_file by (codes " resolve ") dir file number lt also refl,
     kept_path by (codes " resolve ") (file_text dir file) number,
+    tt,
   )
 
   mv_is : (next : ℕ) → next < 10 →
@@ -197,6 +204,7 @@ module _ (by dir file : ℕ) (number : IsReplicaNumber by) (lt : dir < 10) (also
             (free_file next file (omega arith) (omega arith)),
         kept_more (start ++ codes " ") (file_text next file)
             (kept_more start (codes " ") (kept_path by (codes " mv ") (file_text dir file) number)),
+        tt,
       )
 
 pub collect_is : (by : ℕ) → IsReplicaNumber by → IsLine (decimal by ++ codes " collect")
@@ -204,6 +212,7 @@ collect_is by number = (
   (command.Collect by, record { number = number; behind = tt; takes = tt }, refl),
   free_verb by (codes " collect") (omega (arith, number.at_most)) refl,
   kept_verb by (codes " collect") number,
+  tt,
 )
 
 -- ---- the line of a step

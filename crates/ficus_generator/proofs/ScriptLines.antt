@@ -10,7 +10,7 @@ use Rattle.ficus_script.specs.Script.{lines_of, is_kept}
 use Rattle.ficus_script.specs.declared.command.Command.{Command}
 use Rattle.ficus_script.proofs.Scripts.{line_cut}
 use Rattle.ficus_generator.specs.Draws.{state_after, drawn}
-use Rattle.ficus_generator.specs.Lines.{HasLines}
+use Rattle.ficus_generator.specs.Lines.{HasLines, StopsNothing}
 use Rattle.ficus_generator.specs.Script.{dir_lines, first_pull_lines, mkdir_line, pull_line, script_lines, step_line, step_lines, text_of}
 use Rattle.ficus_generator.specs.Step.{action_of, step_of}
 use Rattle.ficus_generator.proofs.LineLaws.{IsLine, action_is, mkdir_is, pull_is}
@@ -74,8 +74,8 @@ lines_are seed steps members few count =
 -- the commands that lines spell
 spelled_by : (lines : List (List ℕ)) → AllByRecursion IsLine lines → (commands : List Command)
     × AllByRecursion IsCommand commands × (filter is_kept lines ≡ map command_text commands)
-    × (length commands ≡ length lines)
-spelled_by [] each = ([], tt, refl, refl)
+    × (length commands ≡ length lines) × AllByRecursion StopsNothing commands
+spelled_by [] each = ([], tt, refl, refl, tt)
 spelled_by (line ∷ lines) each =
     let rest = spelled_by lines each.1 in
     let first = each.0.0 in (
@@ -84,6 +84,7 @@ spelled_by (line ∷ lines) each =
       rw (each.0.2) (ap (λ (text : List ℕ). text ∷ filter is_kept lines) first.2
           ∙ ap (λ (texts : List (List ℕ)). command_text first.0 ∷ texts) rest.2),
       ap (λ (n : ℕ). suc n) rest.3,
+      (each.0.3, rest.4),
     )
 
 pub has_lines : (seed steps members : ℕ) → steps ≤ 5000 → IsCount members → HasLines seed steps members
@@ -110,4 +111,5 @@ has_lines seed steps members few count =
         length-map-range_with_len (λ member. pull_line member 1) 2 (members - 1),
         length-map-range_with_len (λ number. step_line members (step_of members seed number)) 1 steps,
       );
+      stopless = All-from_recursion StopsNothing spelled.0 spelled.4;
     }

@@ -2,6 +2,7 @@
 ghost use Rattle.std.specs.Prelude.{◌<◌};
 
 use ficus_disk::{Disk, MemDisk, Pair, TraceDisk};
+use ficus_slot::read_all;
 use ficus_store::{Keep, StoreFault, TwoSlot, reopen};
 use std::alloc::Global;
 use std::test::Fail;
@@ -90,6 +91,33 @@ fn a_stopped_save_is_found_by_its_pick(rt: HostRuntime) -> Result<(), Fail> {
             assert!(rt; is == Ok(true), "{calls} calls, pick {pick}");
         }
     }
+    Ok(())
+}
+
+// Whether these are the bytes of the disk.
+fn holds<D: Disk>(alloc: Global, disk: &mut D, bytes: &[u8]) -> Result<bool, StoreFault> {
+    let held = read_all(alloc, disk)?;
+    Ok(held.as_slice() == bytes)
+}
+
+/// The bytes of each disk after a save of each of the images: gate, generation, length, body and tail.
+const SLOTS: [&[u8]; 2] = [
+    b"\x01\0\0\0\0\0\0\0\0\0\0\0\0\0\0\0\x03old\0",
+    b"\x01\0\0\0\0\0\0\0\x01\0\0\0\0\0\0\0\x0bthe new one\0",
+];
+
+#[test]
+fn each_disk_is_one_slot(rt: HostRuntime) -> Result<(), Fail> {
+    let alloc = rt.alloc();
+    let mut disks = Pair {
+        a: MemDisk::new(alloc),
+        b: MemDisk::new(alloc),
+    };
+    assert!(rt; TwoSlot::make(alloc, &mut disks, IMAGES[0]).is_ok());
+    assert!(rt; holds(alloc, &mut disks.b, b"") == Ok(true));
+    assert!(rt; saves::<TwoSlot, MemDisk>(alloc, &mut disks, IMAGES[1]) == Ok(true));
+    assert!(rt; holds(alloc, &mut disks.a, SLOTS[0]) == Ok(true));
+    assert!(rt; holds(alloc, &mut disks.b, SLOTS[1]) == Ok(true));
     Ok(())
 }
 

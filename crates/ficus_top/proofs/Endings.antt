@@ -1,118 +1,213 @@
--- What the code of a run says of how it ended.
-use Rattle.std.proofs.Common.{◌≡◌, ◌⊎◌, ℕ, ◌+◌, ◌<◌, ◌≤◌, List, [], ◌∷◌, length, codes, Result, Ok, Err, refl, sym, ◌∙◌, inl, inr, arith}
-use Rattle.std.specs.Prelude.{IsErrOf}
-use Rattle.std.specs.Fmt.{decimal}
-use Rattle.std.proofs.lemmas.Fmt.{decimal_injective}
+-- What is known of a run by how it ended: what was taken, and that it comes to an end.
+use Rattle.std.proofs.Common.{◌≡◌, ◌⊎◌, ◌↔◌, ℕ, ◌+◌, ◌<◌, ◌≤◌, List, [], length, Result, Ok, Err, refl, inl, inr, arith}
+use Rattle.std.specs.Prelude.{IfErr, IsErrAnd, IsErrOf}
 use Rattle.ficus_faults.specs.Faults.{Rose}
 use Rattle.ficus_script.specs.declared.command.Command.{Command}
 use Rattle.ficus_script.specs.Script.{IsScript, IsFirstBadLine}
-use Rattle.ficus_top.specs.declared.fault.Fault.{Fault}
-use Rattle.ficus_top.specs.declared.fault.Fault.TheVariants.{Usage, Reading, Answering}
-use Rattle.ficus_top.specs.declared.fault.ReadingFault.TheVariants.{BadLine, Memory, Source, TooLong}
-use Rattle.ficus_top.specs.declared.fault.AnsweringFault.TheVariants.{Memory as NoMemory, Sink}
-use Rattle.ficus_top.specs.Ending.{TakesAsEnded}
-use Rattle.ficus_top.specs.Headline.{IsRead, IsReadCode, IsBadLineCode, script_limit}
-use Rattle.ficus_top.specs.Outside.{GivesCount}
-use Rattle.ficus_top.specs.Status.{code_of, line_of}
-use Rattle.ficus_top.specs.Words.{AreWords, AreNoWords}
 use Rattle.ficus_script.proofs.ScriptLaws.{no_bad_line, one_bad_line}
+use Rattle.ficus_top.specs.Codes.{IsBadLineCode, IsImageCode, IsOccupiedCode, IsReadCode}
+use Rattle.ficus_top.specs.Ending.{IsInterruption, IsOfMaking, TakesAsEnded}
+use Rattle.ficus_top.specs.Outside.{GivesCount}
+use Rattle.ficus_serving.specs.Serving.{script_limit}
+use Rattle.ficus_top.specs.Status.{code_of, line_of, replica_of}
+use Rattle.ficus_top.specs.declared.fault.Fault.{Fault}
+use Rattle.ficus_top.specs.declared.fault.Fault.TheVariants.{Words, Reading, Storing, Answering}
+use Rattle.ficus_top.specs.declared.fault.ReadingFault.TheVariants.{BadLine, Memory, Source, TooLong}
+use Rattle.ficus_serving.specs.declared.fault.AnsweringFault.TheVariants.{Memory as NoMemory, Sink}
+use Rattle.ficus_words.specs.declared.fault.WordsFault.{WordsFault}
+use Rattle.ficus_words.specs.declared.fault.WordsFault.TheVariants as word
+use Rattle.ficus_world.specs.declared.opening.WorldFault.TheVariants as world
 
--- words are those of one count of members
-pub one_members : {words : List (List ℕ)} {members others : ℕ} → AreWords words members → AreWords words others
-    → members ≡ others
-one_members {words} {members} {others} are also =
-    let same : are.program ∷ codes "replay" ∷ codes "--members" ∷ decimal members ∷ [] ≡ also.program ∷ codes "replay" ∷
-    codes "--members" ∷ decimal others ∷ [] = sym are.is ∙ also.is in
-    decimal_injective members others (omega (arith, are.count.at_most)) (omega (arith, also.count.at_most)) (cc same)
+one_unread : IsReadCode 1 → ⊥
+one_unread code = grind arith
 
-pub usage_of_code : {Done : Type 0} (ended : Result Done Fault) → code_of ended ≡ 1 → IsErrOf ended Usage
-usage_of_code (Ok done) code = cc
-usage_of_code (Err Usage) code = refl
-usage_of_code (Err (Reading (BadLine line))) code = cc
-usage_of_code (Err (Reading Memory)) code = cc
-usage_of_code (Err (Reading Source)) code = cc
-usage_of_code (Err (Reading TooLong)) code = cc
-usage_of_code (Err (Answering NoMemory)) code = cc
-usage_of_code (Err (Answering Sink)) code = cc
+three_unread : IsReadCode 3 → ⊥
+three_unread code = grind arith
 
--- where the code is that of a script that was read, the source had no more bytes than a script may have
-pub within_code : {Done : Type 0} (script left : List ℕ) (ended : Result Done Fault) → TakesAsEnded script left ended
-    → IsReadCode (code_of ended) → length script ≤ script_limit
-within_code script left (Ok done) takes code = takes.all.within
-within_code script left (Err Usage) takes code = elim code
-    [ inl zero ↦ cc | inr (inl two) ↦ cc | inr (inr five) ↦ cc ]
-within_code script left (Err (Reading (BadLine line))) takes code = takes.0.within
-within_code script left (Err (Reading Memory)) takes code = elim code
-    [ inl zero ↦ cc | inr (inl two) ↦ cc | inr (inr five) ↦ cc ]
-within_code script left (Err (Reading Source)) takes code = elim code
-    [ inl zero ↦ cc | inr (inl two) ↦ cc | inr (inr five) ↦ cc ]
-within_code script left (Err (Reading TooLong)) takes code = elim code
-    [ inl zero ↦ cc | inr (inl two) ↦ cc | inr (inr five) ↦ cc ]
-within_code script left (Err (Answering NoMemory)) takes code = elim code
-    [ inl zero ↦ cc | inr (inl two) ↦ cc | inr (inr five) ↦ cc ]
-within_code script left (Err (Answering Sink)) takes code = takes.all.within
+four_unread : IsReadCode 4 → ⊥
+four_unread code = grind arith
 
--- where the words are right and the source has more bytes than a script may have, it is too long, it has failed, or
--- memory was wanted
-pub too_long_code : {Done : Type 0} (words : List (List ℕ)) (members : ℕ) (script left : List ℕ) (before after : ℕ)
-    (ended : Result Done Fault) → AreWords words members → (IsErrOf ended Usage → AreNoWords words)
-    → TakesAsEnded script left ended → (IsErrOf ended (Reading Source) → Rose before after) → (Rose before after → ⊥)
-    → script_limit < length script → (code_of ended ≡ 8) ⊎ (code_of ended ≡ 3)
-too_long_code words members script left before after (Ok done) are usage takes fault no_fault longer = absurd
-    (omega (arith, takes.all.within))
-too_long_code words members script left before after (Err Usage) are usage takes fault no_fault longer = absurd
-    (usage refl members are)
-too_long_code words members script left before after (Err (Reading (BadLine line))) are usage takes fault no_fault
-    longer = absurd (omega (arith, takes.0.within))
-too_long_code words members script left before after (Err (Reading Memory)) are usage takes fault no_fault longer = inr
-    refl
-too_long_code words members script left before after (Err (Reading Source)) are usage takes fault no_fault longer =
-    absurd (no_fault (fault refl))
-too_long_code words members script left before after (Err (Reading TooLong)) are usage takes fault no_fault longer = inl
-    refl
-too_long_code words members script left before after (Err (Answering NoMemory)) are usage takes fault no_fault longer =
-    inr refl
-too_long_code words members script left before after (Err (Answering Sink)) are usage takes fault no_fault longer =
-    absurd (omega (arith, takes.all.within))
+eight_unread : IsReadCode 8 → ⊥
+eight_unread code = grind arith
 
-module _ (words : List (List ℕ)) (script left : List ℕ) (before after : ℕ) (members : ℕ)
-    (read : IsRead words members script before after) where
-  -- where the words are right, a script was read, the source has failed, or memory was wanted
-  not_too_long : GivesCount script (script_limit + 1) left → ⊥
-  not_too_long gives = omega (arith, read.within)
+-- no volume was refused, and no disk failed: want of memory alone may have kept it from being made or opened
+pub record IsStored {Done : Type 0} (ended : Result Done Fault) : Type 0 where
+  pub store : (r : ℕ) → IsErrOf ended (Storing (world.Store r)) → ⊥
+  pub image : (r : ℕ) → IsErrOf ended (Storing (world.Image r)) → ⊥
+  pub occupied : (r : ℕ) → IsErrOf ended (Storing (world.Occupied r)) → ⊥
 
-  pub bad_line_code : {Done : Type 0} (ended : Result Done Fault) (line : ℕ) → (IsErrOf ended Usage → AreNoWords words)
-      → TakesAsEnded script left ended → (IsErrOf ended (Reading Source) → Rose before after)
-      → IsFirstBadLine script line → IsBadLineCode line (code_of ended) (line_of ended)
-  bad_line_code (Ok done) line usage takes fault first = absurd
-      (no_bad_line script takes.commands line takes.read first)
-  bad_line_code (Err Usage) line usage takes fault first = absurd (usage refl members read.words_are)
-  bad_line_code (Err (Reading (BadLine number))) line usage takes fault first =
-      inl (refl, one_bad_line script number line takes.1 first)
-  bad_line_code (Err (Reading Memory)) line usage takes fault first = inr refl
-  bad_line_code (Err (Reading Source)) line usage takes fault first = absurd (read.no_fault (fault refl))
-  bad_line_code (Err (Reading TooLong)) line usage takes fault first = absurd (not_too_long takes)
-  bad_line_code (Err (Answering NoMemory)) line usage takes fault first = inr refl
-  bad_line_code (Err (Answering Sink)) line usage takes fault first =
-      absurd (no_bad_line script takes.commands line takes.read first)
+-- the words were read, and they were those of a mode
+abbrev pub AreUsed : {Done : Type 0} → Result Done Fault → Type 0
+AreUsed ended = (fault : WordsFault) → IsErrOf ended (Words fault) → ⊥
 
-  pub complete_code : {Done : Type 0} (ended : Result Done Fault) (commands : List Command) (sink_before sink_after : ℕ)
-      → (IsErrOf ended Usage → AreNoWords words) → TakesAsEnded script left ended
-      → (IsErrOf ended (Reading Source) → Rose before after)
-      → (IsErrOf ended (Answering Sink) → Rose sink_before sink_after) → IsScript script commands
-      → (Rose sink_before sink_after → ⊥) → (code_of ended ≡ 0) ⊎ (code_of ended ≡ 3)
-  complete_code (Ok done) commands sink_before sink_after usage takes fault sink_fault is_script no_fault = inl refl
-  complete_code (Err Usage) commands sink_before sink_after usage takes fault sink_fault is_script no_fault = absurd
-      (usage refl members read.words_are)
-  complete_code (Err (Reading (BadLine number))) commands sink_before sink_after usage takes fault sink_fault is_script
-      no_fault = absurd (no_bad_line script commands number is_script takes.1)
-  complete_code (Err (Reading Memory)) commands sink_before sink_after usage takes fault sink_fault is_script no_fault =
-      inr refl
-  complete_code (Err (Reading Source)) commands sink_before sink_after usage takes fault sink_fault is_script no_fault =
-      absurd (read.no_fault (fault refl))
-  complete_code (Err (Reading TooLong)) commands sink_before sink_after usage takes fault sink_fault is_script no_fault
-      = absurd (not_too_long takes)
-  complete_code (Err (Answering NoMemory)) commands sink_before sink_after usage takes fault sink_fault is_script
-      no_fault = inr refl
-  complete_code (Err (Answering Sink)) commands sink_before sink_after usage takes fault sink_fault is_script no_fault =
-      absurd (no_fault (sink_fault refl))
+module _ {Done : Type 0} where
+  -- where the code is that of a script that was read, the source had no more bytes than a script may have
+  pub within_of_code : (script left : List ℕ) (ended : Result Done Fault) → TakesAsEnded script left ended
+      → IsReadCode (code_of ended) → length script ≤ script_limit
+  within_of_code script left (Ok done) takes code = takes.all.within
+  within_of_code script left (Err (Words word.Usage)) takes code = absurd (one_unread code)
+  within_of_code script left (Err (Words word.Memory)) takes code = absurd (three_unread code)
+  within_of_code script left (Err (Reading (BadLine line))) takes code = takes.0.within
+  within_of_code script left (Err (Reading Memory)) takes code = absurd (three_unread code)
+  within_of_code script left (Err (Reading Source)) takes code = absurd (four_unread code)
+  within_of_code script left (Err (Reading TooLong)) takes code = absurd (eight_unread code)
+  within_of_code script left (Err (Storing fault)) takes code = takes.all.within
+  within_of_code script left (Err (Answering fault)) takes code = takes.all.within
+
+  -- the script is too long exactly where the source gave a byte more than one may have
+  pub too_long_of_code : (script left : List ℕ) (ended : Result Done Fault) → AreUsed ended
+      → TakesAsEnded script left ended → (code_of ended ≡ 8) ↔ GivesCount script (script_limit + 1) left
+  too_long_of_code script left (Ok done) words takes =
+      (λ code. absurd (cc), λ gives. absurd (omega (arith, takes.all.within)))
+  too_long_of_code script left (Err (Words fault)) words takes = absurd (words fault refl)
+  too_long_of_code script left (Err (Reading (BadLine line))) words takes =
+      (λ code. absurd (cc), λ gives. absurd (omega (arith, takes.0.within)))
+  too_long_of_code script left (Err (Reading Memory)) words takes =
+      (λ code. absurd (cc), λ gives. absurd (omega (arith, takes.gives, takes.below)))
+  too_long_of_code script left (Err (Reading Source)) words takes =
+      (λ code. absurd (cc), λ gives. absurd (omega (arith, takes.gives, takes.below)))
+  too_long_of_code script left (Err (Reading TooLong)) words takes = (λ code. takes, λ gives. refl)
+  too_long_of_code script left (Err (Storing world.Memory)) words takes =
+      (λ code. absurd (cc), λ gives. absurd (omega (arith, takes.all.within)))
+  too_long_of_code script left (Err (Storing (world.Store r))) words takes =
+      (λ code. absurd (cc), λ gives. absurd (omega (arith, takes.all.within)))
+  too_long_of_code script left (Err (Storing (world.Image r))) words takes =
+      (λ code. absurd (cc), λ gives. absurd (omega (arith, takes.all.within)))
+  too_long_of_code script left (Err (Storing (world.Occupied r))) words takes =
+      (λ code. absurd (cc), λ gives. absurd (omega (arith, takes.all.within)))
+  too_long_of_code script left (Err (Answering NoMemory)) words takes =
+      (λ code. absurd (cc), λ gives. absurd (omega (arith, takes.all.within)))
+  too_long_of_code script left (Err (Answering Sink)) words takes =
+      (λ code. absurd (cc), λ gives. absurd (omega (arith, takes.all.within)))
+
+  -- where the source has more bytes than a script may have, it is too long, it has failed, or memory was wanted
+  pub too_long_comes : (script left : List ℕ) (before after : ℕ) (ended : Result Done Fault)
+      → AreUsed ended → TakesAsEnded script left ended → (IsErrOf ended (Reading Source) → Rose before after)
+      → (Rose before after → ⊥) → script_limit < length script → (code_of ended ≡ 8) ⊎ (code_of ended ≡ 3)
+  too_long_comes script left before after (Ok done) words takes fault no_fault longer =
+      absurd (omega (arith, takes.all.within))
+  too_long_comes script left before after (Err (Words fault')) words takes fault no_fault longer = absurd (words fault' refl)
+  too_long_comes script left before after (Err (Reading (BadLine line))) words takes fault no_fault longer =
+      absurd (omega (arith, takes.0.within))
+  too_long_comes script left before after (Err (Reading Memory)) words takes fault no_fault longer = inr refl
+  too_long_comes script left before after (Err (Reading Source)) words takes fault no_fault longer =
+      absurd (no_fault (fault refl))
+  too_long_comes script left before after (Err (Reading TooLong)) words takes fault no_fault longer = inl refl
+  too_long_comes script left before after (Err (Storing fault')) words takes fault no_fault longer =
+      absurd (omega (arith, takes.all.within))
+  too_long_comes script left before after (Err (Answering fault')) words takes fault no_fault longer =
+      absurd (omega (arith, takes.all.within))
+
+  -- with code 0 nothing is left
+  pub nothing_left : (script left : List ℕ) (ended : Result Done Fault) → TakesAsEnded script left ended
+      → code_of ended ≡ 0 → left ≡ []
+  nothing_left script left (Ok done) takes code = takes.all.empty
+  nothing_left script left (Err (Words word.Memory)) takes code = absurd (cc)
+  nothing_left script left (Err (Reading Memory)) takes code = absurd (cc)
+  nothing_left script left (Err (Storing world.Memory)) takes code = absurd (cc)
+  nothing_left script left (Err (Answering Sink)) takes code = absurd (cc)
+  nothing_left script left other takes code = absurd (cc)
+
+  -- with code 2 the first bad line is named
+  pub bad_line_told : (script left : List ℕ) (ended : Result Done Fault) → TakesAsEnded script left ended
+      → code_of ended ≡ 2 → IsFirstBadLine script (line_of ended)
+  bad_line_told script left (Err (Reading (BadLine line))) takes code = takes.1
+  bad_line_told script left (Err (Words word.Memory)) takes code = absurd (cc)
+  bad_line_told script left (Err (Reading Memory)) takes code = absurd (cc)
+  bad_line_told script left (Err (Storing world.Memory)) takes code = absurd (cc)
+  bad_line_told script left (Err (Answering Sink)) takes code = absurd (cc)
+  bad_line_told script left other takes code = absurd (cc)
+
+  module _ (script left : List ℕ) (within : length script ≤ script_limit) (before after : ℕ)
+      (no_fault : Rose before after → ⊥) where
+    -- where there is a bad line, the first one is named, or memory was wanted
+    pub bad_line_comes : (ended : Result Done Fault) (line : ℕ) → AreUsed ended
+        → TakesAsEnded script left ended → (IsErrOf ended (Reading Source) → Rose before after)
+        → IsFirstBadLine script line → IsBadLineCode line (code_of ended) (line_of ended)
+    bad_line_comes (Ok done) line usage takes fault first =
+        absurd (no_bad_line script takes.commands line takes.read first)
+    bad_line_comes (Err (Words fault')) line usage takes fault first = absurd (usage fault' refl)
+    bad_line_comes (Err (Reading (BadLine number))) line usage takes fault first =
+        inl (refl, one_bad_line script number line takes.1 first)
+    bad_line_comes (Err (Reading Memory)) line usage takes fault first = inr refl
+    bad_line_comes (Err (Reading Source)) line usage takes fault first = absurd (no_fault (fault refl))
+    bad_line_comes (Err (Reading TooLong)) line usage takes fault first = absurd (omega (arith, within, takes))
+    bad_line_comes (Err (Storing fault')) line usage takes fault first =
+        absurd (no_bad_line script takes.commands line takes.read first)
+    bad_line_comes (Err (Answering fault')) line usage takes fault first =
+        absurd (no_bad_line script takes.commands line takes.read first)
+
+    -- a script is answered, unless memory was wanted
+    pub complete_of_code : (ended : Result Done Fault) (commands : List Command) (sink_before sink_after : ℕ)
+        → AreUsed ended → TakesAsEnded script left ended → (IsErrOf ended (Reading Source) → Rose before after)
+        → IsStored ended → (IsErrOf ended (Answering Sink) → Rose sink_before sink_after) → IsScript script commands
+        → (Rose sink_before sink_after → ⊥) → (code_of ended ≡ 0) ⊎ (code_of ended ≡ 3)
+    complete_of_code (Ok done) commands sink_before sink_after usage takes fault stored sink_fault is_script well = inl refl
+    complete_of_code (Err (Words fault')) commands sink_before sink_after usage takes fault stored sink_fault is_script
+        well = absurd (usage fault' refl)
+    complete_of_code (Err (Reading (BadLine number))) commands sink_before sink_after usage takes fault stored sink_fault
+        is_script well = absurd (no_bad_line script commands number is_script takes.1)
+    complete_of_code (Err (Reading Memory)) commands sink_before sink_after usage takes fault stored sink_fault is_script
+        well = inr refl
+    complete_of_code (Err (Reading Source)) commands sink_before sink_after usage takes fault stored sink_fault is_script
+        well = absurd (no_fault (fault refl))
+    complete_of_code (Err (Reading TooLong)) commands sink_before sink_after usage takes fault stored sink_fault is_script
+        well = absurd (omega (arith, within, takes))
+    complete_of_code (Err (Storing world.Memory)) commands sink_before sink_after usage takes fault stored sink_fault
+        is_script well = inr refl
+    complete_of_code (Err (Storing (world.Store r))) commands sink_before sink_after usage takes fault stored sink_fault
+        is_script well = absurd (stored.store r refl)
+    complete_of_code (Err (Storing (world.Image r))) commands sink_before sink_after usage takes fault stored sink_fault
+        is_script well = absurd (stored.image r refl)
+    complete_of_code (Err (Storing (world.Occupied r))) commands sink_before sink_after usage takes fault stored
+        sink_fault is_script well = absurd (stored.occupied r refl)
+    complete_of_code (Err (Answering NoMemory)) commands sink_before sink_after usage takes fault stored sink_fault
+        is_script well = inr refl
+    complete_of_code (Err (Answering Sink)) commands sink_before sink_after usage takes fault stored sink_fault is_script
+        well = absurd (well (sink_fault refl))
+
+  -- a volume is made, unless memory was wanted
+  pub made_of_code : (ended : Result Done Fault) → IfErr ended IsOfMaking → IsStored ended
+      → (code_of ended ≡ 0) ⊎ (code_of ended ≡ 3)
+  made_of_code (Ok done) making stored = inl refl
+  made_of_code (Err (Words fault)) making stored = absurd making
+  made_of_code (Err (Reading fault)) making stored = absurd making
+  made_of_code (Err (Storing world.Memory)) making stored = inr refl
+  made_of_code (Err (Storing (world.Store r))) making stored = absurd (stored.store r refl)
+  made_of_code (Err (Storing (world.Image r))) making stored = absurd (stored.image r refl)
+  made_of_code (Err (Storing (world.Occupied r))) making stored = absurd (stored.occupied r refl)
+  made_of_code (Err (Answering fault)) making stored = absurd making
+
+  -- what is left of a volume that isn't made where something is held: it is said, or a fault came before
+  pub occupied_comes : (ended : Result Done Fault) (r : ℕ)
+      → IsErrAnd ended (λ fault. (fault ≡ Storing (world.Occupied r)) ⊎ IsInterruption fault)
+      → IsOccupiedCode r (code_of ended) (replica_of ended)
+  occupied_comes (Ok done) r said = absurd said
+  occupied_comes (Err fault) r (inl is) = rw is (inl (refl, refl))
+  occupied_comes (Err (Words fault)) r (inr said) = absurd said
+  occupied_comes (Err (Reading (BadLine line))) r (inr said) = inr (inl (inr refl))
+  occupied_comes (Err (Reading Memory)) r (inr said) = inr (inr (inl refl))
+  occupied_comes (Err (Reading Source)) r (inr said) = inr (inl (inl (inr (inl refl))))
+  occupied_comes (Err (Reading TooLong)) r (inr said) = inr (inl (inl (inr (inr refl))))
+  occupied_comes (Err (Storing world.Memory)) r (inr said) = inr (inr (inl refl))
+  occupied_comes (Err (Storing (world.Store q))) r (inr said) = inr (inr (inr refl))
+  occupied_comes (Err (Storing (world.Image q))) r (inr said) = absurd said
+  occupied_comes (Err (Storing (world.Occupied q))) r (inr said) = absurd said
+  occupied_comes (Err (Answering fault)) r (inr said) = absurd said
+
+  -- what is left of a world that isn't opened: it is said whose disks are those of none, or a fault came before
+  pub image_comes : (ended : Result Done Fault) (r : ℕ)
+      → IsErrAnd ended (λ fault. (fault ≡ Storing (world.Image r)) ⊎ IsInterruption fault)
+      → IsImageCode r (code_of ended) (replica_of ended)
+  image_comes (Ok done) r said = absurd said
+  image_comes (Err fault) r (inl is) = rw is (inl (refl, refl))
+  image_comes (Err (Words fault)) r (inr said) = absurd said
+  image_comes (Err (Reading (BadLine line))) r (inr said) = inr (inl (inr refl))
+  image_comes (Err (Reading Memory)) r (inr said) = inr (inr (inl refl))
+  image_comes (Err (Reading Source)) r (inr said) = inr (inl (inl (inr (inl refl))))
+  image_comes (Err (Reading TooLong)) r (inr said) = inr (inl (inl (inr (inr refl))))
+  image_comes (Err (Storing world.Memory)) r (inr said) = inr (inr (inl refl))
+  image_comes (Err (Storing (world.Store q))) r (inr said) = inr (inr (inr refl))
+  image_comes (Err (Storing (world.Image q))) r (inr said) = absurd said
+  image_comes (Err (Storing (world.Occupied q))) r (inr said) = absurd said
+  image_comes (Err (Answering fault)) r (inr said) = absurd said

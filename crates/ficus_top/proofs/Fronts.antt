@@ -1,5 +1,5 @@
 -- What a front of the answers' texts holds.
-use Rattle.std.proofs.Common.{◌≡◌, ℕ, ◌+◌, ◌-◌, ◌≤◌, List, [], ◌∷◌, ◌++◌, length, take, drop, refl, sym, ◌∙◌, ap, subst, arith, length-append, append_assoc}
+use Rattle.std.proofs.Common.{◌≡◌, ℕ, ◌-◌, ◌≤◌, List, [], ◌++◌, length, take, drop, refl, sym, ◌∙◌, ap, subst, arith, length-append, append_assoc}
 use Rattle.std.specs.Prelude.{⊤}
 use Rattle.std.proofs.lemmas.List.{take-append-le, take-append-drop, length-take-le}
 use Rattle.std.proofs.lemmas.List.Concat.{flat_map-append}
@@ -7,13 +7,14 @@ use Rattle.ficus_model.specs.Lawful.{Volume}
 use Rattle.ficus_script.specs.declared.command.Command.{Command}
 use Rattle.ficus_script.specs.declared.answer.Answer.{Answer}
 use Rattle.ficus_script.specs.Answer.{answer_text_of}
-use Rattle.ficus_world.specs.ModelWorld.{ModelWorld, Outcome}
-use Rattle.ficus_world.specs.Run.{Run}
-use Rattle.ficus_world.specs.Run.Run.{End, Then}
-use Rattle.ficus_top.specs.Outside.{PutsFront}
-use Rattle.ficus_top.specs.Serving.{texts_of, IsCut, ServesFront, PutsAllButLast}
-use Rattle.ficus_top.specs.Serving.IsCut.{Uncut, CutIn}
-use Rattle.ficus_top.proofs.Serves.{texts_append}
+use Rattle.ficus_runs.specs.ModelWorld.{ModelWorld}
+use Rattle.ficus_runs.specs.Outcome.{Outcome}
+use Rattle.ficus_runs.specs.Run.{Run}
+use Rattle.ficus_runs.specs.Run.Run.{End, Then}
+use Rattle.ficus_serving.specs.Puts.{PutsFront}
+use Rattle.ficus_serving.specs.Serving.{texts_of, IsCut, ServesFront, PutsAllButLast}
+use Rattle.ficus_serving.specs.Serving.IsCut.{Uncut, CutIn}
+use Rattle.ficus_serving.proofs.Serves.{texts_append}
 
 pub front_stays : (old bytes new : List ℕ) → PutsFront old bytes new → length old ≤ length new
 front_stays old bytes new puts = omega (arith, ap length puts.put, length-append old puts.front)

@@ -1,7 +1,15 @@
-mod Faults
-mod Lines
-mod Serves
-mod Anew
-mod Endings
-mod Fronts
-mod Returning
+pub mod Answering
+pub mod Codes
+pub mod Doing
+pub mod Earlier
+pub mod Endings
+pub mod Ends
+pub mod Fronts
+pub mod Lines
+pub mod Members
+pub mod Repeating
+pub mod Resting
+pub mod Returning
+pub mod Stopping
+pub mod Stored
+pub mod WordLaws

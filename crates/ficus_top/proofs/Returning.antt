@@ -1,15 +1,14 @@
 -- Nothing that a replica knows to be removed returns, and nothing that is given up.
-use Rattle.std.proofs.Common.{ℕ, List, take, drop, sym, subst}
+use Rattle.std.proofs.Common.{List, take, drop, sym, subst}
 use Rattle.std.proofs.lemmas.List.{take-append-drop}
 use Rattle.ficus_model.specs.declared.event.Event.{Event}
 use Rattle.ficus_model.specs.Known.{Knows}
-use Rattle.ficus_model.specs.Lawful.{IsLawful}
+use Rattle.ficus_model.specs.Lawful.{IsLawful, Volume}
 use Rattle.ficus_model.specs.Live.{IsLive}
 use Rattle.ficus_final_laws.proofs.Finishing.{final}
 use Rattle.ficus_laws.proofs.Lawful.{lawful_before}
 use Rattle.ficus_laws.proofs.OneMore.{within_more}
 use Rattle.ficus_laws.proofs.Shown.{removed_within}
-use Rattle.ficus_world.specs.Start.{default_volume}
 use Rattle.ficus_top.specs.Headline.{IsFinalThroughout, NothingReturns}
 
 pub nothing_returns : (H : List Event) → NothingReturns H
@@ -18,6 +17,5 @@ nothing_returns H = λ first replica entry removed live.
     (sym (take-append-drop first H)) live in
     there.not_removed (removed_within (within_more (take first H) (drop first H) replica) removed)
 
-pub final_throughout : (members : ℕ) (H : List Event) → IsLawful (default_volume members) H → IsFinalThroughout members H
-final_throughout members H lawful = λ first.
-    final (default_volume members) (take first H) (lawful_before (default_volume members) H first lawful)
+pub final_throughout : (volume : Volume) (H : List Event) → IsLawful volume H → IsFinalThroughout volume.members H
+final_throughout volume H lawful = λ first. final volume (take first H) (lawful_before volume H first lawful)

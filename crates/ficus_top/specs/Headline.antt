@@ -1,16 +1,21 @@
 -- What the program promises of one run.
-use Rattle.std.specs.Prelude.{◌≡◌, ◌⊎◌, ℕ, ◌≤◌, List, length, take}
+use Rattle.std.specs.Prelude.{◌≡◌, ℕ, Bool, List, take, Option}
+use Rattle.ficus_disk.specs.declared.disk.Disk.{Ghosts as Disk}
+use Rattle.ficus_disk.specs.declared.pair.Pair.{Pair}
 use Rattle.ficus_model.specs.Final.{IsFinal}
 use Rattle.ficus_model.specs.Known.{Knows}
-use Rattle.ficus_model.specs.Lawful.{IsLawful}
+use Rattle.ficus_model.specs.Lawful.{IsLawful, Volume}
 use Rattle.ficus_model.specs.Live.{ModelEntry, IsLive, IsRemoved}
 use Rattle.ficus_model.specs.declared.event.Event.{Event}
-use Rattle.ficus_faults.specs.Faults.{Rose}
 use Rattle.ficus_script.specs.declared.command.Command.{Command}
 use Rattle.ficus_script.specs.Script.{IsScript}
-use Rattle.ficus_world.specs.Start.{default_volume}
-use Rattle.ficus_top.specs.Anew.{ServesAnew, ServesFrontAnew}
-use Rattle.ficus_top.specs.Words.{AreWords}
+use Rattle.ficus_replica.specs.SavedOf.{generation_of}
+use Rattle.ficus_runs.specs.Fuses.{FuseState}
+use Rattle.ficus_runs.specs.Start.{start}
+use Rattle.ficus_store.specs.Slots.{IsRegular}
+use Rattle.ficus_world.specs.Fuses.{AreRegular, AreUnarmed, at_rest}
+use Rattle.ficus_world.specs.Opening.{Steady, fuses_in}
+use Rattle.ficus_top.specs.Ends.{Ends, EndsFront}
 
 -- what a replica knew to be removed after some first events of the history isn't alive there at its end
 abbrev pub NothingReturns : List Event → Type 0
@@ -22,52 +27,52 @@ NothingReturns H =
 abbrev pub IsFinalThroughout : ℕ → List Event → Type 0
 IsFinalThroughout members H = (first : ℕ) → IsFinal members (take first H)
 
--- The source's bytes are a script, and the run over its commands was served: over a sink that tells, what was put are
--- the texts of its answers, in order, and nothing else. All that was asked of the outside was done, since the program's
--- link never fails. The history that the run leaves is lawful, nothing removed returns in it, and what is given up is
--- given up for good.
-pub record Answers (tells : Type 0) (members : ℕ) (script old new : List ℕ) : Type 0 where
+-- whether the disks of each of so many members have a fuse
+abbrev pub fuses_of : {D : Type 0} → (D → Option ℕ) → ℕ → List (Pair D) → List Bool
+fuses_of armings members disks = take members (fuses_in armings disks)
+
+-- The disks tell their fuses, of which none is armed; what they hold this program alone wrote; and each member has
+-- saved as often as the history says.
+pub record AreFusesAtRest {D : Type 0} (disk : Disk D) (members : ℕ) (earlier : List Event) (disks : List (Pair D))
+    (F : ℕ → FuseState) : Type 0 where
+  pub tells : disk.tells_fuse
+  pub unarmed : AreUnarmed disk.fuse disks
+  pub own : AreRegular IsRegular disk.seen disks members
+  pub states : (r : ℕ) → F r ≡ at_rest (generation_of r earlier)
+
+-- The source's bytes are a script, and the run over its commands was served, behind this earlier history, from the
+-- restarts of all members on: over a sink that tells, what was put are the texts of its answers, in order, and nothing
+-- else; and the disks stand for what it led to. The history is lawful, nothing removed returns in it, and what is given
+-- up is given up for good.
+pub record Answers {D : Type 0} (tells : Type 0) (disk : Disk D) (Rest : (ℕ → FuseState) → Type 0)
+    (volume : Volume) (earlier : List Event) (script old new : List ℕ) (old_disks new_disks : List (Pair D)) :
+    Type 0 where
   pub commands : List Command
   pub read : IsScript script commands
-  pub served : ServesAnew tells members commands old new
-  pub lawful : IsLawful (default_volume members) served.after.events
-  pub no_return : NothingReturns served.after.events
-  pub final : IsFinalThroughout members served.after.events
+  pub ends : Ends tells disk Rest volume
+      (start earlier volume.members 0 (fuses_of disk.armings volume.members old_disks)) commands old new old_disks
+      new_disks
+  pub lawful : IsLawful volume ends.after.events
+  pub no_return : NothingReturns ends.after.events
+  pub final : IsFinalThroughout volume.members ends.after.events
 
--- The source's bytes are a script, and the run over some first ones of its commands was served: over a sink that tells,
--- what was put is a front of the texts of its answers, which ends in the last of them at the earliest. Where this may
--- be, the next command was cut short. All that was asked of the outside was done. The history that the run leaves is
--- lawful, nothing removed returns in it, and what is given up is given up for good.
-pub record AnswersFront (tells may : Type 0) (members : ℕ) (script old new : List ℕ) : Type 0 where
+-- The same of some first ones of its commands: over a sink that tells, what was put is a front of the texts of their
+-- answers, which ends in the last of them at the earliest. Where this may be, the next command was cut short.
+pub record AnswersFront {D : Type 0} (tells may : Type 0) (disk : Disk D) (Rest : (ℕ → FuseState) → Type 0)
+    (volume : Volume) (earlier : List Event) (script old new : List ℕ) (old_disks new_disks : List (Pair D)) :
+    Type 0 where
   pub commands : List Command
   pub read : IsScript script commands
-  pub served : ServesFrontAnew tells may members commands old new
-  pub lawful : IsLawful (default_volume members) served.after.events
-  pub no_return : NothingReturns served.after.events
-  pub final : IsFinalThroughout members served.after.events
+  pub ends : EndsFront tells may disk Rest volume
+      (start earlier volume.members 0 (fuses_of disk.armings volume.members old_disks)) commands old new old_disks
+      new_disks
+  pub lawful : IsLawful volume ends.after.events
+  pub no_return : NothingReturns ends.after.events
+  pub final : IsFinalThroughout volume.members ends.after.events
 
--- the code is one of those that the program ends with
-abbrev pub IsCode : ℕ → Type 0
-IsCode code = (code ≡ 0) ⊎ (code ≡ 1) ⊎ (code ≡ 2) ⊎ (code ≡ 3) ⊎ (code ≡ 4) ⊎ (code ≡ 5) ⊎ (code ≡ 8)
-
--- the code of a run in which nothing was done
-abbrev pub IsIdleCode : ℕ → Type 0
-IsIdleCode code = (code ≡ 1) ⊎ (code ≡ 2) ⊎ (code ≡ 4) ⊎ (code ≡ 8)
-
--- a code with which a run ends only after the whole script was read
-abbrev pub IsReadCode : ℕ → Type 0
-IsReadCode code = (code ≡ 0) ⊎ (code ≡ 2) ⊎ (code ≡ 5)
-
--- the most bytes of a script: 1 MiB
-abbrev pub script_limit : ℕ
-script_limit = 1048576
-
--- the words are those of a run, the source has a script's number of bytes at most, and its count of faults didn't rise
-pub record IsRead (words : List (List ℕ)) (members : ℕ) (script : List ℕ) (before after : ℕ) : Type 0 where
-  pub words_are : AreWords words members
-  pub within : length script ≤ script_limit
-  pub no_fault : Rose before after → ⊥
-
--- a code that stands for the first bad line, by its number, or want of memory
-abbrev pub IsBadLineCode : ℕ → ℕ → ℕ → Type 0
-IsBadLineCode n code line = ((code ≡ 2) × (line ≡ n)) ⊎ (code ≡ 3)
+-- no command was carried out: nothing was put and no disk was armed, and this stays too
+pub record CarriesOutNothing {D Output : Type 0} (stays : Type 0) (armings : D → Option ℕ) (old new : Output)
+    (old_disks new_disks : List (Pair D)) : Type 0 where
+  pub put : new ≡ old
+  pub unarmed : Steady armings old_disks new_disks
+  pub besides : stays

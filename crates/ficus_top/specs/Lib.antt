@@ -1,8 +1,13 @@
 pub mod Words
 pub mod Outside
-pub mod Serving
-pub mod Anew
-pub mod Headline
+pub mod Ends
+pub mod Seen
+pub mod Codes
 pub mod Reading
+pub mod Headline
 pub mod Ending
 pub mod Status
+pub mod Script
+pub mod Making
+pub mod Modes
+pub mod Program

@@ -1,4 +1,4 @@
--- What a call took from a source and put to a sink.
+-- What a call took from a source.
 use Rattle.std.specs.Prelude.{◌≡◌, ℕ, ◌+◌, ◌<◌, List, ◌++◌, length}
 
 -- the source gave these bytes
@@ -14,10 +14,3 @@ pub record GivesBelow (old : List ℕ) (limit : ℕ) (new : List ℕ) : Type 0 w
   pub count : ℕ
   pub gives : GivesCount old count new
   pub below : count < limit
-
--- what was put is a front of the bytes
-pub record PutsFront (old bytes new : List ℕ) : Type 0 where
-  pub front : List ℕ
-  pub rest : List ℕ
-  pub is : bytes ≡ front ++ rest
-  pub put : new ≡ old ++ front

@@ -1,7 +1,7 @@
 -- What the reading of the script takes, from a source that tells.
 use Rattle.std.specs.Prelude.{◌≡◌, ℕ, ◌+◌, ◌≤◌, List, [], length}
 use Rattle.ficus_script.specs.Script.{IsFirstBadLine}
-use Rattle.ficus_top.specs.Headline.{script_limit}
+use Rattle.ficus_serving.specs.Serving.{script_limit}
 use Rattle.ficus_top.specs.Outside.{GivesCount, GivesBelow}
 use Rattle.ficus_top.specs.declared.fault.ReadingFault.{ReadingFault}
 use Rattle.ficus_top.specs.declared.fault.ReadingFault.TheVariants.{BadLine, Memory, Source, TooLong}

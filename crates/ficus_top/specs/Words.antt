@@ -1,19 +1,22 @@
 -- The words of the command line.
-use Rattle.std.specs.Prelude.{◌≡◌, ℕ, List, [], ◌∷◌, map, codes, string_bytes, String}
+use Rattle.std.specs.Prelude.{◌≡◌, List, Option, Some, None, map, string_bytes, String}
 use Rattle.std.specs.declared.alloc.Global.{Global}
-use Rattle.std.specs.Fmt.{decimal}
-use Rattle.ficus_ids.specs.Members.{IsCount}
+use Rattle.ficus_words.specs.Grammar.{Text}
+use Rattle.ficus_words.specs.Mode.{AreWords}
+use Rattle.ficus_words.specs.declared.mode.Mode.{Mode}
+use Rattle.ficus_words.specs.declared.mode.Mode.TheVariants.{Init, Run, Replay, Gen}
 
 -- the words as bytes
-abbrev pub texts : List (String Global) → List (List ℕ)
+abbrev pub texts : List (String Global) → List Text
 texts words = map string_bytes words
 
--- a program's name, `replay --members` and a count of members
-pub record AreWords (words : List (List ℕ)) (members : ℕ) : Type 0 where
-  pub program : List ℕ
-  pub is : words ≡ program ∷ codes "replay" ∷ codes "--members" ∷ decimal members ∷ []
-  pub count : IsCount members
+-- where the volume of a mode lies, or is to lie
+abbrev pub root_in : Mode → Option Text
+root_in (Init size root) = Some root
+root_in (Run root) = Some root
+root_in (Replay size) = None
+root_in (Gen members seed steps) = None
 
--- no count of members is asked for
-abbrev pub AreNoWords : List (List ℕ) → Type 0
-AreNoWords words = (members : ℕ) → AreWords words members → ⊥
+-- the words are those of a mode whose volume lies here, or is to lie here
+abbrev pub NameRoot : List Text → Text → Type 0
+NameRoot words root = (mode : Mode) × AreWords words mode × (root_in mode ≡ Some root)

@@ -1,14 +1,18 @@
-use ficus_ids::Memory;
 use ficus_outside::Failed;
+use ficus_serving::AnsweringFault;
+use ficus_words::WordsFault;
+use ficus_world::WorldFault;
 
-/// Why a run ended before every command was answered.
+/// Why a run ended before all was done that the words ask for.
 #[derive(Clone, Copy)]
 pub(crate) enum Fault {
-    /// The words aren't those of a mode.
-    Usage,
+    /// The words weren't read, or they aren't those of a mode.
+    Words(WordsFault),
     /// The script wasn't read.
     Reading(ReadingFault),
-    /// Not every command was answered.
+    /// The volume wasn't made, or not opened.
+    Storing(WorldFault),
+    /// Not every command was answered, or not all that is to be told was put.
     Answering(AnsweringFault),
 }
 
@@ -34,6 +38,17 @@ impl From<AnsweringFault> for Fault {
     }
 }
 
+impl From<WorldFault> for Fault {
+    ghost use Rattle.std.specs.Prelude.{◌≡◌};
+    ghost use Rattle.ficus_top.specs.declared.fault.Fault.TheVariants.{Storing};
+
+    ghost from_gives = { λ fault result. result ≡ Storing fault };
+
+    fn from(fault: WorldFault) -> Fault {
+        Fault::Storing(fault)
+    }
+}
+
 /// Why the script wasn't read.
 #[derive(Clone, Copy)]
 pub(crate) enum ReadingFault {
@@ -55,36 +70,5 @@ impl From<Failed> for ReadingFault {
 
     fn from(_: Failed) -> ReadingFault {
         ReadingFault::Source
-    }
-}
-
-/// Why not every command was answered.
-#[derive(Clone, Copy)]
-pub(crate) enum AnsweringFault {
-    /// Want of memory.
-    Memory,
-    /// The sink failed.
-    Sink,
-}
-
-impl From<Memory> for AnsweringFault {
-    ghost use Rattle.std.specs.Prelude.{◌≡◌};
-    ghost use Rattle.ficus_top.specs.declared.fault.AnsweringFault.TheVariants.{Memory as NoMemory};
-
-    ghost from_gives = { λ _ fault. fault ≡ NoMemory };
-
-    fn from(_: Memory) -> AnsweringFault {
-        AnsweringFault::Memory
-    }
-}
-
-impl From<Failed> for AnsweringFault {
-    ghost use Rattle.std.specs.Prelude.{◌≡◌};
-    ghost use Rattle.ficus_top.specs.declared.fault.AnsweringFault.TheVariants.{Sink};
-
-    ghost from_gives = { λ _ fault. fault ≡ Sink };
-
-    fn from(_: Failed) -> AnsweringFault {
-        AnsweringFault::Sink
     }
 }

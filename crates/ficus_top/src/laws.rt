@@ -1,10 +1,20 @@
-ghost use Rattle.std.specs.Prelude.{◌≡◌, ◌≢◌, ◌↔◌, ◌⊎◌, ◌≤◌, ℕ, List, ◌++◌, length, ⊤};
+ghost use Rattle.std.specs.Prelude.{◌≡◌, ◌≢◌, ◌↔◌, ◌⊎◌, ◌≤◌, ℕ, List, ◌++◌, length, Contains, ⊤};
+ghost use Rattle.ficus_disk.specs.declared.pair.Pair.{Pair as PairValue};
 ghost use Rattle.ficus_model.specs.Lawful.{Volume};
+ghost use Rattle.ficus_model.specs.declared.event.Event.{Event};
+ghost use Rattle.ficus_runs.specs.Fuses.{FuseState};
+ghost use Rattle.ficus_keep.specs.Pairs.{PairSame};
+ghost use Rattle.ficus_runs.specs.Numbered.{IsNumbered};
 ghost use Rattle.ficus_script.specs.declared.command.Command.{Command};
-ghost use Rattle.ficus_top.specs.Headline.{IsCode, IsIdleCode, IsReadCode};
-ghost use Rattle.ficus_top.specs.Outside.{PutsFront};
-ghost use Rattle.ficus_top.specs.Serving.{ServesFront, PutsAllButLast};
-ghost use Rattle.ficus_world.specs.ModelWorld.{ModelWorld};
+ghost use Rattle.ficus_script.specs.declared.command.Command.TheVariants.{Stop as Stops};
+ghost use Rattle.ficus_top.specs.Codes.{IsCode, IsIdleCode, IsReadCode};
+ghost use Rattle.ficus_serving.specs.Puts.{PutsFront};
+ghost use Rattle.ficus_serving.specs.Serving.{ServesFront, PutsAllButLast};
+ghost use Rattle.ficus_top.specs.Headline.{Answers, AnswersFront, AreFusesAtRest, fuses_of};
+ghost use Rattle.ficus_runs.specs.ModelWorld.{ModelWorld};
+
+use ficus_disk::Disk;
+use ficus_outside::Sink;
 
 /// The law that a run in which nothing was done ends with another code than 0, 3 and 5, and each other run with one of
 /// these. It does nothing when it runs.
@@ -36,4 +46,39 @@ pub fn all_but_the_last_are_put()
         → ServesFront ⊤ ⊤ volume W commands after old new → PutsAllButLast ⊤ volume W commands after old new }
     ensures uncut { (volume : Volume) (W after : ModelWorld) (commands : List Command) (old new : List ℕ)
         → ServesFront ⊤ ⊥ volume W commands after old new → PutsAllButLast ⊥ volume W commands after old new }
+{}
+
+/// The law that what is put is a function of the script, of what had happened before and of which disks have a fuse,
+/// where the fuses stood so before that they decide what becomes of all that is asked of the disks. It does nothing
+/// when it runs.
+pub fn same_script_same_answers<D: Disk, E: Disk>()
+    ensures { (volume : Volume) (earlier : List Event) (script old new again newer : List ℕ)
+        (disks after : List (PairValue D)) (others later : List (PairValue E)) (F : ℕ → FuseState)
+        → AreFusesAtRest D.Disk volume.members earlier disks F → AreFusesAtRest E.Disk volume.members earlier others F
+        → fuses_of D.armings volume.members disks ≡ fuses_of E.armings volume.members others
+        → Answers ⊤ D.Disk (AreFusesAtRest D.Disk volume.members earlier disks) volume earlier script old new disks
+        after
+        → Answers ⊤ E.Disk (AreFusesAtRest E.Disk volume.members earlier others) volume earlier script again newer
+        others
+        later
+        → (text : List ℕ) × (new ≡ old ++ text) × (newer ≡ again ++ text) }
+{}
+
+/// The law that in a run over a script, also in one that ended early, a disk is armed only where the script has a stop
+/// of its replica. It does nothing when it runs.
+pub fn only_stops_arm_disks<K: Sink, D: Disk>()
+    ensures answers { (volume : Volume) (earlier : List Event) (script old new : List ℕ)
+        (disks after : List (PairValue D))
+        → (answers : Answers K.tells D.Disk (AreFusesAtRest D.Disk volume.members earlier disks) volume earlier
+        script old new disks after) → (r : ℕ) (was now : PairValue D) → IsNumbered disks r was → IsNumbered after r now
+        → ((calls pick : ℕ) → Contains answers.commands (Stops r calls pick) → ⊥) → PairSame D.armings was now }
+    ensures cut { (volume : Volume) (earlier : List Event) (script old new : List ℕ) (disks after : List (PairValue D))
+        → (answers : AnswersFront K.tells ⊤ D.Disk (AreFusesAtRest D.Disk volume.members earlier disks) volume earlier
+        script old new disks after) → (r : ℕ) (was now : PairValue D) → IsNumbered disks r was → IsNumbered after r now
+        → ((calls pick : ℕ) → Contains answers.commands (Stops r calls pick) → ⊥) → PairSame D.armings was now }
+    ensures uncut { (volume : Volume) (earlier : List Event) (script old new : List ℕ)
+        (disks after : List (PairValue D))
+        → (answers : AnswersFront K.tells ⊥ D.Disk (AreFusesAtRest D.Disk volume.members earlier disks) volume earlier
+        script old new disks after) → (r : ℕ) (was now : PairValue D) → IsNumbered disks r was → IsNumbered after r now
+        → ((calls pick : ℕ) → Contains answers.commands (Stops r calls pick) → ⊥) → PairSame D.armings was now }
 {}

@@ -1,16 +1,22 @@
-//! The program as one call: it reads the words and the script, and answers each command.
+//! The program as one call: it reads the words and the script, makes or opens the volume, and answers each command.
 #![tactic(auto)]
 
 mod fault;
 mod laws;
-mod put;
+mod making;
+mod program;
 mod read;
-mod replay;
+mod running;
 mod serving;
 mod status;
+mod telling;
 mod words;
 
-pub use laws::{all_but_the_last_are_put, fronts_go_on, idle_codes, read_codes};
-pub use replay::ficus;
+pub use laws::{
+    all_but_the_last_are_put, fronts_go_on, idle_codes, only_stops_arm_disks, read_codes,
+    same_script_same_answers,
+};
+pub use program::ficus;
 pub use serving::serve;
 pub use status::{Status, status_text};
+pub use words::root_of;

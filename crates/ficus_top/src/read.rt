@@ -2,8 +2,8 @@ ghost use Rattle.std.specs.Prelude.{◌≡◌, ◌↔◌, ◌+◌, ◌<◌, ◌�
 ghost use Rattle.ficus_faults.specs.Faults.{Rose};
 ghost use Rattle.ficus_script.specs.Command.{IsCommand};
 ghost use Rattle.ficus_script.specs.Script.{IsScript};
-ghost use Rattle.ficus_top.specs.Headline.{script_limit};
 ghost use Rattle.ficus_top.specs.Outside.{Gives, GivesBelow};
+ghost use Rattle.ficus_serving.specs.Serving.{script_limit};
 ghost use Rattle.ficus_top.specs.Reading.{TakesAll, TakesUntil};
 
 use crate::fault::ReadingFault;

@@ -1,30 +1,31 @@
-ghost use Rattle.std.specs.Prelude.{◌≡◌, ℕ, IfSome, IfNone};
-ghost use Rattle.std.specs.Fmt.{decimal};
-ghost use Rattle.ficus_ids.specs.Members.{IsCount};
-ghost use Rattle.ficus_top.specs.Words.{texts, AreWords, AreNoWords};
+ghost use Rattle.std.specs.Prelude.{◌≡◌, ℕ, List, IfNone, IfOk, IfSome, option_map, string_bytes};
+ghost use Rattle.ficus_top.specs.Words.{NameRoot, root_in, texts};
 
-use ficus_ids::{Members, read_number};
+use ficus_ids::Memory;
+use ficus_words::{Mode, WordsFault, read_words};
+use std::alloc::Global;
 
-/// The count of members that the words ask for, or `None` exactly where they aren't a program's name,
-/// `replay --members` and a number from 2 to 8.
-pub(crate) fn read_words(words: &[String]) -> Option<Members>
-    ensures found { IfSome result (AreWords (texts words.now)) }
-    ensures none { IfNone result (AreNoWords (texts words.now)) }
+/// Where the volume lies, or is to lie, that the words name: ROOT of `init` and `run`. `None` exactly where they name
+/// none.
+pub fn root_of(alloc: Global, words: &Vec<String>) -> Result<Option<String>, Memory>
+    ensures found { IfOk result (λ root. IfSome root (λ root. NameRoot (texts words.now.items) (string_bytes root))) }
+    ensures none { IfOk result (λ root. IfNone root ((place : List ℕ) → NameRoot (texts words.now.items) place → ⊥)) }
 {
-    let [_, mode, option, count] = words else {
-        return None;
-    };
-    if mode.as_str() != "replay" || option.as_str() != "--members" {
-        return None;
+    match read_words(alloc, words.as_slice()) {
+        Ok(mode) => root_in(alloc, &mode),
+        Err(WordsFault::Usage) => Ok(None),
+        Err(WordsFault::Memory) => Err(Memory),
     }
-    read_members(count.as_str())
 }
 
-// The count of members that the word spells.
-fn read_members(word: &str) -> Option<Members>
-    ensures found { IfSome result (λ members. IsCount members × (word.now ≡ decimal members)) }
-    ensures none { IfNone result ((members : ℕ) → IsCount members → word.now ≡ decimal members → ⊥) }
+// Where the volume of the mode lies, or is to lie.
+fn root_in(alloc: Global, mode: &Mode) -> Result<Option<String>, Memory>
+    ensures { IfOk result (λ root. option_map string_bytes root ≡ root_in mode.now) }
 {
-    let count = read_number(word.as_bytes())?;
-    Members::new(u8::try_from(count).ok()?)
+    match mode {
+        Mode::Init { root, .. } | Mode::Run { root } => {
+            Ok(Some(String::from_str(alloc, root.text())?))
+        }
+        Mode::Replay { .. } | Mode::Gen { .. } => Ok(None),
+    }
 }

@@ -1,7 +1,17 @@
-//! Tests of the program as one call.
+//! Tests of the program as one call, over sources, sinks, links and disks in memory.
 #![tactic(auto)]
 
 #[cfg(test)]
+mod calls;
+#[cfg(test)]
+mod disks;
+#[cfg(test)]
 mod links;
 #[cfg(test)]
-mod tests;
+mod modes;
+#[cfg(test)]
+mod stops;
+#[cfg(test)]
+mod streams;
+#[cfg(test)]
+mod volumes;

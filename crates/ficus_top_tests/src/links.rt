@@ -1,13 +1,40 @@
 // The program's loop over a link that fails at each call in turn, and over one that is nearly full.
-ghost use Rattle.std.specs.Prelude.{◌≡◌, []};
+ghost use Rattle.std.specs.Prelude.{◌≡◌, ◌≤◌, [], length};
+ghost use Rattle.ficus_ids.specs.Members.{IsCount};
+ghost use Rattle.ficus_world.specs.Disks.{AreDisksOf};
 
+use crate::disks::pairs;
+use ficus_disk::{Disk, FailDisk, Pair};
 use ficus_ids::Members;
+use ficus_keep::Keep;
 use ficus_outside::{FailLink, Link, MemLink, MemSink};
 use ficus_script::read_script;
+use ficus_store::TwoSlot;
 use ficus_top::serve;
-use ficus_world::World;
+use ficus_world::{DEFAULT_BYTES, DEFAULT_IDS, World};
 use std::alloc::Global;
 use std::test::Fail;
+
+// Whether the world answers the script so.
+fn serves_so<P: Keep + Drop, L: Link + Drop, D: Disk>(
+    alloc: Global,
+    world: &mut World<P, L>,
+    disks: &mut Vec<Pair<D>>,
+    script: &str,
+    answers: &str,
+) -> Result<bool, Fail>
+    requires pairs { length world.old.whole.members ≤ length disks.old.items }
+    requires disks { AreDisksOf D.tells P.kept P.fits D.seen D.may_leave D.armings
+        world.old.whole.members world.old.stables disks.old.items }
+{
+    let commands = read_script(alloc, script.as_bytes())?;
+    let mut output = MemSink::new(alloc, Vec::new(alloc))?;
+    if commands.len() > 10 || world.history().len() >= 100 {
+        return Err("more than a test serves".into());
+    }
+    let status = serve(alloc, world, disks, &commands, &mut output);
+    Ok(status.code == 0 && output.written() == answers.as_bytes())
+}
 
 // Whether two members, over this link, answer the script so.
 fn answer_so<L: Link + Drop>(
@@ -19,14 +46,35 @@ fn answer_so<L: Link + Drop>(
     requires { L.posts link ≡ [] }
 {
     let members = Members::new(2).ok_or("two members")?;
-    let mut world = World::fresh(alloc, members, link)?;
-    let commands = read_script(alloc, script.as_bytes())?;
-    let mut output = MemSink::new(alloc, Vec::new(alloc))?;
-    if commands.len() > 10 || world.history().len() >= 100 {
-        return Err("more than a test serves".into());
+    let mut disks = made(alloc, members)?;
+    if disks.len() != 8 {
+        return Err("eight pairs of disks".into());
     }
-    let status = serve(alloc, &mut world, &commands, &mut output);
-    Ok(status.code == 0 && output.written() == answers.as_bytes())
+    let opened = World::<TwoSlot, L>::open(alloc, &mut disks, link);
+    let mut world = opened.map_err(|_| "no world was opened")?;
+    if disks.len() != 8 {
+        return Err("eight pairs of disks".into());
+    }
+    serves_so(alloc, &mut world, &mut disks, script, answers)
+}
+
+// The disks of a fresh volume.
+fn made(alloc: Global, members: Members) -> Result<Vec<Pair<FailDisk>>, Fail>
+    requires { IsCount members }
+{
+    let mut disks = pairs(alloc)?;
+    if disks.len() != 8 {
+        return Err("eight pairs of disks".into());
+    }
+    let is_made = World::<TwoSlot, MemLink>::make(
+        alloc,
+        &mut disks,
+        members,
+        DEFAULT_IDS,
+        DEFAULT_BYTES,
+    );
+    is_made.map_err(|_| "no volume was made")?;
+    Ok(disks)
 }
 
 // Scripts with their answers over a link that counts so many bytes as posted already. A message that asks has 12.

@@ -3,7 +3,7 @@ mod Distinct
 mod Failing
 mod Found
 mod NumberLaws
-mod OneMode
+pub mod OneMode
 mod Settling
 mod Spelling
 mod Turns

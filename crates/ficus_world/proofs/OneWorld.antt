@@ -1,23 +1,29 @@
 -- A world of the model has one world that stands for it, with so many stored events and failures of its link.
-use Rattle.std.proofs.Common.{◌≡◌, ℕ, ◌+◌, ◌-◌, List, [], ◌∷◌, length, map, get_or, drop, refl, sym, ap, ap₂, subst, ◌∙◌, arith}
+use Rattle.std.proofs.Common.{◌≡◌, ℕ, ◌+◌, ◌-◌, List, [], ◌∷◌, length, map, get_or, drop, Some, None, refl, sym, ap, ap₂, subst, ◌∙◌, arith}
 use Rattle.std.proofs.Math.Seq.{drop-append_seam}
 use Rattle.std.proofs.lemmas.List.{ext_get_or}
 use Rattle.ficus_ids.specs.Members.{IsMember}
 use Rattle.ficus_model.specs.declared.event.Event.{Event}
 use Rattle.ficus_model.specs.declared.event.Event.TheVariants.{Update, Ask, Serve, Accept, Collect, Restart}
 use Rattle.ficus_model.specs.Events.{raised}
-use Rattle.ficus_model.specs.Lawful.{Volume}
+use Rattle.ficus_model.specs.Lawful.{Volume, IsLawful}
 use Rattle.ficus_replica.proofs.Standing.{replica_once}
 use Rattle.ficus_wire.specs.Message.{message_bytes}
 use Rattle.ficus_wire.specs.declared.message.Message.{Message}
-use Rattle.ficus_world.specs.Message.{IsMessageAt}
-use Rattle.ficus_world.specs.ModelWorld.{ModelWorld}
-use Rattle.ficus_world.specs.Numbered.{IsNumbered}
-use Rattle.ficus_world.specs.World.{Whole, IsLastPart, IsPosted, WorldStandsFor}
+use Rattle.ficus_runs.specs.Message.{IsMessageAt}
+use Rattle.ficus_runs.specs.ModelWorld.{ModelWorld, Standing}
+use Rattle.ficus_runs.specs.ModelWorld as model
+use Rattle.ficus_runs.specs.Numbered.{IsNumbered}
+use Rattle.ficus_world.specs.declared.member.Member.{Member}
+use Rattle.ficus_world.specs.declared.member.MemberState.{MemberState}
+use Rattle.ficus_world.specs.declared.member.MemberState.TheVariants as state
+use Rattle.ficus_world.specs.declared.member.Pending.{Pending}
+use Rattle.ficus_world.specs.World.{Whole, IsLastPart, IsPendingFor, IsPosted, StateStandsFor, WorldStandsFor}
 use Rattle.ficus_world.proofs.LastPart.{length_part}
-use Rattle.ficus_world.proofs.Messages.{message_once}
-use Rattle.ficus_world.proofs.Numbers.{number_read, number_once, number_exists}
-use Rattle.ficus_world.proofs.Standing.{is_up, replica_stands}
+use Rattle.ficus_run_laws.proofs.Messages.{message_once}
+use Rattle.ficus_run_laws.proofs.Numbers.{number_read, number_once, number_exists}
+use Rattle.ficus_world.proofs.Pending.{comes_now}
+use Rattle.ficus_world.proofs.Standing.{fuses_of, fuses_stand, member_stands, raise, replica_stands, standing_of}
 
 -- the event with its positions as they were before they were raised
 lowered : ℕ → Event → Event
@@ -81,10 +87,43 @@ posted_once {volume} {W} {place = place} is too =
     (subst (λ p. IsMessageAt volume W.events p too.message) (sym positions) too.is) in
     (positions, is.spelled.is ∙ ap (λ (m : Message). message_bytes volume.members m) messages ∙ sym too.spelled.is)
 
+-- what is pending in the model is pending in one way
+pending_once : (volume : Volume) (H : List Event) → IsLawful volume H → (n r : ℕ) (pending again : Pending)
+    (event : Event) → IsPendingFor volume H n r pending event → IsPendingFor volume H n r again event → pending ≡ again
+pending_once volume H lawful n r pending again event is too =
+    let replicas = replica_once (comes_now volume H n r pending event lawful is).stands
+    (comes_now volume H n r again event lawful too).stands in
+    let events : pending.event ≡ again.event =
+    sym (lowered_again n pending.event) ∙ ap (lowered n) (is.raises ∙ sym too.raises)
+    ∙ lowered_again n again.event in
+    λ i. record { replica = replicas i; event = events i }
+
+-- so a member stands in one way
+state_once : (volume : Volume) (H : List Event) → IsLawful volume H → (n r : ℕ) (one other : MemberState)
+    (modelled : Standing) → StateStandsFor volume H n r one modelled → StateStandsFor volume H n r other modelled
+    → one ≡ other
+state_once volume H lawful n r state.Up state.Up model.Up is too = refl
+state_once volume H lawful n r (state.Down None) (state.Down None) (model.Down None) is too = refl
+state_once volume H lawful n r (state.Down (Some pending)) (state.Down (Some again)) (model.Down (Some event)) is too =
+    ap (λ (p : Pending). state.Down (Some p)) (pending_once volume H lawful n r pending again event is too)
+state_once volume H lawful n r state.Up state.Up (model.Down pending) is too = refl
+state_once volume H lawful n r state.Up (state.Down None) model.Up is too = absurd too
+state_once volume H lawful n r state.Up (state.Down (Some again)) model.Up is too = absurd too
+state_once volume H lawful n r state.Up (state.Down again) (model.Down pending) is too = absurd is
+state_once volume H lawful n r (state.Down None) other model.Up is too = absurd is
+state_once volume H lawful n r (state.Down (Some pending)) other model.Up is too = absurd is
+state_once volume H lawful n r (state.Down None) other (model.Down (Some event)) is too = absurd is
+state_once volume H lawful n r (state.Down (Some pending)) other (model.Down None) is too = absurd is
+state_once volume H lawful n r (state.Down None) state.Up (model.Down None) is too = absurd too
+state_once volume H lawful n r (state.Down None) (state.Down (Some again)) (model.Down None) is too = absurd too
+state_once volume H lawful n r (state.Down (Some pending)) state.Up (model.Down (Some event)) is too = absurd too
+state_once volume H lawful n r (state.Down (Some pending)) (state.Down None) (model.Down (Some event)) is too =
+    absurd too
+
 module _ (volume : Volume) (W : ModelWorld) (one other : Whole) (stands : WorldStandsFor volume W one)
     (stands_too : WorldStandsFor volume W other) (stored : length one.events ≡ length other.events) where
-  both_posted : (r p q : ℕ) (bytes others : List ℕ) → IsNumbered one.post.behind r p → IsNumbered other.post.behind r q →
-      IsNumbered one.post.posts r bytes → IsNumbered other.post.posts r others → (p ≡ q) × (bytes ≡ others)
+  both_posted : (r p q : ℕ) (bytes others : List ℕ) → IsNumbered one.post.behind r p
+      → IsNumbered other.post.behind r q → IsNumbered one.post.posts r bytes → IsNumbered other.post.posts r others → (p ≡ q) × (bytes ≡ others)
   both_posted r p q bytes others behind behind_too posts posts_too =
       let same = posted_once (stands.mail r p bytes behind posts) (stands_too.mail r q others behind_too posts_too) in (
         omega (
@@ -104,7 +143,8 @@ module _ (volume : Volume) (W : ModelWorld) (one other : Whole) (stands : WorldS
   same_behind =
       same_list one.post.behind other.post.behind same_count (λ r p q is is_too.
       let posts = number_exists one.post.posts r (subst (λ n. IsMember n r) (sym stands.counted) is.member) in
-      let posts_too = number_exists other.post.posts r (subst (λ n. IsMember n r) (sym stands_too.counted) is_too.member) in
+      let posts_too = number_exists other.post.posts r
+      (subst (λ n. IsMember n r) (sym stands_too.counted) is_too.member) in
       (both_posted r p q posts.0 posts_too.0 is is_too posts.1 posts_too.1).0)
 
   same_posts : one.post.posts ≡ other.post.posts
@@ -115,14 +155,33 @@ module _ (volume : Volume) (W : ModelWorld) (one other : Whole) (stands : WorldS
       let behind_too = number_exists other.post.behind r (subst (λ n. IsMember n r) stands_too.counted is_too.member) in
       (both_posted r behind.0 behind_too.0 bytes others behind.1 behind_too.1 is is_too).1)
 
+  -- where the stored events are raised by as many
+  raises_same : raise volume W one stands ≡ raise volume W other stands_too
+  raises_same = omega (
+    arith,
+    stored,
+    length_part one.events W.events stands.stored,
+    length_part other.events W.events stands_too.stored,
+  )
+
+  same_member : (r : ℕ) (a b : Member) → IsNumbered one.members r a → IsNumbered other.members r b → a ≡ b
+  same_member r a b is is_too =
+      let standing = standing_of volume W one stands r is.member in
+      let fused = fuses_of volume W one stands r is.member in
+      let replicas = replica_once (replica_stands volume W one stands r a is)
+      (replica_stands volume W other stands_too r b is_too) in
+      let states = state_once volume W.events stands.lawful (raise volume W one stands) r a.state b.state standing.0
+      (member_stands volume W one stands r a is standing.0 standing.1)
+      (subst (λ n. StateStandsFor volume W.events n r b.state standing.0) (sym raises_same)
+      (member_stands volume W other stands_too r b is_too standing.0 standing.1)) in
+      let fuses : a.fused ≡ b.fused =
+      fuses_stand volume W one stands r a is fused.0 fused.1
+      ∙ sym (fuses_stand volume W other stands_too r b is_too fused.0 fused.1) in
+      λ i. record { replica = replicas i; state = states i; fused = fuses i }
+
   pub world_once : one.post.faults ≡ other.post.faults → one ≡ other
   world_once faults = λ i. record {
-    members = same_list one.members other.members (stands.members ∙ sym stands_too.members)
-        (λ r a b is is_too.
-        let same = replica_once (replica_stands volume W one stands r a is)
-        (replica_stands volume W other stands_too r b is_too) in
-        let states = is_up a.state ∙ sym (is_up b.state) in
-        λ j. record { replica = same j; state = states j }) i;
+    members = same_list one.members other.members (stands.members ∙ sym stands_too.members) same_member i;
     events = stored_once W.events one.events other.events stands.stored stands_too.stored stored i;
     post = record {
       behind = same_behind i;

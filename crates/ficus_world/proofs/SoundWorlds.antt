@@ -1,5 +1,5 @@
 -- What holds of every world stays so as commands change it.
-use Rattle.std.proofs.Common.{◌≡◌, ℕ, ◌+◌, ◌-◌, ◌≤◌, List, length, Result, Ok, Err, sym, ap, subst, ◌∙◌, inl, inr, arith}
+use Rattle.std.proofs.Common.{◌≡◌, ℕ, ◌+◌, ◌-◌, ◌≤◌, List, length, Result, Ok, Err, Some, None, sym, ap, subst, ◌∙◌, inl, inr, arith}
 use Rattle.std.specs.Prelude.{slice_set, IfOk, OnErr}
 use Rattle.std.proofs.lemmas.List.{length-set, length_push}
 use Rattle.ficus_ids.specs.Members.{IsCount}
@@ -15,14 +15,17 @@ use Rattle.ficus_replica.specs.Accept.{Accepted}
 use Rattle.ficus_replica.specs.Ask.{AskGives}
 use Rattle.ficus_replica.specs.Collect.{CollectGives}
 use Rattle.ficus_replica.specs.declared.collect.Collected.{Collected}
-use Rattle.ficus_world.specs.declared.member.Member.{Member}
 use Rattle.ficus_commands.specs.declared.change.Change.{Change}
 use Rattle.ficus_replica.specs.Change.{Changed}
-use Rattle.ficus_world.specs.Moves.{without_ask}
-use Rattle.ficus_world.specs.Numbered.{IsNumbered}
+use Rattle.ficus_runs.specs.Numbered.{IsNumbered}
+use Rattle.ficus_world.specs.declared.member.Member.{Member}
+use Rattle.ficus_world.specs.declared.member.MemberState.{MemberState}
+use Rattle.ficus_world.specs.declared.member.MemberState.TheVariants.{Up, Down}
+use Rattle.ficus_world.specs.declared.member.Pending.{Pending}
+use Rattle.ficus_world.specs.Moves.{IsLike, restarted, still_pending}
 use Rattle.ficus_world.specs.Post.{Outbox, IsSent, HasFailed}
-use Rattle.ficus_world.specs.World.{Whole, IsSound, IsWorld}
-use Rattle.ficus_world.proofs.Replaced.{replaced}
+use Rattle.ficus_world.specs.World.{Whole, IsPendingSound, IsSound, IsSoundMember, IsSoundNext, IsWorld}
+use Rattle.ficus_run_laws.proofs.Replaced.{replaced}
 
 pub sound_more : {count events more r : ℕ} {replica : Replica} → IsSound count events r replica → events ≤ more
     → IsSound count more r replica
@@ -33,24 +36,82 @@ sound_more sound h = record {
   generation = omega (arith, sound.generation);
 }
 
--- a member holds one replica in place of another, behind at least as many events
-module _ (old : Whole) (events : List Event) (r : ℕ) (was : Member) (replica : Replica)
-    (is : IsNumbered old.members r was) (world : IsWorld old)
-    (sound : IsSound (length old.members) (length events) r replica) (grown : length old.events ≤ length events) where
+pending_more : (count events more r : ℕ) (replica : Replica) (state : MemberState)
+    → IsPendingSound count events r replica state → events ≤ more → IsPendingSound count more r replica state
+pending_more count events more r replica Up is h = tt
+pending_more count events more r replica (Down None) is h = tt
+pending_more count events more r replica (Down (Some pending)) is h = (sound_more is.0 (omega (arith, h)), is.1)
+
+pub member_more : {count events more r : ℕ} {member : Member} → IsSoundMember count events r member → events ≤ more
+    → IsSoundMember count more r member
+member_more {count} {events} {more} {r} {member} sound h = record {
+  replica = sound_more sound.replica h;
+  pending = pending_more count events more r member.replica member.state sound.pending h;
+}
+
+-- what is pending at a member that stays down is sound
+still_sound : (count events r : ℕ) (replica : Replica) (state : MemberState)
+    → IsPendingSound count events r replica state
+    → IsPendingSound count events r replica (Down (still_pending state))
+still_sound count events r replica Up is = tt
+still_sound count events r replica (Down None) is = tt
+still_sound count events r replica (Down (Some pending)) is = is
+
+module _ {count events r : ℕ} {was : Member} where
+  -- a member that is up and saves an event of its own is sound, whether its save is done
+  pub held_sound : {replica : Replica} → was.state ≡ Up → IsSoundNext count events r was.replica replica
+      → IsSoundMember count (events + 1) r (record was { replica = replica })
+  held_sound {replica} up next = record {
+    replica = next.sound;
+    pending = subst (IsPendingSound count (events + 1) r replica) (sym up) tt;
+  }
+
+  -- or not
+  pub put_down_sound : {pending : Pending} → IsSoundMember count events r was
+      → IsSoundNext count events r was.replica pending.replica
+      → IsSoundMember count events r (record was { state = Down (Some pending) })
+  put_down_sound sound next = record { replica = sound.replica; pending = (next.sound, next.above) }
+
+  -- a member that stays down is sound
+  pub keep_down_sound : IsSoundMember count events r was
+      → IsSoundMember count events r (record was { state = Down (still_pending was.state) })
+  keep_down_sound sound = record {
+    replica = sound.replica;
+    pending = still_sound count events r was.replica was.state sound.pending;
+  }
+
+-- and so is one that restarts with what is like what it had
+pub restarted_sound : {count events r : ℕ} (was : Member) {known : Replica} {read : Saved}
+    → IsSound count events r known → IsLike known.saved read → FitsImage read
+    → IsSoundMember count events r (restarted was read)
+restarted_sound was sound like fits = record {
+  replica = record {
+    me = like.me ∙ sound.me;
+    members = like.members ∙ sound.members;
+    fits = fits;
+    generation = omega (arith, like.generation, sound.generation);
+  };
+  pending = tt;
+}
+
+-- a member stands in place of another, behind at least as many events
+module _ (old : Whole) (events : List Event) (r : ℕ) (was now : Member) (is : IsNumbered old.members r was)
+    (world : IsWorld old) (sound : IsSoundMember (length old.members) (length events) r now)
+    (grown : length old.events ≤ length events) where
   abbrev holding : List Member
-  holding = slice_set old.members (r - 1) (record was { replica = replica })
+  holding = slice_set old.members (r - 1) now
 
   as_many : length holding ≡ length old.members
-  as_many = length-set old.members (r - 1) (record was { replica = replica })
+  as_many = length-set old.members (r - 1) now
 
   each : (q : ℕ) (found : Member) → IsNumbered holding q found →
-      IsSound (length old.members) (length events) q found.replica
+      IsSoundMember (length old.members) (length events) q found
   each q found at =
-      elim (replaced old.members r q (record was { replica = replica }) found is.member.at_least at) [
+      elim (replaced old.members r q now found is.member.at_least at) [
         | inl (here, swapped) ↦
-            subst (λ n. IsSound (length old.members) (length events) n found.replica) (sym here)
-            (subst (λ (m : Member). IsSound (length old.members) (length events) r m.replica) (sym swapped) sound)
-        | inr (differs, kept) ↦ sound_more (world.sound q found kept) grown
+            subst (λ n. IsSoundMember (length old.members) (length events) n found) (sym here)
+            (subst (λ (m : Member). IsSoundMember (length old.members) (length events) r m) (sym swapped) sound)
+        | inr (differs, kept) ↦ member_more (world.sound q found kept) grown
       ]
 
   pub world_after : (members : List Member) → members ≡ holding
@@ -58,7 +119,7 @@ module _ (old : Whole) (events : List Event) (r : ℕ) (was : Member) (replica :
   world_after members holds =
       subst (λ list. IsWorld (record old { members = list; events = events })) (sym holds) (record {
         count = subst IsCount (sym as_many) world.count;
-        sound = λ q found at. subst (λ n. IsSound n (length events) q found.replica) (sym as_many) (each q found at);
+        sound = λ q found at. subst (λ n. IsSoundMember n (length events) q found) (sym as_many) (each q found at);
         counted = world.counted;
         few = world.few;
       })
@@ -69,7 +130,7 @@ module _ (old : Whole) (world : IsWorld old) where
       → IsWorld (record old { events = events })
   more_stored events grown = record {
     count = world.count;
-    sound = λ r member is. sound_more (world.sound r member is) grown;
+    sound = λ r member is. member_more (world.sound r member is) grown;
     counted = world.counted;
     few = world.few;
   }
@@ -97,57 +158,59 @@ module _ (old : Whole) (world : IsWorld old) where
 
 -- what a change makes of a sound replica is sound
 pub changed_sound : {count events r : ℕ} {old : Replica} {change : Change} {next : Next} → IsSound count events r old →
-    Changed old change next → FitsImage next.replica.saved → IsSound count (events + 1) r next.replica
+    Changed old change next → FitsImage next.replica.saved → IsSoundNext count events r old next.replica
 changed_sound sound changed fits =
     let saved = changed.applied.saved in
     record {
-      me = ap (λ (s : Saved). s.me) saved ∙ sound.me;
-      members = ap (λ (s : Saved). s.members) saved ∙ sound.members;
-      fits = fits;
-      generation = omega (arith, ap (λ (s : Saved). s.generation) saved, sound.generation);
+      sound = record {
+        me = ap (λ (s : Saved). s.me) saved ∙ sound.me;
+        members = ap (λ (s : Saved). s.members) saved ∙ sound.members;
+        fits = fits;
+        generation = omega (arith, ap (λ (s : Saved). s.generation) saved, sound.generation);
+      };
+      above = ap (λ (s : Saved). s.generation) saved;
     }
 
 -- and so is what an ask makes of it, and the taking of an answer
 pub asked_sound : {count events r to : ℕ} {old new : Replica} → IsSound count events r old → AskGives old to new
-    → FitsImage new.saved → IsSound count (events + 1) r new
+    → FitsImage new.saved → IsSoundNext count events r old new
 asked_sound sound asks fits = record {
-  me = ap (λ (x : Replica). x.saved.me) asks ∙ sound.me;
-  members = ap (λ (x : Replica). x.saved.members) asks ∙ sound.members;
-  fits = fits;
-  generation = omega (arith, ap (λ (x : Replica). x.saved.generation) asks, sound.generation);
+  sound = record {
+    me = ap (λ (x : Replica). x.saved.me) asks ∙ sound.me;
+    members = ap (λ (x : Replica). x.saved.members) asks ∙ sound.members;
+    fits = fits;
+    generation = omega (arith, ap (λ (x : Replica). x.saved.generation) asks, sound.generation);
+  };
+  above = ap (λ (x : Replica). x.saved.generation) asks;
 }
 
 pub accepted_sound : {count events r from number : ℕ} {entries : List Entry} {files : List FileReplica}
     {old new : Replica} →
     IsSound count events r old → Accepted old from number entries files new → FitsImage new.saved →
-    IsSound count (events + 1) r new
+    IsSoundNext count events r old new
 accepted_sound sound accepted fits =
     let is = accepted.replica in
     record {
-      me = ap (λ (x : Replica). x.saved.me) is ∙ sound.me;
-      members = ap (λ (x : Replica). x.saved.members) is ∙ sound.members;
-      fits = fits;
-      generation = omega (arith, ap (λ (x : Replica). x.saved.generation) is, sound.generation);
+      sound = record {
+        me = ap (λ (x : Replica). x.saved.me) is ∙ sound.me;
+        members = ap (λ (x : Replica). x.saved.members) is ∙ sound.members;
+        fits = fits;
+        generation = omega (arith, ap (λ (x : Replica). x.saved.generation) is, sound.generation);
+      };
+      above = ap (λ (x : Replica). x.saved.generation) is;
     }
 
 -- and so is what a collection leaves of it
 pub collected_sound : {count events r : ℕ} {old : Replica} {given : Collected} → IsSound count events r old
-    → CollectGives old given → FitsImage given.replica.saved → IsSound count (events + 1) r given.replica
+    → CollectGives old given → FitsImage given.replica.saved → IsSoundNext count events r old given.replica
 collected_sound sound gives fits =
     let is = gives.is in
     record {
-      me = ap (λ (x : Collected). x.replica.saved.me) is ∙ sound.me;
-      members = ap (λ (x : Collected). x.replica.saved.members) is ∙ sound.members;
-      fits = fits;
-      generation = omega (arith, ap (λ (x : Collected). x.replica.saved.generation) is, sound.generation);
+      sound = record {
+        me = ap (λ (x : Collected). x.replica.saved.me) is ∙ sound.me;
+        members = ap (λ (x : Collected). x.replica.saved.members) is ∙ sound.members;
+        fits = fits;
+        generation = omega (arith, ap (λ (x : Collected). x.replica.saved.generation) is, sound.generation);
+      };
+      above = ap (λ (x : Collected). x.replica.saved.generation) is;
     }
-
--- a replica that drops its ask saves what it did
-pub restarted_sound : {count events r : ℕ} {replica : Replica} → IsSound count events r replica
-    → IsSound count (events + 1) r (without_ask replica)
-restarted_sound sound = record {
-  me = sound.me;
-  members = sound.members;
-  fits = sound.fits;
-  generation = omega (arith, sound.generation);
-}

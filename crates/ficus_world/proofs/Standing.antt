@@ -1,43 +1,35 @@
--- A world stands for one of the model, also after each event.
-use Rattle.std.proofs.Common.{◌≡◌, ℕ, ◌+◌, ◌-◌, List, [], ◌∷◌, ◌++◌, length, get_or, refl, sym, ap, subst, ◌∙◌, inl, inr, ◌⊎◌, arith}
+-- A world stands for one of the model, also after each event, and after a save that failed.
+use Rattle.std.proofs.Common.{◌≡◌, ◌≢◌, ℕ, ◌+◌, ◌-◌, Bool, List, [], ◌∷◌, ◌++◌, length, Some, None, refl, sym, ap, subst, ◌∙◌, inl, inr, ◌⊎◌, arith}
 use Rattle.std.specs.Prelude.{slice_set}
 use Rattle.std.proofs.lemmas.List.{length-set, length_push}
 use Rattle.ficus_ids.specs.Members.{IsMember}
 use Rattle.ficus_model.specs.declared.event.Event.{Event}
-use Rattle.ficus_model.specs.declared.event.Event.TheVariants.{Serve}
+use Rattle.ficus_model.specs.declared.event.Event.TheVariants.{Restart, Serve}
 use Rattle.ficus_model.specs.Events.{actor, raised}
-use Rattle.ficus_model.specs.Lawful.{Volume, MayCome}
+use Rattle.ficus_model.specs.Lawful.{Volume, IsLawful, MayCome}
 use Rattle.ficus_laws.proofs.Lawful.{lawful_more}
 use Rattle.ficus_replica.specs.declared.replica.Replica.{Replica}
+use Rattle.ficus_replica.specs.SavedOf.{StandsFor, StandsAfter}
+use Rattle.ficus_replica.proofs.Events.{quiet_stands, restart_stands}
+use Rattle.ficus_saved.specs.declared.saved.Saved.{Saved}
 use Rattle.ficus_wire.specs.declared.message.Message.{Message}
-use Rattle.ficus_replica.specs.SavedOf.{StandsFor}
+use Rattle.ficus_runs.specs.Actions.{with_event, with_post, with_standing, down_from, restarted as restarted_model}
+use Rattle.ficus_runs.specs.Message.{IsMessageAt, IsSpelled}
+use Rattle.ficus_runs.specs.ModelWorld.{ModelWorld, Standing, IsUp}
+use Rattle.ficus_runs.specs.ModelWorld as model
+use Rattle.ficus_runs.specs.Numbered.{IsNumbered}
 use Rattle.ficus_world.specs.declared.member.Member.{Member}
-use Rattle.ficus_world.specs.declared.member.MemberState.{MemberState}
-use Rattle.ficus_world.specs.declared.member.MemberState.TheVariants.{Up}
-use Rattle.ficus_world.specs.Actions.{with_event, with_post}
-use Rattle.ficus_world.specs.Message.{IsMessageAt, IsSpelled}
-use Rattle.ficus_world.specs.ModelWorld.{ModelWorld}
-use Rattle.ficus_world.specs.Moves.{advanced, with_event as event_in, with_post as post_in}
-use Rattle.ficus_world.specs.Numbered.{IsNumbered}
+use Rattle.ficus_world.specs.declared.member.MemberState.TheVariants as state
+use Rattle.ficus_world.specs.declared.member.Pending.{Pending}
+use Rattle.ficus_world.specs.Moves.{advanced, downed, pending_of, restarted, still_pending, with_event as event_in, with_member, with_post as post_in}
 use Rattle.ficus_world.specs.Post.{Outbox, IsSent, HasFailed}
-use Rattle.ficus_world.specs.World.{Whole, MemberStandsFor, IsPosted, WorldStandsFor}
-use Rattle.ficus_replica.proofs.Events.{quiet_stands}
+use Rattle.ficus_world.specs.World.{Whole, IsPendingFor, StateStandsFor, MemberStandsFor, IsPosted, WorldStandsFor}
 use Rattle.ficus_world.proofs.LastPart.{length_part, part_more}
-use Rattle.ficus_world.proofs.Messages.{message_more}
-use Rattle.ficus_world.proofs.Numbers.{number_read, number_end, number_more, number_cases}
-use Rattle.ficus_world.proofs.Replaced.{replaced}
-
--- so far each member is up
-pub is_up : (state : MemberState) → state ≡ Up
-is_up Up = refl
-
-up_stands : (volume : Volume) (H : List Event) (r : ℕ) (member : Member) (state : MemberState)
-    → MemberStandsFor volume H r member state → StandsFor volume H r member.replica
-up_stands volume H r member Up stands = stands.1
-
-pub stands_up : (volume : Volume) (H : List Event) (r : ℕ) (member : Member) (state : MemberState)
-    → StandsFor volume H r member.replica → MemberStandsFor volume H r member state
-stands_up volume H r member Up stands = (is_up member.state, stands)
+use Rattle.ficus_run_laws.proofs.Messages.{message_more}
+use Rattle.ficus_run_laws.proofs.Numbers.{number_exists, number_end, number_more, number_cases}
+use Rattle.ficus_world.proofs.Pending.{comes_now, down_stands, modelled_up, others_leave, state_later, state_up, up_stands}
+use Rattle.ficus_run_laws.proofs.Replaced.{replaced}
+use Rattle.ficus_world.proofs.Sets.{number_set, set_again, set_same}
 
 module _ (volume : Volume) (W : ModelWorld) (old : Whole) (stands : WorldStandsFor volume W old) where
   pub member_of : (r : ℕ) → IsMember (length old.members) r → IsMember volume.members r
@@ -46,15 +38,6 @@ module _ (volume : Volume) (W : ModelWorld) (old : Whole) (stands : WorldStandsF
   pub member_from : (r : ℕ) → IsMember volume.members r → IsMember (length old.members) r
   member_from r member = subst (λ n. IsMember n r) (sym stands.members) member
 
-  pub replica_stands : (r : ℕ) (member : Member) → IsNumbered old.members r member
-      → StandsFor volume W.events r member.replica
-  replica_stands r member is =
-      let state = get_or W.states (r - 1) Up in
-      let same : length old.members ≡ length W.states = stands.members ∙ sym stands.states in
-      up_stands volume W.events r member state
-      (stands.each r member state is
-      (number_read W.states r state Up (subst (λ n. IsMember n r) same is.member) refl))
-
   -- where a stored event is raised by the events before the stored ones
   abbrev pub raise : ℕ
   raise = length stands.stored.earlier
@@ -62,71 +45,262 @@ module _ (volume : Volume) (W : ModelWorld) (old : Whole) (stands : WorldStandsF
   pub raised_length : length old.events + raise ≡ length W.events
   raised_length = omega (arith, length_part old.events W.events stands.stored)
 
+  -- each member has a standing, and its disks are said to have fuses or not
+  pub standing_of : (r : ℕ) → IsMember (length old.members) r
+      → (standing : Standing) × IsNumbered W.standings r standing
+  standing_of r member =
+      number_exists W.standings r (subst (λ n. IsMember n r) (sym stands.standings) (member_of r member))
+
+  pub fuses_of : (r : ℕ) → IsMember (length old.members) r → (fused : Bool) × IsNumbered W.fused r fused
+  fuses_of r member =
+      number_exists W.fused r (subst (λ n. IsMember n r) (sym stands.fuses) (member_of r member))
+
+  module _ (r : ℕ) (member : Member) (is : IsNumbered old.members r member) where
+    pub member_stands : (modelled : Standing) → IsNumbered W.standings r modelled
+        → StateStandsFor volume W.events raise r member.state modelled
+    member_stands modelled standing =
+        let fused = fuses_of r is.member in
+        (stands.each r member modelled fused.0 is standing fused.1).state
+
+    pub replica_stands : StandsFor volume W.events r member.replica
+    replica_stands =
+        let standing = standing_of r is.member in
+        let fused = fuses_of r is.member in
+        (stands.each r member standing.0 fused.0 is standing.1 fused.1).replica
+
+    pub fuses_stand : (fused : Bool) → IsNumbered W.fused r fused → member.fused ≡ fused
+    fuses_stand fused at =
+        let standing = standing_of r is.member in
+        (stands.each r member standing.0 fused is standing.1 at).fuses
+
+    -- a member is up in the code where it is in the model
+    pub up_in : member.state ≡ state.Up → IsUp r W
+    up_in up =
+        let standing = standing_of r is.member in
+        subst (IsNumbered W.standings r)
+        (modelled_up volume W.events raise r member.state standing.0 (member_stands standing.0 standing.1) up)
+        standing.1
+
+    pub up_from : IsUp r W → member.state ≡ state.Up
+    up_from up = state_up volume W.events raise r member.state model.Up (member_stands model.Up up) refl
+
   -- one event more leaves each posted message as it is
-  posted_more : (event : Event) (number position : ℕ) (bytes : List ℕ) → IsPosted volume W number position bytes
-      → IsPosted volume (with_event W event) number position bytes
-  posted_more event number position bytes posted = record {
+  posted_more : (standings : List Standing) (event : Event) (number position : ℕ) (bytes : List ℕ)
+      → IsPosted volume W number position bytes
+      → IsPosted volume (record (with_event W event) { standings = standings }) number position bytes
+  posted_more standings event number position bytes posted = record {
     numbered = posted.numbered;
     message = posted.message;
     is = message_more volume W.events event position posted.message posted.is;
     spelled = posted.spelled;
   }
 
+  posted_same : (standings : List Standing) (number position : ℕ) (bytes : List ℕ)
+      → IsPosted volume W number position bytes
+      → IsPosted volume (record W { standings = standings }) number position bytes
+  posted_same standings number position bytes posted = record {
+    numbered = posted.numbered;
+    message = posted.message;
+    is = posted.is;
+    spelled = posted.spelled;
+  }
+
+  -- how each member stands after these events, where these standings are the model's
+  abbrev EachStands : List Event → List Member → List Standing → Type 0
+  EachStands H members standings =
+      (r : ℕ) (member : Member) (modelled : Standing) (fused : Bool) → IsNumbered members r member
+      → IsNumbered standings r modelled → IsNumbered W.fused r fused
+      → MemberStandsFor volume H raise r member modelled fused
+
   -- an event happens, and the members stand for what has happened then
-  module _ (stored event : Event) (raises : raised raise stored ≡ event) (may : MayCome volume W.events event) where
-    next_stands : (members : List Member) → length members ≡ length old.members
-        → ((r : ℕ) (member : Member) → IsNumbered members r member
-        → StandsFor volume (W.events ++ event ∷ []) r member.replica)
-        → WorldStandsFor volume (with_event W event)
-        (record old { members = members; events = old.events ++ stored ∷ [] })
-    next_stands members count each = record {
-      count = stands.count;
-      members = count ∙ stands.members;
-      states = stands.states;
-      lawful = lawful_more volume W.events event stands.lawful may;
-      stored = record {
-        earlier = stands.stored.earlier;
-        is = part_more old.events W.events stands.stored stored event raises;
-      };
-      each = λ r member state is state_is.
-          stands_up volume (W.events ++ event ∷ []) r member state (each r member is);
-      total = stands.total;
-      posted = stands.posted;
-      counted = stands.counted;
-      mail = λ number place bytes behind posts.
-          posted_more event number (place + raise) bytes (stands.mail number place bytes behind posts);
+  next_stands : (stored event : Event) → raised raise stored ≡ event → MayCome volume W.events event
+      → (members : List Member) (standings : List Standing) → length members ≡ length old.members
+      → length standings ≡ length W.standings → EachStands (W.events ++ event ∷ []) members standings
+      → WorldStandsFor volume (record (with_event W event) { standings = standings })
+      (record old { members = members; events = old.events ++ stored ∷ [] })
+  next_stands stored event raises may members standings count count_too each = record {
+    count = stands.count;
+    members = count ∙ stands.members;
+    standings = count_too ∙ stands.standings;
+    fuses = stands.fuses;
+    lawful = lawful_more volume W.events event stands.lawful may;
+    stored = record {
+      earlier = stands.stored.earlier;
+      is = part_more old.events W.events stands.stored stored event raises;
+    };
+    each = each;
+    total = stands.total;
+    posted = stands.posted;
+    counted = stands.counted;
+    mail = λ number place bytes behind posts.
+        posted_more standings event number (place + raise) bytes (stands.mail number place bytes behind posts);
+  }
+
+  -- nothing happens, and the members stand for what has happened
+  same_stands : (members : List Member) (standings : List Standing) → length members ≡ length old.members
+      → length standings ≡ length W.standings → EachStands W.events members standings
+      → WorldStandsFor volume (record W { standings = standings }) (record old { members = members })
+  same_stands members standings count count_too each = record {
+    count = stands.count;
+    members = count ∙ stands.members;
+    standings = count_too ∙ stands.standings;
+    fuses = stands.fuses;
+    lawful = stands.lawful;
+    stored = stands.stored;
+    each = each;
+    total = stands.total;
+    posted = stands.posted;
+    counted = stands.counted;
+    mail = λ number place bytes behind posts.
+        posted_same standings number (place + raise) bytes (stands.mail number place bytes behind posts);
+  }
+
+  -- what another member does leaves a member as it is
+  others_stand : (event : Event) (r : ℕ) (member : Member) (modelled : Standing) (fused : Bool) → actor event ≢ r
+      → MemberStandsFor volume W.events raise r member modelled fused
+      → MemberStandsFor volume (W.events ++ event ∷ []) raise r member modelled fused
+  others_stand event r member modelled fused other is = record {
+    replica = quiet_stands volume W.events r member.replica event is.replica (inl other);
+    state = state_later volume W.events raise r event other member.state modelled is.state;
+    fuses = is.fuses;
+  }
+
+  -- one member is another one now, which stands so
+  module _ (r : ℕ) (was new : Member) (is : IsNumbered old.members r was) (standing : Standing)
+      (fuses : new.fused ≡ was.fused) where
+    abbrev members_with : List Member
+    members_with = slice_set old.members (r - 1) new
+
+    abbrev standings_with : List Standing
+    standings_with = slice_set W.standings (r - 1) standing
+
+    module _ (H : List Event) (replica : StandsFor volume H r new.replica)
+        (state_is : StateStandsFor volume H raise r new.state standing)
+        (others : (q : ℕ) (member : Member) (modelled : Standing) (fused : Bool) → r ≢ q
+        → MemberStandsFor volume W.events raise q member modelled fused
+        → MemberStandsFor volume H raise q member modelled fused) where
+      each_with : (q : ℕ) (member : Member) (modelled : Standing) (fused : Bool)
+          → ((q ≡ r) × (member ≡ new)) ⊎ ((r ≢ q) × IsNumbered old.members q member)
+          → ((q ≡ r) × (modelled ≡ standing)) ⊎ ((r ≢ q) × IsNumbered W.standings q modelled)
+          → IsNumbered W.fused q fused → MemberStandsFor volume H raise q member modelled fused
+      each_with q member modelled fused (inl (here, swapped)) (inl (also, stood)) at =
+          subst (λ n. MemberStandsFor volume H raise n member modelled fused) (sym here)
+          (subst (λ (m : Member). MemberStandsFor volume H raise r m modelled fused) (sym swapped)
+          (subst (λ (s : Standing). MemberStandsFor volume H raise r new s fused) (sym stood) (record {
+            replica = replica;
+            state = state_is;
+            fuses = fuses ∙ fuses_stand r was is fused (subst (λ n. IsNumbered W.fused n fused) here at);
+          })))
+      each_with q member modelled fused (inr (differs, kept)) (inr (too, stood)) at =
+          others q member modelled fused differs (stands.each q member modelled fused kept stood at)
+      each_with q member modelled fused (inl (here, swapped)) (inr (differs, stood)) at = absurd (differs (sym here))
+      each_with q member modelled fused (inr (differs, kept)) (inl (here, stood)) at = absurd (differs (sym here))
+
+      each_replaced : EachStands H members_with standings_with
+      each_replaced q member modelled fused found stood at =
+          each_with q member modelled fused (replaced old.members r q new member is.member.at_least found)
+          (replaced W.standings r q standing modelled is.member.at_least stood) at
+
+    -- an event of its own happens
+    pub changed_stands : (stored event : Event) → raised raise stored ≡ event → MayCome volume W.events event
+        → actor event ≡ r → StandsFor volume (W.events ++ event ∷ []) r new.replica
+        → StateStandsFor volume (W.events ++ event ∷ []) raise r new.state standing
+        → WorldStandsFor volume (with_standing (with_event W event) r standing)
+        (event_in (with_member old r new) stored)
+    changed_stands stored event raises may own replica state_is =
+        next_stands stored event raises may members_with standings_with (length-set old.members (r - 1) new)
+        (length-set W.standings (r - 1) standing)
+        (each_replaced (W.events ++ event ∷ []) replica state_is
+        (λ q member modelled fused differs here.
+        others_stand event q member modelled fused (λ same. differs (sym own ∙ same)) here))
+
+    -- its state changes
+    pub stood_stands : StandsFor volume W.events r new.replica
+        → StateStandsFor volume W.events raise r new.state standing
+        → WorldStandsFor volume (with_standing W r standing) (with_member old r new)
+    stood_stands replica state_is =
+        same_stands members_with standings_with (length-set old.members (r - 1) new)
+        (length-set W.standings (r - 1) standing)
+        (each_replaced W.events replica state_is (λ q member modelled fused differs here. here))
+
+  -- a member that is up changes with an event of its own
+  module _ (r : ℕ) (was : Member) (next : Replica) (is : IsNumbered old.members r was) (up : was.state ≡ state.Up)
+      (stored event : Event) (raises : raised raise stored ≡ event) (own : actor event ≡ r) where
+    -- whatever others do meanwhile, it may come, and the member is this one then
+    abbrev pub Comes : Type 0
+    Comes =
+        (later : List Event) → IsLawful volume (W.events ++ later) → StandsFor volume (W.events ++ later) r was.replica
+        → StandsAfter volume (W.events ++ later) r event next
+
+    waits : Comes → IsPendingFor volume W.events raise r (pending_of next stored) event
+    waits comes = record {
+      raises = raises;
+      own = own;
+      follows = λ later others lawful.
+          comes later lawful
+          (others_leave volume W.events r was.replica later others (replica_stands r was is));
     }
 
-    -- it is a member's own, and that member alone changes
-    module _ (r : ℕ) (was : Member) (next : Replica) (is : IsNumbered old.members r was) (own : actor event ≡ r)
-        (now : StandsFor volume (W.events ++ event ∷ []) r next) where
-      abbrev new : Member
-      new = record was { replica = next }
+    -- it is saved
+    pub saved_stands : Comes → WorldStandsFor volume (with_event W event) (advanced old r was next stored)
+    saved_stands comes =
+        let now = comes_now volume W.events raise r (pending_of next stored) event stands.lawful (waits comes) in
+        subst (λ list. WorldStandsFor volume (record (with_event W event) { standings = list })
+        (advanced old r was next stored)) (set_same W.standings r model.Up (up_in r was is up))
+        (changed_stands r was (record was { replica = next }) is model.Up refl stored event raises now.lawful own
+        now.stands (up_stands volume (W.events ++ event ∷ []) raise r was.state up))
 
-      each_stands : (q : ℕ) (found : Member) → IsNumbered (slice_set old.members (r - 1) new) q found
-          → StandsFor volume (W.events ++ event ∷ []) q found.replica
-      each_stands q found at =
-          elim (replaced old.members r q new found is.member.at_least at) [
-            | inl (same, swapped) ↦
-                subst (λ n. StandsFor volume (W.events ++ event ∷ []) n found.replica) (sym same)
-                (subst (λ (m : Member). StandsFor volume (W.events ++ event ∷ []) r m.replica) (sym swapped) now)
-            | inr (differs, kept) ↦
-                quiet_stands volume W.events q found.replica event (replica_stands q found kept)
-                (inl (λ e. differs (sym own ∙ e)))
-          ]
+    -- its save fails
+    pub unsaved_stands : Comes → WorldStandsFor volume (with_standing W r (model.Down (Some event)))
+        (downed old r was (Some (pending_of next stored)))
+    unsaved_stands comes =
+        stood_stands r was (record was { state = state.Down (Some (pending_of next stored)) }) is
+        (model.Down (Some event)) refl (replica_stands r was is) (waits comes)
 
-      pub advanced_stands : WorldStandsFor volume (with_event W event) (advanced old r was next stored)
-      advanced_stands =
-          next_stands (slice_set old.members (r - 1) new) (length-set old.members (r - 1) new) each_stands
+  -- the disks of a member fail as they are opened
+  pub unopened_stands : (r : ℕ) (was : Member) (standing : Standing) → IsNumbered old.members r was
+      → IsNumbered W.standings r standing → WorldStandsFor volume (with_standing W r (down_from standing))
+      (downed old r was (still_pending was.state))
+  unopened_stands r was standing is at =
+      stood_stands r was (record was { state = state.Down (still_pending was.state) }) is (down_from standing) refl
+      (replica_stands r was is)
+      (down_stands volume W.events raise r was.state standing (member_stands r was is standing at))
+
+  -- a member restarts with what it has saved
+  pub reopened_stands : (r : ℕ) (was : Member) → IsNumbered old.members r was → (read : Saved)
+      → read ≡ was.replica.saved → WorldStandsFor volume (restarted_model W r None)
+      (event_in (with_member old r (restarted was read)) (Restart r))
+  reopened_stands r was is read same =
+      changed_stands r was (restarted was read) is model.Up refl (Restart r) (Restart r) refl
+      (member_of r is.member) refl
+      (restart_stands volume W.events r was.replica.saved (restarted was read).replica (replica_stands r was is).saved
+      same refl) tt
+
+  -- what is pending at a member comes, and it is up
+  pub found_stands : (r : ℕ) (was : Member) → IsNumbered old.members r was → (pending : Pending) (waits : Event)
+      → IsPendingFor volume W.events raise r pending waits
+      → WorldStandsFor volume (with_standing (with_event W waits) r model.Up)
+      (event_in (with_member old r (record was { replica = pending.replica; state = state.Up })) pending.event)
+  found_stands r was is pending waits waiting =
+      let now = comes_now volume W.events raise r pending waits stands.lawful waiting in
+      changed_stands r was (record was { replica = pending.replica; state = state.Up }) is model.Up refl pending.event
+      waits waiting.raises now.lawful waiting.own now.stands tt
 
   -- a member serves what it holds
-  pub served_stands : (to ask position : ℕ) → ask + raise ≡ position → MayCome volume W.events (Serve to position)
-      → WorldStandsFor volume (with_event W (Serve to position))
-      (event_in old (Serve to ask))
-  served_stands to ask position raises may =
-      next_stands (Serve to ask) (Serve to position) (ap (λ n. Serve to n) raises) may old.members refl
-      (λ r member is.
-      quiet_stands volume W.events r member.replica (Serve to position) (replica_stands r member is) (inr tt))
+  pub served_stands : (to ask position : ℕ) (peer : Member) → IsNumbered old.members to peer → peer.state ≡ state.Up
+      → ask + raise ≡ position → MayCome volume W.events (Serve to position)
+      → WorldStandsFor volume (with_event W (Serve to position)) (event_in old (Serve to ask))
+  served_stands to ask position peer is up raises may =
+      let serve = Serve to position in
+      let now = changed_stands to peer peer is model.Up refl (Serve to ask) serve (ap (λ n. Serve to n) raises) may refl
+      (quiet_stands volume W.events to peer.replica serve (replica_stands to peer is) (inr tt))
+      (up_stands volume (W.events ++ serve ∷ []) raise to peer.state up) in
+      subst (λ list. WorldStandsFor volume (with_event W serve)
+      (record (event_in old (Serve to ask)) { members = list }))
+      (set_same old.members to peer is)
+      (subst (λ list. WorldStandsFor volume (record (with_event W serve) { standings = list })
+      (record (event_in old (Serve to ask)) { members = slice_set old.members (to - 1) peer }))
+      (set_same W.standings to model.Up (up_in to peer is up)) now)
 
   -- the link fails
   pub failed_stands : (post : Outbox) → HasFailed old.post post → WorldStandsFor volume W (post_in old post)
@@ -134,7 +308,8 @@ module _ (volume : Volume) (W : ModelWorld) (old : Whole) (stands : WorldStandsF
       subst (λ (p : Outbox). WorldStandsFor volume W (post_in old p)) (sym failed.same) (record {
         count = stands.count;
         members = stands.members;
-        states = stands.states;
+        standings = stands.standings;
+        fuses = stands.fuses;
         lawful = stands.lawful;
         stored = stands.stored;
         each = stands.each;
@@ -190,7 +365,8 @@ module _ (volume : Volume) (W : ModelWorld) (old : Whole) (stands : WorldStandsF
     sent_stands = record {
       count = stands.count;
       members = stands.members;
-      states = stands.states;
+      standings = stands.standings;
+      fuses = stands.fuses;
       lawful = stands.lawful;
       stored = stands.stored;
       each = stands.each;
@@ -216,3 +392,32 @@ module _ (volume : Volume) (W : ModelWorld) (old : Whole) (stands : WorldStandsF
           (number_cases old.post.behind place (subst (λ list. IsNumbered list n found_place) sent.behind behind))
           (number_cases old.post.posts bytes (subst (λ list. IsNumbered list n found) (sent.told told) posts));
     }
+
+-- a member restarts with what was pending
+module _ (volume : Volume) (W : ModelWorld) (old : Whole) (stands : WorldStandsFor volume W old) (r : ℕ) (was : Member)
+    (is : IsNumbered old.members r was) (pending : Pending) (waits : Event)
+    (waiting : IsPendingFor volume W.events (raise volume W old stands) r pending waits) where
+  abbrev found : Member
+  found = record was { replica = pending.replica; state = state.Up }
+
+  abbrev found_model : ModelWorld
+  found_model = with_standing (with_event W waits) r model.Up
+
+  abbrev found_world : Whole
+  found_world = event_in (with_member old r found) pending.event
+
+  here : IsNumbered found_world.members r found
+  here = number_set old.members r was found is
+
+  pub found_reopened_stands : (read : Saved) → read ≡ pending.replica.saved
+      → WorldStandsFor volume (restarted_model W r (Some waits))
+      (event_in (event_in (with_member old r (restarted was read)) pending.event) (Restart r))
+  found_reopened_stands read same =
+      let now = reopened_stands volume found_model found_world
+      (found_stands volume W old stands r was is pending waits waiting) r found here read same in
+      subst (λ list. WorldStandsFor volume (restarted_model W r (Some waits))
+      (record (event_in (event_in old pending.event) (Restart r)) { members = list }))
+      (set_again old.members (r - 1) found (restarted was read))
+      (subst (λ list. WorldStandsFor volume (record (restarted_model W r (Some waits)) { standings = list })
+      (event_in (with_member found_world r (restarted found read)) (Restart r)))
+      (set_again W.standings (r - 1) model.Up model.Up) now)

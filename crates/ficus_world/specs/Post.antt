@@ -2,7 +2,7 @@
 use Rattle.std.specs.Prelude.{◌≡◌, ℕ, ◌+◌, ◌≤◌, List, ◌∷◌, [], ◌++◌, length}
 use Rattle.ficus_ids.specs.Members.{IsMember}
 use Rattle.ficus_faults.specs.Faults.{Rose}
-use Rattle.ficus_world.specs.Numbered.{IsNumbered}
+use Rattle.ficus_runs.specs.Numbered.{IsNumbered}
 
 -- where the event behind each posted message is stored; and of the link, its messages, the bytes posted, and its faults
 pub record Outbox : Type 0 where

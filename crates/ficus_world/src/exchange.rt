@@ -1,26 +1,37 @@
-ghost use Rattle.std.specs.Prelude.{◌≡◌, ◌↔◌, ◌+◌, ◌<◌, ◌≤◌, length, IfOk, OnOk, IsErrOf, IsTrue};
+ghost use Rattle.std.specs.Prelude.{◌≡◌, ◌≢◌, ◌+◌, ◌<◌, ◌≤◌, [], Err, List, length, IfErr, IfOk, OnErr, OnOk, IsErrOf};
 ghost use Rattle.ficus_ids.specs.Members.{IsMember};
-ghost use Rattle.ficus_ids.specs.declared.refusal.Refusal.TheVariants.{Memory as OutOfMemory};
+ghost use Rattle.ficus_ids.specs.declared.refusal.Refusal.TheVariants.{LinkFull as IsFull, Memory as OutOfMemory};
+ghost use Rattle.ficus_saved.specs.Saved.{FitsImage};
 ghost use Rattle.ficus_saved.specs.Tables.{FitsTables};
-ghost use Rattle.ficus_script.specs.declared.command.Command.TheVariants.{Pull as Pulls};
 ghost use Rattle.ficus_wire.specs.Message.{FitsMessage, IsRoute, message_of, messages_of, way};
-ghost use Rattle.ficus_world.specs.Answers.{OrMemory};
-ghost use Rattle.ficus_world.specs.Message.{Reads};
-ghost use Rattle.ficus_world.specs.Moves.{CarriesOut, CutShort, FetchesMail, GivesMessage, GivesNextMessage, IsAsking};
-ghost use Rattle.ficus_world.specs.Moves.{IsServing, KeepsAsk, Restarts, ServesAsk, TakesAnswer, answer_of, ask_of, bytes_in};
-ghost use Rattle.ficus_world.specs.Peers.{ArePeers};
-ghost use Rattle.ficus_world.specs.World.{IsSound, event_limit, most_events};
+ghost use Rattle.ficus_runs.specs.Answers.{OrMemory};
+ghost use Rattle.ficus_runs.specs.Exchange.{total_limit};
+ghost use Rattle.ficus_runs.specs.Message.{Reads};
+ghost use Rattle.ficus_runs.specs.Peers.{ArePeers};
+ghost use Rattle.ficus_runs.specs.Sequence.{unchanged};
+ghost use Rattle.ficus_world.specs.Disks.{AreDisksOf, Carried, CarriedOn, DisksComeTo, IsPreparedAt, StaysOn};
+ghost use Rattle.ficus_world.specs.Post.{HasRoom};
+ghost use Rattle.ficus_world.specs.Moves.{FetchesMail, GivesMessage, GivesNextMessage, IsAsking};
+ghost use Rattle.ficus_world.specs.Moves.{IsServing, KeepsAsk, ServesAsk, TakesAnswer, answer_of, ask_of, bytes_in};
+ghost use Rattle.ficus_world.specs.World.{IsSoundNext, IsUpIn, event_limit, most_events};
 ghost use Rattle.ficus_world.specs.declared.member.Member.{Member as MemberValue};
 
 use crate::World;
-use crate::member::{drop_ask, hold};
+use crate::group::Group;
+use crate::keeping::keep;
+use crate::member::{Pending, is_up};
+use crate::post::Post;
+use crate::saving::prepare_at;
+use ficus_disk::{Disk, Pair};
 use ficus_entry::Entry;
 use ficus_file::FileReplica;
 use ficus_ids::{Members, Memory, Refusal};
-use ficus_model::Event;
+use ficus_keep::Keep;
+use ficus_model::{Event, History};
 use ficus_outside::Link;
 use ficus_replica::Replica;
 use ficus_script::Answer;
+use ficus_stable::Stable;
 use ficus_wire::{Letter, Message, WireFault, encode, read_letter};
 use std::alloc::Global;
 
@@ -40,41 +51,58 @@ struct Asking {
     message: Vec<u8>,
 }
 
-impl<L: Link + Drop> World<L> {
+impl<K: Keep + Drop, L: Link + Drop> World<K, L> {
     /// Asks for the state of another member. Gives the number of the message. All memory is taken before anything
     /// changes.
-    pub(crate) fn ask(&mut self, alloc: Global, by: u8, to: u8) -> Result<u32, Refusal>
-        requires room { length self.old.events < event_limit }
-        ensures asks { OrMemory (λ given. KeepsAsk L.tells by to self.old given self.new) result }
-        ensures wants { IsErrOf result OutOfMemory → ArePeers (length self.old.members) by to }
-        ensures grows { length self.new.events ≤ length self.old.events + 1 }
-        ensures memory { IsErrOf result OutOfMemory → self.new ≡ self.old }
+    pub(crate) fn ask<D: Disk>(
+        &mut self,
+        alloc: Global,
+        disks: &mut Vec<Pair<D>>,
+        by: u8,
+        to: u8,
+    ) -> Result<u32, Refusal>
+        requires room { length self.old.whole.events < event_limit }
+        requires pairs { length self.old.whole.members ≤ length disks.old.items }
+        requires disks { AreDisksOf D.tells K.kept K.fits D.seen D.may_leave D.armings self.old.whole.members
+            self.old.stables disks.old.items }
+        ensures asks { CarriedOn K.Keep D.Disk (KeepsAsk L.tells by to) result self.old.whole self.new.whole
+            disks.old.items disks.new.items }
+        ensures wants { IsErrOf result OutOfMemory → ArePeers (length self.old.whole.members) by to
+            × IsUpIn self.old.whole by }
+        ensures grows { length self.new.whole.events ≤ length self.old.whole.events + 1 }
+        ensures members { length self.new.whole.members ≡ length self.old.whole.members }
+        ensures memory { IsErrOf result OutOfMemory → StaysOn D.faults D.armings self.old.whole self.new.whole
+            disks.old.items disks.new.items }
+        ensures disks { AreDisksOf D.tells K.kept K.fits D.seen D.may_leave D.armings self.new.whole.members
+            self.new.stables disks.new.items }
     {
-        if !self.are_peers(by, to) {
-            return Err(Refusal::Member);
-        }
-        self.history.reserve(1)?;
-        self.post.make_room()?;
-        let asking = self.asking(alloc, by, to)?;
-        if !self.post.has_room_for(&asking.message) {
-            return Err(Refusal::LinkFull);
-        }
-        let Asking { replica, message } = asking;
-        let place = self.history.len();
-        hold(&mut self.members, by, replica);
-        self.history.push(Event::Ask { by, to });
-        self.post.send(message, place)
+        let asking = self.group.asking(alloc, by, to)?;
+        self.group
+            .send_asking(&mut self.stables, disks, by, to, asking)
     }
 
     /// Gives a message to its receiver, who serves an ask and takes an answer.
-    pub(crate) fn give(&mut self, alloc: Global, mail: u32) -> Result<Answer, Refusal>
-        requires room { length self.old.events < event_limit + most_events }
-        ensures gives { OrMemory (λ answer. GivesMessage L.tells mail self.old answer self.new) result }
-        ensures wants { IsErrOf result OutOfMemory → IsMember (length self.old.post.posts) mail }
-        ensures grows { length self.new.events ≤ length self.old.events + 1 }
-        ensures memory { IsErrOf result OutOfMemory → self.new ≡ self.old }
+    pub(crate) fn give<D: Disk>(
+        &mut self,
+        alloc: Global,
+        disks: &mut Vec<Pair<D>>,
+        mail: u32,
+    ) -> Result<Answer, Refusal>
+        requires room { length self.old.whole.events < event_limit + most_events }
+        requires pairs { length self.old.whole.members ≤ length disks.old.items }
+        requires disks { AreDisksOf D.tells K.kept K.fits D.seen D.may_leave D.armings self.old.whole.members
+            self.old.stables disks.old.items }
+        ensures gives { CarriedOn K.Keep D.Disk (GivesMessage L.tells mail) result self.old.whole self.new.whole
+            disks.old.items disks.new.items }
+        ensures wants { IsErrOf result OutOfMemory → IsMember (length self.old.whole.post.posts) mail }
+        ensures grows { length self.new.whole.events ≤ length self.old.whole.events + 1 }
+        ensures members { length self.new.whole.members ≡ length self.old.whole.members }
+        ensures memory { IsErrOf result OutOfMemory → StaysOn D.faults D.armings self.old.whole self.new.whole
+            disks.old.items disks.new.items }
+        ensures disks { AreDisksOf D.tells K.kept K.fits D.seen D.may_leave D.armings self.new.whole.members
+            self.new.stables disks.new.items }
     {
-        match self.fetch(alloc, mail)? {
+        match self.group.fetch(alloc, mail)? {
             Letter::Ask { from, to, number } => {
                 let came = Delivery {
                     number: mail,
@@ -82,7 +110,7 @@ impl<L: Link + Drop> World<L> {
                     to,
                     ask: number,
                 };
-                self.serve(alloc, came)
+                self.group.serve(alloc, came)
             }
             Letter::Answer {
                 from,
@@ -97,75 +125,97 @@ impl<L: Link + Drop> World<L> {
                     to,
                     ask: number,
                 };
-                self.take(alloc, came, entries.items(), files.items())
+                self.take(alloc, disks, came, entries.items(), files.items())
             }
         }
     }
 
-    /// An ask, and the gives of its message and of the answer to it.
-    pub(crate) fn pull(&mut self, alloc: Global, by: u8, to: u8) -> Result<Answer, Refusal>
-        requires room { length self.old.events < event_limit }
-        ensures moves { OrMemory (λ answer. CarriesOut L.tells (Pulls by to) self.old answer self.new) result }
-        ensures wants { IsErrOf result OutOfMemory → ArePeers (length self.old.members) by to }
-        ensures grows { length self.new.events ≤ length self.old.events + most_events }
-        ensures memory { IsErrOf result OutOfMemory → CutShort L.tells (Pulls by to) self.old self.new }
-    {
-        let asked = self.ask(alloc, by, to)?;
-        let given = self.give(alloc, asked)?;
-        self.give_next(alloc, &given)
-    }
-
-    /// Restarts a member, which no longer waits for an answer.
-    pub(crate) fn restart(&mut self, by: u8) -> Result<Answer, Refusal>
-        requires room { length self.old.events < event_limit }
-        ensures restarts { OrMemory (λ answer. Restarts by self.old answer self.new) result }
-        ensures wants { IsErrOf result OutOfMemory → IsMember (length self.old.members) by }
-        ensures grows { length self.new.events ≤ length self.old.events + 1 }
-        ensures memory { IsErrOf result OutOfMemory → self.new ≡ self.old }
-    {
-        if !self.has(by) {
-            return Err(Refusal::Member);
-        }
-        self.history.reserve(1)?;
-        drop_ask(&mut self.members, by);
-        self.history.push(Event::Restart { by });
-        Ok(Answer::Done)
-    }
-
     // Where a message was posted, gives it too.
-    fn give_next(&mut self, alloc: Global, given: &Answer) -> Result<Answer, Refusal>
-        requires room { length self.old.events < event_limit + most_events }
-        ensures gives { OrMemory (λ answer. GivesNextMessage L.tells given.now self.old answer self.new) result }
-        ensures grows { length self.new.events ≤ length self.old.events + 1 }
-        ensures memory { IsErrOf result OutOfMemory → self.new ≡ self.old }
+    pub(crate) fn give_next<D: Disk>(
+        &mut self,
+        alloc: Global,
+        disks: &mut Vec<Pair<D>>,
+        given: &Answer,
+    ) -> Result<Answer, Refusal>
+        requires room { length self.old.whole.events < event_limit + most_events }
+        requires pairs { length self.old.whole.members ≤ length disks.old.items }
+        requires disks { AreDisksOf D.tells K.kept K.fits D.seen D.may_leave D.armings self.old.whole.members
+            self.old.stables disks.old.items }
+        ensures gives { CarriedOn K.Keep D.Disk (GivesNextMessage L.tells given.now) result self.old.whole
+            self.new.whole disks.old.items disks.new.items }
+        ensures grows { length self.new.whole.events ≤ length self.old.whole.events + 1 }
+        ensures members { length self.new.whole.members ≡ length self.old.whole.members }
+        ensures memory { IsErrOf result OutOfMemory → StaysOn D.faults D.armings self.old.whole self.new.whole
+            disks.old.items disks.new.items }
+        ensures disks { AreDisksOf D.tells K.kept K.fits D.seen D.may_leave D.armings self.new.whole.members
+            self.new.stables disks.new.items }
     {
         match given {
             Answer::Mail(number) => {
-                self.give(alloc, *number)?;
+                self.give(alloc, disks, *number)?;
                 Ok(Answer::Done)
             }
             _ => Ok(Answer::Done),
         }
     }
 
-    /// Whether they are the numbers of two different members.
-    pub(crate) fn are_peers(&self, by: u8, to: u8) -> bool
-        ensures { IsTrue result ↔ ArePeers (length self.now.members) by to }
+    // Takes what was served, or refuses it. All memory is taken before anything changes.
+    fn take<D: Disk>(
+        &mut self,
+        alloc: Global,
+        disks: &mut Vec<Pair<D>>,
+        came: Delivery,
+        entries: &[Entry],
+        files: &[FileReplica],
+    ) -> Result<Answer, Refusal>
+        requires room { length self.old.whole.events < event_limit + most_events }
+        requires pairs { length self.old.whole.members ≤ length disks.old.items }
+        requires disks { AreDisksOf D.tells K.kept K.fits D.seen D.may_leave D.armings self.old.whole.members
+            self.old.stables disks.old.items }
+        requires mail { IsMember (length self.old.whole.post.behind) came.number }
+        requires to { IsMember (length self.old.whole.members) came.to }
+        requires tables { FitsTables (length self.old.whole.members) entries.now files.now }
+        ensures takes { CarriedOn K.Keep D.Disk (TakesAnswer came entries.now files.now) result self.old.whole
+            self.new.whole disks.old.items disks.new.items }
+        ensures grows { length self.new.whole.events ≤ length self.old.whole.events + 1 }
+        ensures members { length self.new.whole.members ≡ length self.old.whole.members }
+        ensures memory { IsErrOf result OutOfMemory → StaysOn D.faults D.armings self.old.whole self.new.whole
+            disks.old.items disks.new.items }
+        ensures disks { AreDisksOf D.tells K.kept K.fits D.seen D.may_leave D.armings self.new.whole.members
+            self.new.stables disks.new.items }
     {
-        self.has(by) && self.has(to) && by != to
+        let serve = self.group.post.place(came.number);
+        let replica = &self.group.up(came.to)?.replica;
+        let taken = replica.accept_rows(alloc, came.from, came.ask, entries, files)?;
+        let next = Pending {
+            replica: taken,
+            event: Event::Accept { by: came.to, serve },
+        };
+        self.save(disks, came.to, next)?;
+        Ok(Answer::Done)
     }
+}
 
+impl<L: Link + Drop> Group<L> {
     // What the member holds once it has asked another one, and its message.
-    fn asking(&self, alloc: Global, by: u8, to: u8) -> Result<Asking, Memory>
-        requires peers { ArePeers (length self.now.members) by to }
+    fn asking(&self, alloc: Global, by: u8, to: u8) -> Result<Asking, Refusal>
         requires room { length self.now.events < event_limit }
-        ensures asks { IfOk result (λ asking. (was : MemberValue) × IsAsking self.now by to was asking.replica) }
+        ensures asks { IfOk result (λ asking. (was : MemberValue) × IsAsking self.now by to was asking.replica
+            × IsSoundNext (length self.now.members) (length self.now.events) by was.replica asking.replica) }
         ensures message { IfOk result (λ asking. asking.message.items
             ≡ bytes_in self.now (ask_of by to asking.replica)) }
-        ensures sound { IfOk result (λ asking. IsSound (length self.now.members) (length self.now.events + 1) by
-            asking.replica) }
+        ensures refused { IfErr result (λ refusal. refusal ≢ OutOfMemory
+            → KeepsAsk L.tells by to self.now (Err refusal) (unchanged self.now)) }
+        ensures wants { IsErrOf result OutOfMemory → ArePeers (length self.now.members) by to × IsUpIn self.now by }
     {
-        let replica = self.member(by).replica.ask(to)?;
+        if !self.are_peers(by, to) {
+            return Err(Refusal::Member);
+        }
+        let member = self.member(by);
+        if !is_up(member) {
+            return Err(Refusal::Down);
+        }
+        let replica = member.replica.ask(to)?;
         let ask = Message::Ask {
             from: by,
             to,
@@ -175,22 +225,68 @@ impl<L: Link + Drop> World<L> {
         Ok(Asking { replica, message })
     }
 
-    // How many members there are.
-    fn count(&self) -> Members
-        ensures { result ≡ length self.now.members }
+    // Saves a member that has asked, and posts its message. All memory is taken before anything changes.
+    fn send_asking<K: Keep + Drop, D: Disk>(
+        &mut self,
+        stables: &mut Vec<Stable<K>>,
+        disks: &mut Vec<Pair<D>>,
+        by: u8,
+        to: u8,
+        asking: Asking,
+    ) -> Result<u32, Refusal>
+        requires room { length self.old.events < event_limit }
+        requires stables { length stables.old.items ≡ length self.old.members }
+        requires pairs { length self.old.members ≤ length disks.old.items }
+        requires disks { AreDisksOf D.tells K.kept K.fits D.seen D.may_leave D.armings self.old.members
+            stables.old.items disks.old.items }
+        requires asking { (was : MemberValue) × IsAsking self.old by to was asking.replica
+            × IsSoundNext (length self.old.members) (length self.old.events) by was.replica asking.replica }
+        requires message { asking.message.items ≡ bytes_in self.old (ask_of by to asking.replica) }
+        ensures asks { CarriedOn K.Keep D.Disk (KeepsAsk L.tells by to) result self.old self.new disks.old.items
+            disks.new.items }
+        ensures grows { length self.new.events ≤ length self.old.events + 1 }
+        ensures members { length self.new.members ≡ length self.old.members }
+        ensures stables { length stables.new.items ≡ length stables.old.items }
+        ensures memory { IsErrOf result OutOfMemory → StaysOn D.faults D.armings self.old self.new disks.old.items
+            disks.new.items }
+        ensures disks { AreDisksOf D.tells K.kept K.fits D.seen D.may_leave D.armings self.new.members
+            stables.new.items disks.new.items }
     {
-        self.members[0].replica.saved.members
+        make_ready(
+            &mut self.history,
+            &mut self.post,
+            stables,
+            disks,
+            by,
+            &asking,
+        )?;
+        let place = self.history.len();
+        let Asking { replica, message } = asking;
+        let next = Pending {
+            replica,
+            event: Event::Ask { by, to },
+        };
+        keep(
+            &mut self.members,
+            &mut self.history,
+            stables,
+            disks,
+            by,
+            next,
+        )?;
+        self.post.send(message, place)
     }
 
     // Fetches a message, and reads it.
     fn fetch(&mut self, alloc: Global, mail: u32) -> Result<Letter, Refusal>
-        ensures fetches { OrMemory (λ given. FetchesMail L.tells mail self.old (messages_of given) self.new) result }
+        ensures fetches { Carried (λ given. FetchesMail L.tells mail self.old (messages_of given)) result self.new }
         ensures wants { IsErrOf result OutOfMemory → IsMember (length self.old.post.posts) mail }
         ensures there { OnOk result (IsMember (length self.old.post.posts) mail) }
         ensures fits { IfOk result (λ letter. FitsMessage (length self.new.members) (message_of letter)) }
         ensures behind { OnOk result (IsMember (length self.new.post.behind) mail) }
         ensures same { OnOk result (self.new ≡ self.old) }
         ensures stored { self.new.events ≡ self.old.events }
+        ensures members { self.new.members ≡ self.old.members }
         ensures memory { IsErrOf result OutOfMemory → self.new ≡ self.old }
     {
         if !self.post.has(mail) {
@@ -205,10 +301,14 @@ impl<L: Link + Drop> World<L> {
         requires room { length self.old.events < event_limit + most_events }
         requires mail { IsMember (length self.old.post.behind) came.number }
         requires route { IsRoute (length self.old.members) (way came.from came.to came.ask) }
-        ensures serves { OrMemory (λ answer. ServesAsk L.tells came self.old answer self.new) result }
+        ensures serves { Carried (ServesAsk L.tells came self.old) result self.new }
         ensures grows { length self.new.events ≤ length self.old.events + 1 }
+        ensures members { self.new.members ≡ self.old.members }
         ensures memory { IsErrOf result OutOfMemory → self.new ≡ self.old }
     {
+        if !is_up(self.member(came.to)) {
+            return Err(Refusal::Down);
+        }
         self.history.reserve(1)?;
         self.post.make_room()?;
         let ask = self.post.place(came.number);
@@ -224,7 +324,8 @@ impl<L: Link + Drop> World<L> {
 
     // The spelling of what the member answers to an ask: its tables.
     fn answer_to(&self, alloc: Global, came: Delivery) -> Result<Vec<u8>, Memory>
-        requires { IsRoute (length self.now.members) (way came.from came.to came.ask) }
+        requires route { IsRoute (length self.now.members) (way came.from came.to came.ask) }
+        requires up { IsUpIn self.now came.to }
         ensures { IfOk result (λ bytes. (peer : MemberValue) × IsServing self.now came peer
             × (bytes.items ≡ bytes_in self.now (answer_of came peer))) }
     {
@@ -238,31 +339,43 @@ impl<L: Link + Drop> World<L> {
         };
         encode(alloc, &message, self.count())
     }
+}
 
-    // Takes what was served, or refuses it. All memory is taken before anything changes.
-    fn take(
-        &mut self,
-        alloc: Global,
-        came: Delivery,
-        entries: &[Entry],
-        files: &[FileReplica],
-    ) -> Result<Answer, Refusal>
-        requires room { length self.old.events < event_limit + most_events }
-        requires mail { IsMember (length self.old.post.behind) came.number }
-        requires to { IsMember (length self.old.members) came.to }
-        requires tables { FitsTables (length self.old.members) entries.now files.now }
-        ensures takes { OrMemory (λ answer. TakesAnswer came entries.now files.now self.old answer self.new) result }
-        ensures grows { length self.new.events ≤ length self.old.events + 1 }
-        ensures memory { IsErrOf result OutOfMemory → self.new ≡ self.old }
-    {
-        self.history.reserve(1)?;
-        let serve = self.post.place(came.number);
-        let replica = &self.member(came.to).replica;
-        let new = replica.accept_rows(alloc, came.from, came.ask, entries, files)?;
-        hold(&mut self.members, came.to, new);
-        self.history.push(Event::Accept { by: came.to, serve });
-        Ok(Answer::Done)
+// Looks whether what was asked may be posted, and takes all memory for that, and for what the asker saves.
+fn make_ready<K: Keep + Drop, L: Link + Drop, D: Disk>(
+    history: &mut History,
+    post: &mut Post<L>,
+    stables: &mut Vec<Stable<K>>,
+    disks: &mut Vec<Pair<D>>,
+    by: u8,
+    asking: &Asking,
+) -> Result<(), Refusal>
+    requires stable { IsMember (length stables.old.items) by }
+    requires pair { IsMember (length disks.old.items) by }
+    requires fits { FitsImage asking.now.replica.saved }
+    ensures room { OnOk result (1 ≤ history.new.room) }
+    ensures post_room { OnOk result (HasRoom post.new) }
+    ensures prepared { OnOk result (IsPreparedAt K.buffered K.room K.size_of D.room stables.new.items disks.new.items by
+        asking.now.replica.saved) }
+    ensures small { OnOk result (post.old.now.total + length asking.now.message.items ≤ total_limit) }
+    ensures full { OnErr result (result ≢ Err OutOfMemory → (result ≡ Err IsFull)
+        × (post.old.now.total + length asking.now.message.items ≤ total_limit → ⊥)) }
+    ensures events { history.new.events ≡ history.old.events }
+    ensures post { post.new.now ≡ post.old.now }
+    ensures disks { (members : List MemberValue)
+        → AreDisksOf D.tells K.kept K.fits D.seen D.may_leave D.armings members stables.old.items disks.old.items
+        → AreDisksOf D.tells K.kept K.fits D.seen D.may_leave D.armings members stables.new.items disks.new.items }
+    ensures follows { (members : List MemberValue) → DisksComeTo K.Keep D.Disk [] members members disks.old.items
+        disks.new.items }
+    ensures count { length stables.new.items ≡ length stables.old.items }
+{
+    if !post.has_room_for(&asking.message) {
+        return Err(Refusal::LinkFull);
     }
+    history.reserve(1)?;
+    post.make_room()?;
+    prepare_at(stables, disks, by, &asking.replica.saved)?;
+    Ok(())
 }
 
 // The message that the bytes spell.

@@ -1,18 +1,19 @@
-//! A world of replicas that exchange messages over a link: one command after the other, each made of atomic events of
-//! one replica.
+//! A world of replicas that exchange messages over a link and save what they do on their disks: one command after the
+//! other, each made of atomic events of one replica.
 #![tactic(auto)]
 
 mod exchange;
-mod fresh;
+mod group;
+mod keeping;
 mod laws;
 mod member;
+mod opening;
 mod post;
+mod restart;
+mod saving;
 mod step;
 mod world;
 
-pub use laws::{
-    knowledge_is_held, no_message_is_bad, one_run, one_run_where_all_is_done, one_world,
-    pulls_are_never_stale, removed_stays_removed, runs_are_final, runs_are_lawful, runs_extend,
-    same_updates_answer_same, same_updates_are_alike,
-};
-pub use world::World;
+pub use laws::{disks_stand, knowledge_is_held, one_world};
+pub use opening::{WorldFault, what_is_made_stands};
+pub use world::{DEFAULT_BYTES, DEFAULT_IDS, World};

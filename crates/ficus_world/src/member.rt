@@ -1,23 +1,58 @@
-ghost use Rattle.std.specs.Prelude.{◌≡◌, ◌-◌, length, slice_set};
+ghost use Rattle.std.specs.Prelude.{◌≡◌, ◌≢◌, ◌↔◌, ◌-◌, IsTrue, Some, None, length, slice_set};
 ghost use Rattle.ficus_ids.specs.Members.{IsMember};
-ghost use Rattle.ficus_world.specs.Moves.{without_ask};
-ghost use Rattle.ficus_world.specs.Numbered.{IsNumbered};
+ghost use Rattle.ficus_saved.specs.declared.saved.Saved.{Saved as SavedValue};
+ghost use Rattle.ficus_runs.specs.Numbered.{IsNumbered};
+ghost use Rattle.ficus_world.specs.Moves.{IsLike, still_pending};
+ghost use Rattle.ficus_world.specs.Disks.{IsRisen, IsStateAfter};
 ghost use Rattle.ficus_world.specs.declared.member.Member.{Member as MemberValue};
+ghost use Rattle.ficus_world.specs.declared.member.MemberState.TheVariants.{Down as IsDown, Up as IsUp};
+ghost use Rattle.ficus_world.specs.declared.member.Rising.TheVariants.{AsPending as HasHappened, Neither as IsNeither};
 
+use ficus_model::Event;
 use ficus_replica::Replica;
+use ficus_saved::Saved;
+use std::mem;
+
+/// A replica after an event of its own that isn't saved yet, or whose save failed.
+#[derive(Drop)]
+pub struct Pending {
+    pub(crate) replica: Replica,
+    pub(crate) event: Event,
+}
 
 /// Whether a member takes commands.
-#[derive(Clone, Copy)]
+#[derive(Drop)]
 pub enum MemberState {
     /// It takes commands.
     Up,
+    /// Its disks have failed, in a save of what is pending or when they were opened. A restart brings it back.
+    Down(Option<Pending>),
 }
 
-/// A member of a volume: the replica that it holds, and its state.
+/// A member of a volume: the replica that it holds, its state, and whether both of its disks have a fuse.
 #[derive(Drop)]
 pub struct Member {
     pub(crate) replica: Replica,
     pub(crate) state: MemberState,
+    pub(crate) fused: bool,
+}
+
+/// What a member that is opened again comes to.
+#[derive(Drop)]
+pub(crate) enum Rising {
+    /// It is up, as it was.
+    AsWas,
+    /// It is up, and this has happened, which was pending.
+    AsPending(Event),
+    /// It is down: what was read is neither.
+    Neither,
+}
+
+/// Whether the member takes commands.
+pub(crate) fn is_up(member: &Member) -> bool
+    ensures { IsTrue result ↔ (member.now.state ≡ IsUp) }
+{
+    matches!(member.state, MemberState::Up)
 }
 
 /// Has the member of this number hold the replica, in the state in which it was.
@@ -29,12 +64,120 @@ pub(crate) fn hold(members: &mut Vec<Member>, number: u8, replica: Replica)
     members[number as usize - 1].replica = replica;
 }
 
-/// Has the replica of the member of this number wait for no answer.
-pub(crate) fn drop_ask(members: &mut Vec<Member>, number: u8)
+/// Puts the member of this number down, with what is pending.
+pub(crate) fn put_down(members: &mut Vec<Member>, number: u8, pending: Pending)
     requires { IsMember (length members.old.items) number }
     ensures { (was : MemberValue) → IsNumbered members.old.items number was
         → members.new.items
-        ≡ slice_set members.old.items (number - 1) (record was { replica = without_ask was.replica }) }
+        ≡ slice_set members.old.items (number - 1) (record was { state = IsDown (Some pending) }) }
 {
-    members[number as usize - 1].replica.ask = None;
+    members[number as usize - 1].state = MemberState::Down(Some(pending));
+}
+
+/// Puts the member of this number down, with what was pending before.
+pub(crate) fn keep_down(members: &mut Vec<Member>, number: u8)
+    requires { IsMember (length members.old.items) number }
+    ensures { (was : MemberValue) → IsNumbered members.old.items number was
+        → members.new.items
+        ≡ slice_set members.old.items (number - 1) (record was { state = IsDown (still_pending was.state) }) }
+{
+    let state = &mut members[number as usize - 1].state;
+    if let MemberState::Up = state {
+        *state = MemberState::Down(None);
+    }
+}
+
+/// Brings the member of this number up with what was read of its disks, where that is of the generation that it had, or
+/// of the one with what was pending. It waits for no answer then. Else it is down.
+pub(crate) fn rise(members: &mut Vec<Member>, number: u8, read: Saved) -> Rising
+    requires { IsMember (length members.old.items) number }
+    ensures { (was : MemberValue) → IsNumbered members.old.items number was
+        → (now : MemberValue) × (members.new.items ≡ slice_set members.old.items (number - 1) now)
+        × IsRisen was read result now }
+{
+    let member = &mut members[number as usize - 1];
+    let rising = come_up(&mut member.state, &member.replica.saved, &read);
+    if has_risen(&rising) {
+        bring_back(&mut member.replica, read);
+    } else {
+        drop(read);
+    }
+    rising
+}
+
+// Whether it is up.
+fn has_risen(rising: &Rising) -> bool
+    ensures { IsTrue result ↔ (rising.now ≢ IsNeither) }
+{
+    !matches!(rising, Rising::Neither)
+}
+
+// What the state of a member comes to that saves this, with what was read of its disks.
+fn come_up(state: &mut MemberState, known: &Saved, read: &Saved) -> Rising
+    ensures { IsStateAfter state.old known.now read.now result state.new }
+{
+    if is_like(known, read) {
+        set_state(state, MemberState::Up);
+        return Rising::AsWas;
+    }
+    match mem::replace(state, MemberState::Down(None)) {
+        MemberState::Down(Some(pending)) => come_with(state, pending, read),
+        _ => Rising::Neither,
+    }
+}
+
+// Whether what is pending has happened; else it stays so.
+fn come_with(state: &mut MemberState, pending: Pending, read: &Saved) -> Rising
+    ensures happened { IsLike pending.replica.saved read.now
+        → (result ≡ HasHappened pending.event) × (state.new ≡ IsUp) }
+    ensures stays { (IsLike pending.replica.saved read.now → ⊥)
+        → (result ≡ IsNeither) × (state.new ≡ IsDown (Some pending)) }
+{
+    if is_like(&pending.replica.saved, read) {
+        set_state(state, MemberState::Up);
+        Rising::AsPending(event_of(pending))
+    } else {
+        set_state(state, MemberState::Down(Some(pending)));
+        Rising::Neither
+    }
+}
+
+fn event_of(pending: Pending) -> Event
+    ensures { result ≡ pending.event }
+{
+    pending.event
+}
+
+fn set_state(state: &mut MemberState, now: MemberState)
+    ensures { state.new ≡ now }
+{
+    *state = now;
+}
+
+// It holds what was read, and waits for no answer.
+fn bring_back(replica: &mut Replica, read: Saved)
+    ensures { replica.new ≡ record { saved = read; ask = None } }
+{
+    *replica = restarted(read);
+}
+
+// A replica that waits for no answer.
+fn restarted(read: Saved) -> Replica
+    ensures { result ≡ record { saved = read; ask = None } }
+{
+    Replica {
+        saved: read,
+        ask: None,
+    }
+}
+
+// Whether what was read is of the same member, volume and generation.
+fn is_like(known: &Saved, read: &Saved) -> bool
+    ensures { IsTrue result ↔ IsLike known.now read.now }
+{
+    read.me == known.me
+        && read.members == known.members
+        && read.ids == known.ids
+        && read.bytes == known.bytes
+        && read.generation == known.generation
 }

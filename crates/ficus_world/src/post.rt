@@ -1,8 +1,8 @@
 ghost use Rattle.std.specs.Prelude.{◌≡◌, ◌≢◌, ◌↔◌, ◌+◌, ◌≤◌, [], length, Err, IfOk, OnOk, OnErr, IsTrue};
 ghost use Rattle.ficus_ids.specs.Members.{IsMember};
 ghost use Rattle.ficus_ids.specs.declared.refusal.Refusal.TheVariants.{Link as LinkFailed, Memory as OutOfMemory};
-ghost use Rattle.ficus_world.specs.Exchange.{total_limit};
-ghost use Rattle.ficus_world.specs.Numbered.{IsNumbered};
+ghost use Rattle.ficus_runs.specs.Exchange.{total_limit};
+ghost use Rattle.ficus_runs.specs.Numbered.{IsNumbered};
 ghost use Rattle.ficus_world.specs.Post.{AreFetched, HasFailed, HasRoom, IsSent};
 
 use ficus_ids::{Memory, Refusal};

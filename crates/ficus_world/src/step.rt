@@ -1,146 +1,244 @@
-ghost use Rattle.std.specs.Prelude.{◌≡◌, ◌≢◌, ℕ, ◌+◌, ◌<◌, ◌≤◌, Err, length, IfOk, OnOk, OnErr, IsErrOf};
+ghost use Rattle.std.specs.Prelude.{◌≡◌, ◌≢◌, ◌+◌, ◌<◌, ◌≤◌, Err, length, IfOk, OnErr, IsErrOf};
 ghost use Rattle.ficus_ids.specs.declared.refusal.Refusal.TheVariants.{Memory as OutOfMemory};
-ghost use Rattle.ficus_world.specs.Answers.{answer_as, answer_to};
+ghost use Rattle.ficus_runs.specs.Answers.{answer_as, answer_to};
+ghost use Rattle.ficus_world.specs.Disks.{AreDisksOf, DisksFollow, StaysOn};
 ghost use Rattle.ficus_world.specs.World.{event_limit, most_events};
 
 use crate::World;
-use crate::member::hold;
+use crate::member::Pending;
+use crate::saving::arm_at;
 use ficus_commands::{Change, Look};
+use ficus_disk::{Disk, Pair};
 use ficus_ids::{Id, Memory, Refusal};
+use ficus_keep::Keep;
 use ficus_model::{Event, Op};
 use ficus_outside::Link;
 use ficus_script::{Answer, Command};
 use std::alloc::Global;
 
-impl<L: Link + Drop> World<L> {
+impl<K: Keep + Drop, L: Link + Drop> World<K, L> {
     ghost use Rattle.ficus_model.specs.Lawful.{Volume};
     ghost use Rattle.ficus_commands.specs.Change.{HasFitPaths};
     ghost use Rattle.ficus_script.specs.Command.{IsCommand};
-    ghost use Rattle.ficus_script.specs.declared.command.Command.TheVariants.{Change as Changes, Look as Looks, Collect as Collects, Alike as Compares, Stop as StopsDisks};
-    ghost use Rattle.ficus_world.specs.ModelWorld.{ModelWorld};
-    ghost use Rattle.ficus_world.specs.Follows.{Follows, Stops};
-    ghost use Rattle.ficus_world.specs.Moves.{ComesTo, CutShort, HasCollected, Moves};
-    ghost use Rattle.ficus_world.specs.Run.{CommandMayWantMemory};
+    ghost use Rattle.ficus_script.specs.declared.command.Command.TheVariants.{Alike as Compares, Change as Changes, Collect as Collects, Look as Looks, Pull as Pulls, Stop as StopsDisks};
+    ghost use Rattle.ficus_runs.specs.ModelWorld.{ModelWorld};
+    ghost use Rattle.ficus_runs.specs.Run.{CommandMayWantMemory};
+    ghost use Rattle.ficus_world.specs.Follows.{FollowsOn, StopsOn, TellsFor};
+    ghost use Rattle.ficus_world.specs.Stepped.{ComesTo, CutOn, LookComesTo, Stepped};
+    ghost use Rattle.ficus_world.specs.Moves.{HasCollected};
     ghost use Rattle.ficus_world.specs.World.{WorldStandsFor};
 
-    /// Carries out one command, and answers it. After `Memory` the world is as before, but that a pull keeps what it has
-    /// done: its ask, and the serving of it.
-    pub fn step(&mut self, alloc: Global, command: &Command) -> Result<Answer, Memory>
+    /// Carries out one command, and answers it. What a member saves is on its disks before it is answered; where they
+    /// fail, the answer is `Store`, the member is down, and what it would have saved is pending until it is restarted.
+    /// After `Memory` the world is as before, but that a pull keeps what it has done: its ask, and the serving of it.
+    pub fn step<D: Disk>(
+        &mut self,
+        alloc: Global,
+        disks: &mut Vec<Pair<D>>,
+        command: &Command,
+    ) -> Result<Answer, Memory>
         requires command { IsCommand command.now }
-        requires room { length self.old.events < event_limit }
-        ensures moves { IfOk result (λ answer. Moves L.tells self.old command.now answer self.new) }
-        ensures grows { length self.new.events ≤ length self.old.events + most_events }
-        ensures memory { OnErr result (CutShort L.tells command.now self.old self.new) }
+        requires room { length self.old.whole.events < event_limit }
+        requires pairs { length self.old.whole.members ≤ length disks.old.items }
+        requires disks { AreDisksOf D.tells K.kept K.fits D.seen D.may_leave D.armings self.old.whole.members
+            self.old.stables disks.old.items }
+        ensures moves { IfOk result (λ answer. Stepped L.tells K.Keep D.Disk self.old.whole command.now answer
+            self.new.whole disks.old.items disks.new.items) }
+        ensures grows { length self.new.whole.events ≤ length self.old.whole.events + most_events }
+        ensures members { length self.new.whole.members ≡ length self.old.whole.members }
+        ensures pairs { length disks.new.items ≡ length disks.old.items }
+        ensures memory { OnErr result (CutOn L.tells K.Keep D.Disk command.now self.old.whole self.new.whole
+            disks.old.items disks.new.items) }
+        // The disks are still those of the world: they hold what each member that is up has saved, and of one that is down
+        // that, or what is pending.
+        ensures disks { AreDisksOf D.tells K.kept K.fits D.seen D.may_leave D.armings self.new.whole.members
+            self.new.stables disks.new.items }
         // A replica that has collected holds no removed entry of which everybody is known to know that all know, and no
         // file or directory that nothing which it holds names or lies in, unless it is an orphan.
-        ensures collected { IfOk result (λ answer. HasCollected command.now answer self.new) }
-        // Whatever the world stood for before, over a link that tells its posts: the model allows the answer there, and
-        // the world stands for what it leads to; after `Memory`, for what the command has done.
-        ensures stands { L.tells → (volume : Volume) (W : ModelWorld) → WorldStandsFor volume W self.old
-            → IfOk result (λ answer. Follows volume W self.old.post.faults command.now answer self.new) }
-        ensures stays { L.tells → (volume : Volume) (W : ModelWorld) → WorldStandsFor volume W self.old
-            → OnErr result (Stops volume W self.old.post.faults command.now self.new) }
+        ensures collected { IfOk result (λ answer. HasCollected command.now answer self.new.whole) }
+        // Whatever the world stood for before, over a link that tells its posts, and for a restart over disks that tell
+        // what they hold: the model allows the answer there, and the world stands for what it leads to; after `Memory`, for
+        // what the command has done. Where the disks tell their fuses, these allow what became of all that was asked of
+        // the disks.
+        ensures stands { L.tells → TellsFor D.tells command.now → (volume : Volume) (W : ModelWorld)
+            → WorldStandsFor volume W self.old.whole
+            → IfOk result (λ answer. FollowsOn K.Keep D.Disk volume W self.old.whole command.now answer self.new.whole
+            disks.old.items disks.new.items) }
+        ensures stays { L.tells → (volume : Volume) (W : ModelWorld) → WorldStandsFor volume W self.old.whole
+            → OnErr result (StopsOn K.Keep D.Disk volume W self.old.whole command.now self.new.whole disks.old.items
+            disks.new.items) }
         // Memory is wanted only where the model refuses nothing, or where it has to be taken before that is known.
-        ensures wants { (volume : Volume) (W : ModelWorld) → WorldStandsFor volume W self.old
+        ensures wants { (volume : Volume) (W : ModelWorld) → WorldStandsFor volume W self.old.whole
             → OnErr result (CommandMayWantMemory volume W command.now) }
     {
-        answered(self.carry_out(alloc, command))
+        answered(self.carry_out(alloc, disks, command))
     }
 
-    fn carry_out(&mut self, alloc: Global, command: &Command) -> Result<Answer, Refusal>
+    fn carry_out<D: Disk>(
+        &mut self,
+        alloc: Global,
+        disks: &mut Vec<Pair<D>>,
+        command: &Command,
+    ) -> Result<Answer, Refusal>
         requires command { IsCommand command.now }
-        requires room { length self.old.events < event_limit }
-        ensures moves { ComesTo L.tells self.old command.now result self.new }
-        ensures grows { length self.new.events ≤ length self.old.events + most_events }
-        ensures memory { IsErrOf result OutOfMemory → CutShort L.tells command.now self.old self.new }
+        requires room { length self.old.whole.events < event_limit }
+        requires pairs { length self.old.whole.members ≤ length disks.old.items }
+        requires disks { AreDisksOf D.tells K.kept K.fits D.seen D.may_leave D.armings self.old.whole.members
+            self.old.stables disks.old.items }
+        ensures moves { ComesTo L.tells K.Keep D.Disk self.old.whole command.now result self.new.whole disks.old.items
+            disks.new.items }
+        ensures grows { length self.new.whole.events ≤ length self.old.whole.events + most_events }
+        ensures members { length self.new.whole.members ≡ length self.old.whole.members }
+        ensures memory { IsErrOf result OutOfMemory → CutOn L.tells K.Keep D.Disk command.now self.old.whole
+            self.new.whole disks.old.items disks.new.items }
+        ensures disks { AreDisksOf D.tells K.kept K.fits D.seen D.may_leave D.armings self.new.whole.members
+            self.new.stables disks.new.items }
     {
         match command {
-            Command::Change { by, change } => self.change(alloc, *by, change),
+            Command::Change { by, change } => self.change(alloc, disks, *by, change),
             Command::Look { by, look } => self.look(alloc, *by, look),
-            Command::Collect { by } => self.collect(alloc, *by),
-            Command::Ask { by, to } => Ok(Answer::Mail(self.ask(alloc, *by, *to)?)),
-            Command::Give { mail } => self.give(alloc, *mail),
-            Command::Pull { by, to } => self.pull(alloc, *by, *to),
+            Command::Collect { by } => self.collect(alloc, disks, *by),
+            Command::Ask { by, to } => Ok(Answer::Mail(self.ask(alloc, disks, *by, *to)?)),
+            Command::Give { mail } => self.give(alloc, disks, *mail),
+            Command::Pull { by, to } => self.pull(alloc, disks, *by, *to),
             Command::Alike { by, other } => self.alike(alloc, *by, *other),
-            Command::Restart { by } => self.restart(*by),
-            Command::Stop { by, .. } => self.stop(*by),
+            Command::Restart { by } => self.restart(alloc, disks, *by),
+            Command::Stop { by, calls, pick } => self.stop(disks, *by, *calls, *pick),
         }
     }
 
-    // All memory is taken before anything changes, and behind what may be refused.
-    fn change(&mut self, alloc: Global, by: u8, change: &Change) -> Result<Answer, Refusal>
+    fn change<D: Disk>(
+        &mut self,
+        alloc: Global,
+        disks: &mut Vec<Pair<D>>,
+        by: u8,
+        change: &Change,
+    ) -> Result<Answer, Refusal>
         requires new { HasFitPaths change.now }
-        requires room { length self.old.events < event_limit }
-        ensures moves { ComesTo L.tells self.old (Changes by change.now) result self.new }
-        ensures stored { OnOk result (length self.new.events ≡ length self.old.events + 1) }
-        ensures refused { OnErr result (self.new ≡ self.old) }
+        requires room { length self.old.whole.events < event_limit }
+        requires pairs { length self.old.whole.members ≤ length disks.old.items }
+        requires disks { AreDisksOf D.tells K.kept K.fits D.seen D.may_leave D.armings self.old.whole.members
+            self.old.stables disks.old.items }
+        ensures moves { ComesTo L.tells K.Keep D.Disk self.old.whole (Changes by change.now) result self.new.whole
+            disks.old.items disks.new.items }
+        ensures grows { length self.new.whole.events ≤ length self.old.whole.events + 1 }
+        ensures members { length self.new.whole.members ≡ length self.old.whole.members }
+        ensures memory { IsErrOf result OutOfMemory → StaysOn D.faults D.armings self.old.whole self.new.whole
+            disks.old.items disks.new.items }
+        ensures disks { AreDisksOf D.tells K.kept K.fits D.seen D.may_leave D.armings self.new.whole.members
+            self.new.stables disks.new.items }
     {
-        if !self.has(by) {
-            return Err(Refusal::Member);
-        }
-        let replica = &self.member(by).replica;
+        let replica = &self.group.up(by)?.replica;
         let number = replica.next_id();
         let next = replica.change(alloc, change)?;
-        self.history.reserve(1)?;
         let answer = answer(number, &next.op);
-        self.history.push(Event::Update { by, op: next.op });
-        hold(&mut self.members, by, next.replica);
+        let next = Pending {
+            replica: next.replica,
+            event: Event::Update { by, op: next.op },
+        };
+        self.save(disks, by, next)?;
         Ok(answer)
     }
 
     fn look(&self, alloc: Global, by: u8, look: &Look) -> Result<Answer, Refusal>
-        ensures { ComesTo L.tells self.now (Looks by look.now) result self.now }
+        ensures { LookComesTo L.tells self.now.whole (Looks by look.now) result }
     {
-        if !self.has(by) {
-            return Err(Refusal::Member);
-        }
-        let told = self.member(by).replica.look(alloc, look)?;
+        let told = self.group.up(by)?.replica.look(alloc, look)?;
         Ok(Answer::Told(told))
     }
 
-    // All memory is taken before anything changes.
-    fn collect(&mut self, alloc: Global, by: u8) -> Result<Answer, Refusal>
-        requires room { length self.old.events < event_limit }
-        ensures moves { ComesTo L.tells self.old (Collects by) result self.new }
-        ensures stored { OnOk result (length self.new.events ≡ length self.old.events + 1) }
-        ensures refused { OnErr result (self.new ≡ self.old) }
+    fn collect<D: Disk>(
+        &mut self,
+        alloc: Global,
+        disks: &mut Vec<Pair<D>>,
+        by: u8,
+    ) -> Result<Answer, Refusal>
+        requires room { length self.old.whole.events < event_limit }
+        requires pairs { length self.old.whole.members ≤ length disks.old.items }
+        requires disks { AreDisksOf D.tells K.kept K.fits D.seen D.may_leave D.armings self.old.whole.members
+            self.old.stables disks.old.items }
+        ensures moves { ComesTo L.tells K.Keep D.Disk self.old.whole (Collects by) result self.new.whole disks.old.items
+            disks.new.items }
+        ensures grows { length self.new.whole.events ≤ length self.old.whole.events + 1 }
+        ensures members { length self.new.whole.members ≡ length self.old.whole.members }
+        ensures memory { IsErrOf result OutOfMemory → StaysOn D.faults D.armings self.old.whole self.new.whole
+            disks.old.items disks.new.items }
+        ensures disks { AreDisksOf D.tells K.kept K.fits D.seen D.may_leave D.armings self.new.whole.members
+            self.new.stables disks.new.items }
     {
-        if !self.has(by) {
-            return Err(Refusal::Member);
-        }
-        let collected = self.member(by).replica.collect(alloc)?;
-        self.history.reserve(1)?;
+        let collected = self.group.up(by)?.replica.collect(alloc)?;
         let answer = Answer::Collected {
             entries: collected.entries,
             files: collected.files,
         };
-        self.history.push(Event::Collect { by });
-        hold(&mut self.members, by, collected.replica);
+        let next = Pending {
+            replica: collected.replica,
+            event: Event::Collect { by },
+        };
+        self.save(disks, by, next)?;
         Ok(answer)
     }
 
-    fn alike(&self, alloc: Global, by: u8, other: u8) -> Result<Answer, Refusal>
-        ensures { ComesTo L.tells self.now (Compares by other) result self.now }
+    // An ask, and the gives of its message and of the answer to it.
+    fn pull<D: Disk>(
+        &mut self,
+        alloc: Global,
+        disks: &mut Vec<Pair<D>>,
+        by: u8,
+        to: u8,
+    ) -> Result<Answer, Refusal>
+        requires room { length self.old.whole.events < event_limit }
+        requires pairs { length self.old.whole.members ≤ length disks.old.items }
+        requires disks { AreDisksOf D.tells K.kept K.fits D.seen D.may_leave D.armings self.old.whole.members
+            self.old.stables disks.old.items }
+        ensures moves { ComesTo L.tells K.Keep D.Disk self.old.whole (Pulls by to) result self.new.whole disks.old.items
+            disks.new.items }
+        ensures grows { length self.new.whole.events ≤ length self.old.whole.events + most_events }
+        ensures members { length self.new.whole.members ≡ length self.old.whole.members }
+        ensures memory { IsErrOf result OutOfMemory → CutOn L.tells K.Keep D.Disk (Pulls by to) self.old.whole
+            self.new.whole disks.old.items disks.new.items }
+        ensures disks { AreDisksOf D.tells K.kept K.fits D.seen D.may_leave D.armings self.new.whole.members
+            self.new.stables disks.new.items }
     {
-        if !self.are_peers(by, other) {
-            return Err(Refusal::Member);
-        }
-        let alike = self
-            .member(by)
-            .replica
-            .alike(alloc, &self.member(other).replica)?;
+        self.group.up_peers(by, to)?;
+        let asked = self.ask(alloc, disks, by, to)?;
+        let given = self.give(alloc, disks, asked)?;
+        self.give_next(alloc, disks, &given)
+    }
+
+    fn alike(&self, alloc: Global, by: u8, other: u8) -> Result<Answer, Refusal>
+        ensures { LookComesTo L.tells self.now.whole (Compares by other) result }
+    {
+        self.group.up_peers(by, other)?;
+        let one = &self.group.member(by).replica;
+        let alike = one.alike(alloc, &self.group.member(other).replica)?;
         Ok(Answer::Alike(alike))
     }
 
-    // Lets the disks of a member stop. No member has disks yet.
-    fn stop(&self, by: u8) -> Result<Answer, Refusal>
-        ensures { (calls pick : ℕ) → ComesTo L.tells self.now (StopsDisks by calls pick) result self.now }
+    // Lets the disks of a member stop after so many calls.
+    fn stop<D: Disk>(
+        &mut self,
+        disks: &mut Vec<Pair<D>>,
+        by: u8,
+        calls: u32,
+        pick: u8,
+    ) -> Result<Answer, Refusal>
+        requires pick { pick < 4 }
+        requires pairs { length self.old.whole.members ≤ length disks.old.items }
+        requires disks { AreDisksOf D.tells K.kept K.fits D.seen D.may_leave D.armings self.old.whole.members
+            self.old.stables disks.old.items }
+        ensures moves { ComesTo L.tells K.Keep D.Disk self.old.whole (StopsDisks by calls pick) result self.new.whole
+            disks.old.items disks.new.items }
+        ensures never { result ≢ Err OutOfMemory }
+        ensures same { self.new ≡ self.old }
+        ensures disks { AreDisksOf D.tells K.kept K.fits D.seen D.may_leave D.armings self.new.whole.members
+            self.new.stables disks.new.items }
     {
-        if self.has(by) {
-            Err(Refusal::NoFuse)
-        } else {
-            Err(Refusal::Member)
+        if !self.group.up(by)?.fused {
+            return Err(Refusal::NoFuse);
         }
+        arm_at::<K, D>(disks, by, calls, pick);
+        Ok(Answer::Done)
     }
 }
 

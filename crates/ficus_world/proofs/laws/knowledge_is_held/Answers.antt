@@ -3,6 +3,6 @@ use Rattle.ficus_world.proofs.Standing.{replica_stands}
 use Rattle.ficus_world.proofs.laws.knowledge_is_held.Goals as goal
 
 pub returns : goal.returns
-returns c = λ volume W world number replica entry knowing knowing_all_know stands held.
-    rw held.holds (marks_history stands.lawful
-    (replica_stands volume W world stands number held.member held.is).saved entry knowing knowing_all_know)
+returns c = λ volume W world number member entry knowing knowing_all_know stands is.
+    marks_history stands.lawful (replica_stands volume W world stands number member is).saved entry knowing
+    knowing_all_know

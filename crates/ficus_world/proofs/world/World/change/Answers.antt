@@ -1,63 +1,107 @@
-use Rattle.std.proofs.Common.{ap, sym, subst, length, ◌∙◌, arith}
-use Rattle.std.proofs.lemmas.List.{length_push}
+use Rattle.std.proofs.Common.{Err, subst}
 use Rattle.std.proofs.lemmas.Result.{err_from_is_err_and}
 use Rattle.ficus_model.specs.declared.event.Event.TheVariants.{Update}
 use Rattle.ficus_answers.proofs.Sound.{may_where_given}
 use Rattle.ficus_script.specs.declared.command.Command.TheVariants.{Change as Changes}
-use Rattle.ficus_world.specs.Moves.{TablesMayWantMemory}
-use Rattle.ficus_world.specs.Numbered.{IsNumbered}
-use Rattle.ficus_world.specs.World.{Whole, IsSound, whole_of}
-use Rattle.ficus_world.proofs.Moved.{not_so, no_change, change_moves, change_refused}
-use Rattle.ficus_world.proofs.SoundWorlds.{world_after, changed_sound}
+use Rattle.ficus_runs.specs.Numbered.{IsNumbered}
+use Rattle.ficus_runs.specs.Sequence.{unchanged}
+use Rattle.ficus_world.specs.Moves.{CarriesOut, FindsUp, TablesMayWantMemory, pending_of}
+use Rattle.ficus_world.specs.World.{Whole}
+use Rattle.ficus_world.proofs.Carrying.{advanced_events, advanced_members, comes_to, refused_events, refused_members, save_refused, saved_done, whole_is}
+use Rattle.ficus_world.proofs.Moved.{change_moves, change_pends, change_refused, comes_to_none, up_ends}
 use Rattle.ficus_world.proofs.world.World.change.Goals as goal
 
-pub returns-then-not-has-clause-moves : goal.returns-then-not-has-clause-moves
-returns-then-not-has-clause-moves g c =
-    no_change g.L.Link.tells c.args.self.now c.args.by c.args.change.now (not_so c.has.result c.has.ensures c.if-not-has.true)
+pub returns-in_err-replica-clause-moves : goal.returns-in_err-replica-clause-moves
+returns-in_err-replica-clause-moves g c =
+    let refused = err_from_is_err_and c.from_residual.result c.from_residual.ensures.1 in
+    let old = c.args.self.now.whole in
+    rw (refused.1, refused.2)
+    (comes_to_none g.L.Link.tells g.K.Keep g.D.Disk old (Changes c.args.by c.args.change.now) _ c.args.disks.now.items
+    (up_ends _ _ c.args.by old c.in_err-replica.field-0.0 (unchanged old) (subst (λ (w : Whole). FindsUp c.args.by w (Err c.in_err-replica.field-0.0) (unchanged w)) (whole_is c.self.view_is) c.in_err-replica.ensures.refused)))
 
 pub returns-in_err-next-clause-moves : goal.returns-in_err-next-clause-moves
 returns-in_err-next-clause-moves g c =
-    let residual = c.from_residual in
+    let residual = c.from_residual-in_err-next in
     let refused = err_from_is_err_and residual.result residual.ensures.1 in
+    let old = c.args.self.now.whole in
+    let was = c.in_ok-replica.field-0.now in
+    let is = subst (λ (w : Whole). IsNumbered w.members c.args.by was) (whole_is c.self.view_is) c.in_ok-replica.ensures.is in
     rw (refused.1, refused.2)
-    (change_refused g.L.Link.tells c.args.self.now c.args.by c.member.result.now c.member.ensures.is c.args.change.now
-    c.in_err-next.field-0.0 c.in_err-next.ensures.gives)
+    (comes_to_none g.L.Link.tells g.K.Keep g.D.Disk old (Changes c.args.by c.args.change.now) _ c.args.disks.now.items
+    (change_refused g.L.Link.tells g.D.Disk.tells old c.args.by was is
+    c.in_ok-replica.ensures.up c.args.change.now c.in_err-next.field-0.0 c.in_err-next.ensures.gives))
 
-pub returns-in_err-reserve-clause-moves : goal.returns-in_err-reserve-clause-moves
-returns-in_err-reserve-clause-moves g c =
-    let wanted = err_from_is_err_and c.from_residual-in_err-reserve.result c.from_residual-in_err-reserve.ensures.1 in
-    let may : TablesMayWantMemory c.args.self.now (Changes c.args.by c.args.change.now) = record {
-      member = c.member.result.now;
-      is = c.member.ensures.is;
-      so = may_where_given c.member.ensures.sound.fits c.args.change.now c.in_ok-next.next.op
+pub returns-in_err-save-clause-moves : goal.returns-in_err-save-clause-moves
+returns-in_err-save-clause-moves g c =
+    let residual = c.from_residual-in_err-save in
+    let refused = err_from_is_err_and residual.result residual.ensures.1 in
+    let old = c.args.self.now.whole in
+    let change = Changes c.args.by c.args.change.now in
+    let was = c.in_ok-replica.field-0.now in
+    let is = subst (λ (w : Whole). IsNumbered w.members c.args.by was) (whole_is c.self.view_is) c.in_ok-replica.ensures.is in
+    let up = c.in_ok-replica.ensures.up in
+    let x = c.args.disks.now.items in
+    let z = c.save.new.disks.items in
+    let new = c.save.new.self.whole in
+    let next = c.in_ok-next.next in
+    let may : TablesMayWantMemory old change = record {
+      member = was;
+      is = is;
+      up = up;
+      so = may_where_given c.in_ok-replica.ensures.sound.replica.fits c.args.change.now next.op
           c.in_ok-next.ensures.gives.answer;
     } in
-    rw (wanted.1, wanted.2) may
+    rw (refused.1, refused.2)
+    (comes_to old change _ new x z
+    (save_refused (CarriesOut g.L.Link.tells g.D.Disk.tells change) old new c.args.by was
+    (pending_of next.replica (Update c.args.by next.op)) x z c.in_err-save.field-0.0 c.in_err-save.ensures.refused
+    (λ e. c.in_err-save.ensures.failed e was is) c.in_err-save.ensures.counted c.in_err-save.ensures.memory
+    (change_pends g.L.Link.tells g.D.Disk.tells old c.args.by was is up c.args.change.now next
+    c.in_ok-next.ensures.gives)) (λ e. may))
 
-pub invariant_of-self-2 : goal.invariant_of-self-2
-invariant_of-self-2 g c =
-    let was = c.member.result.now in
-    let update = Update c.args.by c.in_ok-next.next.op in
-    let events = rw c.in_ok-reserve.ensures.events at c.push.ensures.events in
-    let longer = ap length events ∙ length_push c.self.inside.history.events update in
-    let is = subst (λ (w : Whole). IsNumbered w.members c.args.by was) (sym c.self.view_is) c.member.ensures.is in
-    let sound = subst (λ (w : Whole). IsSound (length w.members) (length w.events) c.args.by was.replica)
-    (sym c.self.view_is) c.member.ensures.sound in
-    let now = changed_sound sound c.in_ok-next.ensures.gives c.in_ok-next.ensures.fits in
-    let old = whole_of c.self.inside.members.items c.self.inside.history.events c.self.inside.post.now in
-    world_after old _ c.args.by was _ is c.self.invariant (rw longer now) (omega arith) _ (c.hold.ensures was is)
+pub returns-in_err-save-clause-grows : goal.returns-in_err-save-clause-grows
+returns-in_err-save-clause-grows g c =
+    let was = c.in_ok-replica.field-0.now in
+    let is = subst (λ (w : Whole). IsNumbered w.members c.args.by was) (whole_is c.self.view_is) c.in_ok-replica.ensures.is in
+    let next = c.in_ok-next.next in
+    refused_events c.args.self.now.whole c.save.new.self.whole c.args.by was
+    (pending_of next.replica (Update c.args.by next.op)) c.args.disks.now.items c.save.new.disks.items
+    c.in_err-save.field-0.0 c.in_err-save.ensures.refused
+    (λ e. c.in_err-save.ensures.failed e was is) c.in_err-save.ensures.memory
+
+pub returns-in_err-save-clause-members : goal.returns-in_err-save-clause-members
+returns-in_err-save-clause-members g c =
+    let was = c.in_ok-replica.field-0.now in
+    let is = subst (λ (w : Whole). IsNumbered w.members c.args.by was) (whole_is c.self.view_is) c.in_ok-replica.ensures.is in
+    let next = c.in_ok-next.next in
+    refused_members c.args.self.now.whole c.save.new.self.whole c.args.by was
+    (pending_of next.replica (Update c.args.by next.op)) c.args.disks.now.items c.save.new.disks.items
+    c.in_err-save.field-0.0 c.in_err-save.ensures.refused
+    (λ e. c.in_err-save.ensures.failed e was is) c.in_err-save.ensures.memory
 
 pub returns-clause-moves : goal.returns-clause-moves
 returns-clause-moves g c =
-    let was = c.member.result.now in
-    let is = subst (λ (w : Whole). IsNumbered w.members c.args.by was) (sym c.self.view_is) c.member.ensures.is in
-    let old = whole_of c.self.inside.members.items c.self.inside.history.events c.self.inside.post.now in
-    let moves = change_moves g.L.Link.tells old c.args.by was is c.args.change.now c.in_ok-next.next c.in_ok-next.ensures.gives in
-    rw (
-      c.answer-answer.ensures,
-      c.next_id-number.ensures,
-      c.hold.ensures was is,
-      c.push.ensures.events,
-      c.in_ok-reserve.ensures.events,
-      ← c.self.view_is,
-    ) moves
+    let old = c.args.self.now.whole in
+    let change = Changes c.args.by c.args.change.now in
+    let was = c.in_ok-replica.field-0.now in
+    let is = subst (λ (w : Whole). IsNumbered w.members c.args.by was) (whole_is c.self.view_is) c.in_ok-replica.ensures.is in
+    let next = c.in_ok-next.next in
+    rw (c.answer-answer.ensures, c.next_id-number.ensures)
+    (saved_done old c.save.new.self.whole change c.args.by was next.replica (Update c.args.by next.op) _
+    c.args.disks.now.items c.save.new.disks.items (c.in_ok-save.ensures.saved was is) c.in_ok-save.ensures.followed
+    (change_moves g.L.Link.tells g.D.Disk.tells old c.args.by was is c.in_ok-replica.ensures.up c.args.change.now next
+    c.in_ok-next.ensures.gives))
+
+pub returns-clause-grows : goal.returns-clause-grows
+returns-clause-grows g c =
+    let was = c.in_ok-replica.field-0.now in
+    let is = subst (λ (w : Whole). IsNumbered w.members c.args.by was) (whole_is c.self.view_is) c.in_ok-replica.ensures.is in
+    advanced_events c.args.self.now.whole c.save.new.self.whole c.args.by was c.in_ok-next.next.replica
+    (Update c.args.by c.in_ok-next.next.op) (c.in_ok-save.ensures.saved was is)
+
+pub returns-clause-members : goal.returns-clause-members
+returns-clause-members g c =
+    let was = c.in_ok-replica.field-0.now in
+    let is = subst (λ (w : Whole). IsNumbered w.members c.args.by was) (whole_is c.self.view_is) c.in_ok-replica.ensures.is in
+    advanced_members c.args.self.now.whole c.save.new.self.whole c.args.by was c.in_ok-next.next.replica
+    (Update c.args.by c.in_ok-next.next.op) (c.in_ok-save.ensures.saved was is)

@@ -1,43 +1,69 @@
-use Rattle.std.proofs.Common.{◌≡◌, Ok, subst}
+use Rattle.std.proofs.Common.{◌≡◌, Err, Ok, Result, length, subst}
 use Rattle.std.proofs.lemmas.Result.{err_from_is_err_and}
+use Rattle.ficus_ids.specs.declared.refusal.Refusal.{Refusal}
 use Rattle.ficus_ids.specs.declared.refusal.Refusal.TheVariants.{Memory}
-use Rattle.ficus_wire.specs.Message.{message_of}
+use Rattle.ficus_wire.specs.Message.{messages_of}
 use Rattle.ficus_wire.specs.declared.message.Letter.{Letter}
-use Rattle.ficus_world.specs.Moves.{FetchesMail, HandlesMessage}
-use Rattle.ficus_world.proofs.Moved.{ends_first, goes_on, same_refusal}
-use Rattle.ficus_world.proofs.Sending.{no_letter}
+use Rattle.ficus_world.specs.Disks.{Carried}
+use Rattle.ficus_ids.specs.Members.{IsMember}
+use Rattle.ficus_world.specs.Moves.{FetchesMail}
+use Rattle.ficus_world.specs.World.{Whole}
+use Rattle.ficus_world.proofs.Carrying.{whole_is}
+use Rattle.ficus_world.proofs.Moved.{same_refusal}
+use Rattle.ficus_world.proofs.Sending.{give_handled, give_unfetched, serves_carried}
 use Rattle.ficus_world.proofs.world.World.give.Goals as goal
 
 pub returns-in_err-from-clause-gives : goal.returns-in_err-from-clause-gives
 returns-in_err-from-clause-gives g c =
     let refused = err_from_is_err_and c.from_residual.result c.from_residual.ensures.1 in
     rw (refused.1, refused.2)
-    (ends_first (FetchesMail g.L.Link.tells c.args.mail) (HandlesMessage g.L.Link.tells c.args.mail) c.args.self.now
-    c.fetch.new.self c.in_err-from.field-0.0
-    (no_letter g.L.Link.tells c.args.self.now c.args.mail c.fetch.new.self c.in_err-from.field-0.0
-    c.in_err-from.ensures.fetches))
+    (give_unfetched g.L.Link.tells c.args.mail c.args.self.now.whole c.args.disks.now.items c.in_err-from.field-0.0
+    c.fetch.new.self (subst (λ (w : Whole). c.fetch.new.self.members ≡ w.members) (whole_is c.self.view_is)
+    c.fetch.ensures.members) (subst (λ (w : Whole). Carried (λ (given : Result Letter Refusal).
+    FetchesMail g.L.Link.tells c.args.mail w (messages_of given)) (Err c.in_err-from.field-0.0) c.fetch.new.self)
+    (whole_is c.self.view_is) c.in_err-from.ensures.fetches))
 
 pub returns-in-Ask-clause-gives : goal.returns-in-Ask-clause-gives
 returns-in-Ask-clause-gives g c =
-    let fetches = subst (λ (m : Letter). FetchesMail g.L.Link.tells c.args.mail c.args.self.now (Ok (message_of m)) c.fetch.new.self)
-    c.in-Ask.is c.in_ok-from.ensures.fetches in
-    goes_on (FetchesMail g.L.Link.tells c.args.mail) (HandlesMessage g.L.Link.tells c.args.mail) c.args.self.now
-    c.serve.new.self fetches c.serve.result c.serve.ensures.serves
+    let tells = g.L.Link.tells in
+    let old = c.args.self.now.whole in
+    let x = c.args.disks.now.items in
+    let same = subst (λ (w : Whole). c.fetch.new.self.members ≡ w.members) (whole_is c.self.view_is)
+    c.fetch.ensures.members in
+    let read = subst (λ (w : Whole). Carried (λ (given : Result Letter Refusal).
+    FetchesMail tells c.args.mail w (messages_of given)) (Ok c.in_ok-from.field-0) c.fetch.new.self)
+    (whole_is c.self.view_is) c.in_ok-from.ensures.fetches in
+    let fetches = subst (λ (m : Letter). Carried (λ (given : Result Letter Refusal).
+    FetchesMail tells c.args.mail old (messages_of given)) (Ok m) c.fetch.new.self) c.in-Ask.is read in
+    give_handled tells c.args.mail old x c.fetch.new.self _ same fetches c.serve.result c.serve.new.self x
+    (serves_carried tells _ c.fetch.new.self c.serve.new.self c.serve.result x c.serve.ensures.members
+    c.serve.ensures.serves)
 
 pub returns-in-Answer-clause-gives : goal.returns-in-Answer-clause-gives
 returns-in-Answer-clause-gives g c =
-    let fetches = subst (λ (m : Letter). FetchesMail g.L.Link.tells c.args.mail c.args.self.now (Ok (message_of m)) c.fetch.new.self)
-    c.in-Answer.is c.in_ok-from.ensures.fetches in
-    goes_on (FetchesMail g.L.Link.tells c.args.mail) (HandlesMessage g.L.Link.tells c.args.mail) c.args.self.now
-    c.take.new.self fetches c.take.result (rw (c.items.ensures, c.items-in-Answer.ensures) at c.take.ensures.takes)
+    let tells = g.L.Link.tells in
+    let old = c.args.self.now.whole in
+    let x = c.args.disks.now.items in
+    let same = subst (λ (w : Whole). c.fetch.new.self.members ≡ w.members) (whole_is c.self.view_is)
+    c.fetch.ensures.members in
+    let read = subst (λ (w : Whole). Carried (λ (given : Result Letter Refusal).
+    FetchesMail tells c.args.mail w (messages_of given)) (Ok c.in_ok-from.field-0) c.fetch.new.self)
+    (whole_is c.self.view_is) c.in_ok-from.ensures.fetches in
+    let fetches = subst (λ (m : Letter). Carried (λ (given : Result Letter Refusal).
+    FetchesMail tells c.args.mail old (messages_of given)) (Ok m) c.fetch.new.self) c.in-Answer.is read in
+    give_handled tells c.args.mail old x c.fetch.new.self _ same fetches c.take.result c.take.new.self.whole
+    c.take.new.disks.items (rw (c.items.ensures, c.items-in-Answer.ensures) at c.take.ensures.takes)
 
 pub returns-in_err-from-clause-wants : goal.returns-in_err-from-clause-wants
 returns-in_err-from-clause-wants g c =
     let refused = err_from_is_err_and c.from_residual.result c.from_residual.ensures.1 in
-    rw (refused.1, refused.2) (λ is. c.in_err-from.ensures.wants (same_refusal c.in_err-from.field-0.0 Memory is))
+    rw (refused.1, refused.2) (λ is. subst (λ (w : Whole). IsMember (length w.post.posts) c.args.mail) (whole_is c.self.view_is)
+    (c.in_err-from.ensures.wants (same_refusal c.in_err-from.field-0.0 Memory is)))
 
 pub returns-in-Ask-clause-wants : goal.returns-in-Ask-clause-wants
-returns-in-Ask-clause-wants g c = λ is. c.in_ok-from.ensures.there
+returns-in-Ask-clause-wants g c = λ is.
+    subst (λ (w : Whole). IsMember (length w.post.posts) c.args.mail) (whole_is c.self.view_is) c.in_ok-from.ensures.there
 
 pub returns-in-Answer-clause-wants : goal.returns-in-Answer-clause-wants
-returns-in-Answer-clause-wants g c = λ is. c.in_ok-from.ensures.there
+returns-in-Answer-clause-wants g c = λ is.
+    subst (λ (w : Whole). IsMember (length w.post.posts) c.args.mail) (whole_is c.self.view_is) c.in_ok-from.ensures.there

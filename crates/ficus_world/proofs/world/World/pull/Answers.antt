@@ -1,58 +1,83 @@
-use Rattle.std.proofs.Common.{◌≡◌, Err}
+use Rattle.std.proofs.Common.{Err, subst}
 use Rattle.std.proofs.lemmas.Result.{err_from_is_err_and}
 use Rattle.ficus_ids.specs.declared.refusal.Refusal.TheVariants.{Memory}
-use Rattle.ficus_world.specs.Moves.{FirstOf, KeepsAsk, GivesMessage, GivesNextMessage}
-use Rattle.ficus_world.specs.Sequence.CutSequence.{InFirst, InRest}
-use Rattle.ficus_world.proofs.Moved.{asked_peers, ends_first, goes_on, same_refusal}
+use Rattle.ficus_script.specs.declared.command.Command.TheVariants.{Pull as Pulls}
+use Rattle.ficus_runs.specs.Sequence.{unchanged}
+use Rattle.ficus_world.specs.Moves.{ArePeersUp, FindsPeers}
+use Rattle.ficus_world.specs.World.{Whole}
+use Rattle.ficus_world.proofs.Carrying.{comes_to, whole_is}
+use Rattle.ficus_world.proofs.Moved.{comes_to_none, peers_end, same_refusal}
+use Rattle.ficus_world.proofs.Pulling.{cut_given, cut_unasked, cut_ungiven, pull_given, pull_unasked, pull_ungiven}
 use Rattle.ficus_world.proofs.world.World.pull.Goals as goal
+
+pub returns-in_err-up_peers-clause-moves : goal.returns-in_err-up_peers-clause-moves
+returns-in_err-up_peers-clause-moves g c =
+    let refused = err_from_is_err_and c.from_residual.result c.from_residual.ensures.1 in
+    let old = c.args.self.now.whole in
+    rw (refused.1, refused.2)
+    (comes_to_none g.L.Link.tells g.K.Keep g.D.Disk old (Pulls c.args.by c.args.to) _ c.args.disks.now.items
+    (peers_end _ _ c.args.by c.args.to old c.in_err-up_peers.field-0.0 (unchanged old)
+    (subst (λ (w : Whole). FindsPeers c.args.by c.args.to w (Err c.in_err-up_peers.field-0.0) (unchanged w))
+    (whole_is c.self.view_is) c.in_err-up_peers.ensures.refused)))
 
 pub returns-in_err-asked-clause-moves : goal.returns-in_err-asked-clause-moves
 returns-in_err-asked-clause-moves g c =
-    let refused = err_from_is_err_and c.from_residual.result c.from_residual.ensures.1 in
-    let tells = g.L.Link.tells in
+    let refused = err_from_is_err_and c.from_residual-in_err-asked.result c.from_residual-in_err-asked.ensures.1 in
+    let old = c.args.self.now.whole in
+    let peers = subst (λ (w : Whole). ArePeersUp w c.args.by c.args.to) (whole_is c.self.view_is)
+    c.in_ok-up_peers.ensures.peers in
     rw (refused.1, refused.2)
-    (ends_first (KeepsAsk tells c.args.by c.args.to) (λ number. FirstOf (GivesMessage tells number) (GivesNextMessage tells))
-    c.args.self.now c.ask.new.self c.in_err-asked.field-0.0 c.in_err-asked.ensures.asks)
+    (comes_to old (Pulls c.args.by c.args.to) _ c.ask.new.self.whole c.args.disks.now.items c.ask.new.disks.items
+    (pull_unasked g.L.Link.tells g.K.Keep g.D.Disk c.args.by c.args.to old peers c.args.disks.now.items
+    c.in_err-asked.field-0.0 c.ask.new.self.whole c.ask.new.disks.items c.in_err-asked.ensures.asks) (λ is. peers))
 
 pub returns-in_err-asked-clause-memory : goal.returns-in_err-asked-clause-memory
 returns-in_err-asked-clause-memory g c =
-    let refused = err_from_is_err_and c.from_residual.result c.from_residual.ensures.1 in
-    rw (refused.1, refused.2) (λ is. InFirst (c.in_err-asked.ensures.memory (same_refusal c.in_err-asked.field-0.0 Memory is)))
+    let refused = err_from_is_err_and c.from_residual-in_err-asked.result c.from_residual-in_err-asked.ensures.1 in
+    rw (refused.1, refused.2)
+    (λ is. cut_unasked g.L.Link.tells g.K.Keep g.D.Disk c.args.by c.args.to c.args.self.now.whole
+    (subst (λ (w : Whole). ArePeersUp w c.args.by c.args.to) (whole_is c.self.view_is) c.in_ok-up_peers.ensures.peers)
+    c.args.disks.now.items c.ask.new.self.whole c.ask.new.disks.items
+    (c.in_err-asked.ensures.memory (same_refusal c.in_err-asked.field-0.0 Memory is)))
 
 pub returns-in_err-given-clause-moves : goal.returns-in_err-given-clause-moves
 returns-in_err-given-clause-moves g c =
     let refused = err_from_is_err_and c.from_residual-in_err-given.result c.from_residual-in_err-given.ensures.1 in
-    let tells = g.L.Link.tells in
+    let old = c.args.self.now.whole in
+    let peers = subst (λ (w : Whole). ArePeersUp w c.args.by c.args.to) (whole_is c.self.view_is)
+    c.in_ok-up_peers.ensures.peers in
     rw (refused.1, refused.2)
-    (goes_on (KeepsAsk tells c.args.by c.args.to) (λ number. FirstOf (GivesMessage tells number) (GivesNextMessage tells))
-    c.args.self.now c.give.new.self c.in_ok-asked.ensures.asks (Err c.in_err-given.field-0.0)
-    (ends_first (GivesMessage tells c.in_ok-asked.asked) (GivesNextMessage tells) c.ask.new.self c.give.new.self
-    c.in_err-given.field-0.0 c.in_err-given.ensures.gives))
+    (comes_to old (Pulls c.args.by c.args.to) _ c.give.new.self.whole c.args.disks.now.items c.give.new.disks.items
+    (pull_ungiven g.L.Link.tells g.K.Keep g.D.Disk c.args.by c.args.to old peers c.args.disks.now.items c.in_ok-asked.asked
+    c.ask.new.self.whole c.ask.new.disks.items c.in_ok-asked.ensures.asks c.in_err-given.field-0.0
+    c.give.new.self.whole c.give.new.disks.items c.in_err-given.ensures.gives) (λ is. peers))
 
 pub returns-in_err-given-clause-memory : goal.returns-in_err-given-clause-memory
 returns-in_err-given-clause-memory g c =
     let refused = err_from_is_err_and c.from_residual-in_err-given.result c.from_residual-in_err-given.ensures.1 in
-    rw (refused.1, refused.2) (λ is. InRest c.in_ok-asked.ensures.asks (InFirst (c.in_err-given.ensures.memory is)))
+    rw (refused.1, refused.2)
+    (λ is. cut_ungiven g.L.Link.tells g.K.Keep g.D.Disk c.args.by c.args.to c.args.self.now.whole
+    (subst (λ (w : Whole). ArePeersUp w c.args.by c.args.to) (whole_is c.self.view_is) c.in_ok-up_peers.ensures.peers)
+    c.args.disks.now.items c.in_ok-asked.asked c.ask.new.self.whole
+    c.ask.new.disks.items c.in_ok-asked.ensures.asks c.give.new.self.whole c.give.new.disks.items
+    (c.in_err-given.ensures.memory (same_refusal c.in_err-given.field-0.0 Memory is)))
 
 pub returns-clause-moves : goal.returns-clause-moves
 returns-clause-moves g c =
-    let tells = g.L.Link.tells in
-    goes_on (KeepsAsk tells c.args.by c.args.to) (λ number. FirstOf (GivesMessage tells number) (GivesNextMessage tells))
-    c.args.self.now c.give_next.new.self c.in_ok-asked.ensures.asks c.give_next.result
-    (goes_on (GivesMessage tells c.in_ok-asked.asked) (GivesNextMessage tells) c.ask.new.self c.give_next.new.self
-    c.in_ok-given.ensures.gives c.give_next.result c.give_next.ensures.gives)
+    let old = c.args.self.now.whole in
+    let peers = subst (λ (w : Whole). ArePeersUp w c.args.by c.args.to) (whole_is c.self.view_is)
+    c.in_ok-up_peers.ensures.peers in
+    comes_to old (Pulls c.args.by c.args.to) c.give_next.result c.give_next.new.self.whole c.args.disks.now.items
+    c.give_next.new.disks.items
+    (pull_given g.L.Link.tells g.K.Keep g.D.Disk c.args.by c.args.to old peers c.args.disks.now.items c.in_ok-asked.asked
+    c.ask.new.self.whole c.ask.new.disks.items c.in_ok-asked.ensures.asks c.in_ok-given.given c.give.new.self.whole
+    c.give.new.disks.items c.in_ok-given.ensures.gives c.give_next.result c.give_next.new.self.whole
+    c.give_next.new.disks.items c.give_next.ensures.gives) (λ is. peers)
 
 pub returns-clause-memory : goal.returns-clause-memory
-returns-clause-memory g c =
-    λ is. InRest c.in_ok-asked.ensures.asks (InRest c.in_ok-given.ensures.gives (c.give_next.ensures.memory is))
-
-pub returns-in_err-asked-clause-wants : goal.returns-in_err-asked-clause-wants
-returns-in_err-asked-clause-wants g c =
-    let refused = err_from_is_err_and c.from_residual.result c.from_residual.ensures.1 in
-    rw (refused.1, refused.2) (λ is. c.in_err-asked.ensures.wants (same_refusal c.in_err-asked.field-0.0 Memory is))
-
-pub returns-in_err-given-clause-wants : goal.returns-in_err-given-clause-wants
-returns-in_err-given-clause-wants g c = λ is. asked_peers c.in_ok-asked.ensures.asks
-
-pub returns-clause-wants : goal.returns-clause-wants
-returns-clause-wants g c = λ is. asked_peers c.in_ok-asked.ensures.asks
+returns-clause-memory g c = λ is.
+    cut_given g.L.Link.tells g.K.Keep g.D.Disk c.args.by c.args.to c.args.self.now.whole
+    (subst (λ (w : Whole). ArePeersUp w c.args.by c.args.to) (whole_is c.self.view_is) c.in_ok-up_peers.ensures.peers)
+    c.args.disks.now.items c.in_ok-asked.asked c.ask.new.self.whole
+    c.ask.new.disks.items c.in_ok-asked.ensures.asks c.in_ok-given.given c.give.new.self.whole c.give.new.disks.items
+    c.in_ok-given.ensures.gives c.give_next.new.self.whole c.give_next.new.disks.items (c.give_next.ensures.memory is)

@@ -1,36 +1,176 @@
-use Rattle.std.proofs.Common.{◌≡◌, Ok, Err, length, ap, subst, ◌∙◌, arith, sym}
-use Rattle.std.proofs.lemmas.List.{length_push}
+use Rattle.std.proofs.Common.{◌≡◌, ◌≤◌, ◌+◌, ◌-◌, ◌++◌, Err, List, length, refl, sym, ap, ap₂, subst, ◌∙◌, arith}
+use Rattle.std.specs.Prelude.{slice_set}
+use Rattle.std.proofs.lemmas.List.{append-nil, length-append, length-set}
+use Rattle.std.proofs.lemmas.Result.{err_from_is_err_and}
 use Rattle.ficus_ids.specs.Members.{IsMember}
-use Rattle.ficus_model.specs.declared.event.Event.TheVariants.{Restart}
-use Rattle.ficus_world.specs.Moves.{Restarts, advanced, without_ask}
-use Rattle.ficus_world.specs.Moves.Restarts.{NotRestarted, Restarted}
-use Rattle.ficus_world.specs.World.{Whole, IsSound, whole_of}
-use Rattle.ficus_world.proofs.Moved.{not_so}
-use Rattle.ficus_world.proofs.Numbers.{number_exists}
-use Rattle.ficus_world.proofs.SoundWorlds.{restarted_sound, world_after}
+use Rattle.ficus_ids.specs.declared.refusal.Refusal.TheVariants as refusal
+use Rattle.ficus_model.specs.declared.event.Event.{Event}
+use Rattle.ficus_script.specs.declared.command.Command.TheVariants.{Restart as Restarts}
+use Rattle.ficus_runs.specs.Sequence.First.{Ends}
+use Rattle.ficus_world.specs.declared.member.Member.{Member}
+use Rattle.ficus_world.specs.Disks.{AreDisksOf, CarriedOn}
+use Rattle.ficus_world.specs.Moves.{CarriesOut}
+use Rattle.ficus_world.specs.Moves.FindsMember.{FindsNone}
+use Rattle.ficus_world.specs.Stepped.{ComesTo}
+use Rattle.ficus_world.specs.World.{Backed, IsSoundMember, IsWorld, Whole, whole_of}
+use Rattle.ficus_world.proofs.Carrying.{comes_to, whole_is}
+use Rattle.ficus_world.proofs.Disks.{follows_alike}
+use Rattle.ficus_world.proofs.Moved.{comes_to_none, not_so}
+use Rattle.ficus_run_laws.proofs.Numbers.{number_exists}
+use Rattle.ficus_world.proofs.Restarting.{back_after, back_same, back_sound, back_stores, restart_carried, set_own}
+use Rattle.ficus_world.proofs.SoundWorlds.{world_after}
 use Rattle.ficus_world.proofs.world.World.restart.Goals as goal
 
-pub returns-then-not-has-clause-restarts : goal.returns-then-not-has-clause-restarts
-returns-then-not-has-clause-restarts g c = NotRestarted (not_so c.has.result c.has.ensures c.if-not-has.true)
+pub returns-then-not-has-clause-moves : goal.returns-then-not-has-clause-moves
+returns-then-not-has-clause-moves g c =
+    let none = subst (λ (w : Whole). IsMember (length w.members) c.args.by → ⊥) (whole_is c.self.view_is)
+    (not_so c.has.result c.has.ensures c.if-not-has.true) in
+    comes_to_none g.L.Link.tells g.K.Keep g.D.Disk c.args.self.now.whole (Restarts c.args.by) (Err refusal.Member)
+    c.args.disks.now.items (Ends (FindsNone none))
+
+pub returns-in_err-reserve-clause-moves : goal.returns-in_err-reserve-clause-moves
+returns-in_err-reserve-clause-moves g c =
+    let wanted = err_from_is_err_and c.from_residual.result c.from_residual.ensures.1 in
+    let x = c.args.disks.now.items in
+    let inside = c.self-inside.inside.0.0 in
+    let old = whole_of inside.members.items inside.history.events inside.post.now in
+    let same : old ≡ c.args.self.now.whole =
+    subst (λ i. old ≡ i.group) c.self-inside.view_is refl ∙ whole_is c.self.view_is in
+    let member = subst (λ (w : Whole). IsMember (length w.members) c.args.by) (whole_is c.self.view_is)
+    (c.has.ensures.0 c.if-not-has.false) in
+    rw (wanted.1, wanted.2, c.in_err-reserve.ensures.events)
+    (subst (λ (w : Whole). ComesTo g.L.Link.tells g.K.Keep g.D.Disk c.args.self.now.whole
+    (Restarts c.args.by) (Err refusal.Memory) w x x) (sym same)
+    (comes_to_none g.L.Link.tells g.K.Keep g.D.Disk c.args.self.now.whole (Restarts c.args.by) (Err refusal.Memory) x
+    member))
+
+pub invariant_of-self-inside-2 : goal.invariant_of-self-inside-2
+invariant_of-self-inside-2 g c =
+    let by = c.args.by in
+    let inside = c.self-inside.inside.0.0 in
+    let old = whole_of inside.members.items inside.history.events inside.post.now in
+    let same : c.self.inside.group ≡ old = subst (λ i. i.group ≡ old) c.self-inside.view_is refl in
+    let member = subst (λ (w : Whole). IsMember (length w.members) by) same (c.has.ensures.0 c.if-not-has.false) in
+    let found = number_exists old.members by member in
+    let back = c.come_back.ensures found.0 found.1 in
+    let world : IsWorld old = c.self-inside.invariant in
+    let sound = back_sound (length old.members) (length old.events) c.args.by found.0 c.reopen_at-read.result c.come_back.result back.0 back.1
+    (world.sound by found.0 found.1) c.reopen_at-read.ensures.fits back.2 in
+    let longer = length-append old.events back.1 in
+    let next = world_after old (old.events ++ back.1) by found.0 back.0 found.1 world
+    (subst (λ n. IsSoundMember (length old.members) n by back.0) (sym longer) sound) (omega (arith, longer))
+    c.come_back.new.members.items back.3 in
+    rw (back.4, c.in_ok-reserve.ensures.events) next
 
 pub invariant_of-self-2 : goal.invariant_of-self-2
 invariant_of-self-2 g c =
-    let old = whole_of c.self.inside.members.items c.self.inside.history.events c.self.inside.post.now in
-    let member = subst (λ (w : Whole). IsMember (length w.members) c.args.by) (sym c.self.view_is)
-    (c.has.ensures.0 c.if-not-has.false) in
-    let found = number_exists old.members c.args.by member in
-    let events = rw c.in_ok-reserve.ensures.events at c.push.ensures.events in
-    let longer = ap length events ∙ length_push old.events (Restart c.args.by) in
-    let sound = subst (λ n. IsSound (length old.members) n c.args.by (without_ask found.0.replica)) (sym longer)
-    (restarted_sound (c.self.invariant.sound c.args.by found.0 found.1)) in
-    world_after old c.push.new.self.events c.args.by found.0 (without_ask found.0.replica) found.1 c.self.invariant sound
-    (omega (arith, longer)) c.drop_ask.new.members.items (c.drop_ask.ensures found.0 found.1)
+    let by = c.args.by in
+    let inside = c.self-inside.inside.0.0 in
+    let old = whole_of inside.members.items inside.history.events inside.post.now in
+    let same : c.self.inside.group ≡ old = subst (λ i. i.group ≡ old) c.self-inside.view_is refl in
+    let member = subst (λ (w : Whole). IsMember (length w.members) by) same (c.has.ensures.0 c.if-not-has.false) in
+    let found = number_exists old.members by member in
+    let back = c.come_back.ensures found.0 found.1 in
+    let members = ap (λ (list : List Member). length list) back.3 ∙ length-set old.members (by - 1) back.0 in
+    let counts = subst (λ i. length i.stables.items ≡ length i.group.members) (sym c.self-inside.view_is)
+    c.self.invariant in
+    c.reopen_at-read.ensures.count ∙ counts ∙ sym members
 
-pub returns-clause-restarts : goal.returns-clause-restarts
-returns-clause-restarts g c =
-    let old = whole_of c.self.inside.members.items c.self.inside.history.events c.self.inside.post.now in
-    let member = subst (λ (w : Whole). IsMember (length w.members) c.args.by) (sym c.self.view_is)
-    (c.has.ensures.0 c.if-not-has.false) in
-    let found = number_exists old.members c.args.by member in
-    let moves : Restarts c.args.by old _ _ = Restarted found.1 in
-    rw (c.drop_ask.ensures found.0 found.1, c.push.ensures.events, c.in_ok-reserve.ensures.events, ← c.self.view_is) moves
+pub returns-clause-moves : goal.returns-clause-moves
+returns-clause-moves g c =
+    let by = c.args.by in
+    let tells = g.L.Link.tells in
+    let x = c.args.disks.now.items in
+    let y = c.reopen_at-read.new.disks.items in
+    let inside = c.self-inside.inside.0.0 in
+    let old = whole_of inside.members.items inside.history.events inside.post.now in
+    let same : c.self.inside.group ≡ old = subst (λ i. i.group ≡ old) c.self-inside.view_is refl in
+    let member = subst (λ (w : Whole). IsMember (length w.members) by) same (c.has.ensures.0 c.if-not-has.false) in
+    let found = number_exists old.members by member in
+    let back = c.come_back.ensures found.0 found.1 in
+    let world : IsWorld old = c.self-inside.invariant in
+    let sound = world.sound by found.0 found.1 in
+    let before = subst (λ (b : Backed _). AreDisksOf g.D.Disk.tells g.K.Keep.kept g.K.Keep.fits g.D.Disk.seen
+    g.D.Disk.may_leave g.D.Disk.armings b.whole.members b.stables x) (sym c.self.view_is) c.requires.disks in
+    let disks = subst (λ i. AreDisksOf g.D.Disk.tells g.K.Keep.kept g.K.Keep.fits g.D.Disk.seen g.D.Disk.may_leave
+    g.D.Disk.armings i.group.members i.stables.items x) (sym c.self-inside.view_is) before in
+    let pairs = subst (λ (w : Whole). length w.members ≤ length x) (sym (sym same ∙ whole_is c.self.view_is))
+    c.requires.pairs in
+    let within : IsMember (length x) by =
+    record { at_least = member.at_least; at_most = omega (arith, member.at_most, pairs) } in
+    let moves = restart_carried tells g.K.Keep g.D.Disk old by found.0 found.1 sound x y within
+    c.reopen_at-read.ensures.follows c.reopen_at-read.result c.come_back.result back.0 back.1 c.reopen_at-read.ensures.fits
+    (λ told. c.reopen_at-read.ensures.read told _ _ old.members found.0 found.1 sound disks)
+    (λ fused told F stand. c.reopen_at-read.ensures.by_fuse fused told _ _ old.members found.0 F found.1 sound disks
+    stand) c.reopen_at-read.ensures.never
+    c.reopen_at-read.ensures.opened back.2 in
+    let is : old ≡ c.args.self.now.whole = sym same ∙ whole_is c.self.view_is in
+    rw (back.3, back.4, c.in_ok-reserve.ensures.events)
+    (comes_to c.args.self.now.whole (Restarts by) c.come_back.result _ x y
+    (subst (λ (w : Whole). CarriedOn g.K.Keep g.D.Disk (CarriesOut tells g.D.Disk.tells (Restarts by))
+    c.come_back.result w (whole_of (slice_set old.members (by - 1) back.0) (old.events ++ back.1) old.post) x y) is moves)
+    (λ e. subst (λ (w : Whole). IsMember (length w.members) by) is member))
+
+pub returns-clause-grows : goal.returns-clause-grows
+returns-clause-grows g c =
+    let by = c.args.by in
+    let inside = c.self-inside.inside.0.0 in
+    let old = whole_of inside.members.items inside.history.events inside.post.now in
+    let same : c.self.inside.group ≡ old = subst (λ i. i.group ≡ old) c.self-inside.view_is refl in
+    let member = subst (λ (w : Whole). IsMember (length w.members) by) same (c.has.ensures.0 c.if-not-has.false) in
+    let found = number_exists old.members by member in
+    let back = c.come_back.ensures found.0 found.1 in
+    let is : old ≡ c.args.self.now.whole = sym same ∙ whole_is c.self.view_is in
+    let events = ap (λ (list : List Event). length list) back.4 ∙ length-append c.reserve.new.self.events back.1
+    ∙ ap (λ (list : List Event). length list + length back.1) c.in_ok-reserve.ensures.events in
+    let before = ap (λ (w : Whole). length w.events) is in
+    omega (arith, events, before, back_stores c.args.by found.0 c.reopen_at-read.result c.come_back.result back.0 back.1 back.2)
+
+pub returns-clause-members : goal.returns-clause-members
+returns-clause-members g c =
+    let by = c.args.by in
+    let inside = c.self-inside.inside.0.0 in
+    let old = whole_of inside.members.items inside.history.events inside.post.now in
+    let same : c.self.inside.group ≡ old = subst (λ i. i.group ≡ old) c.self-inside.view_is refl in
+    let member = subst (λ (w : Whole). IsMember (length w.members) by) same (c.has.ensures.0 c.if-not-has.false) in
+    let found = number_exists old.members by member in
+    let back = c.come_back.ensures found.0 found.1 in
+    ap (λ (list : List Member). length list) back.3 ∙ length-set old.members (by - 1) back.0
+    ∙ ap (λ (w : Whole). length w.members) (sym same ∙ whole_is c.self.view_is)
+
+pub returns-clause-memory : goal.returns-clause-memory
+returns-clause-memory g c = λ e.
+    let by = c.args.by in
+    let inside = c.self-inside.inside.0.0 in
+    let old = whole_of inside.members.items inside.history.events inside.post.now in
+    let same : c.self.inside.group ≡ old = subst (λ i. i.group ≡ old) c.self-inside.view_is refl in
+    let member = subst (λ (w : Whole). IsMember (length w.members) by) same (c.has.ensures.0 c.if-not-has.false) in
+    let found = number_exists old.members by member in
+    let back = c.come_back.ensures found.0 found.1 in
+    let stays = back_same c.args.by found.0 c.reopen_at-read.result c.come_back.result back.0 back.1 back.2 e in
+    let members = back.3 ∙ ap (λ (m : Member). slice_set old.members (by - 1) m) stays.0
+    ∙ set_own old.members by found.0 found.1 in
+    let events = back.4 ∙ ap₂ (λ (before stored : List Event). before ++ stored) c.in_ok-reserve.ensures.events stays.1
+    ∙ append-nil old.events in
+    record {
+      same = ap₂ (λ (members : List Member) (events : List Event). whole_of members events old.post) members events
+          ∙ (sym same ∙ whole_is c.self.view_is);
+      disks = follows_alike (λ r. refl) (λ r. refl) c.reopen_at-read.ensures.follows;
+    }
+
+pub returns-clause-disks : goal.returns-clause-disks
+returns-clause-disks g c =
+    let by = c.args.by in
+    let x = c.args.disks.now.items in
+    let inside = c.self-inside.inside.0.0 in
+    let old = whole_of inside.members.items inside.history.events inside.post.now in
+    let same : c.self.inside.group ≡ old = subst (λ i. i.group ≡ old) c.self-inside.view_is refl in
+    let member = subst (λ (w : Whole). IsMember (length w.members) by) same (c.has.ensures.0 c.if-not-has.false) in
+    let found = number_exists old.members by member in
+    let back = c.come_back.ensures found.0 found.1 in
+    let before = subst (λ (b : Backed _). AreDisksOf g.D.Disk.tells g.K.Keep.kept g.K.Keep.fits g.D.Disk.seen
+    g.D.Disk.may_leave g.D.Disk.armings b.whole.members b.stables x) (sym c.self.view_is) c.requires.disks in
+    let disks = subst (λ i. AreDisksOf g.D.Disk.tells g.K.Keep.kept g.K.Keep.fits g.D.Disk.seen g.D.Disk.may_leave
+    g.D.Disk.armings i.group.members i.stables.items x) (sym c.self-inside.view_is) before in
+    c.reopen_at-read.ensures.disks old.members c.come_back.new.members.items
+    (record { was = found.0; is = found.1; now = back.0; after = back_after c.args.by found.0 c.reopen_at-read.result c.come_back.result back.0 back.1 back.2; set = back.3 }) disks

@@ -1,58 +1,69 @@
-use Rattle.std.proofs.Common.{refl}
-use Rattle.std.proofs.lemmas.Result.{IfOk-weaker, on_err_weaker}
-use Rattle.ficus_world.specs.Follows.{Follows}
-use Rattle.ficus_world.specs.Moves.{Moves, CutShort, HasCollected}
-use Rattle.ficus_world.specs.Run.{CommandMayWantMemory}
+use Rattle.std.proofs.lemmas.Result.{IfOk-weaker}
+use Rattle.ficus_runs.specs.Run.{CommandMayWantMemory}
+use Rattle.ficus_world.specs.Follows.{FollowsOn, StopsOn}
+use Rattle.ficus_world.specs.Moves.{HasCollected}
+use Rattle.ficus_world.specs.Stepped.{CutOn, Stepped}
 use Rattle.ficus_world.proofs.Collecting.{moves_collected}
-use Rattle.ficus_world.proofs.Following.{follow, follow_cut, follow_wanted}
-use Rattle.ficus_world.proofs.Moved.{answered_moves, answered_cut, answered_wants}
+use Rattle.ficus_world.proofs.Following.{follow_wanted}
+use Rattle.ficus_world.proofs.Moved.{answered_cut, answered_moves, answered_wants}
+use Rattle.ficus_world.proofs.Stepping.{cut_stops, step_follows}
 use Rattle.ficus_world.proofs.world.World.step.Goals as goal
 
 pub returns-clause-moves : goal.returns-clause-moves
 returns-clause-moves g c =
-    answered_moves g.L.Link.tells c.args.self.now c.carry_out.new.self c.args.command.now c.carry_out.result
-    c.answered.result c.carry_out.ensures.moves c.answered.ensures.answer
+    answered_moves g.L.Link.tells g.K.Keep g.D.Disk c.args.self.now.whole c.carry_out.new.self.whole c.args.command.now
+    c.carry_out.result c.answered.result c.args.disks.now.items c.carry_out.new.disks.items c.carry_out.ensures.moves
+    c.answered.ensures.answer
 
 pub returns-clause-memory : goal.returns-clause-memory
 returns-clause-memory g c =
-    answered_cut (CutShort g.L.Link.tells c.args.command.now c.args.self.now c.carry_out.new.self) c.carry_out.result
+    answered_cut (CutOn g.L.Link.tells g.K.Keep g.D.Disk c.args.command.now c.args.self.now.whole
+    c.carry_out.new.self.whole c.args.disks.now.items c.carry_out.new.disks.items) c.carry_out.result
     c.answered.result c.carry_out.ensures.memory c.answered.ensures.memory
 
 pub returns-clause-collected : goal.returns-clause-collected
 returns-clause-collected g c =
-    let old = c.args.self.now in
-    let new = c.carry_out.new.self in
+    let old = c.args.self.now.whole in
+    let new = c.carry_out.new.self.whole in
     let command = c.args.command.now in
-    IfOk-weaker c.answered.result (λ answer. Moves g.L.Link.tells old command answer new)
+    IfOk-weaker c.answered.result (λ answer. Stepped g.L.Link.tells g.K.Keep g.D.Disk old
+    command answer new c.args.disks.now.items c.carry_out.new.disks.items)
     (λ answer. HasCollected command answer new)
-    (λ answer moves. moves_collected g.L.Link.tells old new command answer moves)
-    (answered_moves g.L.Link.tells old new command c.carry_out.result c.answered.result c.carry_out.ensures.moves
-    c.answered.ensures.answer)
+    (λ answer is. moves_collected g.L.Link.tells g.D.Disk.tells old command is.outcomes answer new is.moves)
+    (answered_moves g.L.Link.tells g.K.Keep g.D.Disk old new command c.carry_out.result c.answered.result
+    c.args.disks.now.items c.carry_out.new.disks.items c.carry_out.ensures.moves c.answered.ensures.answer)
+
+pub returns-clause-pairs : goal.returns-clause-pairs
+returns-clause-pairs g c = c.carry_out.ensures.moves.disks.count
 
 pub returns-clause-stands : goal.returns-clause-stands
-returns-clause-stands g c = λ told volume W stands.
-    let old = c.args.self.now in
-    let new = c.carry_out.new.self in
+returns-clause-stands g c = λ told disks_told volume W stands.
+    let old = c.args.self.now.whole in
+    let new = c.carry_out.new.self.whole in
     let command = c.args.command.now in
-    IfOk-weaker c.answered.result (λ answer. Moves g.L.Link.tells old command answer new)
-    (λ answer. Follows volume W old.post.faults command answer new)
-    (λ answer moves. follow g.L.Link.tells told volume W old stands command answer new moves)
-    (answered_moves g.L.Link.tells old new command c.carry_out.result c.answered.result c.carry_out.ensures.moves
-    c.answered.ensures.answer)
+    IfOk-weaker c.answered.result (λ answer. Stepped g.L.Link.tells g.K.Keep g.D.Disk old
+    command answer new c.args.disks.now.items c.carry_out.new.disks.items)
+    (λ answer. FollowsOn g.K.Keep g.D.Disk volume W old command answer new
+    c.args.disks.now.items c.carry_out.new.disks.items)
+    (step_follows g.L.Link.tells told g.K.Keep g.D.Disk volume W old stands command new
+    c.args.disks.now.items c.carry_out.new.disks.items disks_told)
+    (answered_moves g.L.Link.tells g.K.Keep g.D.Disk old new command c.carry_out.result c.answered.result
+    c.args.disks.now.items c.carry_out.new.disks.items c.carry_out.ensures.moves c.answered.ensures.answer)
 
 pub returns-clause-stays : goal.returns-clause-stays
 returns-clause-stays g c = λ told volume W stands.
+    let old = c.args.self.now.whole in
+    let new = c.carry_out.new.self.whole in
     let command = c.args.command.now in
-    on_err_weaker c.answered.result
-    (follow_cut g.L.Link.tells told volume command W c.args.self.now stands c.carry_out.new.self)
-    (answered_cut (CutShort g.L.Link.tells command c.args.self.now c.carry_out.new.self) c.carry_out.result
-    c.answered.result c.carry_out.ensures.memory c.answered.ensures.memory)
+    answered_cut (StopsOn g.K.Keep g.D.Disk volume W old command new
+    c.args.disks.now.items c.carry_out.new.disks.items) c.carry_out.result c.answered.result
+    (λ memory. cut_stops g.L.Link.tells told g.K.Keep g.D.Disk volume W old stands command new
+    c.args.disks.now.items c.carry_out.new.disks.items (c.carry_out.ensures.memory memory)) c.answered.ensures.memory
 
 pub returns-clause-wants : goal.returns-clause-wants
 returns-clause-wants g c = λ volume W stands.
-    let old = c.args.self.now in
+    let old = c.args.self.now.whole in
     let command = c.args.command.now in
-    let tells = g.L.Link.tells in
-    answered_wants tells old c.carry_out.new.self command c.carry_out.result c.answered.result
-    (CommandMayWantMemory volume W command) (follow_wanted tells volume W old stands command) c.carry_out.ensures.moves
-    c.answered.ensures.memory
+    answered_wants g.L.Link.tells g.K.Keep g.D.Disk old c.carry_out.new.self.whole command c.carry_out.result
+    c.answered.result c.args.disks.now.items c.carry_out.new.disks.items (CommandMayWantMemory volume W command)
+    (follow_wanted volume W old stands command) c.carry_out.ensures.moves c.answered.ensures.memory

@@ -1,16 +1,48 @@
-use Rattle.std.proofs.Common.{refl, inl}
-use Rattle.ficus_world.specs.Moves.FindsMember.{Finds, FindsNone}
-use Rattle.ficus_world.specs.Sequence.ByRule.{Says}
-use Rattle.ficus_world.specs.Sequence.Sequence.{Ends, Goes}
-use Rattle.ficus_world.proofs.Moved.{not_so}
-use Rattle.ficus_world.proofs.Numbers.{number_exists}
+use Rattle.std.proofs.Common.{◌≡◌, ◌∷◌, [], Err, subst}
+use Rattle.std.proofs.lemmas.Result.{err_from_is_err_and}
+use Rattle.ficus_script.specs.declared.command.Command.TheVariants.{Stop as Stops}
+use Rattle.ficus_runs.specs.Numbered.{IsNumbered}
+use Rattle.ficus_runs.specs.Outcome.{IsArmed}
+use Rattle.ficus_runs.specs.Sequence.{unchanged}
+use Rattle.ficus_runs.specs.Sequence.First.{Goes}
+use Rattle.ficus_world.specs.declared.member.Member.{Member}
+use Rattle.ficus_world.specs.declared.member.MemberState.TheVariants.{Up}
+use Rattle.ficus_world.specs.Moves.{FindsUp}
+use Rattle.ficus_world.specs.Moves.ArmsDisks.{Arms, ArmsNone}
+use Rattle.ficus_world.specs.Moves.FindsUp.{FindsAt}
+use Rattle.ficus_world.specs.World.{Whole}
+use Rattle.ficus_run_laws.proofs.Numbers.{number_once}
+use Rattle.ficus_world.proofs.Carrying.{whole_is}
+use Rattle.ficus_world.proofs.Moved.{comes_to_none, up_ends}
 use Rattle.ficus_world.proofs.world.World.stop.Goals as goal
 
-pub returns-then-has : goal.returns-then-has
-returns-then-has g c = λ calls pick.
-    let found = number_exists c.args.self.now.members c.args.by (c.has.ensures.0 c.if-has.true) in
-    Goes (Finds {member = found.0} found.1) (Ends (Says (inl (λ none. none, refl))))
+pub returns-in_err-up-clause-moves : goal.returns-in_err-up-clause-moves
+returns-in_err-up-clause-moves g c =
+    let refused = err_from_is_err_and c.from_residual.result c.from_residual.ensures.1 in
+    let old = c.args.self.now.whole in
+    let finds = subst (λ (w : Whole). FindsUp c.args.by w (Err c.in_err-up.field-0.0) (unchanged w))
+    (whole_is c.self.view_is) c.in_err-up.ensures.refused in
+    rw (refused.1, refused.2)
+    (comes_to_none g.L.Link.tells g.K.Keep g.D.Disk old (Stops c.args.by c.args.calls c.args.pick) _ c.args.disks.now.items
+    (up_ends _ _ c.args.by old c.in_err-up.field-0.0 (unchanged old) finds))
 
-pub returns-else-has : goal.returns-else-has
-returns-else-has g c = λ calls pick.
-    Ends (FindsNone (not_so c.has.result c.has.ensures c.if-has.false))
+pub returns-then-not-branch-clause-moves : goal.returns-then-not-branch-clause-moves
+returns-then-not-branch-clause-moves g c =
+    let old = c.args.self.now.whole in
+    let was = c.in_ok-up.field-0.now in
+    let is = subst (λ (w : Whole). IsNumbered w.members c.args.by was) (whole_is c.self.view_is) c.in_ok-up.ensures.is in
+    comes_to_none g.L.Link.tells g.K.Keep g.D.Disk old (Stops c.args.by c.args.calls c.args.pick) _ c.args.disks.now.items
+    (Goes (FindsAt is c.in_ok-up.ensures.up) (ArmsNone c.if-not-branch.true))
+
+pub returns-clause-moves : goal.returns-clause-moves
+returns-clause-moves g c =
+    let was = c.in_ok-up.field-0.now in
+    let is = subst (λ (w : Whole). IsNumbered w.members c.args.by was) (whole_is c.self.view_is) c.in_ok-up.ensures.is in
+    let armed = c.arm_at.ensures.follows c.args.self.now.whole.members (λ found here.
+    subst (λ (m : Member). m.state ≡ Up) (number_once is here) c.in_ok-up.ensures.up) in
+    record {
+      outcomes = IsArmed c.args.by c.args.calls c.args.pick ∷ [];
+      does = Goes (FindsAt is c.in_ok-up.ensures.up) (Arms c.if-not-branch.false);
+      disks = armed.disks;
+      fuses = armed.fuses;
+    }

@@ -1,50 +1,110 @@
-use Rattle.std.proofs.Common.{◌≡◌, ◌+◌, List, Err, length, sym, ap, subst, ◌∙◌, arith}
-use Rattle.std.proofs.lemmas.List.{length_push}
+use Rattle.std.proofs.Common.{Err, Ok, subst}
 use Rattle.std.proofs.lemmas.Result.{err_from_is_err_and}
-use Rattle.ficus_model.specs.declared.event.Event.{Event}
 use Rattle.ficus_model.specs.declared.event.Event.TheVariants.{Accept}
-use Rattle.ficus_world.specs.Answers.{OrMemory}
-use Rattle.ficus_world.specs.Moves.{TakesAnswer}
-use Rattle.ficus_world.specs.Moves.TakesAnswer.{Takes}
-use Rattle.ficus_world.specs.World.{Whole, whole_of}
-use Rattle.ficus_world.proofs.Sending.{take_refused}
-use Rattle.ficus_world.proofs.SoundWorlds.{world_after, accepted_sound}
+use Rattle.ficus_script.specs.declared.answer.Answer.TheVariants.{Done}
+use Rattle.ficus_runs.specs.Numbered.{IsNumbered}
+use Rattle.ficus_runs.specs.Sequence.{unchanged}
+use Rattle.ficus_world.specs.Moves.{FindsUp, TakesAnswer, advanced, pending_of, saved}
+use Rattle.ficus_world.specs.Moves.TakesAnswer.{Takes, TakesNot}
+use Rattle.ficus_world.specs.World.{Whole}
+use Rattle.ficus_world.proofs.Carrying.{advanced_events, advanced_members, carried_none, carried_saved, refused_events, refused_members, save_refused, whole_is}
+use Rattle.ficus_world.proofs.Sending.{take_refused, taker_down}
 use Rattle.ficus_world.proofs.world.World.take.Goals as goal
 
-pub returns-in_err-new-clause-takes : goal.returns-in_err-new-clause-takes
-returns-in_err-new-clause-takes g c =
-    let residual = c.from_residual-in_err-new in
-    let refused = err_from_is_err_and residual.result residual.ensures.1 in
-    let r = c.in_err-new.field-0.0 in
+pub returns-in_err-replica-clause-takes : goal.returns-in_err-replica-clause-takes
+returns-in_err-replica-clause-takes g c =
+    let refused = err_from_is_err_and c.from_residual.result c.from_residual.ensures.1 in
+    let old = c.args.self.now.whole in
+    let r = c.in_err-replica.field-0.0 in
     let entries = c.args.entries.now in
     let files = c.args.files.now in
-    let with : List Event → Whole = λ events. whole_of c.self.inside.members.items events c.self.inside.post.now in
-    let old = with c.self.inside.history.events in
-    let gives = take_refused old c.args.came entries files c.member.result.now c.member.ensures.is r
-    c.in_err-new.ensures.gives in
-    let takes = λ (w v : Whole). OrMemory (λ answer. TakesAnswer c.args.came entries files w answer v) (Err r) in
+    let finds = subst (λ (w : Whole). FindsUp c.args.came.to w (Err r) (unchanged w)) (whole_is c.self.view_is)
+    c.in_err-replica.ensures.refused in
     rw (refused.1, refused.2)
-    (subst (λ events. takes c.args.self.now (with events)) (sym c.in_ok-reserve.ensures.events)
-    (subst (λ (w : Whole). takes w old) c.self.view_is gives))
+    (carried_none (TakesAnswer c.args.came entries files) (Err r) old c.args.disks.now.items
+    (taker_down old c.args.came entries files r (unchanged old) c.requires.to finds))
 
-pub invariant_of-self-3 : goal.invariant_of-self-3
-invariant_of-self-3 g c =
-    let was = c.member.result.now in
-    let is = c.member.ensures.is in
+pub returns-in_err-taken-clause-takes : goal.returns-in_err-taken-clause-takes
+returns-in_err-taken-clause-takes g c =
+    let refused = err_from_is_err_and c.from_residual-in_err-taken.result c.from_residual-in_err-taken.ensures.1 in
+    let old = c.args.self.now.whole in
+    let r = c.in_err-taken.field-0.0 in
+    let entries = c.args.entries.now in
+    let files = c.args.files.now in
+    let was = c.in_ok-replica.field-0.now in
+    let is = subst (λ (w : Whole). IsNumbered w.members c.args.came.to was) (whole_is c.self.view_is)
+    c.in_ok-replica.ensures.is in
+    rw (refused.1, refused.2)
+    (carried_none (TakesAnswer c.args.came entries files) (Err r) old c.args.disks.now.items
+    (take_refused old c.args.came entries files was is c.in_ok-replica.ensures.up r c.in_err-taken.ensures.gives))
+
+pub returns-in_err-save-clause-takes : goal.returns-in_err-save-clause-takes
+returns-in_err-save-clause-takes g c =
+    let refused = err_from_is_err_and c.from_residual-in_err-save.result c.from_residual-in_err-save.ensures.1 in
+    let old = c.args.self.now.whole in
+    let r = c.in_err-save.field-0.0 in
     let to = c.args.came.to in
-    let old = whole_of c.self.inside.members.items c.self.inside.history.events c.self.inside.post.now in
-    let events = rw c.in_ok-reserve.ensures.events at c.push.ensures.events in
-    let longer = ap length events ∙ length_push c.self.inside.history.events (Accept to c.place-serve.result) in
-    let sound = rw c.in_ok-reserve.ensures.events at c.member.ensures.sound in
-    let now = accepted_sound sound c.in_ok-new.ensures.gives c.in_ok-new.ensures.fits in
-    world_after old c.push.new.self.events to was c.in_ok-new.new is c.self.invariant (rw longer now) (omega arith)
-    c.hold.new.members.items (c.hold.ensures was is)
+    let was = c.in_ok-replica.field-0.now in
+    let is = subst (λ (w : Whole). IsNumbered w.members to was) (whole_is c.self.view_is) c.in_ok-replica.ensures.is in
+    let place = subst (λ (w : Whole). IsNumbered w.post.behind c.args.came.number c.place-serve.result)
+    (whole_is c.self.view_is)
+    (subst (λ inside. IsNumbered inside.group.post.behind c.args.came.number c.place-serve.result)
+    c.self-inside.view_is c.place-serve.ensures) in
+    rw (refused.1, refused.2)
+    (save_refused (TakesAnswer c.args.came c.args.entries.now c.args.files.now) old c.save.new.self.whole to was
+    (pending_of c.in_ok-taken.taken (Accept to c.place-serve.result)) c.args.disks.now.items c.save.new.disks.items r
+    c.in_err-save.ensures.refused (λ e. c.in_err-save.ensures.failed e was is) c.in_err-save.ensures.counted
+    c.in_err-save.ensures.memory (TakesNot is c.in_ok-replica.ensures.up place c.in_ok-taken.ensures.gives))
+
+pub returns-in_err-save-clause-grows : goal.returns-in_err-save-clause-grows
+returns-in_err-save-clause-grows g c =
+    let to = c.args.came.to in
+    let was = c.in_ok-replica.field-0.now in
+    let is = subst (λ (w : Whole). IsNumbered w.members to was) (whole_is c.self.view_is) c.in_ok-replica.ensures.is in
+    refused_events c.args.self.now.whole c.save.new.self.whole to was
+    (pending_of c.in_ok-taken.taken (Accept to c.place-serve.result)) c.args.disks.now.items c.save.new.disks.items
+    c.in_err-save.field-0.0 c.in_err-save.ensures.refused
+    (λ e. c.in_err-save.ensures.failed e was is) c.in_err-save.ensures.memory
+
+pub returns-in_err-save-clause-members : goal.returns-in_err-save-clause-members
+returns-in_err-save-clause-members g c =
+    let to = c.args.came.to in
+    let was = c.in_ok-replica.field-0.now in
+    let is = subst (λ (w : Whole). IsNumbered w.members to was) (whole_is c.self.view_is) c.in_ok-replica.ensures.is in
+    refused_members c.args.self.now.whole c.save.new.self.whole to was
+    (pending_of c.in_ok-taken.taken (Accept to c.place-serve.result)) c.args.disks.now.items c.save.new.disks.items
+    c.in_err-save.field-0.0 c.in_err-save.ensures.refused
+    (λ e. c.in_err-save.ensures.failed e was is) c.in_err-save.ensures.memory
 
 pub returns-clause-takes : goal.returns-clause-takes
 returns-clause-takes g c =
-    let was = c.member.result.now in
-    let is = c.member.ensures.is in
-    let old = whole_of c.self.inside.members.items c.self.inside.history.events c.self.inside.post.now in
-    let takes : TakesAnswer c.args.came c.args.entries.now c.args.files.now old _ _ =
-    Takes is c.place-serve.ensures c.in_ok-new.ensures.gives in
-    rw (c.hold.ensures was is, c.push.ensures.events, c.in_ok-reserve.ensures.events, ← c.self.view_is) takes
+    let old = c.args.self.now.whole in
+    let to = c.args.came.to in
+    let was = c.in_ok-replica.field-0.now in
+    let is = subst (λ (w : Whole). IsNumbered w.members to was) (whole_is c.self.view_is) c.in_ok-replica.ensures.is in
+    let place = subst (λ (w : Whole). IsNumbered w.post.behind c.args.came.number c.place-serve.result)
+    (whole_is c.self.view_is)
+    (subst (λ inside. IsNumbered inside.group.post.behind c.args.came.number c.place-serve.result)
+    c.self-inside.view_is c.place-serve.ensures) in
+    let takes : TakesAnswer c.args.came c.args.entries.now c.args.files.now old (Ok Done)
+    (saved to (advanced old to was c.in_ok-taken.taken (Accept to c.place-serve.result))) =
+    Takes is c.in_ok-replica.ensures.up place c.in_ok-taken.ensures.gives in
+    carried_saved (TakesAnswer c.args.came c.args.entries.now c.args.files.now) Done old c.save.new.self.whole to was
+    c.in_ok-taken.taken (Accept to c.place-serve.result) c.args.disks.now.items c.save.new.disks.items
+    (c.in_ok-save.ensures.saved was is) c.in_ok-save.ensures.followed takes
+
+pub returns-clause-grows : goal.returns-clause-grows
+returns-clause-grows g c =
+    let to = c.args.came.to in
+    let was = c.in_ok-replica.field-0.now in
+    let is = subst (λ (w : Whole). IsNumbered w.members to was) (whole_is c.self.view_is) c.in_ok-replica.ensures.is in
+    advanced_events c.args.self.now.whole c.save.new.self.whole to was c.in_ok-taken.taken
+    (Accept to c.place-serve.result) (c.in_ok-save.ensures.saved was is)
+
+pub returns-clause-members : goal.returns-clause-members
+returns-clause-members g c =
+    let to = c.args.came.to in
+    let was = c.in_ok-replica.field-0.now in
+    let is = subst (λ (w : Whole). IsNumbered w.members to was) (whole_is c.self.view_is) c.in_ok-replica.ensures.is in
+    advanced_members c.args.self.now.whole c.save.new.self.whole to was c.in_ok-taken.taken
+    (Accept to c.place-serve.result) (c.in_ok-save.ensures.saved was is)

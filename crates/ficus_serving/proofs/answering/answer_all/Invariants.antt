@@ -1,0 +1,26 @@
+use Rattle.std.proofs.Common.{◌≡◌, ◌+◌, ◌*◌, ◌≤◌, length, take}
+use Rattle.std.specs.Prelude.{All}
+use Rattle.ficus_model.specs.Lawful.{Volume}
+use Rattle.ficus_runs.specs.ModelWorld.{ModelWorld}
+use Rattle.ficus_serving.specs.Serving.{ServesWorld}
+use Rattle.ficus_world.specs.Disks.{AreDisksOf}
+use Rattle.ficus_world.specs.Follows.{TellsFor}
+use Rattle.ficus_world.specs.World.{WorldStandsFor, most_events}
+use Rattle.ficus_serving.proofs.answering.answer_all.Given as goal
+
+-- the commands so far were served, and the disks are still those of the world; none stored too many events; no fault of
+-- the sink was counted
+abbrev pub invariant-loop-command : goal.invariant-loop-command
+invariant-loop-command g l = record {
+  served : g.L.Link.tells → All (TellsFor g.D.Disk.tells) l.commands → (volume : Volume) (W : ModelWorld)
+      → WorldStandsFor volume W l.fn.world.whole
+      → ServesWorld g.K.Sink.tells g.P.Keep g.D.Disk volume W l.fn.world.whole
+      (take l.command-index l.commands) l.world.whole (g.K.Sink.written l.fn.output) (g.K.Sink.written l.output)
+      l.fn.disks.items l.disks.items;
+  disks : AreDisksOf g.D.Disk.tells g.P.Keep.kept g.P.Keep.fits g.D.Disk.seen g.D.Disk.may_leave g.D.Disk.armings
+      l.world.whole.members l.world.stables l.disks.items;
+  members : length l.world.whole.members ≡ length l.fn.world.whole.members;
+  pairs : length l.disks.items ≡ length l.fn.disks.items;
+  grows : length l.world.whole.events ≤ length l.fn.world.whole.events + most_events * l.command-index;
+  steady : g.K.Sink.faults l.output ≡ g.K.Sink.faults l.fn.output;
+}

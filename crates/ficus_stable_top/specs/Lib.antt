@@ -1,9 +1,0 @@
-pub mod Words
-pub mod Outside
-pub mod Serving
-pub mod Ends
-pub mod Headline
-pub mod Modes
-pub mod Reading
-pub mod Ending
-pub mod Status

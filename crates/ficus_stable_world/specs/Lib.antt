@@ -1,9 +1,0 @@
-pub mod Causes
-pub mod Post
-pub mod World
-pub mod Moves
-pub mod Disks
-pub mod Stepped
-pub mod Follows
-pub mod Stand
-pub mod Opening

@@ -1,0 +1,8 @@
+pub mod Counting
+pub mod Generating
+pub mod Holdings
+pub mod OneSummary
+pub mod Runs
+pub mod Summarizing
+pub mod Unfailing
+pub mod Worlds

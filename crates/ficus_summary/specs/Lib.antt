@@ -1,0 +1,4 @@
+pub mod Text
+pub mod Summary
+pub mod Disks
+pub mod Running

@@ -1,0 +1,15 @@
+//! Scripts that follow from a number, run in memory, and what they come to.
+#![tactic(auto)]
+
+mod counts;
+mod disks;
+mod generated;
+mod holding;
+mod laws;
+mod running;
+mod summary;
+mod text;
+mod world;
+
+pub use laws::one_summary;
+pub use summary::summarize;

@@ -1,0 +1,418 @@
+-- What the program does in a mode, by how the run ended.
+use Rattle.std.proofs.Common.{◌≡◌, ◌⊎◌, ℕ, ◌<◌, ◌≤◌, List, [], Option, Result, Ok, Err, refl, sym, ap, subst, inl, inr, arith, length}
+use Rattle.std.specs.declared.alloc.Global.{Global}
+use Rattle.std.specs.Prelude.{IfErr, IsErrAnd, IsErrOf, OnOk, Vec, vec_items}
+use Rattle.ficus_disk.specs.declared.disk.Disk.{Ghosts as Disk}
+use Rattle.ficus_disk.specs.declared.pair.Pair.{Pair}
+use Rattle.ficus_outside.specs.declared.sink.Sink.{Ghosts as Sink}
+use Rattle.ficus_outside.specs.declared.source.Source.{Ghosts as Source}
+use Rattle.ficus_model.specs.Lawful.{Volume}
+use Rattle.ficus_model.specs.declared.event.Event.{Event}
+use Rattle.ficus_store.specs.Slots.{kept_in}
+use Rattle.ficus_top.specs.Codes.{IsIdleCode}
+use Rattle.ficus_top.specs.Ending.{IsAnswering, IsIdle, IsInterruption, IsOfMaking, IsUntouched, TakesAsEnded}
+use Rattle.ficus_top.specs.Headline.{CarriesOutNothing}
+use Rattle.ficus_top.specs.Making.{MakesVolume, volume_of}
+use Rattle.ficus_top.specs.Modes.Init.{DoesInit, IsInitCode}
+use Rattle.ficus_top.specs.Modes.Replay.{DoesReplay}
+use Rattle.ficus_top.specs.Modes.Run.{DoesRun, HoldsSame, IsRunCode}
+use Rattle.ficus_top.specs.Program.{Does, EndsAsAnyMode}
+use Rattle.ficus_top.specs.Reading.{TakesUntil}
+use Rattle.ficus_top.specs.Script.{AnswersFrontOf, AnswersOf, AnswersScript, HasScript, ReadsScript}
+use Rattle.ficus_top.specs.Seen.{Seen, SinkFailed, SourceFailed, disks_after, disks_before, left_of, script_of}
+use Rattle.ficus_top.specs.Status.{code_of, line_of, replica_of}
+use Rattle.ficus_serving.specs.declared.fault.AnsweringFault.TheVariants as answering
+use Rattle.ficus_top.specs.declared.fault.Fault.{Fault}
+use Rattle.ficus_top.specs.declared.fault.Fault.TheVariants.{Words, Reading, Storing, Answering}
+use Rattle.ficus_top.specs.declared.fault.ReadingFault.TheVariants as reading
+use Rattle.ficus_top.specs.declared.status.Status.{Status}
+use Rattle.ficus_words.specs.declared.fault.WordsFault.TheVariants as word
+use Rattle.ficus_words.specs.declared.mode.Mode.{Mode}
+use Rattle.ficus_words.specs.declared.mode.Mode.TheVariants.{Init, Run, Replay, Gen}
+use Rattle.ficus_words.specs.declared.mode.Size.{Size}
+use Rattle.ficus_world.specs.Fuses.{AreUnarmed}
+use Rattle.ficus_world.specs.Opening.{IsAtFault, IsFirstBad, IsFirstOccupied, StandsOn, Steady}
+use Rattle.ficus_world.specs.declared.opening.WorldFault.TheVariants as world
+use Rattle.ficus_world.proofs.Steadies.{steady_none}
+use Rattle.ficus_top.proofs.Answering.{answers_where}
+use Rattle.ficus_top.proofs.Codes.{done_of_code, idle_of_code, image_of_code, is_code, line_of_code, occupied_of_code, prefix_of_code, replica_of_code, sink_of_code, source_of_code, store_of_code, untouched_of_code, usage_of_code}
+use Rattle.ficus_top.proofs.Earlier.{not_at_fault}
+use Rattle.ficus_top.proofs.Endings.{AreUsed, IsStored, bad_line_comes, bad_line_told, complete_of_code, image_comes, made_of_code, nothing_left, occupied_comes, too_long_comes, too_long_of_code, within_of_code}
+use Rattle.ficus_serving.proofs.Places.{not_occupied}
+
+-- what was seen of a source, a sink and disks
+abbrev pub seen_of : {S K D : Type 0} → Source S → S → S → Sink K → K → K → Disk D → Vec (Pair D) Global
+    → Vec (Pair D) Global → Seen S K D
+seen_of source in_old in_new sink out_old out_new disk old new = record {
+  source = source;
+  input = record { old = in_old; new = in_new };
+  sink = sink;
+  output = record { old = out_old; new = out_new };
+  disk = disk;
+  disks = record { old = old; new = new };
+}
+
+-- how a run ended, as numbers
+abbrev pub status_of : {Done : Type 0} → Result Done Fault → Status
+status_of ended = record { code = code_of ended; line = line_of ended; replica = replica_of ended }
+
+module _ {Done : Type 0} where
+  -- what making a volume doesn't end with
+  pub making_used : (ended : Result Done Fault) → IfErr ended IsOfMaking → AreUsed ended
+  making_used (Err (Words fault)) making = absurd making
+  making_used (Ok done) making = λ fault is. cc
+  making_used (Err (Reading fault)) making = absurd making
+  making_used (Err (Storing fault)) making = λ other is. cc
+  making_used (Err (Answering fault)) making = absurd making
+
+  pub making_reads_nothing : (ended : Result Done Fault) → IfErr ended IsOfMaking
+      → IsErrOf ended (Reading reading.Source) → ⊥
+  making_reads_nothing (Ok done) making is = cc
+  making_reads_nothing (Err (Words fault)) making is = making
+  making_reads_nothing (Err (Reading fault)) making is = making
+  making_reads_nothing (Err (Storing fault)) making is = cc
+  making_reads_nothing (Err (Answering fault)) making is = making
+
+  pub making_puts_nothing : (ended : Result Done Fault) → IfErr ended IsOfMaking
+      → IsErrOf ended (Answering answering.Sink) → ⊥
+  making_puts_nothing (Ok done) making is = cc
+  making_puts_nothing (Err (Words fault)) making is = making
+  making_puts_nothing (Err (Reading fault)) making is = making
+  making_puts_nothing (Err (Storing fault)) making is = cc
+  making_puts_nothing (Err (Answering fault)) making is = making
+
+  pub making_opens_nothing : (ended : Result Done Fault) → IfErr ended IsOfMaking → (r : ℕ)
+      → IsErrOf ended (Storing (world.Image r)) → ⊥
+  making_opens_nothing (Ok done) making r is = cc
+  making_opens_nothing (Err (Words fault)) making r is = making
+  making_opens_nothing (Err (Reading fault)) making r is = making
+  making_opens_nothing (Err (Storing (world.Image q))) making r is = making
+  making_opens_nothing (Err (Storing world.Memory)) making r is = cc
+  making_opens_nothing (Err (Storing (world.Store q))) making r is = cc
+  making_opens_nothing (Err (Storing (world.Occupied q))) making r is = cc
+  making_opens_nothing (Err (Answering fault)) making r is = making
+
+  making_touches : (P : Type 0) (ended : Result Done Fault) → IfErr ended IsOfMaking
+      → IfErr ended (λ fault. IsUntouched fault → P)
+  making_touches P (Ok done) making = tt
+  making_touches P (Err (Words fault)) making = absurd making
+  making_touches P (Err (Reading fault)) making = absurd making
+  making_touches P (Err (Storing fault)) making = λ untouched. absurd untouched
+  making_touches P (Err (Answering fault)) making = absurd making
+
+  pub if_idle : {P : Type 0} (ended : Result Done Fault) → P → IfErr ended (λ fault. IsIdle fault → P)
+  if_idle (Ok done) holds = tt
+  if_idle (Err fault) holds = λ idle. holds
+
+  -- where no command was carried out nothing was put, and no disk armed
+  pub put_nothing : {D Output : Type 0} (stays : Type 0) (armings : D → Option ℕ) (old new : Output)
+      (old_disks new_disks : List (Pair D)) (ended : Result Done Fault)
+      → IfErr ended (λ fault. IsIdle fault → CarriesOutNothing stays armings old new old_disks new_disks)
+      → IfErr ended (λ fault. IsIdle fault → new ≡ old)
+  put_nothing stays armings old new old_disks new_disks (Ok done) nothing = tt
+  put_nothing stays armings old new old_disks new_disks (Err fault) nothing = λ idle. (nothing idle).put
+
+  pub armed_nothing : {D Output : Type 0} (stays : Type 0) (armings : D → Option ℕ) (old new : Output)
+      (old_disks new_disks : List (Pair D)) (ended : Result Done Fault)
+      → IfErr ended (λ fault. IsIdle fault → CarriesOutNothing stays armings old new old_disks new_disks)
+      → IfErr ended (λ fault. IsIdle fault → Steady armings old_disks new_disks)
+  armed_nothing stays armings old new old_disks new_disks (Ok done) nothing = tt
+  armed_nothing stays armings old new old_disks new_disks (Err fault) nothing = λ idle. (nothing idle).unarmed
+
+  making_code : (ended : Result Done Fault) → IfErr ended IsOfMaking → IsInitCode (code_of ended)
+  making_code (Ok done) making = inl refl
+  making_code (Err (Words fault)) making = absurd making
+  making_code (Err (Reading fault)) making = absurd making
+  making_code (Err (Storing world.Memory)) making = inr (inl refl)
+  making_code (Err (Storing (world.Store r))) making = inr (inr (inl refl))
+  making_code (Err (Storing (world.Image r))) making = absurd making
+  making_code (Err (Storing (world.Occupied r))) making = inr (inr (inr refl))
+  making_code (Err (Answering fault)) making = absurd making
+
+  run_code : (ended : Result Done Fault) → AreUsed ended
+      → ((r : ℕ) → IsErrOf ended (Storing (world.Occupied r)) → ⊥) → IsRunCode (code_of ended)
+  run_code (Ok done) used occupied = inl refl
+  run_code (Err (Words fault)) used occupied = absurd (used fault refl)
+  run_code (Err (Reading (reading.BadLine line))) used occupied = inr (inl refl)
+  run_code (Err (Reading reading.Memory)) used occupied = inr (inr (inl refl))
+  run_code (Err (Reading reading.Source)) used occupied = inr (inr (inr (inl refl)))
+  run_code (Err (Reading reading.TooLong)) used occupied = inr (inr (inr (inr (inr (inr (inr refl))))))
+  run_code (Err (Storing world.Memory)) used occupied = inr (inr (inl refl))
+  run_code (Err (Storing (world.Store r))) used occupied = inr (inr (inr (inr (inr (inl refl)))))
+  run_code (Err (Storing (world.Image r))) used occupied = inr (inr (inr (inr (inr (inr (inl refl))))))
+  run_code (Err (Storing (world.Occupied r))) used occupied = absurd (occupied r refl)
+  run_code (Err (Answering answering.Memory)) used occupied = inr (inr (inl refl))
+  run_code (Err (Answering answering.Sink)) used occupied = inr (inr (inr (inr (inl refl))))
+
+idle_either : {code : ℕ} → (code ≡ 6) ⊎ (code ≡ 7) → IsIdleCode code
+idle_either (inl six) = inr (inr (inl six))
+idle_either (inr seven) = inr (inr (inr (inl seven)))
+
+module _ {S K D Done : Type 0} (seen : Seen S K D) (ended : Result Done Fault) where
+  -- what is known in every mode by how the run ended
+  pub record EndedAsAny : Type 0 where
+    pub used : AreUsed ended
+    pub read_fault : IsErrOf ended (Reading reading.Source) → SourceFailed seen
+    pub read_fault_comes : seen.source.faults seen.input.old < seen.source.faults seen.input.new
+        → IsErrOf ended (Reading reading.Source)
+    pub write_fault : IsErrOf ended (Answering answering.Sink) → SinkFailed seen
+    pub write_fault_comes : seen.sink.faults seen.output.old < seen.sink.faults seen.output.new
+        → IsErrOf ended (Answering answering.Sink)
+    pub store_fault : (r : ℕ) → IsErrOf ended (Storing (world.Store r))
+        → IsAtFault seen.disk.faults (disks_before seen) (disks_after seen) r
+    pub idle : IfErr ended (λ fault. IsIdle fault → seen.output.new ≡ seen.output.old)
+    pub unarmed : IfErr ended (λ fault. IsIdle fault
+        → Steady seen.disk.armings (disks_before seen) (disks_after seen))
+    pub untouched : IfErr ended (λ fault. IsUntouched fault → seen.disks.new ≡ seen.disks.old)
+    pub source_counted : seen.source.faults seen.input.old ≤ seen.source.faults seen.input.new
+    pub sink_counted : seen.sink.faults seen.output.old ≤ seen.sink.faults seen.output.new
+
+  pub any_of : EndedAsAny → EndsAsAnyMode seen (status_of ended)
+  any_of facts = record {
+    used = λ code. facts.used word.Usage (usage_of_code ended code);
+    read_fault = λ code. facts.read_fault (source_of_code ended code);
+    read_fault_comes = λ rose. ap code_of (facts.read_fault_comes rose);
+    write_fault = λ code. facts.write_fault (sink_of_code ended code);
+    write_fault_comes = λ rose. ap code_of (facts.write_fault_comes rose);
+    store_fault = λ code. facts.store_fault (replica_of ended) (store_of_code ended code);
+    codes = is_code ended;
+    idle = λ code. idle_of_code ended code facts.idle;
+    untouched = λ code. untouched_of_code ended code facts.untouched;
+    unarmed = λ code. idle_of_code ended code facts.unarmed;
+    line = line_of_code ended;
+    replica = replica_of_code ended;
+    source_counted = facts.source_counted;
+    sink_counted = facts.sink_counted;
+  }
+
+  module _ (used : AreUsed ended) (read_fault : IsErrOf ended (Reading reading.Source) → SourceFailed seen)
+      (takes : TakesAsEnded (script_of seen) (left_of seen) ended) where
+    reads_of : ReadsScript seen (status_of ended)
+    reads_of = record {
+      too_long = too_long_of_code (script_of seen) (left_of seen) ended used takes;
+      too_long_comes = λ no_fault longer.
+          too_long_comes (script_of seen) (left_of seen) _ _ ended used takes read_fault no_fault longer;
+      within = within_of_code (script_of seen) (left_of seen) ended takes;
+      bad_line = bad_line_told (script_of seen) (left_of seen) ended takes;
+      bad_line_comes = λ line no_fault within first.
+          bad_line_comes (script_of seen) (left_of seen) within _ _ no_fault ended line used takes read_fault first;
+    }
+
+    -- a script is answered, unless memory was wanted
+    script_done : IsStored ended → (IsErrOf ended (Answering answering.Sink) → SinkFailed seen) → HasScript seen
+        → (code_of ended ≡ 0) ⊎ (code_of ended ≡ 3)
+    script_done stored write_fault script =
+        complete_of_code (script_of seen) (left_of seen) script.within _ _ script.source ended script.commands _ _ used
+        takes read_fault stored write_fault script.script script.sink
+
+  script_answered : (stays : Type 0) (volume : Volume) (earlier : List Event)
+      → TakesAsEnded (script_of seen) (left_of seen) ended → OnOk ended (AnswersOf seen volume earlier)
+      → IfErr ended (λ fault. IsAnswering fault
+      → AnswersFrontOf (fault ≡ Answering answering.Memory) seen volume earlier)
+      → IfErr ended (λ fault. IsIdle fault → CarriesOutNothing stays seen.disk.armings seen.output.old
+      seen.output.new (disks_before seen) (disks_after seen))
+      → AnswersScript seen (status_of ended) stays volume earlier
+  script_answered stays volume earlier takes answers front idle =
+      let put = prefix_of_code (λ may. AnswersFrontOf may seen volume earlier) answers_where ended idle front in
+      record {
+        answers = λ code.
+            (done_of_code ended code answers, nothing_left (script_of seen) (left_of seen) ended takes code);
+        prefix = put.0;
+        cut = put.1;
+      }
+
+  -- what is known of a run that makes a volume of so many members
+  makes_of : (members : ℕ)
+      → ((r : ℕ) → IsErrOf ended (Storing (world.Occupied r))
+      → IsFirstOccupied seen.disk.seen (disks_before seen) r × (r ≤ members))
+      → ((r : ℕ) → r ≤ members → IsFirstOccupied seen.disk.seen (disks_before seen) r
+      → IsErrAnd ended (λ fault. (fault ≡ Storing (world.Occupied r)) ⊎ IsInterruption fault))
+      → MakesVolume members seen (status_of ended)
+  makes_of members occupied comes = record {
+    occupied = λ code. (occupied (replica_of ended) (occupied_of_code ended code)).0;
+    is_member = λ code. (occupied (replica_of ended) (occupied_of_code ended code)).1;
+    occupied_comes = λ r within first. occupied_comes ended r (comes r within first);
+  }
+
+  pub init_of : (size : Size) → IfErr ended IsOfMaking → seen.input.new ≡ seen.input.old
+      → seen.output.new ≡ seen.output.old → Steady seen.disk.armings (disks_before seen) (disks_after seen)
+      → ((r : ℕ) → IsErrOf ended (Storing (world.Store r))
+      → IsAtFault seen.disk.faults (disks_before seen) (disks_after seen) r)
+      → (seen.disk.tells → (r : ℕ) → IsErrOf ended (Storing (world.Occupied r))
+      → IsFirstOccupied seen.disk.seen (disks_before seen) r × (r ≤ size.members))
+      → (seen.disk.tells → (r : ℕ) → r ≤ size.members → IsFirstOccupied seen.disk.seen (disks_before seen) r
+      → IsErrAnd ended (λ fault. (fault ≡ Storing (world.Occupied r)) ⊎ IsInterruption fault))
+      → (seen.disk.tells → OnOk ended (StandsOn kept_in seen.disk.seen (volume_of size) [] (disks_after seen)))
+      → DoesInit size seen (status_of ended)
+  init_of size making unread silent unarmed fault occupied comes made = record {
+    codes = making_code ended making;
+    unread = unread;
+    silent = silent;
+    unarmed = unarmed;
+    makes = λ tells. makes_of size.members (occupied tells) (comes tells);
+    made = λ tells code. done_of_code ended code (made tells);
+    complete = λ tells empty none. made_of_code ended making (record {
+      store = λ r is. not_at_fault none r (fault r is);
+      image = making_opens_nothing ended making;
+      occupied = λ r is. not_occupied empty (occupied tells r is).0 (occupied tells r is).1;
+    });
+  }
+
+  pub init_ends : IfErr ended IsOfMaking → seen.input.new ≡ seen.input.old
+      → seen.output.new ≡ seen.output.old → Steady seen.disk.armings (disks_before seen) (disks_after seen)
+      → ((r : ℕ) → IsErrOf ended (Storing (world.Store r))
+      → IsAtFault seen.disk.faults (disks_before seen) (disks_after seen) r) → EndsAsAnyMode seen (status_of ended)
+  init_ends making unread silent unarmed fault = any_of (record {
+    used = making_used ended making;
+    read_fault = λ is. absurd (making_reads_nothing ended making is);
+    read_fault_comes = λ rose. absurd (omega (arith, rose, ap seen.source.faults unread));
+    write_fault = λ is. absurd (making_puts_nothing ended making is);
+    write_fault_comes = λ rose. absurd (omega (arith, rose, ap seen.sink.faults silent));
+    store_fault = fault;
+    idle = if_idle ended silent;
+    unarmed = if_idle ended unarmed;
+    untouched = making_touches _ ended making;
+    source_counted = omega (arith, ap seen.source.faults unread);
+    sink_counted = omega (arith, ap seen.sink.faults silent);
+  })
+
+  pub run_of : EndedAsAny → (seen.source.tells → TakesAsEnded (script_of seen) (left_of seen) ended)
+      → (seen.source.tells → seen.disk.tells → OnOk ended ((volume : Volume) (H : List Event)
+      → StandsOn kept_in seen.disk.seen volume H (disks_before seen) → AnswersOf seen volume H))
+      → (seen.source.tells → seen.disk.tells → IfErr ended (λ fault. IsAnswering fault
+      → (volume : Volume) (H : List Event) → StandsOn kept_in seen.disk.seen volume H (disks_before seen)
+      → AnswersFrontOf (fault ≡ Answering answering.Memory) seen volume H))
+      → IfErr ended (λ fault. IsIdle fault → CarriesOutNothing (HoldsSame seen) seen.disk.armings seen.output.old
+      seen.output.new (disks_before seen) (disks_after seen))
+      → (seen.disk.tells → (r : ℕ) → IsErrOf ended (Storing (world.Image r))
+      → IsFirstBad kept_in seen.disk.seen (disks_before seen) r)
+      → (seen.disk.tells → (r : ℕ) → IsFirstBad kept_in seen.disk.seen (disks_before seen) r
+      → IsErrAnd ended (λ fault. (fault ≡ Storing (world.Image r)) ⊎ IsInterruption fault))
+      → (seen.disk.tells → (volume : Volume) (H : List Event)
+      → StandsOn kept_in seen.disk.seen volume H (disks_before seen) → (r : ℕ)
+      → IsErrOf ended (Storing (world.Image r)) → ⊥)
+      → ((r : ℕ) → IsErrOf ended (Storing (world.Occupied r)) → ⊥) → DoesRun seen (status_of ended)
+  run_of any takes answers front idle image comes never never_occupied = record {
+    codes = run_code ended any.used never_occupied;
+    reads = λ tells. reads_of any.used any.read_fault (takes tells);
+    image = λ tells code. image tells (replica_of ended) (image_of_code ended code);
+    image_comes = λ tells r bad. image_comes ended r (comes tells r bad);
+    unwritten = λ codes. (idle_of_code ended (idle_either codes) idle).besides;
+    answers = λ tells told volume H stands.
+        script_answered (HoldsSame seen) volume H (takes tells)
+        (on_ok ended (λ all. all volume H stands) (answers tells told))
+        (on_fault ended (λ fault all is. all is volume H stands) (front tells told)) idle;
+    complete = λ tells told volume H stands script none.
+        script_done any.used any.read_fault (takes tells) (record {
+          store = λ r is. not_at_fault none r (any.store_fault r is);
+          image = never told volume H stands;
+          occupied = never_occupied;
+        }) any.write_fault script;
+  }
+    where
+      on_ok : {P Q : Type 0} (result : Result Done Fault) → (P → Q) → OnOk result P → OnOk result Q
+      on_ok (Ok done) makes holds = makes holds
+      on_ok (Err fault) makes holds = tt
+
+      on_fault : {P Q : Fault → Type 0} (result : Result Done Fault) → ((fault : Fault) → P fault → Q fault)
+          → IfErr result P → IfErr result Q
+      on_fault (Ok done) makes holds = tt
+      on_fault (Err fault) makes holds = makes fault holds
+
+  pub replay_of : (size : Size) → EndedAsAny
+      → (seen.source.tells → TakesAsEnded (script_of seen) (left_of seen) ended)
+      → (seen.source.tells → seen.disk.tells → OnOk ended (AnswersOf seen (volume_of size) []))
+      → (seen.source.tells → seen.disk.tells → IfErr ended (λ fault. IsAnswering fault
+      → AnswersFrontOf (fault ≡ Answering answering.Memory) seen (volume_of size) []))
+      → IfErr ended (λ fault. IsIdle fault → CarriesOutNothing (Unit {0}) seen.disk.armings seen.output.old
+      seen.output.new (disks_before seen) (disks_after seen))
+      → (seen.disk.tells_fuse → AreUnarmed seen.disk.fuse (disks_before seen) → (r : ℕ)
+      → IsErrOf ended (Storing (world.Store r)) → ⊥)
+      → (seen.disk.tells → (r : ℕ) → IsErrOf ended (Storing (world.Image r)) → ⊥)
+      → (seen.disk.tells → (r : ℕ) → IsErrOf ended (Storing (world.Occupied r))
+      → IsFirstOccupied seen.disk.seen (disks_before seen) r × (r ≤ size.members))
+      → (seen.disk.tells → (r : ℕ) → r ≤ size.members → IsFirstOccupied seen.disk.seen (disks_before seen) r
+      → IsErrAnd ended (λ fault. (fault ≡ Storing (world.Occupied r)) ⊎ IsInterruption fault))
+      → DoesReplay size seen (status_of ended)
+  replay_of size any takes answers front idle unfailing never occupied comes = record {
+    reads = λ tells. reads_of any.used any.read_fault (takes tells);
+    makes = λ tells. makes_of size.members (occupied tells) (comes tells);
+    opens = λ tells code. never tells (replica_of ended) (image_of_code ended code);
+    answers = λ tells told.
+        script_answered (Unit {0}) (volume_of size) [] (takes tells) (answers tells told) (front tells told) idle;
+    complete = λ tells told empty script none.
+        script_done any.used any.read_fault (takes tells) (record {
+          store = λ r is. not_at_fault none r (any.store_fault r is);
+          image = never told;
+          occupied = λ r is. not_occupied empty (occupied told r is).0 (occupied told r is).1;
+        }) any.write_fault script;
+    complete_by_fuses = λ tells told fused empty unarmed script.
+        script_done any.used any.read_fault (takes tells) (record {
+          store = unfailing fused unarmed;
+          image = never told;
+          occupied = λ r is. not_occupied empty (occupied told r is).0 (occupied told r is).1;
+        }) any.write_fault script;
+  }
+
+-- where memory was refused before anything was asked of the outside, all is as each mode does
+module _ {S K D : Type 0} (seen : Seen S K D) (unread : seen.input.new ≡ seen.input.old)
+    (silent : seen.output.new ≡ seen.output.old) (untouched : seen.disks.new ≡ seen.disks.old) where
+  -- so it ends, like a script that wasn't read, or a volume that wasn't made
+  abbrev unread_end : Result (Unit {0}) Fault
+  unread_end = Err (Reading reading.Memory)
+
+  abbrev unmade_end : Result (Unit {0}) Fault
+  unmade_end = Err (Storing world.Memory)
+
+  unarmed : Steady seen.disk.armings (disks_before seen) (disks_after seen)
+  unarmed =
+      subst (λ (disks : Vec (Pair D) Global). Steady seen.disk.armings (disks_before seen) (vec_items disks))
+      (sym untouched) (steady_none seen.disk.armings (disks_before seen))
+
+  held : HoldsSame seen
+  held = λ tells.
+      subst (λ (disks : Vec (Pair D) Global). Steady seen.disk.seen (disks_before seen) (vec_items disks))
+      (sym untouched) (steady_none seen.disk.seen (disks_before seen))
+
+  takes : TakesUntil (script_of seen) (left_of seen) reading.Memory
+  takes = record {
+    count = 0;
+    gives = omega (arith, ap (λ (left : List ℕ). length left) (ap seen.source.left unread));
+    below = omega arith;
+  }
+
+  any : EndedAsAny seen unread_end
+  any = record {
+    used = λ fault is. cc;
+    read_fault = λ is. absurd (cc is);
+    read_fault_comes = λ rose. absurd (omega (arith, rose, ap seen.source.faults unread));
+    write_fault = λ is. absurd (cc is);
+    write_fault_comes = λ rose. absurd (omega (arith, rose, ap seen.sink.faults silent));
+    store_fault = λ r is. absurd (cc is);
+    idle = λ idle. silent;
+    unarmed = λ idle. unarmed;
+    untouched = λ none. untouched;
+    source_counted = omega (arith, ap seen.source.faults unread);
+    sink_counted = omega (arith, ap seen.sink.faults silent);
+  }
+
+  pub nothing_done : (mode : Mode) → Does mode seen (record { code = 3; line = 0; replica = 0 })
+  nothing_done (Init size root) =
+      init_of seen unmade_end size tt unread silent unarmed (λ r is. absurd (cc is))
+      (λ tells r is. absurd (cc is)) (λ tells r within first. inr tt) (λ tells. tt)
+  nothing_done (Run root) =
+      run_of seen unread_end any (λ tells. takes) (λ tells told. tt)
+      (λ tells told is. absurd is) (λ idle. record { put = silent; unarmed = unarmed; besides = held })
+      (λ tells r is. absurd (cc is)) (λ tells r bad. inr tt) (λ tells volume H stands r is. cc) (λ r is. cc)
+  nothing_done (Replay size) =
+      replay_of seen unread_end size any (λ tells. takes) (λ tells told. tt)
+      (λ tells told is. absurd is) (λ idle. record { put = silent; unarmed = unarmed; besides = tt })
+      (λ fused none r is. cc) (λ tells r is. cc) (λ tells r is. absurd (cc is)) (λ tells r within first. inr tt)
+  nothing_done (Gen members seed steps) = record {
+    codes = inr (inl refl);
+    unread = unread;
+    untouched = untouched;
+    told = λ tells code. absurd (cc code);
+    prefix = λ tells code. absurd (cc code);
+    silent = λ code. silent;
+  }

@@ -1,0 +1,73 @@
+use Rattle.std.proofs.Common.{◌≡◌, refl, sym, subst}
+use Rattle.ficus_words.specs.declared.mode.Mode.{Mode}
+use Rattle.ficus_top.specs.Program.{DoesIn}
+use Rattle.ficus_top.specs.Seen.{Seen}
+use Rattle.ficus_top.specs.declared.status.Status.{Status}
+use Rattle.ficus_top.proofs.Doing.{EndedAsAny, any_of, armed_nothing, init_ends, init_of, put_nothing, replay_of, run_of, seen_of, status_of}
+use Rattle.ficus_top.proofs.program.carry_out.Goals as goal
+
+-- what is done in this mode is told by the status
+in_mode : {S K D : Type 0} (seen : Seen S K D) (ended : Status) {mode is : Mode} {status : Status} → mode ≡ is
+    → status ≡ ended → DoesIn is seen ended → DoesIn mode seen status
+in_mode seen ended {is = is} {status = status} same told does =
+    subst (λ (m : Mode). DoesIn m seen status) (sym same) (subst (λ (s : Status). DoesIn is seen s) (sym told) does)
+
+pub returns-in-Init : goal.returns-in-Init
+returns-in-Init g c =
+    let seen = seen_of g.S.Source c.args.input.now c.args.input.now g.K.Sink c.args.output.now c.args.output.now
+    g.D.Disk
+    c.args.disks.now c.init.new.disks in
+    in_mode seen (status_of c.init.result) c.in-Init.is c.of.ensures (record {
+      does = init_of seen c.init.result c.in-Init.size c.init.ensures.kinds refl refl c.init.ensures.unarmed
+          c.init.ensures.failed c.init.ensures.occupied c.init.ensures.occupied_comes c.init.ensures.made;
+      ends = init_ends seen c.init.result c.init.ensures.kinds refl refl c.init.ensures.unarmed c.init.ensures.failed;
+    })
+
+pub returns-in-Run : goal.returns-in-Run
+returns-in-Run g c =
+    let seen = seen_of g.S.Source c.args.input.now c.run.new.input g.K.Sink c.args.output.now c.run.new.output g.D.Disk
+    c.args.disks.now c.run.new.disks in
+    let any : EndedAsAny seen c.run.result = record {
+      used = c.run.ensures.usage;
+      read_fault = c.run.ensures.read_fault;
+      read_fault_comes = c.run.ensures.read_fault_comes;
+      write_fault = c.run.ensures.write_fault;
+      write_fault_comes = c.run.ensures.write_fault_comes;
+      store_fault = c.run.ensures.failed;
+      idle = put_nothing _ _ _ _ _ _ c.run.result c.run.ensures.idle;
+      unarmed = armed_nothing _ _ _ _ _ _ c.run.result c.run.ensures.idle;
+      untouched = c.run.ensures.untouched;
+      source_counted = c.run.ensures.source_counted;
+      sink_counted = c.run.ensures.sink_counted;
+    } in
+    in_mode seen (status_of c.run.result) c.in-Run.is c.of-in-Run.ensures (record {
+      does = run_of seen c.run.result any c.run.ensures.takes c.run.ensures.answers c.run.ensures.prefix
+          c.run.ensures.idle c.run.ensures.image c.run.ensures.image_comes c.run.ensures.never_image
+          c.run.ensures.never_occupied;
+      ends = any_of seen c.run.result any;
+    })
+
+pub returns-in-Replay : goal.returns-in-Replay
+returns-in-Replay g c =
+    let seen = seen_of g.S.Source c.args.input.now c.replay.new.input g.K.Sink c.args.output.now c.replay.new.output
+    g.D.Disk
+    c.args.disks.now c.replay.new.disks in
+    let any : EndedAsAny seen c.replay.result = record {
+      used = c.replay.ensures.usage;
+      read_fault = c.replay.ensures.read_fault;
+      read_fault_comes = c.replay.ensures.read_fault_comes;
+      write_fault = c.replay.ensures.write_fault;
+      write_fault_comes = c.replay.ensures.write_fault_comes;
+      store_fault = c.replay.ensures.failed;
+      idle = put_nothing _ _ _ _ _ _ c.replay.result c.replay.ensures.idle;
+      unarmed = armed_nothing _ _ _ _ _ _ c.replay.result c.replay.ensures.idle;
+      untouched = c.replay.ensures.untouched;
+      source_counted = c.replay.ensures.source_counted;
+      sink_counted = c.replay.ensures.sink_counted;
+    } in
+    in_mode seen (status_of c.replay.result) c.in-Replay.is c.of-in-Replay.ensures (record {
+      does = replay_of seen c.replay.result c.in-Replay.size any c.replay.ensures.takes c.replay.ensures.answers
+          c.replay.ensures.prefix c.replay.ensures.idle c.replay.ensures.unfailing c.replay.ensures.never_image
+          c.replay.ensures.occupied c.replay.ensures.occupied_comes;
+      ends = any_of seen c.replay.result any;
+    })

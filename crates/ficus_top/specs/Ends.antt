@@ -1,0 +1,65 @@
+-- What commands are answered with over disks, from a world of the model on, and what the disks hold then.
+use Rattle.std.specs.Prelude.{◌≡◌, ◌==◌, ◌<◌, ◌-◌, ◌^◌, ◌%◌, ℕ, List, ◌++◌}
+use Rattle.ficus_disk.specs.declared.disk.Disk.{Ghosts as Disk}
+use Rattle.ficus_disk.specs.declared.pair.Pair.{Pair}
+use Rattle.ficus_keep.specs.declared.keep.Keep.{Ghosts as Keep}
+use Rattle.ficus_model.specs.Lawful.{Volume}
+use Rattle.ficus_script.specs.declared.command.Command.{Command}
+use Rattle.ficus_run_laws.specs.Outcomes.{all_outcomes}
+use Rattle.ficus_runs.specs.Fuses.{FuseState, FusesAllowAll, Keeping}
+use Rattle.ficus_runs.specs.ModelWorld.{ModelWorld, Standing, Up}
+use Rattle.ficus_runs.specs.Numbered.{IsNumbered}
+use Rattle.ficus_runs.specs.Outcome.{link_failures}
+use Rattle.ficus_runs.specs.Run.{EachDone}
+use Rattle.ficus_store.specs.Slots.{kept_in}
+use Rattle.ficus_world.specs.Disks.{DisksFollow}
+use Rattle.ficus_world.specs.Fuses.{FusesStand}
+use Rattle.ficus_world.specs.World.{Whole}
+use Rattle.ficus_world.specs.Opening.{Steady}
+use Rattle.ficus_world.specs.Stand.{DisksStand}
+use Rattle.ficus_serving.specs.Serving.{Serves, ServesFront}
+
+-- each member takes commands
+abbrev pub AllUp : ModelWorld → Type 0
+AllUp W = (r : ℕ) (standing : Standing) → IsNumbered W.standings r standing → standing ≡ Up
+
+-- no disk has failed: no count rose, or stands at its last value
+pub record NoneFailed {D : Type 0} (faults : D → ℕ) (old new : List (Pair D)) : Type 0 where
+  pub steady : Steady faults old new
+  pub each : (r : ℕ) (pair : Pair D) → IsNumbered new r pair
+      → (faults pair.a < 2 ^ 64 - 1) × (faults pair.b < 2 ^ 64 - 1)
+
+-- how many calls save a generation on a pair of slots, and that the even ones lie on `a`
+abbrev pub two_slots : Keeping
+two_slots = record { calls = λ generation. 6; is_on_a = λ generation. generation % 2 == 0 }
+
+-- the disks tell their fuses, and so these stand of the members of a world
+abbrev pub StandNow : {K D : Type 0} → Keep K → Disk D → Whole → List (Pair D) → (ℕ → FuseState) → Type 0
+StandNow keep disk world disks F = disk.tells_fuse × FusesStand keep disk F world.members disks
+
+-- The commands were served. The link never failed, and of the disks of each member so many saves and openings failed as
+-- their count rose by, at most; where no disk failed, all was done. Where the fuses stood so before, they allow what
+-- became of all that was asked of the disks. The disks stand for what the commands led to.
+pub record Ends {D : Type 0} (tells : Type 0) (disk : Disk D) (Rest : (ℕ → FuseState) → Type 0) (volume : Volume)
+    (W : ModelWorld) (commands : List Command) (old new : List ℕ) (old_disks new_disks : List (Pair D)) :
+    Type 0 where
+  pub after : ModelWorld
+  pub serves : Serves tells volume W commands after old new
+  pub linked : link_failures (all_outcomes serves.outcomes) ≡ 0
+  pub disks : DisksFollow disk.faults disk.armings (all_outcomes serves.outcomes) old_disks new_disks
+  pub done : NoneFailed disk.faults old_disks new_disks → EachDone serves.outcomes
+  pub fuses : (F : ℕ → FuseState) → Rest F → FusesAllowAll two_slots F (all_outcomes serves.outcomes)
+  pub stand : DisksStand kept_in disk.seen volume after new_disks
+
+-- some first commands were served; the same of the link and of the disks
+pub record EndsFront {D : Type 0} (tells may : Type 0) (disk : Disk D) (Rest : (ℕ → FuseState) → Type 0)
+    (volume : Volume) (W : ModelWorld) (commands : List Command) (old new : List ℕ)
+    (old_disks new_disks : List (Pair D)) : Type 0 where
+  pub after : ModelWorld
+  pub serves : ServesFront tells may volume W commands after old new
+  pub linked : link_failures (all_outcomes serves.outcomes ++ serves.more_outcomes) ≡ 0
+  pub disks : DisksFollow disk.faults disk.armings (all_outcomes serves.outcomes ++ serves.more_outcomes) old_disks
+      new_disks
+  pub fuses : (F : ℕ → FuseState) → Rest F
+      → FusesAllowAll two_slots F (all_outcomes serves.outcomes ++ serves.more_outcomes)
+  pub stand : DisksStand kept_in disk.seen volume after new_disks

@@ -1,0 +1,5 @@
+-- What the program does in each mode.
+pub mod Init
+pub mod Run
+pub mod Replay
+pub mod Gen

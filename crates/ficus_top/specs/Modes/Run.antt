@@ -1,0 +1,35 @@
+-- The mode `run`: the volume that the disks hold is opened, and the script is run on it.
+use Rattle.std.specs.Prelude.{◌≡◌, ◌⊎◌, ℕ, List}
+use Rattle.ficus_model.specs.Lawful.{Volume}
+use Rattle.ficus_model.specs.declared.event.Event.{Event}
+use Rattle.ficus_store.specs.Slots.{kept_in}
+use Rattle.ficus_world.specs.Opening.{IsFirstBad, SeenSame, StandsOn}
+use Rattle.ficus_top.specs.Codes.{IsImageCode}
+use Rattle.ficus_top.specs.Ends.{NoneFailed}
+use Rattle.ficus_top.specs.Script.{AnswersScript, HasScript, ReadsScript}
+use Rattle.ficus_top.specs.Seen.{Seen, disks_before, disks_after}
+use Rattle.ficus_top.specs.declared.status.Status.{Status}
+
+abbrev pub IsRunCode : ℕ → Type 0
+IsRunCode code = (code ≡ 0) ⊎ (code ≡ 2) ⊎ (code ≡ 3) ⊎ (code ≡ 4) ⊎ (code ≡ 5) ⊎ (code ≡ 6) ⊎ (code ≡ 7) ⊎ (code ≡ 8)
+
+-- what a read of each disk gives stays, over disks that tell that
+abbrev pub HoldsSame : {S K D : Type 0} → Seen S K D → Type 0
+HoldsSame seen = seen.disk.tells → SeenSame seen.disk.seen (disks_before seen) (disks_after seen)
+
+-- The script is answered on the volume, whatever lawful history it is that the disks stood for. Code 7 names the first
+-- replica whose disks are those of no world, and comes wherever there is one, unless a fault comes before. What was held stays where no command was carried out. A script is answered
+-- over disks that stand for a lawful history, unless the outside fails or memory is wanted.
+pub record DoesRun {S K D : Type 0} (seen : Seen S K D) (status : Status) : Type 0 where
+  pub codes : IsRunCode status.code
+  pub reads : seen.source.tells → ReadsScript seen status
+  pub image : seen.disk.tells → status.code ≡ 7 → IsFirstBad kept_in seen.disk.seen (disks_before seen) status.replica
+  pub image_comes : seen.disk.tells → (r : ℕ) → IsFirstBad kept_in seen.disk.seen (disks_before seen) r
+      → IsImageCode r status.code status.replica
+  pub unwritten : (status.code ≡ 6) ⊎ (status.code ≡ 7) → HoldsSame seen
+  pub answers : seen.source.tells → seen.disk.tells → (volume : Volume) (H : List Event)
+      → StandsOn kept_in seen.disk.seen volume H (disks_before seen)
+      → AnswersScript seen status (HoldsSame seen) volume H
+  pub complete : seen.source.tells → seen.disk.tells → (volume : Volume) (H : List Event)
+      → StandsOn kept_in seen.disk.seen volume H (disks_before seen) → HasScript seen
+      → NoneFailed seen.disk.faults (disks_before seen) (disks_after seen) → (status.code ≡ 0) ⊎ (status.code ≡ 3)

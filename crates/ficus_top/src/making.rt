@@ -1,0 +1,62 @@
+ghost use Rattle.std.specs.Prelude.{◌≡◌, ◌⊎◌, ◌≤◌, ℕ, [], length, IfErr, IsErrAnd, IsErrOf, OnOk};
+ghost use Rattle.ficus_store.specs.Slots.{IsRegular, kept_in};
+ghost use Rattle.ficus_top.specs.Ending.{IsInterruption, IsOfMaking};
+ghost use Rattle.ficus_top.specs.Making.{FitsSize, volume_of};
+ghost use Rattle.ficus_world.specs.Fuses.{AreRegular};
+ghost use Rattle.ficus_world.specs.Opening.{AreEmpty, IsAtFault, IsFirstOccupied, IsStoreFault, StandsOn, Steady, Unfailing};
+
+use crate::fault::Fault;
+use ficus_disk::{Disk, Pair};
+use ficus_outside::MemLink;
+use ficus_store::TwoSlot;
+use ficus_words::Size;
+use ficus_world::{World, WorldFault, what_is_made_stands};
+use std::alloc::Global;
+
+/// Makes a fresh volume of this size.
+pub(crate) fn init<D: Disk>(
+    alloc: Global,
+    size: Size,
+    disks: &mut Vec<Pair<D>>,
+) -> Result<(), Fault>
+    requires size { FitsSize size }
+    requires pairs { length disks.old.items ≡ 8 }
+    ensures kinds { IfErr result IsOfMaking }
+    ensures made { D.tells → OnOk result (StandsOn kept_in D.seen (volume_of size) [] disks.new.items) }
+    ensures occupied { D.tells → (r : ℕ) → IsErrOf result (Fault.Storing (WorldFault.Occupied r))
+        → IsFirstOccupied D.seen disks.old.items r × (r ≤ size.members) }
+    ensures occupied_comes { D.tells → (r : ℕ) → r ≤ size.members → IsFirstOccupied D.seen disks.old.items r
+        → IsErrAnd result (λ fault. (fault ≡ Fault.Storing (WorldFault.Occupied r)) ⊎ IsInterruption fault) }
+    ensures failed { (r : ℕ) → IsErrOf result (Fault.Storing (WorldFault.Store r))
+        → IsAtFault D.faults disks.old.items disks.new.items r }
+    ensures unarmed { Steady D.armings disks.old.items disks.new.items }
+{
+    Ok(make(alloc, size, disks)?)
+}
+
+/// The same, with the world's own fault.
+pub(crate) fn make<D: Disk>(
+    alloc: Global,
+    size: Size,
+    disks: &mut Vec<Pair<D>>,
+) -> Result<(), WorldFault>
+    requires size { FitsSize size }
+    requires pairs { length disks.old.items ≡ 8 }
+    ensures made { D.tells → OnOk result (StandsOn kept_in D.seen (volume_of size) [] disks.new.items) }
+    ensures empty { D.tells → OnOk result (AreEmpty D.seen disks.old.items size.members) }
+    ensures occupied { D.tells → (r : ℕ) → IsErrOf result (WorldFault.Occupied r)
+        → IsFirstOccupied D.seen disks.old.items r × (r ≤ size.members) }
+    ensures comes { D.tells → (r : ℕ) → IsFirstOccupied D.seen disks.old.items r → r ≤ size.members
+        → IsErrAnd result (λ fault. (fault ≡ WorldFault.Occupied r) ⊎ IsStoreFault fault) }
+    ensures failed { (r : ℕ) → IsErrOf result (WorldFault.Store r) → IsAtFault D.faults disks.old.items
+        disks.new.items r }
+    ensures never { (r : ℕ) → IsErrOf result (WorldFault.Image r) → ⊥ }
+    ensures steady { OnOk result (Steady D.faults disks.old.items disks.new.items) }
+    ensures unarmed { Steady D.armings disks.old.items disks.new.items }
+    ensures unfailing { D.tells_fuse → Unfailing D.fuse result disks.old.items disks.new.items }
+    ensures regular { D.tells → OnOk result (AreRegular IsRegular D.seen disks.new.items size.members) }
+{
+    let made = World::<TwoSlot, MemLink>::make(alloc, disks, size.members, size.ids, size.bytes);
+    what_is_made_stands::<TwoSlot, D>();
+    made
+}

@@ -1,0 +1,65 @@
+-- What becomes of a world where a member keeps an event of its own, or is put down.
+use Rattle.std.proofs.Common.{◌≡◌, ℕ, ◌-◌, List, [], ◌∷◌, ◌++◌, length, Result, Ok, Err, Some, sym, ap, ap₂, subst, ◌∙◌, OnOk, OnErr, arith}
+use Rattle.std.specs.Prelude.{slice_set}
+use Rattle.std.proofs.lemmas.List.{length-set, length_push}
+use Rattle.ficus_model.specs.declared.event.Event.{Event}
+use Rattle.ficus_runs.specs.Numbered.{IsNumbered}
+use Rattle.ficus_world.specs.declared.member.Member.{Member}
+use Rattle.ficus_world.specs.declared.member.MemberState.TheVariants.{Up, Down}
+use Rattle.ficus_world.specs.declared.member.Pending.{Pending}
+use Rattle.ficus_world.specs.Moves.{advanced, downed}
+use Rattle.ficus_world.specs.World.{Whole, IsSoundMember, IsSoundNext, IsWorld, whole_of}
+use Rattle.ficus_world.proofs.SoundWorlds.{held_sound, put_down_sound, world_after}
+
+module _ (old : Whole) (by : ℕ) (next : Pending) (members : List Member) (events : List Event) where
+  -- the members, where one keeps it, and where it is put down
+  abbrev pub Held : Type 0
+  Held = (was : Member) → IsNumbered old.members by was
+      → members ≡ slice_set old.members (by - 1) (record was { replica = next.replica })
+
+  abbrev pub PutDown : Type 0
+  PutDown = (was : Member) → IsNumbered old.members by was
+      → members ≡ slice_set old.members (by - 1) (record was { state = Down (Some next) })
+
+  -- the world is one still
+  pub kept_world : {T E : Type 0} (result : Result T E) (was : Member) → IsNumbered old.members by was
+      → was.state ≡ Up → IsSoundNext (length old.members) (length old.events) by was.replica next.replica
+      → IsWorld old → OnOk result Held → OnOk result (events ≡ old.events ++ next.event ∷ []) → OnErr result PutDown
+      → OnErr result (events ≡ old.events) → IsWorld (whole_of members events old.post)
+  kept_world (Ok done) was is up sound world held stored down kept =
+      let now : Member = record was { replica = next.replica } in
+      let grown = length_push old.events next.event in
+      let now_sound = subst (λ n. IsSoundMember (length old.members) n by now) (sym grown) (held_sound up sound) in
+      subst (λ list. IsWorld (whole_of members list old.post)) (sym stored)
+      (world_after old (old.events ++ next.event ∷ []) by was now is world now_sound (omega (arith, grown)) members
+      (held was is))
+  kept_world (Err failed) was is up sound world held stored down kept =
+      let now : Member = record was { state = Down (Some next) } in
+      let now_sound = put_down_sound (world.sound by was is) sound in
+      subst (λ list. IsWorld (whole_of members list old.post)) (sym kept)
+      (world_after old old.events by was now is world now_sound (omega arith) members (down was is))
+
+  -- it is the one with the event
+  pub kept_advanced : {T E : Type 0} (result : Result T E) → OnOk result Held
+      → OnOk result (events ≡ old.events ++ next.event ∷ [])
+      → OnOk result ((was : Member) → IsNumbered old.members by was
+      → whole_of members events old.post ≡ advanced old by was next.replica next.event)
+  kept_advanced (Ok done) held stored =
+      λ was is. ap₂ (λ (list : List Member) (more : List Event). whole_of list more old.post) (held was is) stored
+  kept_advanced (Err failed) held stored = tt
+
+  -- or the one where it is pending
+  pub kept_downed : {T E : Type 0} (result : Result T E) → OnErr result PutDown → OnErr result (events ≡ old.events)
+      → OnErr result ((was : Member) → IsNumbered old.members by was
+      → whole_of members events old.post ≡ downed old by was (Some next))
+  kept_downed (Ok done) down kept = tt
+  kept_downed (Err failed) down kept =
+      λ was is. ap₂ (λ (list : List Member) (more : List Event). whole_of list more old.post) (down was is) kept
+
+  -- there are as many members
+  pub kept_count : {T E : Type 0} (result : Result T E) (was : Member) → IsNumbered old.members by was
+      → OnOk result Held → OnErr result PutDown → length members ≡ length old.members
+  kept_count (Ok done) was is held down =
+      ap (λ (list : List Member). length list) (held was is) ∙ length-set old.members (by - 1) _
+  kept_count (Err failed) was is held down =
+      ap (λ (list : List Member). length list) (down was is) ∙ length-set old.members (by - 1) _

@@ -1,0 +1,354 @@
+-- What was opened is a world, and stands for what its disks stood for.
+use Rattle.std.proofs.Common.{◌≡◌, ℕ, zero, suc, ◌+◌, ◌-◌, ◌≤◌, Bool, List, [], ◌∷◌, ◌++◌, length, replicate, take, Option, None, refl, sym, ap, subst, ◌∙◌, append_assoc, inl, inr, arith}
+use Rattle.std.specs.Prelude.{map}
+use Rattle.std.specs.List.{range_with_len}
+use Rattle.std.proofs.lemmas.Bool.{cases_eq}
+use Rattle.std.proofs.lemmas.List.{append-nil, length-replicate, get_or-replicate, length-take-le, get_or-take, length-map, get_or-map}
+use Rattle.std.proofs.lemmas.List.Sums.{count_by-le-length}
+use Rattle.std.proofs.lemmas.Option.{get_or_from_slice_get}
+use Rattle.ficus_disk.specs.declared.pair.Pair.{Pair}
+use Rattle.ficus_ids.specs.Members.{IsCount, IsMember}
+use Rattle.ficus_keep.specs.Kept.{Kept, found_in}
+use Rattle.ficus_laws.proofs.Lawful.{lawful_none}
+use Rattle.ficus_model.specs.declared.event.Event.{Event}
+use Rattle.ficus_model.specs.declared.event.Event.TheVariants.{Restart}
+use Rattle.ficus_model.specs.Events.{raised}
+use Rattle.ficus_model.specs.Lawful.{Volume}
+use Rattle.ficus_replica.proofs.Events.{fresh_stands, no_restarts, quiet_stands, restart_stands}
+use Rattle.ficus_replica.proofs.Saves.{saved_kept}
+use Rattle.ficus_replica.specs.SavedOf.{IsSavedOf, StandsFor, fresh_saved, is_saved}
+use Rattle.ficus_replica.specs.declared.replica.Replica.{Replica}
+use Rattle.ficus_saved.specs.Limits.{byte_limit, update_limit}
+use Rattle.ficus_saved.specs.Saved.{FitsImage}
+use Rattle.ficus_saved.specs.declared.saved.Saved.{Saved}
+use Rattle.ficus_stable.specs.Holds.{Holds}
+use Rattle.ficus_runs.specs.ModelWorld.{Standing}
+use Rattle.ficus_runs.specs.ModelWorld as model
+use Rattle.ficus_runs.specs.Numbered.{IsNumbered}
+use Rattle.ficus_runs.specs.Start.{restarts, start}
+use Rattle.ficus_world.specs.Disks.{are_fused}
+use Rattle.ficus_world.specs.Opening.{AreMade, AreOpened, AreRead, IsFirstBad, Opens, StandsOn, Steady, fuses_in}
+use Rattle.ficus_world.specs.Post.{Outbox}
+use Rattle.ficus_world.specs.Stand.{KeepsOf}
+use Rattle.ficus_world.specs.World.{IsPendingSound, IsSoundMember, IsWorld, MemberStandsFor, StateStandsFor, Whole, WorldStandsFor, whole_of}
+use Rattle.ficus_world.specs.declared.member.Member.{Member}
+use Rattle.ficus_world.specs.declared.member.MemberState.{MemberState}
+use Rattle.ficus_world.specs.declared.member.MemberState.TheVariants.{Up}
+use Rattle.ficus_run_laws.proofs.Numbers.{number_exists}
+use Rattle.ficus_world.proofs.Openings.{holds_same, one_held, opens_of, opens_same}
+use Rattle.ficus_run_laws.proofs.Starts.{restarts_more, restarts_raised, start_lawful}
+use Rattle.ficus_world.proofs.Steadies.{steady_back}
+
+-- nothing is posted
+pub record IsEmpty (post : Outbox) : Type 0 where
+  pub behind : post.behind ≡ []
+  pub posts : post.posts ≡ []
+
+-- over a link without messages nothing is
+pub empty_post : (post : Outbox) (posts : List (List ℕ)) (total faults : ℕ)
+    → post ≡ record { behind = []; posts = posts; total = total; faults = faults } → posts ≡ [] → IsEmpty post
+empty_post post posts total faults is none = record {
+  behind = ap (λ (p : Outbox). p.behind) is;
+  posts = ap (λ (p : Outbox). p.posts) is ∙ none;
+}
+
+module _ (members : List Member) (opened : AreOpened members) (count : IsCount (length members))
+    (counted : (first : Member) → IsNumbered members 1 first → first.replica.saved.members ≡ length members) where
+  pub first_member : (first : Member) × IsNumbered members 1 first
+  first_member =
+      number_exists members 1 (record { at_least = omega arith; at_most = omega (arith, count.at_least) })
+
+  sound : (events r : ℕ) (member : Member) → IsNumbered members r member
+      → IsSoundMember (length members) events r member
+  sound events r member at =
+      let so = opened.each r first_member.0 member first_member.1 at in
+      let generation = so.may.generation in
+      record {
+        replica = record {
+          me = so.may.me;
+          members = so.may.members ∙ counted first_member.0 first_member.1;
+          fits = so.fits;
+          generation = omega (arith, generation);
+        };
+        pending =
+            subst (λ (s : MemberState). IsPendingSound (length members) events r member.replica s) (sym so.up) tt;
+      }
+
+  pub opened_world : (events : List Event) (post : Outbox) → IsEmpty post → IsWorld (whole_of members events post)
+  opened_world events post empty = record {
+    count = count;
+    sound = sound (length events);
+    counted = ap (λ (l : List (List ℕ)). length l) empty.posts ∙ sym (ap (λ (l : List ℕ). length l) empty.behind);
+    few = omega (arith, ap (λ (l : List (List ℕ)). length l) empty.posts);
+  }
+
+  module _ {D : Type 0} (kept : List ℕ → List ℕ → Option Kept) (seen : D → List ℕ) (old now : List (Pair D))
+      (same : Steady seen old now) (enough : length members ≤ length now)
+      (held : (r : ℕ) (member : Member) (pair : Pair D) → IsNumbered members r member → IsNumbered now r pair
+      → Holds (found_in kept seen pair) member.replica.saved) where
+    pub opened_read : AreRead kept seen old members
+    opened_read = record {
+      first = first_member.0.replica.saved;
+      counted = sym (counted first_member.0 first_member.1);
+      each = λ r member at. (
+        (opened.each r first_member.0 member first_member.1 at).up,
+        opens_same kept seen now old first_member.0.replica.saved member.replica.saved r (steady_back seen old now same)
+            (opens_of kept seen members now opened held r first_member.0 member first_member.1 at
+            (omega (arith, at.member.at_most, enough))),
+      );
+    }
+
+-- disks that stand for a history hold of each member what a world is opened with
+module _ {D : Type 0} (kept : List ℕ → List ℕ → Option Kept) (seen : D → List ℕ) (volume : Volume) (H : List Event)
+    (disks : List (Pair D)) (on : StandsOn kept seen volume H disks) where
+  first_keeps : 8 ≤ length disks → (pair : Pair D) × IsNumbered disks 1 pair × KeepsOf volume H 1 (found_in kept seen pair)
+  first_keeps enough =
+      let pair = number_exists disks 1 (record { at_least = omega arith; at_most = omega (arith, enough) }) in
+      let member : IsMember volume.members 1 = record { at_least = omega arith; at_most = omega (arith, on.count.at_least) } in
+      (pair.0, pair.1, on.keeps.each 1 pair.0 pair.1 member)
+
+  opens_kept : (r : ℕ) (one pair : Pair D) → IsNumbered disks r pair
+      → (first : KeepsOf volume H 1 (found_in kept seen one)) (keeps : KeepsOf volume H r (found_in kept seen pair))
+      → Opens kept seen disks first.saved keeps.saved r
+  opens_kept r one pair at first keeps =
+      let saves = keeps.is.generation in
+      let most = count_by-le-length (is_saved r) H in
+      let few = on.few in
+      record {
+        pair = pair;
+        is = at;
+        fits = keeps.fits;
+        holds = keeps.holds;
+        may = record {
+          me = keeps.is.me;
+          members = keeps.is.members ∙ sym first.is.members;
+          ids = keeps.is.ids ∙ sym first.is.ids;
+          bytes = keeps.is.bytes ∙ sym first.is.bytes;
+          generation = omega (arith, saves, most, few);
+        };
+      }
+
+  pub never_bad : 8 ≤ length disks → (r : ℕ) → IsFirstBad kept seen disks r → ⊥
+  never_bad enough r bad =
+      let one = first_keeps enough in
+      let first = one.2 in
+      let opens_first = opens_kept 1 one.0 one.0 one.1 first first in
+      let within = bad.member first.saved opens_first in
+      let as_many = first.is.members in
+      let few = on.count.at_most in
+      let pair =
+      number_exists disks r
+      (record { at_least = bad.some; at_most = omega (arith, within, as_many, few, enough) }) in
+      let keeps =
+      on.keeps.each r pair.0 pair.1 (record { at_least = bad.some; at_most = omega (arith, within, as_many) }) in
+      bad.bad first.saved keeps.saved opens_first (opens_kept r one.0 pair.0 pair.1 first keeps)
+
+  -- what a member saves whose disks hold it is what it saves after the history
+  pub saved_is : (r : ℕ) (pair : Pair D) (saved : Saved) → IsNumbered disks r pair → IsMember volume.members r
+      → FitsImage saved → Holds (found_in kept seen pair) saved → IsSavedOf volume H r saved
+  saved_is r pair saved at member fits holds =
+      let keeps = on.keeps.each r pair at member in
+      subst (λ (s : Saved). IsSavedOf volume H r s)
+      (one_held (found_in kept seen pair) keeps.saved saved keeps.fits fits keeps.holds holds) keeps.is
+
+-- a member that waits for no answer stands for the history with the restarts
+module _ (volume : Volume) (H : List Event) (r : ℕ) (replica : Replica) (is : IsSavedOf volume H r replica.saved)
+    (quiet : replica.ask ≡ None) where
+  abbrev behind : ℕ → List Event
+  behind count = H ++ restarts count
+
+  one_more : (count : ℕ) → behind (count + 1) ≡ behind count ++ Restart (count + 1) ∷ []
+  one_more count =
+      ap (λ (l : List Event). H ++ l) (restarts_more count)
+      ∙ sym (append_assoc H (restarts count) (Restart (count + 1) ∷ []))
+
+  saved_behind : (count : ℕ) → IsSavedOf volume (behind count) r replica.saved
+  saved_behind zero = subst (λ (l : List Event). IsSavedOf volume l r replica.saved) (sym (append-nil H)) is
+  saved_behind (suc count) =
+      let next : count + 1 ≡ suc count = omega arith in
+      subst (λ n. IsSavedOf volume (behind n) r replica.saved) next
+      (subst (λ (l : List Event). IsSavedOf volume l r replica.saved) (sym (one_more count))
+      (saved_kept (Restart (count + 1)) (inr tt) refl (saved_behind count) refl))
+
+  restarted_next : (count : ℕ) → (r ≤ count → StandsFor volume (behind count) r replica) → r ≤ count + 1
+      → StandsFor volume (behind count ++ Restart (count + 1) ∷ []) r replica
+  restarted_next count before within = elim (cases_eq (count + 1) r) [
+    | inl same ↦
+        subst (λ k. StandsFor volume (behind count ++ Restart k ∷ []) r replica) (sym same)
+        (restart_stands volume (behind count) r replica.saved replica (saved_behind count) refl quiet)
+    | inr differs ↦
+        quiet_stands volume (behind count) r replica (Restart (count + 1)) (before (omega (arith, within, differs)))
+        (inl differs)
+  ]
+
+  pub restarted : (count : ℕ) → 1 ≤ r → r ≤ count → StandsFor volume (behind count) r replica
+  restarted zero one within = absurd (omega (arith, one, within))
+  restarted (suc count) one within =
+      let next : count + 1 ≡ suc count = omega arith in
+      subst (λ n. StandsFor volume (behind n) r replica) next
+      (subst (λ (l : List Event). StandsFor volume l r replica) (sym (one_more count))
+      (restarted_next count (λ earlier. restarted count one earlier) (omega (arith, within))))
+
+stands_up : (volume : Volume) (H : List Event) (raise r : ℕ) (s : MemberState) (modelled : Standing) → s ≡ Up
+    → modelled ≡ model.Up → StateStandsFor volume H raise r s modelled
+stands_up volume H raise r s modelled up also =
+    subst (λ (m : Standing). StateStandsFor volume H raise r s m) (sym also)
+    (subst (λ (x : MemberState). StateStandsFor volume H raise r x model.Up) (sym up) tt)
+
+all_up : (count r : ℕ) (standing : Standing) → IsNumbered (replicate count model.Up) r standing → standing ≡ model.Up
+all_up count r standing at =
+    let one = at.member.at_least in
+    let most = at.member.at_most in
+    let long = length-replicate count model.Up in
+    sym (get_or_from_slice_get (replicate count model.Up) (r - 1) standing standing at.is)
+    ∙ get_or-replicate count (r - 1) model.Up standing (omega (arith, one, most, long))
+
+-- whether the disks of a member have a fuse
+fused_at : {D : Type 0} (armings : D → Option ℕ) (disks : List (Pair D)) (count r : ℕ) (fused : Bool) (pair : Pair D)
+    → count ≤ length disks → IsNumbered (take count (fuses_in armings disks)) r fused → IsNumbered disks r pair
+    → fused ≡ are_fused armings pair
+fused_at {D} armings disks count r fused pair enough at at_pair =
+    let one = at.member.at_least in
+    let most = at.member.at_most in
+    let long = length-map disks (are_fused armings) in
+    let taken = length-take-le count (fuses_in armings disks) (omega (arith, enough, long)) in
+    let within = at_pair.member.at_most in
+    sym (get_or_from_slice_get (take count (fuses_in armings disks)) (r - 1) fused fused at.is)
+    ∙ get_or-take count (fuses_in armings disks) (r - 1) fused (omega (arith, one, most, taken))
+    ∙ get_or-map (are_fused armings) disks (r - 1) pair fused (omega (arith, one, within))
+    ∙ ap (λ (p : Pair D). are_fused armings p) (get_or_from_slice_get disks (r - 1) pair pair at_pair.is)
+
+module _ {K D : Type 0} (tells : Type 0) (kept : List ℕ → List ℕ → Option Kept)
+    (fits : K → List ℕ → List ℕ → Type 0) (seen : D → List ℕ) (may_leave : D → List ℕ → Type 0)
+    (armings : D → Option ℕ) (world : Whole) where
+  -- what was opened on disks that stand for a history stands for it with the restarts
+  pub opened_stands : (volume : Volume) (H : List Event) (old now : List (Pair D)) (total : ℕ) → tells
+      → StandsOn kept seen volume H old → length old ≡ 8 → Steady seen old now → Steady armings old now
+      → AreOpened world.members → IsCount (length world.members)
+      → ((first : Member) → IsNumbered world.members 1 first → first.replica.saved.members ≡ length world.members)
+      → ((r : ℕ) (member : Member) (pair : Pair D) → IsNumbered world.members r member → IsNumbered now r pair
+      → Holds (found_in kept seen pair) member.replica.saved)
+      → ((r : ℕ) (member : Member) (pair : Pair D) → IsNumbered world.members r member → IsNumbered now r pair
+      → member.fused ≡ are_fused armings pair)
+      → world.events ≡ restarts (length world.members) → IsEmpty world.post → world.post.total ≡ total
+      → WorldStandsFor volume (start H volume.members total (take volume.members (fuses_in armings old))) world
+  opened_stands volume H old now total told on eight same unarmed opened count counted held fused events empty total_is =
+      record {
+        count = on.count;
+        members = as_many;
+        standings = length-replicate volume.members model.Up;
+        fuses =
+            length-take-le volume.members (fuses_in armings old)
+            (omega (arith, length-map old (are_fused armings), eight, few));
+        lawful = start_lawful volume H on.lawful;
+        stored = record {
+          earlier = H;
+          is =
+              ap (λ (l : List Event). H ++ l)
+              (restarts_raised (length H) (range_with_len 1 volume.members)
+              ∙ ap (λ (l : List Event). map (raised (length H)) l)
+              (sym (events ∙ ap (λ n. restarts n) as_many)));
+        };
+        each = each;
+        total = total_is;
+        posted = sym (ap (λ (l : List ℕ). length l) empty.behind);
+        counted = ap (λ (l : List (List ℕ)). length l) empty.posts ∙ sym (ap (λ (l : List ℕ). length l) empty.behind);
+        mail = λ number place bytes behind_at posts.
+            let none : 0 ≡ length world.post.behind = sym (ap (λ (l : List ℕ). length l) empty.behind) in
+            absurd (omega (arith, none, behind_at.member.at_least, behind_at.member.at_most));
+      }
+    where
+      few : volume.members ≤ 8
+      few = on.count.at_most
+
+      first : (member : Member) × IsNumbered world.members 1 member
+      first = first_member world.members opened count counted
+
+      -- the disks of a member, as they were
+      was_of : (r : ℕ) → IsMember 8 r → (pair : Pair D) × IsNumbered old r pair
+      was_of r member = number_exists old r (subst (λ n. IsMember n r) (sym eight) member)
+
+      is_of : (r : ℕ) (member : Member) → IsNumbered world.members r member → IsMember volume.members r
+          → IsSavedOf volume H r member.replica.saved
+      is_of r member at numbered =
+          let was = was_of r (record { at_least = numbered.at_least; at_most = omega (arith, numbered.at_most, few) }) in
+          let now_is = number_exists now r (subst (λ n. IsMember n r) (sym same.count) was.1.member) in
+          saved_is kept seen volume H old on r was.0 member.replica.saved was.1 numbered
+          (opened.each r first.0 member first.1 at).fits
+          (holds_same kept seen was.0 now_is.0 member.replica.saved (same.each r was.0 now_is.0 was.1 now_is.1)
+          (held r member now_is.0 at now_is.1))
+
+      as_many : length world.members ≡ volume.members
+      as_many =
+          sym (counted first.0 first.1)
+          ∙ (is_of 1 first.0 first.1
+          (record { at_least = omega arith; at_most = omega (arith, on.count.at_least) })).members
+
+      each : (r : ℕ) (member : Member) (modelled : Standing) (is_fused : Bool) → IsNumbered world.members r member
+          → IsNumbered (replicate volume.members model.Up) r modelled
+          → IsNumbered (take volume.members (fuses_in armings old)) r is_fused
+          → MemberStandsFor volume (H ++ restarts volume.members) (length H) r member modelled is_fused
+      each r member modelled is_fused at at_standing at_fused =
+          let numbered : IsMember volume.members r = subst (λ n. IsMember n r) as_many at.member in
+          let was = was_of r (record { at_least = numbered.at_least; at_most = omega (arith, numbered.at_most, few) }) in
+          let now_is = number_exists now r (subst (λ n. IsMember n r) (sym same.count) was.1.member) in
+          let stays = unarmed.each r was.0 now_is.0 was.1 now_is.1 in
+          let so = opened.each r first.0 member first.1 at in
+          record {
+            replica =
+                restarted volume H r member.replica (is_of r member at numbered) so.asks volume.members
+                numbered.at_least numbered.at_most;
+            state =
+                stands_up volume (H ++ restarts volume.members) (length H) r member.state modelled so.up
+                (all_up volume.members r modelled at_standing);
+            fuses =
+                fused r member now_is.0 at now_is.1 ∙ same_fuses was.0 now_is.0 stays.a stays.b
+                ∙ sym (fused_at armings old volume.members r is_fused was.0 (omega (arith, few, eight)) at_fused was.1);
+          }
+        where
+          same_fuses : (one two : Pair D) → armings two.a ≡ armings one.a → armings two.b ≡ armings one.b
+              → are_fused armings two ≡ are_fused armings one
+          same_fuses one two a b = cc
+
+-- what a replica saves that has heard of nothing
+fresh_fits : (volume : Volume) (r : ℕ) → IsCount volume.members → 1 ≤ volume.ids → volume.ids ≤ update_limit
+    → volume.bytes ≤ byte_limit → IsMember volume.members r → FitsImage (fresh_saved volume r)
+fresh_fits volume r count some ids bytes member = record {
+  members = count;
+  me = member;
+  ids_at_least = some;
+  ids_at_most = ids;
+  bytes = bytes;
+  next_at_least = omega arith;
+  next_at_most = omega arith;
+  used = omega arith;
+  generation = omega arith;
+  tables = record {
+    rising = record { each = λ i j d before within. absurd (omega arith) };
+    each = λ i d within. absurd (omega arith);
+    rising_files = record { each = λ i j d before within. absurd (omega arith) };
+    each_file = λ i d within. absurd (omega arith);
+    objects = λ i d within. absurd (omega arith);
+  };
+  past = record {
+    each = λ i d within. absurd (omega arith);
+    each_file = λ i d within. absurd (omega arith);
+  };
+}
+
+pub made_stands : {D : Type 0} (kept : List ℕ → List ℕ → Option Kept) (seen : D → List ℕ) (volume : Volume)
+    (disks : List (Pair D)) → IsCount volume.members → 1 ≤ volume.ids → volume.ids ≤ update_limit
+    → volume.bytes ≤ byte_limit → AreMade kept seen volume disks → StandsOn kept seen volume [] disks
+made_stands kept seen volume disks count some ids bytes made = record {
+  count = count;
+  lawful = lawful_none volume;
+  few = omega arith;
+  keeps = record {
+    each = λ r pair at member. record {
+      saved = fresh_saved volume r;
+      is = (fresh_stands [] r no_restarts volume member).saved;
+      fits = fresh_fits volume r count some ids bytes member;
+      holds = made.each r pair at member;
+    };
+  };
+}

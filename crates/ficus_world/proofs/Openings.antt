@@ -1,0 +1,263 @@
+-- The disks of one member after the other are opened.
+use Rattle.std.proofs.Common.{◌≡◌, ℕ, ◌+◌, ◌<◌, ◌≤◌, Bool, false, List, [], ◌∷◌, ◌++◌, length, Option, Some, None, refl, sym, ap, ap₂, subst, ◌∙◌, inl, inr, ◌⊎◌, arith}
+use Rattle.std.specs.Prelude.{◌↔◌, slice_set, IsTrue}
+use Rattle.std.proofs.lemmas.Bool.{cases_lt}
+use Rattle.std.proofs.lemmas.List.{length_push}
+use Rattle.ficus_disk.specs.declared.pair.Pair.{Pair}
+use Rattle.ficus_ids.specs.Members.{IsMember}
+use Rattle.ficus_image.proofs.Images.{unique-image}
+use Rattle.ficus_keep.specs.Kept.{Kept, found_in}
+use Rattle.ficus_keep.specs.Pairs.{PairSame}
+use Rattle.ficus_saved.specs.Saved.{FitsImage}
+use Rattle.ficus_saved.specs.declared.saved.Saved.{Saved}
+use Rattle.ficus_stable.specs.Holds.{Holds}
+use Rattle.ficus_stable.specs.Stable.{IsReady}
+use Rattle.ficus_stable.specs.declared.stable.Stable.{Stable}
+use Rattle.ficus_runs.specs.Numbered.{IsNumbered}
+use Rattle.ficus_world.specs.Disks.{AreDisksOf, HoldsFor, are_fused}
+use Rattle.ficus_world.specs.Opening.{AreOpened, HoldsNoImage, IsBad, IsFirstBad, IsOneMore, IsOpened, MayOpen, Opens, Steady, opened_member}
+use Rattle.ficus_world.specs.declared.member.Member.{Member}
+use Rattle.ficus_world.specs.declared.member.MemberState.{MemberState}
+use Rattle.ficus_run_laws.proofs.Numbers.{number_once, number_read, number_exists, number_more, number_cases}
+use Rattle.ficus_world.proofs.Steadies.{set_at, steady_back}
+
+abbrev image_in : Option Kept → List ℕ
+image_in None = []
+image_in (Some kept) = kept.image
+
+-- what was found holds one thing at most
+pub one_held : (found : Option Kept) (m n : Saved) → FitsImage m → FitsImage n → Holds found m → Holds found n → m ≡ n
+one_held found m n fits also holds same =
+    (unique-image.one m n [] [] fits also (ap (λ z. image_in z ++ []) (sym holds.is ∙ same.is))).0
+
+-- the first of some
+pub first_of : (member : Member) (members : List Member) → IsNumbered (member ∷ members) 1 member
+first_of member members =
+    number_read (member ∷ members) 1 member member (record { at_least = omega arith; at_most = omega arith }) refl
+
+nothing_before : (members : List Member) → 1 ≡ length members + 1 → members ≡ []
+nothing_before [] one = refl
+nothing_before (member ∷ members) one = absurd (omega (arith, one))
+
+is_false : (b : Bool) (P : Type 0) → b ≡ false → (IsTrue b ↔ P) → P → ⊥
+is_false b P not tells p = let yes = tells.1 p in absurd (cc)
+
+-- one member more is up, behind those that are
+module _ (members : List Member) (saved : Saved) (fused : Bool) (number : ℕ) (next : number ≡ length members + 1)
+    (opened : AreOpened members) (fits : FitsImage saved) (alone : members ≡ [] → MayOpen saved saved number)
+    (behind : (first : Member) → IsNumbered members 1 first → MayOpen first.replica.saved saved number) where
+  abbrev new : List Member
+  new = members ++ opened_member saved fused ∷ []
+
+  made : (first : Saved) → MayOpen first saved number → IsOpened first number (opened_member saved fused)
+  made first may = record { up = refl; asks = refl; fits = fits; may = may }
+
+  each : (r : ℕ) (first member : Member)
+      → IsNumbered members 1 first ⊎ ((1 ≡ length members + 1) × (first ≡ opened_member saved fused))
+      → IsNumbered members r member ⊎ ((r ≡ length members + 1) × (member ≡ opened_member saved fused))
+      → IsOpened first.replica.saved r member
+  each r first member (inl one) (inl here) = opened.each r first member one here
+  each r first member (inr one) (inl here) =
+      absurd (omega (arith, one.0, here.member.at_least, here.member.at_most))
+  each r first member (inl one) (inr last) =
+      subst (λ k. IsOpened first.replica.saved k member) (next ∙ sym last.0)
+      (subst (IsOpened first.replica.saved number) (sym last.1) (made first.replica.saved (behind first one)))
+  each r first member (inr one) (inr last) =
+      subst (λ k. IsOpened first.replica.saved k member) (next ∙ sym last.0)
+      (subst (IsOpened first.replica.saved number) (sym last.1)
+      (subst (λ (m : Member). IsOpened m.replica.saved number (opened_member saved fused)) (sym one.1)
+      (made saved (alone (nothing_before members one.0)))))
+
+  pub opened_more : AreOpened new
+  opened_more = record {
+    each = λ r first member one at.
+        each r first member (number_cases members (opened_member saved fused) one)
+        (number_cases members (opened_member saved fused) at);
+  }
+
+pub one_more : (members : List Member) (next : Member) → IsOneMore members (members ++ next ∷ [])
+one_more members next = record { count = length_push members next; stays = λ r member at. number_more members next at }
+
+module _ {K D : Type 0} (tells : Type 0) (kept : List ℕ → List ℕ → Option Kept)
+    (fits : K → List ℕ → List ℕ → Type 0) (seen : D → List ℕ) (may_leave : D → List ℕ → Type 0)
+    (armings : D → Option ℕ) where
+  pub disks_none : (members : List Member) (stables : List (Stable K)) (disks : List (Pair D)) → members ≡ []
+      → AreDisksOf tells kept fits seen may_leave armings members stables disks
+  disks_none members stables disks none = record {
+    each = λ r member stable pair at at_stable at_pair.
+        absurd (omega (arith, at.member.at_least, at.member.at_most, ap (λ (l : List Member). length l) none));
+  }
+
+  -- the disks of one member more
+  module _ (members : List Member) (stables : List (Stable K)) (disks : List (Pair D)) (index : ℕ) (saved : Saved)
+      (fused : Bool) (stable : Stable K) (after : Pair D) (counted : length stables ≡ length members)
+      (next : index ≡ length members) (are : AreDisksOf tells kept fits seen may_leave armings members stables disks)
+      (is_fused : fused ≡ are_fused armings after)
+      (ready : tells → IsReady kept fits seen may_leave stable after saved) where
+    pub disks_more : AreDisksOf tells kept fits seen may_leave armings (members ++ opened_member saved fused ∷ [])
+        (stables ++ stable ∷ []) (slice_set disks index after)
+    disks_more = record {
+      each = λ r m s p at at_stable at_pair.
+          elim (set_at disks index r after p at_pair) [
+            | inl (number, is) ↦ elim (number_cases members (opened_member saved fused) at) [
+              | inl here ↦ absurd (omega (arith, here.member.at_most, number, next))
+              | inr (last, is_new) ↦ elim (number_cases stables stable at_stable) [
+                | inl there ↦ absurd (omega (arith, there.member.at_most, counted, number, next))
+                | inr (also, is_stable) ↦ record {
+                  fused =
+                      ap (λ (x : Member). x.fused) is_new ∙ is_fused
+                      ∙ ap (λ (x : Pair D). are_fused armings x) (sym is);
+                  holds = λ told.
+                      subst (λ (x : Member). HoldsFor kept fits seen may_leave s p x.replica.saved x.state)
+                      (sym is_new)
+                      (subst (λ (x : Stable K). IsReady kept fits seen may_leave x p saved) (sym is_stable)
+                      (subst (λ (x : Pair D). IsReady kept fits seen may_leave stable x saved) (sym is)
+                      (ready told)));
+                }
+              ]
+            ]
+            | inr (differs, kept_pair) ↦ elim (number_cases members (opened_member saved fused) at) [
+              | inl here ↦ elim (number_cases stables stable at_stable) [
+                | inl there ↦ are.each r m s p here there kept_pair
+                | inr (also, is_stable) ↦ absurd (omega (arith, here.member.at_most, also, counted))
+              ]
+              | inr (last, is_new) ↦ absurd (differs (omega (arith, last, next)))
+            ]
+          ];
+    }
+
+  -- what the disks of a member hold that was opened
+  pub held_of : (members : List Member) (stables : List (Stable K)) (disks : List (Pair D))
+      → length stables ≡ length members → AreOpened members
+      → AreDisksOf tells kept fits seen may_leave armings members stables disks → tells → (r : ℕ) (member : Member)
+      (pair : Pair D) → IsNumbered members r member → IsNumbered disks r pair
+      → Holds (found_in kept seen pair) member.replica.saved
+  held_of members stables disks counted opened are told r member pair at at_pair =
+      let first =
+      number_exists members 1
+      (record { at_least = omega arith; at_most = omega (arith, at.member.at_least, at.member.at_most) }) in
+      let stable = number_exists stables r (subst (λ n. IsMember n r) (sym counted) at.member) in
+      let up = (opened.each r first.0 member first.1 at).up in
+      (subst (λ (s : MemberState). HoldsFor kept fits seen may_leave stable.0 pair member.replica.saved s) up
+      ((are.each r member stable.0 pair at stable.1 at_pair).holds told)).holds
+
+module _ {D : Type 0} (kept : List ℕ → List ℕ → Option Kept) (seen : D → List ℕ) where
+  pub holds_same : (one two : Pair D) (saved : Saved) → PairSame seen one two → Holds (found_in kept seen two) saved
+      → Holds (found_in kept seen one) saved
+  holds_same one two saved same holds = record { is = ap₂ kept (sym same.a) (sym same.b) ∙ holds.is }
+
+  -- what holds in what is read holds while that stays
+  pub opens_same : (one two : List (Pair D)) (first saved : Saved) (r : ℕ) → Steady seen one two
+      → Opens kept seen one first saved r → Opens kept seen two first saved r
+  opens_same one two first saved r steady opens =
+      let now = number_exists two r (subst (λ n. IsMember n r) (sym steady.count) opens.is.member) in
+      let same = steady.each r opens.pair now.0 opens.is now.1 in
+      record {
+        pair = now.0;
+        is = now.1;
+        fits = opens.fits;
+        holds = record { is = ap₂ kept same.a same.b ∙ opens.holds.is };
+        may = opens.may;
+      }
+
+  pub bad_same : (one two : List (Pair D)) (r : ℕ) → Steady seen one two → IsBad kept seen two r → IsBad kept seen one r
+  bad_same one two r steady bad = λ first saved opens_first opens.
+      bad first saved (opens_same one two first first 1 steady opens_first)
+      (opens_same one two first saved r steady opens)
+
+  -- of disks that hold no image no world is opened
+  pub none_held : (disks : List (Pair D)) (number : ℕ) (before : Pair D) → IsNumbered disks number before
+      → HoldsNoImage kept seen before → IsBad kept seen disks number
+  none_held disks number before at none = λ first saved opens_first opens.
+      none saved opens.fits
+      (subst (λ (p : Pair D). Holds (found_in kept seen p) saved) (number_once opens.is at) opens.holds)
+
+  -- the disks of members that were opened hold what these save
+  module _ (members : List Member) (disks : List (Pair D)) (opened : AreOpened members)
+      (held : (r : ℕ) (member : Member) (pair : Pair D) → IsNumbered members r member → IsNumbered disks r pair
+      → Holds (found_in kept seen pair) member.replica.saved) where
+    pub opens_of : (r : ℕ) (first member : Member) → IsNumbered members 1 first → IsNumbered members r member
+        → r ≤ length disks → Opens kept seen disks first.replica.saved member.replica.saved r
+    opens_of r first member one at within =
+        let pair = number_exists disks r (record { at_least = at.member.at_least; at_most = within }) in
+        let so = opened.each r first member one at in
+        record { pair = pair.0; is = pair.1; fits = so.fits; holds = held r member pair.0 at pair.1; may = so.may }
+
+    -- what the first disks hold is what the first member saves
+    pub first_is : (first : Saved) (member : Member) → IsNumbered members 1 member
+        → Opens kept seen disks first first 1 → first ≡ member.replica.saved
+    first_is first member one opens =
+        one_held (found_in kept seen opens.pair) first member.replica.saved opens.fits
+        (opened.each 1 member member one one).fits opens.holds (held 1 member opens.pair one opens.is)
+
+    -- with what was read no world is opened
+    module _ (number : ℕ) (before : Pair D) (read : Saved) (at : IsNumbered disks number before)
+        (fits : FitsImage read) (holds : Holds (found_in kept seen before) read)
+        (next : number ≡ length members + 1) (answer : Bool) (refused : answer ≡ false)
+        (alone : members ≡ [] → IsTrue answer ↔ MayOpen read read number)
+        (behind : (first : Member) → IsNumbered members 1 first
+        → IsTrue answer ↔ MayOpen first.replica.saved read number) where
+      read_is : (first saved : Saved) → Opens kept seen disks first saved number → saved ≡ read
+      read_is first saved opens =
+          one_held (found_in kept seen before) saved read opens.fits fits
+          (subst (λ (p : Pair D). Holds (found_in kept seen p) saved) (number_once opens.is at) opens.holds) holds
+
+      pub none_may : IsBad kept seen disks number
+      none_may first saved opens_first opens = elim (cases_lt 0 (length members)) [
+        | inl some ↦
+            let one = number_exists members 1 (record { at_least = omega arith; at_most = omega (arith, some) }) in
+            let may =
+            subst (λ (f : Saved). MayOpen f saved number) (first_is first one.0 one.1 opens_first) opens.may in
+            is_false answer _ refused (behind one.0 one.1)
+            (subst (λ (s : Saved). MayOpen one.0.replica.saved s number) (read_is first saved opens) may)
+        | inr none ↦
+            let number_one : number ≡ 1 = omega (arith, none, next) in
+            let first_read =
+            read_is first first
+            (subst (λ k. Opens kept seen disks first first k) (sym number_one) opens_first) in
+            let may = subst (λ (f : Saved). MayOpen f saved number) first_read opens.may in
+            is_false answer _ refused (alone (nothing_before members (omega (arith, none))))
+            (subst (λ (s : Saved). MayOpen read s number) (read_is first saved opens) may)
+      ]
+
+  -- the first disks are those of no world
+  pub first_bad_one : (disks : List (Pair D)) → IsBad kept seen disks 1 → IsFirstBad kept seen disks 1
+  first_bad_one disks bad = record {
+    some = omega arith;
+    member = λ first opens. absurd (bad first first opens opens);
+    bad = bad;
+    before = λ q one below. absurd (omega (arith, one, below));
+  }
+
+  -- the next ones are, behind those of members that were opened
+  pub first_bad_more : (old now : List (Pair D)) (members : List Member) (before count : ℕ) → Steady seen old now
+      → AreOpened members
+      → ((r : ℕ) (member : Member) (pair : Pair D) → IsNumbered members r member → IsNumbered now r pair
+      → Holds (found_in kept seen pair) member.replica.saved)
+      → length members ≡ before → 1 ≤ before → before < count → before ≤ length now
+      → ((first : Member) → IsNumbered members 1 first → first.replica.saved.members ≡ count)
+      → IsBad kept seen now (before + 1) → IsFirstBad kept seen old (before + 1)
+  first_bad_more old now members before count steady opened held counted some below within says bad =
+      let one =
+      number_exists members 1 (record { at_least = omega arith; at_most = omega (arith, some, counted) }) in
+      let says_one = says one.0 one.1 in
+      let back = steady_back seen old now steady in
+      record {
+        some = omega arith;
+        member = λ first opens.
+            let is =
+            first_is members now opened held first one.0 one.1 (opens_same old now first first 1 steady opens) in
+            let as_many = ap (λ (s : Saved). s.members) is in
+            omega (arith, as_many, says_one, below);
+        bad = bad_same old now (before + 1) steady bad;
+        before = λ q q_some q_below.
+            let at =
+            number_exists members q (record { at_least = q_some; at_most = omega (arith, q_below, counted) }) in (
+              one.0.replica.saved,
+              at.0.replica.saved,
+              opens_same now old one.0.replica.saved one.0.replica.saved 1 back
+                  (opens_of members now opened held 1 one.0 one.0 one.1 one.1 (omega (arith, some, within))),
+              opens_same now old one.0.replica.saved at.0.replica.saved q back
+                  (opens_of members now opened held q one.0 at.0 one.1 at.1 (omega (arith, q_below, within))),
+            );
+      }

@@ -1,0 +1,67 @@
+use Rattle.std.proofs.Common.{refl, ◌∙◌, arith}
+use Rattle.std.proofs.lemmas.Result.{on_ok_weaker}
+use Rattle.ficus_world.specs.World.{whole_of}
+use Rattle.ficus_world.proofs.Fuses.{comes_then}
+use Rattle.ficus_world.proofs.Sending.{as_reserved}
+use Rattle.ficus_world.proofs.Keeps.{kept_advanced, kept_count, kept_downed, kept_world}
+use Rattle.ficus_world.proofs.group.Group.save.Goals as goal
+
+pub prepare_at-requires-clause-fits : goal.prepare_at-requires-clause-fits
+prepare_at-requires-clause-fits g c = let next = c.requires.next c.requires.up.member c.requires.up.is in next.sound.fits
+
+pub invariant_of-self-2 : goal.invariant_of-self-2
+invariant_of-self-2 g c =
+    let old = whole_of c.self.inside.members.items c.self.inside.history.events c.self.inside.post.now in
+    let is = rw (← c.self.view_is) at c.requires.up.is in
+    let sound = rw (← c.self.view_is) at (c.requires.next c.requires.up.member c.requires.up.is) in
+    let stored = rw c.reserve.ensures.events at c.keep.ensures.stored in
+    let kept = rw c.reserve.ensures.events at c.keep.ensures.kept in
+    kept_world old c.args.by c.args.next c.keep.new.members.items c.keep.new.history.events c.keep.result
+    c.requires.up.member is c.requires.up.up sound c.self.invariant c.keep.ensures.held stored c.keep.ensures.pending kept
+
+pub returns-clause-saved : goal.returns-clause-saved
+returns-clause-saved g c =
+    let old = whole_of c.self.inside.members.items c.self.inside.history.events c.self.inside.post.now in
+    let stored = rw c.reserve.ensures.events at c.keep.ensures.stored in
+    rw (← c.self.view_is)
+    (kept_advanced old c.args.by c.args.next c.keep.new.members.items c.keep.new.history.events c.keep.result
+    c.keep.ensures.held stored)
+
+pub returns-clause-followed : goal.returns-clause-followed
+returns-clause-followed g c =
+    rw (← c.self.view_is)
+    (on_ok_weaker c.keep.result (comes_then (c.prepare_at.ensures.follows c.self.inside.members.items))
+    c.keep.ensures.followed)
+
+pub returns-clause-failed : goal.returns-clause-failed
+returns-clause-failed g c failed =
+    let old = whole_of c.self.inside.members.items c.self.inside.history.events c.self.inside.post.now in
+    let kept = rw c.reserve.ensures.events at c.keep.ensures.kept in
+    rw (← c.self.view_is)
+    (rw failed at (kept_downed old c.args.by c.args.next c.keep.new.members.items c.keep.new.history.events
+    c.keep.result c.keep.ensures.pending kept))
+
+pub returns-clause-counted : goal.returns-clause-counted
+returns-clause-counted g c failed =
+    let counted = rw failed at c.keep.ensures.counted in
+    rw (← c.self.view_is) (comes_then (c.prepare_at.ensures.follows c.self.inside.members.items) counted)
+
+pub returns-clause-members : goal.returns-clause-members
+returns-clause-members g c =
+    let old = whole_of c.self.inside.members.items c.self.inside.history.events c.self.inside.post.now in
+    let is = rw (← c.self.view_is) at c.requires.up.is in
+    rw (← c.self.view_is)
+    (kept_count old c.args.by c.args.next c.keep.new.members.items c.keep.new.history.events c.keep.result
+    c.requires.up.member is c.keep.ensures.held c.keep.ensures.pending)
+
+pub returns-in_err-prepare_at-clause-memory : goal.returns-in_err-prepare_at-clause-memory
+returns-in_err-prepare_at-clause-memory g c = λ is. record {
+  same = as_reserved c.self.inside.members.items c.reserve.ensures.events refl ∙ c.self.view_is;
+  disks = (c.prepare_at.ensures.follows c.self.inside.members.items).disks;
+}
+
+pub keep-requires-clause-pair : goal.keep-requires-clause-pair
+keep-requires-clause-pair g c =
+    let member = c.requires.up.is.member in
+    let count = (c.prepare_at.ensures.follows c.self.inside.members.items).disks.count in
+    record { at_least = member.at_least; at_most = omega (arith, member.at_most, c.requires.pairs, count) }

@@ -1,0 +1,176 @@
+use Rattle.std.proofs.Common.{◌≡◌, ◌-◌, ◌≤◌, Err, Some, List, ℕ, length, sym, ap, subst, ◌∙◌, arith}
+use Rattle.std.proofs.lemmas.List.{length-set, length_push}
+use Rattle.std.proofs.lemmas.Result.{err_from_is_err_and}
+use Rattle.ficus_model.specs.declared.event.Event.TheVariants.{Ask}
+use Rattle.ficus_runs.specs.Numbered.{IsNumbered}
+use Rattle.ficus_world.specs.declared.member.Member.{Member}
+use Rattle.ficus_world.specs.Disks.{CarriedOn}
+use Rattle.ficus_world.specs.Moves.{HasRoomFor, IsAsking, KeepsAsk, advanced, ask_of, bytes_in, downed, pending_of, with_post}
+use Rattle.ficus_world.specs.World.{Whole, IsSoundNext, IsWorld, whole_of}
+use Rattle.ficus_world.proofs.Fuses.{comes_then}
+use Rattle.ficus_world.proofs.Sending.{as_reserved, ask_sent, some_bytes, unready, unsaved}
+use Rattle.ficus_world.proofs.SoundWorlds.{held_sound, put_down_sound, sent_counts, world_after, world_posted}
+use Rattle.ficus_world.proofs.group.Group.send_asking.Goals as goal
+
+pub make_ready-requires-clause-stable : goal.make_ready-requires-clause-stable
+make_ready-requires-clause-stable g c =
+    let member = c.requires.asking.1.is.member in
+    record { at_least = member.at_least; at_most = omega (arith, member.at_most, c.requires.stables) }
+
+pub make_ready-requires-clause-pair : goal.make_ready-requires-clause-pair
+make_ready-requires-clause-pair g c =
+    let member = c.requires.asking.1.is.member in
+    record { at_least = member.at_least; at_most = omega (arith, member.at_most, c.requires.pairs) }
+
+pub make_ready-requires-clause-fits : goal.make_ready-requires-clause-fits
+make_ready-requires-clause-fits g c = c.requires.asking.2.sound.fits
+
+pub returns-in_err-make_ready-clause-asks : goal.returns-in_err-make_ready-clause-asks
+returns-in_err-make_ready-clause-asks g c =
+    let refused = err_from_is_err_and c.from_residual.result c.from_residual.ensures.1 in
+    let r = c.in_err-make_ready.field-0.0 in
+    let by = c.args.by in
+    let to = c.args.to in
+    let tells = g.L.Link.tells in
+    let x = c.args.disks.now.items in
+    let y = c.make_ready.new.disks.items in
+    let old = whole_of c.self.inside.members.items c.self.inside.history.events c.self.inside.post.now in
+    let asking = subst (λ (w : Whole). (was : Member) × IsAsking w by to was c.args.asking.replica
+    × IsSoundNext (length w.members) (length w.events) by was.replica c.args.asking.replica) (sym c.self.view_is)
+    c.requires.asking in
+    let message = subst (λ (w : Whole). c.args.asking.message.items ≡ bytes_in w (ask_of by to c.args.asking.replica))
+    (sym c.self.view_is) c.requires.message in
+    let moves = unready tells old by to asking.0 c.args.asking.replica asking.1 x y
+    (c.in_err-make_ready.ensures.follows old.members)
+    (length c.args.asking.message.items) (ap (λ (bytes : List ℕ). length bytes) message) r
+    c.in_err-make_ready.ensures.full in
+    rw (refused.1, refused.2, c.in_err-make_ready.ensures.events, c.in_err-make_ready.ensures.post)
+    (subst (λ (w : Whole). CarriedOn g.K.Keep g.D.Disk (KeepsAsk tells by to) (Err r) w old x y)
+    c.self.view_is moves)
+
+pub returns-in_err-make_ready-clause-memory : goal.returns-in_err-make_ready-clause-memory
+returns-in_err-make_ready-clause-memory g c = λ is. record {
+  same = as_reserved c.self.inside.members.items c.in_err-make_ready.ensures.events c.in_err-make_ready.ensures.post
+      ∙ c.self.view_is;
+  disks = (c.in_err-make_ready.ensures.follows c.self.inside.members.items).disks;
+}
+
+pub returns-in_err-keep-clause-members : goal.returns-in_err-keep-clause-members
+returns-in_err-keep-clause-members g c =
+    let is = subst (λ (w : Whole). IsNumbered w.members c.args.by c.requires.asking.0) (sym c.self.view_is)
+    c.requires.asking.1.is in
+    ap (λ (list : List Member). length list) (c.in_err-keep.ensures.pending c.requires.asking.0 is)
+    ∙ length-set c.self.inside.members.items (c.args.by - 1) _ ∙ ap (λ (w : Whole). length w.members) c.self.view_is
+
+pub returns-clause-members : goal.returns-clause-members
+returns-clause-members g c =
+    let is = subst (λ (w : Whole). IsNumbered w.members c.args.by c.requires.asking.0) (sym c.self.view_is)
+    c.requires.asking.1.is in
+    ap (λ (list : List Member). length list) (c.in_ok-keep.ensures.held c.requires.asking.0 is)
+    ∙ length-set c.self.inside.members.items (c.args.by - 1) _ ∙ ap (λ (w : Whole). length w.members) c.self.view_is
+
+pub invariant_of-self-in_err-keep : goal.invariant_of-self-in_err-keep
+invariant_of-self-in_err-keep g c =
+    let by = c.args.by in
+    let old = whole_of c.self.inside.members.items c.self.inside.history.events c.self.inside.post.now in
+    let asking = subst (λ (w : Whole). (was : Member) × IsAsking w by c.args.to was c.args.asking.replica
+    × IsSoundNext (length w.members) (length w.events) by was.replica c.args.asking.replica) (sym c.self.view_is)
+    c.requires.asking in
+    let was = asking.0 in
+    let world : IsWorld old = c.self.invariant in
+    let sound = put_down_sound {pending = pending_of c.args.asking.replica (Ask by c.args.to)}
+    (world.sound by was asking.1.is) asking.2 in
+    let next = world_after old old.events by was _ asking.1.is world sound (omega arith) c.keep.new.members.items
+    (c.in_err-keep.ensures.pending was asking.1.is) in
+    rw (c.in_err-keep.ensures.kept, c.in_ok-make_ready.ensures.events, c.in_ok-make_ready.ensures.post) next
+
+pub returns-in_err-keep-clause-asks : goal.returns-in_err-keep-clause-asks
+returns-in_err-keep-clause-asks g c =
+    let refused = err_from_is_err_and c.from_residual-in_err-keep.result c.from_residual-in_err-keep.ensures.1 in
+    let r = c.in_err-keep.field-0.0 in
+    let by = c.args.by in
+    let to = c.args.to in
+    let tells = g.L.Link.tells in
+    let x = c.args.disks.now.items in
+    let z = c.keep.new.disks.items in
+    let old = whole_of c.self.inside.members.items c.self.inside.history.events c.self.inside.post.now in
+    let asking = subst (λ (w : Whole). (was : Member) × IsAsking w by to was c.args.asking.replica
+    × IsSoundNext (length w.members) (length w.events) by was.replica c.args.asking.replica) (sym c.self.view_is)
+    c.requires.asking in
+    let message = subst (λ (w : Whole). c.args.asking.message.items ≡ bytes_in w (ask_of by to c.args.asking.replica))
+    (sym c.self.view_is) c.requires.message in
+    let was = asking.0 in
+    let room : HasRoomFor old (ask_of by to c.args.asking.replica) =
+    omega (arith, c.in_ok-make_ready.ensures.small, ap (λ (bytes : List ℕ). length bytes) message) in
+    let moves = unsaved tells old by to was c.args.asking.replica asking.1 x c.make_ready.new.disks.items
+    (c.in_ok-make_ready.ensures.follows old.members) room z r c.in_err-keep.ensures.refused
+    (rw (c.in_err-keep.ensures.pending was asking.1.is) at c.in_err-keep.ensures.counted) in
+    rw (
+      refused.1,
+      refused.2,
+      c.in_err-keep.ensures.pending was asking.1.is,
+      c.in_err-keep.ensures.kept,
+      c.in_ok-make_ready.ensures.events,
+      c.in_ok-make_ready.ensures.post,
+    )
+    (subst (λ (w : Whole). CarriedOn g.K.Keep g.D.Disk (KeepsAsk tells by to) (Err r) w
+    (downed old by was (Some (pending_of c.args.asking.replica (Ask by to)))) x z) c.self.view_is moves)
+
+pub invariant_of-self-2 : goal.invariant_of-self-2
+invariant_of-self-2 g c =
+    let by = c.args.by in
+    let to = c.args.to in
+    let asked = c.args.asking.replica in
+    let old = whole_of c.self.inside.members.items c.self.inside.history.events c.self.inside.post.now in
+    let asking = subst (λ (w : Whole). (was : Member) × IsAsking w by to was asked
+    × IsSoundNext (length w.members) (length w.events) by was.replica asked) (sym c.self.view_is)
+    c.requires.asking in
+    let message = subst (λ (w : Whole). c.args.asking.message.items ≡ bytes_in w (ask_of by to asked))
+    (sym c.self.view_is) c.requires.message in
+    let was = asking.0 in
+    let world : IsWorld old = c.self.invariant in
+    let events = rw c.in_ok-make_ready.ensures.events at c.in_ok-keep.ensures.stored in
+    let longer = ap length events ∙ length_push c.self.inside.history.events (Ask by to) in
+    let sound = rw (sym longer) at (held_sound {was = was} asking.1.up asking.2) in
+    let next = world_after old c.keep.new.history.events by was _ asking.1.is world sound (omega (arith, longer))
+    c.keep.new.members.items (c.in_ok-keep.ensures.held was asking.1.is) in
+    let some : 1 ≤ length c.args.asking.message.items =
+    subst (λ bytes. 1 ≤ length bytes) (sym message) (some_bytes (length old.members) (ask_of by to asked)) in
+    let sent = rw c.in_ok-make_ready.ensures.post at c.send.ensures.sent in
+    let failed = rw c.in_ok-make_ready.ensures.post at c.send.ensures.failed in
+    world_posted _ next c.send.new.self.now
+    (sent_counts _ next g.L.Link.tells _ _ c.send.new.self.now c.send.result some sent failed)
+
+pub returns-clause-asks : goal.returns-clause-asks
+returns-clause-asks g c =
+    let by = c.args.by in
+    let to = c.args.to in
+    let tells = g.L.Link.tells in
+    let asked = c.args.asking.replica in
+    let x = c.args.disks.now.items in
+    let z = c.keep.new.disks.items in
+    let old = whole_of c.self.inside.members.items c.self.inside.history.events c.self.inside.post.now in
+    let asking = subst (λ (w : Whole). (was : Member) × IsAsking w by to was asked
+    × IsSoundNext (length w.members) (length w.events) by was.replica asked) (sym c.self.view_is)
+    c.requires.asking in
+    let message = subst (λ (w : Whole). c.args.asking.message.items ≡ bytes_in w (ask_of by to asked))
+    (sym c.self.view_is) c.requires.message in
+    let was = asking.0 in
+    let room : HasRoomFor old (ask_of by to asked) =
+    omega (arith, c.in_ok-make_ready.ensures.small, ap (λ (bytes : List ℕ). length bytes) message) in
+    let sent = rw (c.len-place.ensures.value, message, c.in_ok-make_ready.ensures.post, c.in_ok-make_ready.ensures.events)
+    at c.send.ensures.sent in
+    let failed = rw c.in_ok-make_ready.ensures.post at c.send.ensures.failed in
+    let moves = ask_sent tells old by to was asked asking.1 room c.send.new.self.now x z
+    (comes_then (c.in_ok-make_ready.ensures.follows old.members)
+    (rw (c.in_ok-keep.ensures.held was asking.1.is) at c.in_ok-keep.ensures.followed)) c.send.result sent failed
+    c.send.ensures.refused in
+    rw (c.in_ok-keep.ensures.held was asking.1.is, c.in_ok-keep.ensures.stored, c.in_ok-make_ready.ensures.events)
+    (subst (λ (w : Whole). CarriedOn g.K.Keep g.D.Disk (KeepsAsk tells by to) c.send.result w
+    (with_post (advanced old by was asked (Ask by to)) c.send.new.self.now) x z) c.self.view_is moves)
+
+pub keep-requires-clause-pair : goal.keep-requires-clause-pair
+keep-requires-clause-pair g c =
+    let member = c.requires.asking.1.is.member in
+    let count = (c.make_ready.ensures.follows c.self.inside.members.items).disks.count in
+    record { at_least = member.at_least; at_most = omega (arith, member.at_most, c.requires.pairs, count) }

@@ -1,5 +1,0 @@
-use Rattle.ficus_world.proofs.Pulls.{pull_never_stale}
-use Rattle.ficus_world.proofs.laws.pulls_are_never_stale.Goals as goal
-
-pub returns : goal.returns
-returns c = λ volume W by to left. pull_never_stale volume W by to left

@@ -1,0 +1,13 @@
+use Rattle.ficus_world.specs.Fuses.{AreUnarmed}
+use Rattle.ficus_world.specs.Opening.{Steady}
+use Rattle.ficus_world.proofs.Making.{FoundSo}
+use Rattle.ficus_world.proofs.opening.look_for_empty.Given as goal
+
+abbrev pub invariant-loop-before : goal.invariant-loop-before
+invariant-loop-before g l = record {
+  found : g.D.Disk.tells → FoundSo g.D.Disk.seen l.fn.disks.items l.before l.occupied;
+  seen : g.D.Disk.tells → Steady g.D.Disk.seen l.fn.disks.items l.disks.items;
+  faults : Steady g.D.Disk.faults l.fn.disks.items l.disks.items;
+  armings : Steady g.D.Disk.armings l.fn.disks.items l.disks.items;
+  unarmed : g.D.Disk.tells_fuse → AreUnarmed g.D.Disk.fuse l.fn.disks.items → AreUnarmed g.D.Disk.fuse l.disks.items;
+}

@@ -1,0 +1,116 @@
+use Rattle.std.proofs.Common.{◌≡◌, ◌+◌, subst, arith}
+use Rattle.std.proofs.lemmas.Result.{err_from_is_err_and}
+use Rattle.ficus_world.specs.Opening.{IsAtFault}
+use Rattle.ficus_world.proofs.Faults.{handed_on}
+use Rattle.ficus_world.proofs.Making.{made_all, made_more, made_none}
+use Rattle.ficus_world.proofs.Steadies.{fault_set, number_at, steady_none, steady_set}
+use Rattle.ficus_world.proofs.Unarmed.{regular_more, regular_none, unarmed_set, unfailing_none, unfailing_set}
+use Rattle.ficus_world.specs.declared.opening.WorldFault.TheVariants.{Store}
+use Rattle.ficus_world.proofs.opening.make_all.Goals as goal
+
+pub loop-before-init : goal.loop-before-init
+loop-before-init g c = record {
+  made = λ tells. made_none g.K.Keep.kept g.D.Disk.seen _ c.args.disks.now.items;
+  faults = steady_none g.D.Disk.faults c.args.disks.now.items;
+  armings = steady_none g.D.Disk.armings c.args.disks.now.items;
+  unarmed = λ fused none. none;
+  regular = λ tells. regular_none g.K.Keep.Regular g.D.Disk.seen c.args.disks.now.items;
+}
+
+pub make_one-requires-clause-empty : goal.make_one-requires-clause-empty
+make_one-requires-clause-empty g c = λ tells.
+    let at = number_at c.loop-before.disks.items c.from.result c.index_mut-pair.result.now
+    (omega (arith, c.from.ensures, c.loop-before.invariant.faults.count, c.requires.pairs, c.loop-before-test.true, c.count-before-end.ensures.value, c.count-before-end.ensures.valid.at_most))
+    c.index_mut-pair.ensures.value in
+    let so = c.loop-before.invariant.made tells in
+    let was = so.rest (c.from.result + 1) c.index_mut-pair.result.now at (omega (arith, c.from.ensures)) in
+    let empty = c.requires.empty tells in
+    empty.each (c.from.result + 1) c.index_mut-pair.result.now was
+    (omega (arith, c.from.ensures, c.loop-before-test.true, c.count-before-end.ensures.value))
+
+pub returns-in_err-make_one-clause-failed : goal.returns-in_err-make_one-clause-failed
+returns-in_err-make_one-clause-failed g c = λ r is.
+    let given = err_from_is_err_and c.from_residual.result c.from_residual.ensures.1 in
+    let at = number_at c.loop-before.disks.items c.from.result c.index_mut-pair.result.now
+    (omega (arith, c.from.ensures, c.loop-before.invariant.faults.count, c.requires.pairs, c.loop-before-test.true, c.count-before-end.ensures.value, c.count-before-end.ensures.valid.at_most))
+    c.index_mut-pair.ensures.value in
+    let failed = c.make_one.ensures.failed r
+    (handed_on c.make_one.result c.from_residual.result given.0 c.in_err-make_one.field-0.0 (Store r) c.in_err-make_one.was
+    given.1 given.2 is) in
+    let same = failed.0 in
+    let number : c.from.result + 1 ≡ r = omega (arith, same, c.from.ensures) in
+    subst (IsAtFault g.D.Disk.faults c.args.disks.now.items _) number
+    (fault_set g.D.Disk.faults c.args.disks.now.items c.loop-before.disks.items c.from.result
+    c.index_mut-pair.result.now c.make_one.new.pair c.loop-before.invariant.faults at failed.1)
+
+pub returns-in_err-make_one-clause-armings : goal.returns-in_err-make_one-clause-armings
+returns-in_err-make_one-clause-armings g c =
+    let at = number_at c.loop-before.disks.items c.from.result c.index_mut-pair.result.now
+    (omega (arith, c.from.ensures, c.loop-before.invariant.faults.count, c.requires.pairs, c.loop-before-test.true, c.count-before-end.ensures.value, c.count-before-end.ensures.valid.at_most))
+    c.index_mut-pair.ensures.value in
+    steady_set g.D.Disk.armings c.args.disks.now.items c.loop-before.disks.items c.from.result
+    c.index_mut-pair.result.now c.make_one.new.pair c.loop-before.invariant.armings at c.make_one.ensures.armings
+
+pub loop-before-preserved : goal.loop-before-preserved
+loop-before-preserved g c =
+    let at = number_at c.loop-before.disks.items c.from.result c.index_mut-pair.result.now
+    (omega (arith, c.from.ensures, c.loop-before.invariant.faults.count, c.requires.pairs, c.loop-before-test.true, c.count-before-end.ensures.value, c.count-before-end.ensures.valid.at_most))
+    c.index_mut-pair.ensures.value in
+    record {
+      made = λ tells.
+          rw c.from.ensures
+          (made_more g.K.Keep.kept g.D.Disk.seen _ c.args.disks.now.items c.loop-before.disks.items
+          c.loop-before.before c.make_one.new.pair (c.loop-before.invariant.made tells)
+          (c.in_ok-make_one.ensures.made tells));
+      faults = steady_set g.D.Disk.faults c.args.disks.now.items c.loop-before.disks.items c.from.result
+          c.index_mut-pair.result.now c.make_one.new.pair c.loop-before.invariant.faults at
+          c.in_ok-make_one.ensures.steady;
+      armings = steady_set g.D.Disk.armings c.args.disks.now.items c.loop-before.disks.items c.from.result
+          c.index_mut-pair.result.now c.make_one.new.pair c.loop-before.invariant.armings at
+          c.make_one.ensures.armings;
+      unarmed = λ fused none.
+          let before = c.loop-before.invariant.unarmed fused none in
+          unarmed_set g.D.Disk.fuse c.loop-before.disks.items c.from.result c.make_one.new.pair before
+          ((c.make_one.ensures.unfailing fused).unarmed
+          (before.each (c.from.result + 1) c.index_mut-pair.result.now at));
+      regular = λ tells.
+          rw c.from.ensures
+          (regular_more g.K.Keep.Regular g.D.Disk.seen c.loop-before.disks.items c.loop-before.before
+          c.make_one.new.pair (c.loop-before.invariant.regular tells) (c.in_ok-make_one.ensures.regular tells));
+    }
+
+pub returns-clause-made : goal.returns-clause-made
+returns-clause-made g c = λ tells.
+    made_all g.K.Keep.kept g.D.Disk.seen _ c.args.disks.now.items c.loop-before.disks.items c.loop-before.before
+    (c.loop-before.invariant.made tells)
+    (omega (arith, c.loop-before-test.false, c.count-before-end.ensures.value))
+
+pub returns-clause-steady : goal.returns-clause-steady
+returns-clause-steady g c = c.loop-before.invariant.faults
+
+pub returns-clause-armings : goal.returns-clause-armings
+returns-clause-armings g c = c.loop-before.invariant.armings
+
+pub returns-in_err-make_one-clause-unfailing : goal.returns-in_err-make_one-clause-unfailing
+returns-in_err-make_one-clause-unfailing g c = λ fused.
+    let given = err_from_is_err_and c.from_residual.result c.from_residual.ensures.1 in
+    let at = number_at c.loop-before.disks.items c.from.result c.index_mut-pair.result.now
+    (omega (arith, c.from.ensures, c.loop-before.invariant.faults.count, c.requires.pairs, c.loop-before-test.true, c.count-before-end.ensures.value, c.count-before-end.ensures.valid.at_most))
+    c.index_mut-pair.ensures.value in
+    unfailing_set g.D.Disk.fuse c.make_one.result c.from_residual.result c.args.disks.now.items
+    c.loop-before.disks.items c.from.result c.index_mut-pair.result.now c.make_one.new.pair
+    (c.loop-before.invariant.unarmed fused) at (c.make_one.ensures.unfailing fused)
+    (λ r is. handed_on c.make_one.result c.from_residual.result given.0 c.in_err-make_one.field-0.0 (Store r)
+    c.in_err-make_one.was given.1 given.2 is)
+
+pub returns-clause-unfailing : goal.returns-clause-unfailing
+returns-clause-unfailing g c = λ fused.
+    unfailing_none g.D.Disk.fuse _ c.args.disks.now.items c.loop-before.disks.items
+    (c.loop-before.invariant.unarmed fused) (λ r is. absurd (cc))
+
+pub returns-clause-regular : goal.returns-clause-regular
+returns-clause-regular g c = λ tells. record {
+  each = λ r pair at most.
+      (c.loop-before.invariant.regular tells).each r pair at
+      (omega (arith, most, c.loop-before-test.false, c.count-before-end.ensures.value));
+}

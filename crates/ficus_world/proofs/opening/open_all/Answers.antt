@@ -1,0 +1,206 @@
+use Rattle.std.proofs.Common.{◌≡◌, ◌+◌, length, subst, sym, ap, ◌∙◌, arith}
+use Rattle.std.proofs.lemmas.Result.{err_from_is_err_and}
+use Rattle.std.specs.Prelude.{List}
+use Rattle.ficus_ids.specs.Members.{IsCount}
+use Rattle.ficus_world.specs.Opening.{IsBad, IsFirstBad}
+use Rattle.ficus_world.specs.declared.member.Member.{Member as MemberValue}
+use Rattle.ficus_world.specs.declared.opening.WorldFault.TheVariants.{Image, Store}
+use Rattle.ficus_world.proofs.Faults.{handed_on}
+use Rattle.ficus_run_laws.proofs.Numbers.{number_exists, number_once}
+use Rattle.ficus_world.proofs.Openings.{first_bad_more, first_bad_one, held_of}
+use Rattle.ficus_world.proofs.Steadies.{fault_behind, number_at, steady_trans}
+use Rattle.ficus_world.proofs.Unarmed.{unfailing_behind, unfailing_none}
+use Rattle.ficus_world.proofs.opening.open_all.Goals as goal
+
+pub returns-in_err-open_next-clause-image : goal.returns-in_err-open_next-clause-image
+returns-in_err-open_next-clause-image g c = λ tells r is.
+    let given =
+    err_from_is_err_and c.from_residual-in_err-open_next.result c.from_residual-in_err-open_next.ensures.1 in
+    let bad =
+    c.open_next.ensures.image tells r
+    (handed_on c.open_next.result c.from_residual-in_err-open_next.result given.0 c.in_err-open_next.field-0.0 (Image r)
+    c.in_err-open_next.was given.1 given.2 is) in
+    subst (IsFirstBad g.K.Keep.kept g.D.Disk.seen c.args.disks.now.items) (sym bad.0)
+    (first_bad_one g.K.Keep.kept g.D.Disk.seen c.args.disks.now.items
+    (subst (IsBad g.K.Keep.kept g.D.Disk.seen c.args.disks.now.items) bad.0 bad.1))
+
+pub loop-before-init : goal.loop-before-init
+loop-before-init g c = record {
+  opened = c.in_ok-open_next.ensures.opened;
+  counted =
+      c.in_ok-open_next.ensures.members.count ∙ ap (λ (l : List MemberValue). length l + 1) c.in_ok-opened.ensures.members;
+  stables = c.in_ok-open_next.ensures.stables;
+  says = λ first one.
+      let counted =
+      c.in_ok-open_next.ensures.members.count
+      ∙ ap (λ (l : List MemberValue). length l + 1) c.in_ok-opened.ensures.members in
+      let here =
+      number_at c.open_next.new.opened.members.items 0 c.index.result.now (omega (arith, counted)) c.index.ensures in
+      ap (λ (m : MemberValue). m.replica.saved.members) (number_once one here) ∙ sym c.count-count.ensures.value;
+  disks = c.in_ok-open_next.ensures.disks;
+  same = c.open_next.ensures.same;
+  faults = c.in_ok-open_next.ensures.steady;
+  armings = c.open_next.ensures.armings;
+  unarmed = λ fused. (c.open_next.ensures.unfailing fused).unarmed;
+}
+
+pub open_next-requires-in-loop-before-clause-next :
+    goal.open_next-requires-in-loop-before-clause-next
+open_next-requires-in-loop-before-clause-next g c = omega (arith, c.loop-before.invariant.counted)
+
+pub open_next-requires-in-loop-before-clause-stables :
+    goal.open_next-requires-in-loop-before-clause-stables
+open_next-requires-in-loop-before-clause-stables g c =
+    c.loop-before.invariant.stables ∙ sym c.loop-before.invariant.counted
+
+pub open_next-requires-in-loop-before-clause-opened :
+    goal.open_next-requires-in-loop-before-clause-opened
+open_next-requires-in-loop-before-clause-opened g c = c.loop-before.invariant.opened
+
+pub open_next-requires-in-loop-before-clause-disks :
+    goal.open_next-requires-in-loop-before-clause-disks
+open_next-requires-in-loop-before-clause-disks g c = c.loop-before.invariant.disks
+
+pub returns-in_err-open_next-2-clause-image : goal.returns-in_err-open_next-2-clause-image
+returns-in_err-open_next-2-clause-image g c = λ tells r is.
+    let given =
+    err_from_is_err_and c.from_residual-in_err-open_next-2.result c.from_residual-in_err-open_next-2.ensures.1 in
+    let bad =
+    c.open_next-in-loop-before.ensures.image tells r
+    (handed_on c.open_next-in-loop-before.result c.from_residual-in_err-open_next-2.result given.0
+    c.in_err-open_next-2.field-0.0 (Image r) c.in_err-open_next-2.was given.1 given.2 is) in
+    let held =
+    held_of g.D.Disk.tells g.K.Keep.kept g.K.Keep.fits g.D.Disk.seen g.D.Disk.may_leave g.D.Disk.armings
+    c.loop-before.opened.members.items c.loop-before.opened.stables.items c.loop-before.disks.items
+    (c.loop-before.invariant.stables ∙ sym c.loop-before.invariant.counted) c.loop-before.invariant.opened
+    c.loop-before.invariant.disks tells in
+    subst (IsFirstBad g.K.Keep.kept g.D.Disk.seen c.args.disks.now.items) (sym bad.0)
+    (first_bad_more g.K.Keep.kept g.D.Disk.seen c.args.disks.now.items c.loop-before.disks.items
+    c.loop-before.opened.members.items c.loop-before.before c.count-count.result
+    (c.loop-before.invariant.same tells) c.loop-before.invariant.opened held c.loop-before.invariant.counted
+    c.loop-before.auto.before c.loop-before-test.true
+    (omega (arith, c.loop-before-test.true, c.loop-before.invariant.faults.count, c.requires.pairs, c.count-count.ensures.value, c.count-count.ensures.valid.at_most))
+    c.loop-before.invariant.says
+    (subst (IsBad g.K.Keep.kept g.D.Disk.seen c.loop-before.disks.items) bad.0 bad.1))
+
+pub returns-in_err-open_next-2-clause-failed : goal.returns-in_err-open_next-2-clause-failed
+returns-in_err-open_next-2-clause-failed g c = λ r is.
+    let given =
+    err_from_is_err_and c.from_residual-in_err-open_next-2.result c.from_residual-in_err-open_next-2.ensures.1 in
+    fault_behind g.D.Disk.faults c.args.disks.now.items c.loop-before.disks.items
+    c.open_next-in-loop-before.new.disks.items r c.loop-before.invariant.faults
+    (c.open_next-in-loop-before.ensures.failed r
+    (handed_on c.open_next-in-loop-before.result c.from_residual-in_err-open_next-2.result given.0
+    c.in_err-open_next-2.field-0.0 (Store r) c.in_err-open_next-2.was given.1 given.2 is))
+
+pub returns-in_err-open_next-2-clause-same : goal.returns-in_err-open_next-2-clause-same
+returns-in_err-open_next-2-clause-same g c = λ tells.
+    steady_trans g.D.Disk.seen c.args.disks.now.items c.loop-before.disks.items
+    c.open_next-in-loop-before.new.disks.items (c.loop-before.invariant.same tells)
+    (c.open_next-in-loop-before.ensures.same tells)
+
+pub returns-in_err-open_next-2-clause-armings : goal.returns-in_err-open_next-2-clause-armings
+returns-in_err-open_next-2-clause-armings g c =
+    steady_trans g.D.Disk.armings c.args.disks.now.items c.loop-before.disks.items
+    c.open_next-in-loop-before.new.disks.items c.loop-before.invariant.armings
+    c.open_next-in-loop-before.ensures.armings
+
+pub loop-before-preserved : goal.loop-before-preserved
+loop-before-preserved g c = record {
+  opened = c.in_ok-open_next-2.ensures.opened;
+  counted = omega (arith, c.in_ok-open_next-2.ensures.members.count, c.loop-before.invariant.counted);
+  stables = c.in_ok-open_next-2.ensures.stables;
+  says = λ first one.
+      let was =
+      number_exists c.loop-before.opened.members.items 1
+      (record {
+        at_least = omega arith;
+        at_most = omega (arith, c.loop-before.invariant.counted, c.loop-before.auto.before);
+      }) in
+      ap (λ (m : MemberValue). m.replica.saved.members)
+      (number_once one (c.in_ok-open_next-2.ensures.members.stays 1 was.0 was.1))
+      ∙ c.loop-before.invariant.says was.0 was.1;
+  disks = c.in_ok-open_next-2.ensures.disks;
+  same = λ tells.
+      steady_trans g.D.Disk.seen c.args.disks.now.items c.loop-before.disks.items
+      c.open_next-in-loop-before.new.disks.items (c.loop-before.invariant.same tells)
+      (c.open_next-in-loop-before.ensures.same tells);
+  faults =
+      steady_trans g.D.Disk.faults c.args.disks.now.items c.loop-before.disks.items
+      c.open_next-in-loop-before.new.disks.items c.loop-before.invariant.faults
+      c.in_ok-open_next-2.ensures.steady;
+  armings =
+      steady_trans g.D.Disk.armings c.args.disks.now.items c.loop-before.disks.items
+      c.open_next-in-loop-before.new.disks.items c.loop-before.invariant.armings
+      c.open_next-in-loop-before.ensures.armings;
+  unarmed = λ fused none.
+      (c.open_next-in-loop-before.ensures.unfailing fused).unarmed (c.loop-before.invariant.unarmed fused none);
+}
+
+pub returns-clause-opened : goal.returns-clause-opened
+returns-clause-opened g c = c.loop-before.invariant.opened
+
+pub returns-clause-counted : goal.returns-clause-counted
+returns-clause-counted g c = λ first one.
+    let says = c.loop-before.invariant.says first one in
+    omega (
+      arith,
+      says,
+      c.loop-before.invariant.counted,
+      c.loop-before-test.false,
+      c.loop-before.auto.before-end,
+      c.count-count.ensures.value,
+      c.count-count.ensures.valid.at_least,
+    )
+
+pub returns-clause-count : goal.returns-clause-count
+returns-clause-count g c =
+    let all : c.index.result.now.replica.saved.members ≡ length c.loop-before.opened.members.items =
+    omega (
+      arith,
+      c.loop-before.invariant.counted,
+      c.loop-before-test.false,
+      c.loop-before.auto.before-end,
+      c.count-count.ensures.value,
+      c.count-count.ensures.valid.at_least,
+    ) in
+    subst IsCount all c.count-count.ensures.valid
+
+pub returns-clause-stables : goal.returns-clause-stables
+returns-clause-stables g c = c.loop-before.invariant.stables ∙ sym c.loop-before.invariant.counted
+
+pub returns-clause-disks : goal.returns-clause-disks
+returns-clause-disks g c = c.loop-before.invariant.disks
+
+pub returns-clause-same : goal.returns-clause-same
+returns-clause-same g c = c.loop-before.invariant.same
+
+pub returns-clause-steady : goal.returns-clause-steady
+returns-clause-steady g c = c.loop-before.invariant.faults
+
+pub returns-clause-armings : goal.returns-clause-armings
+returns-clause-armings g c = c.loop-before.invariant.armings
+
+pub returns-in_err-open_next-clause-unfailing : goal.returns-in_err-open_next-clause-unfailing
+returns-in_err-open_next-clause-unfailing g c = λ fused.
+    let given =
+    err_from_is_err_and c.from_residual-in_err-open_next.result c.from_residual-in_err-open_next.ensures.1 in
+    unfailing_behind g.D.Disk.fuse c.open_next.result c.from_residual-in_err-open_next.result c.args.disks.now.items
+    c.args.disks.now.items c.open_next.new.disks.items (λ none. none) (c.open_next.ensures.unfailing fused)
+    (λ r is. handed_on c.open_next.result c.from_residual-in_err-open_next.result given.0
+    c.in_err-open_next.field-0.0 (Store r) c.in_err-open_next.was given.1 given.2 is)
+
+pub returns-in_err-open_next-2-clause-unfailing : goal.returns-in_err-open_next-2-clause-unfailing
+returns-in_err-open_next-2-clause-unfailing g c = λ fused.
+    let given =
+    err_from_is_err_and c.from_residual-in_err-open_next-2.result c.from_residual-in_err-open_next-2.ensures.1 in
+    unfailing_behind g.D.Disk.fuse c.open_next-in-loop-before.result c.from_residual-in_err-open_next-2.result
+    c.args.disks.now.items c.loop-before.disks.items c.open_next-in-loop-before.new.disks.items
+    (c.loop-before.invariant.unarmed fused) (c.open_next-in-loop-before.ensures.unfailing fused)
+    (λ r is. handed_on c.open_next-in-loop-before.result c.from_residual-in_err-open_next-2.result given.0
+    c.in_err-open_next-2.field-0.0 (Store r) c.in_err-open_next-2.was given.1 given.2 is)
+
+pub returns-clause-unfailing : goal.returns-clause-unfailing
+returns-clause-unfailing g c = λ fused.
+    unfailing_none g.D.Disk.fuse _ c.args.disks.now.items c.loop-before.disks.items
+    (c.loop-before.invariant.unarmed fused) (λ r is. absurd (cc))

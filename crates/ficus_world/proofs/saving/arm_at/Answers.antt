@@ -1,0 +1,30 @@
+use Rattle.std.proofs.Common.{sym}
+use Rattle.ficus_run_laws.proofs.Numbers.{number_read}
+use Rattle.ficus_world.proofs.Disks.{rose_none}
+use Rattle.ficus_world.proofs.Fuses.{fuses_armed}
+use Rattle.ficus_world.proofs.Saves.{disks_armed, pair_armed}
+use Rattle.ficus_world.proofs.saving.arm_at.Goals as goal
+
+pub returns-clause-disks : goal.returns-clause-disks
+returns-clause-disks g c members stables are =
+    let is_pair = number_read c.args.disks.now.items c.args.by c.index_mut-pair.result.now _ c.requires.pair
+    (sym c.index_mut-pair.ensures.value) in
+    disks_armed g.D.Disk.tells g.K.Keep.kept g.K.Keep.fits g.D.Disk.seen g.D.Disk.may_leave g.D.Disk.armings c.args.by
+    c.index_mut-pair.result.now _ is_pair c.arm.ensures.arms c.arm-2.ensures.arms
+    (λ told. record { a = c.arm.ensures.seen told; b = c.arm-2.ensures.seen told })
+    (record { a = c.arm.ensures.crash; b = c.arm-2.ensures.crash }) are
+
+pub returns-clause-follows : goal.returns-clause-follows
+returns-clause-follows g c members up =
+    let is_pair = number_read c.args.disks.now.items c.args.by c.index_mut-pair.result.now _ c.requires.pair
+    (sym c.index_mut-pair.ensures.value) in
+    record {
+      disks = pair_armed c.args.by is_pair c.args.calls c.args.pick (rose_none (record {
+        a = c.arm.ensures.steady;
+        b = c.arm-2.ensures.steady;
+      }));
+      fuses =
+          fuses_armed g.K.Keep g.D.Disk c.args.by c.args.calls c.args.pick members c.args.disks.now.items
+          c.index_mut-pair.result.now _ is_pair up (record { a = c.arm.ensures.crash; b = c.arm-2.ensures.crash })
+          c.arm.ensures.fuse c.arm-2.ensures.fuse;
+    }

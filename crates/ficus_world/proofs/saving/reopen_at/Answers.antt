@@ -1,0 +1,82 @@
+use Rattle.std.proofs.Common.{◌≡◌, Err, ap, sym, refl}
+use Rattle.ficus_keep.specs.declared.fault.StoreFault.TheVariants.{Failed}
+use Rattle.ficus_world.proofs.Disks.{follows_at}
+use Rattle.ficus_run_laws.proofs.Numbers.{number_exists, number_read}
+use Rattle.ficus_world.proofs.Fuses.{fuses_read}
+use Rattle.ficus_world.proofs.Saves.{disks_not_read, disks_read, opening_failed, read_is, some_image}
+use Rattle.ficus_world.proofs.saving.reopen_at.Goals as goal
+
+pub returns-in-Ok-clause-read : goal.returns-in-Ok-clause-read
+returns-in-Ok-clause-read g c told count events members was is sound are =
+    let stable = number_exists c.args.stables.now.items c.args.by c.requires.member in
+    let is_pair = number_read c.args.disks.now.items c.args.by c.index_mut.result.now _ c.requires.pair
+    (sym c.index_mut.ensures.value) in
+    let of = are.each c.args.by was stable.0 c.index_mut.result.now is stable.1 is_pair in
+    read_is g.D.Disk.tells g.K.Keep.kept g.K.Keep.fits g.D.Disk.seen g.D.Disk.may_leave g.D.Disk.armings
+    c.one_saved.ensures count events c.args.by was sound stable.0 c.index_mut.result.now c.reopen.new.disks
+    (c.reopen.ensures.left told) (of.holds told) c.in-Ok.found.saved c.in-Ok.ensures.fits
+    (let ready = c.in-Ok.ensures.ready told in ready.holds)
+
+pub returns-in-Ok-clause-disks : goal.returns-in-Ok-clause-disks
+returns-in-Ok-clause-disks g c old new reopens are =
+    let stable = number_exists c.args.stables.now.items c.args.by c.requires.member in
+    let is_pair = number_read c.args.disks.now.items c.args.by c.index_mut.result.now _ c.requires.pair
+    (sym c.index_mut.ensures.value) in
+    disks_read g.D.Disk.tells g.K.Keep.kept g.K.Keep.fits g.D.Disk.seen g.D.Disk.may_leave g.D.Disk.armings
+    c.args.by c.in-Ok.found.saved stable.0 c.in-Ok.found.stable c.index_mut.result.now c.reopen.new.disks stable.1
+    is_pair c.reopen.ensures.armings c.reopen.ensures.crash c.in-Ok.ensures.ready reopens are
+
+pub returns-in-Ok-clause-follows : goal.returns-in-Ok-clause-follows
+returns-in-Ok-clause-follows g c =
+    let is_pair = number_read c.args.disks.now.items c.args.by c.index_mut.result.now _ c.requires.pair
+    (sym c.index_mut.ensures.value) in
+    follows_at c.args.by is_pair
+    (record { rose = c.reopen.ensures.risen; unarmed = λ none. c.reopen.ensures.armings }) (λ r differs. refl)
+    (λ r differs. refl)
+
+pub returns-in-Err-clause-read : goal.returns-in-Err-clause-read
+returns-in-Err-clause-read g c told count events members was is sound are =
+    let stable = number_exists c.args.stables.now.items c.args.by c.requires.member in
+    let is_pair = number_read c.args.disks.now.items c.args.by c.index_mut.result.now _ c.requires.pair
+    (sym c.index_mut.ensures.value) in
+    let of = are.each c.args.by was stable.0 c.index_mut.result.now is stable.1 is_pair in
+    some_image g.D.Disk.tells g.K.Keep.kept g.K.Keep.fits g.D.Disk.seen g.D.Disk.may_leave g.D.Disk.armings
+    c.one_saved.ensures count events c.args.by was sound stable.0 c.index_mut.result.now c.reopen.new.disks
+    (c.reopen.ensures.left told) (of.holds told) c.in-Err.fault (λ same. c.in-Err.ensures.none told (ap Err same))
+
+pub returns-in-Err-clause-disks : goal.returns-in-Err-clause-disks
+returns-in-Err-clause-disks g c old new reopens are =
+    let is_pair = number_read c.args.disks.now.items c.args.by c.index_mut.result.now _ c.requires.pair
+    (sym c.index_mut.ensures.value) in
+    disks_not_read g.D.Disk.tells g.K.Keep.kept g.K.Keep.fits g.D.Disk.seen g.D.Disk.may_leave g.D.Disk.armings
+    c.args.by c.in-Err.fault c.index_mut.result.now c.reopen.new.disks is_pair c.reopen.ensures.armings
+    c.reopen.ensures.crash c.reopen.ensures.left reopens are
+
+pub returns-in-Err-clause-opened : goal.returns-in-Err-clause-opened
+returns-in-Err-clause-opened g c failed =
+    let is_pair = number_read c.args.disks.now.items c.args.by c.index_mut.result.now _ c.requires.pair
+    (sym c.index_mut.ensures.value) in
+    let same : c.in-Err.fault ≡ Failed = cc in
+    opening_failed c.args.by is_pair (c.in-Err.ensures.failed (ap Err same)) c.reopen.ensures.armings
+
+pub returns-in-Err-clause-follows : goal.returns-in-Err-clause-follows
+returns-in-Err-clause-follows g c =
+    let is_pair = number_read c.args.disks.now.items c.args.by c.index_mut.result.now _ c.requires.pair
+    (sym c.index_mut.ensures.value) in
+    follows_at c.args.by is_pair
+    (record { rose = c.reopen.ensures.risen; unarmed = λ none. c.reopen.ensures.armings }) (λ r differs. refl)
+    (λ r differs. refl)
+
+pub returns-in-Ok-clause-by_fuse : goal.returns-in-Ok-clause-by_fuse
+returns-in-Ok-clause-by_fuse g c fused told count events members was F is sound are stand =
+    let stable = number_exists c.args.stables.now.items c.args.by c.requires.member in
+    let is_pair = number_read c.args.disks.now.items c.args.by c.index_mut.result.now _ c.requires.pair
+    (sym c.index_mut.ensures.value) in
+    let of = are.each c.args.by was stable.0 c.index_mut.result.now is stable.1 is_pair in
+    let held = (c.in-Ok.ensures.ready told).holds in
+    fuses_read g.K.Keep g.D.Disk c.one_saved.ensures count events c.args.by members c.args.disks.now.items was
+    c.index_mut.result.now c.reopen.new.disks c.in-Ok.found.saved F is is_pair sound c.in-Ok.ensures.fits held
+    (read_is g.D.Disk.tells g.K.Keep.kept g.K.Keep.fits g.D.Disk.seen g.D.Disk.may_leave g.D.Disk.armings
+    c.one_saved.ensures count events c.args.by was sound stable.0 c.index_mut.result.now c.reopen.new.disks
+    (c.reopen.ensures.left told) (of.holds told) c.in-Ok.found.saved c.in-Ok.ensures.fits held)
+    c.reopen.ensures.crash (c.reopen.ensures.by_fuse fused told) stand

@@ -1,0 +1,75 @@
+use Rattle.std.proofs.Common.{subst, sym}
+use Rattle.std.proofs.lemmas.Result.{err_from_is_err_and}
+use Rattle.ficus_world.specs.Opening.{IsFoundFault}
+use Rattle.ficus_world.specs.declared.opening.WorldFault.TheVariants.{Occupied, Store}
+use Rattle.ficus_world.proofs.Faults.{handed_on, where_ok}
+use Rattle.ficus_world.proofs.Making.{empty_same, found_comes, none_occupied}
+use Rattle.ficus_world.proofs.Steadies.{fault_behind, steady_trans}
+use Rattle.ficus_world.proofs.Unarmed.{unfailing_behind}
+use Rattle.ficus_world.proofs.world.World.make.Goals as goal
+
+pub returns-in_err-look_for_empty-clause-occupied :
+    goal.returns-in_err-look_for_empty-clause-occupied
+returns-in_err-look_for_empty-clause-occupied g c = λ tells r is.
+    let given = err_from_is_err_and c.from_residual.result c.from_residual.ensures.1 in
+    c.look_for_empty.ensures.occupied tells r
+    (handed_on c.look_for_empty.result c.from_residual.result given.0 c.in_err-look_for_empty.field-0.0 (Occupied r)
+    c.in_err-look_for_empty.was given.1 given.2 is)
+
+pub returns-in_err-look_for_empty-clause-unfailed :
+    goal.returns-in_err-look_for_empty-clause-unfailed
+returns-in_err-look_for_empty-clause-unfailed g c = λ r is.
+    let given = err_from_is_err_and c.from_residual.result c.from_residual.ensures.1 in
+    c.look_for_empty.ensures.unfailed r
+    (handed_on c.look_for_empty.result c.from_residual.result given.0 c.in_err-look_for_empty.field-0.0 (Occupied r)
+    c.in_err-look_for_empty.was given.1 given.2 is)
+
+pub returns-in_err-look_for_empty-clause-comes : goal.returns-in_err-look_for_empty-clause-comes
+returns-in_err-look_for_empty-clause-comes g c = λ tells r first within.
+    let given = err_from_is_err_and c.from_residual.result c.from_residual.ensures.1 in
+    found_comes g.D.Disk.seen c.args.disks.now.items r c.from_residual.result given.0 given.1
+    (subst IsFoundFault (sym given.2) c.in_err-look_for_empty.ensures.refused)
+    (λ q is. (c.look_for_empty.ensures.occupied tells q
+    (handed_on c.look_for_empty.result c.from_residual.result given.0 c.in_err-look_for_empty.field-0.0 (Occupied q)
+    c.in_err-look_for_empty.was given.1 given.2 is)).0) first
+
+pub returns-clause-comes : goal.returns-clause-comes
+returns-clause-comes g c = λ tells r first within.
+    absurd (none_occupied g.D.Disk.seen c.args.disks.now.items c.args.members r
+    (c.in_ok-look_for_empty.ensures.empty tells) first within)
+
+pub make_all-requires-clause-empty : goal.make_all-requires-clause-empty
+make_all-requires-clause-empty g c = λ tells.
+    empty_same g.D.Disk.seen c.args.disks.now.items c.look_for_empty.new.disks.items c.args.members
+    (c.look_for_empty.ensures.same tells) (c.in_ok-look_for_empty.ensures.empty tells)
+
+pub returns-clause-failed : goal.returns-clause-failed
+returns-clause-failed g c = λ r is.
+    fault_behind g.D.Disk.faults c.args.disks.now.items c.look_for_empty.new.disks.items c.make_all.new.disks.items r
+    c.in_ok-look_for_empty.ensures.steady (c.make_all.ensures.failed r is)
+
+pub returns-clause-steady : goal.returns-clause-steady
+returns-clause-steady g c =
+    where_ok c.make_all.result c.make_all.ensures.steady
+    (steady_trans g.D.Disk.faults c.args.disks.now.items c.look_for_empty.new.disks.items c.make_all.new.disks.items
+    c.in_ok-look_for_empty.ensures.steady)
+
+pub returns-clause-armings : goal.returns-clause-armings
+returns-clause-armings g c =
+    steady_trans g.D.Disk.armings c.args.disks.now.items c.look_for_empty.new.disks.items c.make_all.new.disks.items
+    c.look_for_empty.ensures.armings c.make_all.ensures.armings
+
+pub returns-in_err-look_for_empty-clause-unfailing :
+    goal.returns-in_err-look_for_empty-clause-unfailing
+returns-in_err-look_for_empty-clause-unfailing g c = λ fused.
+    let given = err_from_is_err_and c.from_residual.result c.from_residual.ensures.1 in
+    unfailing_behind g.D.Disk.fuse c.look_for_empty.result c.from_residual.result c.args.disks.now.items
+    c.args.disks.now.items c.look_for_empty.new.disks.items (λ none. none) (c.look_for_empty.ensures.unfailing fused)
+    (λ r is. handed_on c.look_for_empty.result c.from_residual.result given.0 c.in_err-look_for_empty.field-0.0
+    (Store r) c.in_err-look_for_empty.was given.1 given.2 is)
+
+pub returns-clause-unfailing : goal.returns-clause-unfailing
+returns-clause-unfailing g c = λ fused.
+    unfailing_behind g.D.Disk.fuse c.make_all.result c.make_all.result c.args.disks.now.items
+    c.look_for_empty.new.disks.items c.make_all.new.disks.items (c.look_for_empty.ensures.unfailing fused).unarmed
+    (c.make_all.ensures.unfailing fused) (λ r is. is)

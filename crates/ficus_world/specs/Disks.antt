@@ -1,0 +1,191 @@
+-- How the disks of a world stand to its members, and what a command does to them.
+use Rattle.std.specs.Prelude.{◌≡◌, ◌⊎◌, ℕ, ◌-◌, Bool, ◌&&◌, List, [], ◌∷◌, length, Option, Some, None, Result, Ok, Err, is_some, slice_set}
+use Rattle.ficus_ids.specs.declared.refusal.Refusal.{Refusal}
+use Rattle.ficus_ids.specs.declared.refusal.Refusal.TheVariants as refusal
+use Rattle.ficus_model.specs.declared.event.Event.{Event}
+use Rattle.ficus_model.specs.declared.event.Event.TheVariants as event
+use Rattle.ficus_script.specs.declared.answer.Answer.{Answer}
+use Rattle.ficus_script.specs.declared.answer.Answer.TheVariants.{Done}
+use Rattle.ficus_disk.specs.Pair.{PairRose}
+use Rattle.ficus_disk.specs.declared.disk.Disk.{Ghosts as Disk}
+use Rattle.ficus_disk.specs.declared.pair.Pair.{Pair}
+use Rattle.ficus_keep.specs.Kept.{Kept}
+use Rattle.ficus_keep.specs.declared.keep.Keep.{Ghosts as Keep}
+use Rattle.ficus_keep.specs.declared.fault.StoreFault.{StoreFault}
+use Rattle.ficus_keep.specs.declared.fault.StoreFault.TheVariants.{Failed, Memory, NoImage}
+use Rattle.ficus_keep.specs.Pairs.{PairSame}
+use Rattle.ficus_saved.specs.declared.saved.Saved.{Saved}
+use Rattle.ficus_stable.specs.Holds.{HoldsOneOf}
+use Rattle.ficus_stable.specs.Stable.{IsPrepared, IsReady}
+use Rattle.ficus_stable.specs.declared.stable.Stable.{Stable}
+use Rattle.ficus_runs.specs.Answers.{OrMemory}
+use Rattle.ficus_runs.specs.Numbered.{IsNumbered}
+use Rattle.ficus_runs.specs.Outcome.{Outcome, IsSaved, SaveFails, armings_in, store_failures}
+use Rattle.ficus_runs.specs.Sequence.{Effect}
+use Rattle.ficus_world.specs.declared.member.Member.{Member}
+use Rattle.ficus_world.specs.declared.member.Pending.{Pending}
+use Rattle.ficus_world.specs.declared.member.Rising.{Rising}
+use Rattle.ficus_world.specs.declared.member.Rising.TheVariants.{AsWas, AsPending, Neither}
+use Rattle.ficus_world.specs.Fuses.{FusesFollow}
+use Rattle.ficus_world.specs.Moves.{IsLike, WholeAction, restarted, still_pending}
+use Rattle.ficus_world.specs.World.{Whole}
+use Rattle.ficus_world.specs.declared.member.MemberState.{MemberState}
+use Rattle.ficus_world.specs.declared.member.MemberState.TheVariants.{Up, Down}
+
+-- both disks of a pair have a fuse
+abbrev pub are_fused : {D : Type 0} → (D → Option ℕ) → Pair D → Bool
+are_fused armings pair = is_some (armings pair.a) && is_some (armings pair.b)
+
+-- What the disks of a member hold: what it has saved, where it is up, and its keeper is ready to save what follows. Where
+-- it is down, whatever a crash leaves of them holds that, or what it saves with the event that is pending.
+abbrev pub HoldsFor : {K D : Type 0} → (List ℕ → List ℕ → Option Kept) → (K → List ℕ → List ℕ → Type 0)
+    → (D → List ℕ) → (D → List ℕ → Type 0) → Stable K → Pair D → Saved → MemberState → Type 0
+HoldsFor kept fits seen may_leave stable pair saved Up = IsReady kept fits seen may_leave stable pair saved
+HoldsFor kept fits seen may_leave stable pair saved (Down None) =
+    HoldsOneOf kept may_leave pair (Some saved) (Some saved)
+HoldsFor kept fits seen may_leave stable pair saved (Down (Some pending)) =
+    HoldsOneOf kept may_leave pair (Some saved) (Some pending.replica.saved)
+
+-- the pair is this member's; what it holds is a claim where the disks tell it
+pub record IsPairOf {K D : Type 0} (tells : Type 0) (kept : List ℕ → List ℕ → Option Kept)
+    (fits : K → List ℕ → List ℕ → Type 0) (seen : D → List ℕ) (may_leave : D → List ℕ → Type 0)
+    (armings : D → Option ℕ) (member : Member) (stable : Stable K) (pair : Pair D) : Type 0 where
+  pub fused : member.fused ≡ are_fused armings pair
+  pub holds : tells → HoldsFor kept fits seen may_leave stable pair member.replica.saved member.state
+
+-- each member has a pair
+pub record AreDisksOf {K D : Type 0} (tells : Type 0) (kept : List ℕ → List ℕ → Option Kept)
+    (fits : K → List ℕ → List ℕ → Type 0) (seen : D → List ℕ) (may_leave : D → List ℕ → Type 0)
+    (armings : D → Option ℕ) (members : List Member) (stables : List (Stable K)) (disks : List (Pair D)) :
+    Type 0 where
+  pub each : (r : ℕ) (member : Member) (stable : Stable K) (pair : Pair D) → IsNumbered members r member
+      → IsNumbered stables r stable → IsNumbered disks r pair
+      → IsPairOf tells kept fits seen may_leave armings member stable pair
+
+-- the count of a pair's faults rose by as many failures at least, or stands at its last value; and it was armed only
+-- where a command armed it
+pub record PairFollows {D : Type 0} (faults : D → ℕ) (armings : D → Option ℕ) (failures armed : ℕ) (old new : Pair D) :
+    Type 0 where
+  pub rose : PairRose faults failures old new
+  pub unarmed : armed ≡ 0 → PairSame armings old new
+
+-- so of each pair
+pub record DisksFollow {D : Type 0} (faults : D → ℕ) (armings : D → Option ℕ) (outcomes : List Outcome)
+    (old new : List (Pair D)) : Type 0 where
+  pub count : length new ≡ length old
+  pub each : (r : ℕ) (was now : Pair D) → IsNumbered old r was → IsNumbered new r now
+      → PairFollows faults armings (store_failures r outcomes) (armings_in r outcomes) was now
+
+-- an action on the world was carried out, by some outcomes, or memory was refused
+pub record Carried {A : Type 0} (action : Result A Refusal → Effect Whole → Type 0) (result : Result A Refusal)
+    (new : Whole) : Type 0 where
+  pub outcomes : List Outcome
+  pub does : OrMemory (λ given. action given (record { outcomes = outcomes; after = new })) result
+
+-- the disks of the members follow these outcomes, and so do their fuses
+pub record DisksComeTo {K D : Type 0} (keep : Keep K) (disk : Disk D) (outcomes : List Outcome)
+    (old new : List Member) (old_disks new_disks : List (Pair D)) : Type 0 where
+  pub disks : DisksFollow disk.faults disk.armings outcomes old_disks new_disks
+  pub fuses : FusesFollow keep disk outcomes old new old_disks new_disks
+
+-- an action on a world was carried out, by some outcomes, which the disks and their fuses follow, or memory was refused
+pub record CarriedOn {A K D : Type 0} (keep : Keep K) (disk : Disk D) (action : WholeAction A)
+    (result : Result A Refusal) (old new : Whole) (old_disks new_disks : List (Pair D)) : Type 0 where
+  pub outcomes : List Outcome
+  pub does : OrMemory (λ given. action old given (record { outcomes = outcomes; after = new })) result
+  pub disks : DisksFollow disk.faults disk.armings outcomes old_disks new_disks
+  pub fuses : OrMemory (λ given. FusesFollow keep disk outcomes old.members new.members old_disks new_disks) result
+
+-- the world is as it was, and nothing failed
+pub record StaysOn {D : Type 0} (faults : D → ℕ) (armings : D → Option ℕ) (old new : Whole)
+    (old_disks new_disks : List (Pair D)) : Type 0 where
+  pub same : new ≡ old
+  pub disks : DisksFollow faults armings [] old_disks new_disks
+
+-- the image of what a member saves next is built, and there is room for it
+pub record IsPreparedAt {K D : Type 0} (buffered : K → ℕ → ℕ) (room : K → ℕ) (size_of : K → ℕ → ℕ)
+    (disk_room : D → ℕ) (stables : List (Stable K)) (disks : List (Pair D)) (by : ℕ) (next : Saved) : Type 0 where
+  pub each : (stable : Stable K) (pair : Pair D) → IsNumbered stables by stable → IsNumbered disks by pair
+      → IsPrepared buffered room size_of disk_room stable pair next
+
+-- where it is saved, the member holds it; else it is down, and that is pending
+abbrev pub IsAfterSave : {T E : Type 0} → Saved → Member → Result T E → Member → Type 0
+IsAfterSave next was (Ok done) now =
+    (now.replica.saved ≡ next) × (now.state ≡ Up) × (now.fused ≡ was.fused)
+IsAfterSave next was (Err failed) now =
+    (now.replica.saved ≡ was.replica.saved) × (now.fused ≡ was.fused)
+    × (pending : Pending) × (now.state ≡ Down (Some pending)) × (pending.replica.saved ≡ next)
+
+-- what became of a save
+abbrev pub save_outcome : {T E : Type 0} → ℕ → Result T E → Outcome
+save_outcome by (Ok done) = IsSaved by
+save_outcome by (Err failed) = SaveFails by
+
+-- member `by` was up, and has saved this, or failed to
+pub record SavesAt {T E : Type 0} (by : ℕ) (next : Saved) (result : Result T E) (old new : List Member) : Type 0 where
+  pub was : Member
+  pub is : IsNumbered old by was
+  pub up : was.state ≡ Up
+  pub now : Member
+  pub after : IsAfterSave next was result now
+  pub set : new ≡ slice_set old (by - 1) now
+
+-- What the state of a member that saves this comes to, with what was read of its disks.
+abbrev pub IsStateAfter : MemberState → Saved → Saved → Rising → MemberState → Type 0
+IsStateAfter was known read AsWas now = IsLike known read × (now ≡ Up)
+IsStateAfter was known read (AsPending event) now =
+    (pending : Pending) × (was ≡ Down (Some pending)) × (event ≡ pending.event) × IsLike pending.replica.saved read
+    × (IsLike known read → ⊥) × (now ≡ Up)
+IsStateAfter was known read Neither now =
+    (now ≡ Down (still_pending was)) × (IsLike known read → ⊥)
+    × ((pending : Pending) → was ≡ Down (Some pending) → IsLike pending.replica.saved read → ⊥)
+
+-- What a member that was this one comes to with what was read of its disks.
+abbrev pub IsRisen : Member → Saved → Rising → Member → Type 0
+IsRisen was read AsWas now = IsLike was.replica.saved read × (now ≡ restarted was read)
+IsRisen was read (AsPending event) now =
+    (pending : Pending) × (was.state ≡ Down (Some pending)) × (event ≡ pending.event)
+    × IsLike pending.replica.saved read × (now ≡ restarted was read)
+IsRisen was read Neither now =
+    (now ≡ record was { state = Down (still_pending was.state) }) × (IsLike was.replica.saved read → ⊥)
+    × ((pending : Pending) → was.state ≡ Down (Some pending) → IsLike pending.replica.saved read → ⊥)
+
+-- What is read of a member's disks, where they tell what they hold: what it has saved, or what is pending. There is an
+-- image.
+abbrev pub IsReadAt : Member → Result Saved StoreFault → Type 0
+IsReadAt was (Ok read) = (read ≡ was.replica.saved) ⊎ ((pending : Pending) × (was.state ≡ Down (Some pending))
+    × (read ≡ pending.replica.saved))
+IsReadAt was (Err NoImage) = ⊥
+IsReadAt was (Err fault) = Unit {0}
+
+-- A member whose disks were opened again is up, with what was read; or it is down, with what was pending before; or, where
+-- nothing was read, as it was.
+abbrev pub IsAfterOpening : Member → Result Saved StoreFault → Member → Type 0
+IsAfterOpening was (Ok read) now =
+    (now ≡ restarted was read) ⊎ (now ≡ record was { state = Down (still_pending was.state) })
+IsAfterOpening was (Err fault) now = (now ≡ was) ⊎ (now ≡ record was { state = Down (still_pending was.state) })
+
+-- so member `by` is
+pub record ReopensAt (by : ℕ) (result : Result Saved StoreFault) (old new : List Member) : Type 0 where
+  pub was : Member
+  pub is : IsNumbered old by was
+  pub now : Member
+  pub after : IsAfterOpening was result now
+  pub set : new ≡ slice_set old (by - 1) now
+
+-- What a member that was this one comes to, which events are stored, and what is answered, by what was read of its disks.
+pub data ComesBack (by : ℕ) (was : Member) :
+    Result Saved StoreFault → Result Answer Refusal → Member → List Event → Type 0 where
+  BackAsWas : {read : Saved} → IsLike was.replica.saved read
+      → ComesBack by was (Ok read) (Ok Done) (restarted was read) (event.Restart by ∷ [])
+  BackAsPending : {read : Saved} {pending : Pending} → was.state ≡ Down (Some pending)
+      → IsLike pending.replica.saved read
+      → ComesBack by was (Ok read) (Ok Done) (restarted was read) (pending.event ∷ event.Restart by ∷ [])
+  OfAnother : {read : Saved} → (IsLike was.replica.saved read → ⊥)
+      → ((pending : Pending) → was.state ≡ Down (Some pending) → IsLike pending.replica.saved read → ⊥)
+      → ComesBack by was (Ok read) (Err refusal.Image) (record was { state = Down (still_pending was.state) }) []
+  NothingRead : ComesBack by was (Err NoImage) (Err refusal.Image)
+      (record was { state = Down (still_pending was.state) }) []
+  NotOpened : ComesBack by was (Err Failed) (Err refusal.Store)
+      (record was { state = Down (still_pending was.state) }) []
+  NoMemory : ComesBack by was (Err Memory) (Err refusal.Memory) was []

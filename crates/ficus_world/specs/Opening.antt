@@ -1,0 +1,164 @@
+-- What it means that a volume is made on disks, and that a world is opened on them.
+use Rattle.std.specs.Prelude.{◌≡◌, ◌≢◌, ◌⊎◌, ℕ, ◌^◌, ◌<◌, ◌≤◌, ◌+◌, ◌==◌, Bool, if◌then◌else◌, List, [], length, map, Option, None, Result, IsErrOf}
+use Rattle.ficus_disk.specs.Pair.{PairRose}
+use Rattle.ficus_disk.specs.declared.fuse.Fuse.{Fuse}
+use Rattle.ficus_disk.specs.declared.pair.Pair.{Pair}
+use Rattle.ficus_ids.specs.Members.{IsCount, IsMember}
+use Rattle.ficus_keep.specs.Fuses.{both_unarmed, fuses_of}
+use Rattle.ficus_keep.specs.Kept.{Kept, found_in}
+use Rattle.ficus_keep.specs.Pairs.{PairSame}
+use Rattle.ficus_model.specs.declared.event.Event.{Event}
+use Rattle.ficus_model.specs.Lawful.{Volume, IsLawful}
+use Rattle.ficus_replica.specs.SavedOf.{fresh_saved}
+use Rattle.ficus_saved.specs.Saved.{FitsImage}
+use Rattle.ficus_saved.specs.declared.saved.Saved.{Saved}
+use Rattle.ficus_stable.specs.Holds.{Holds}
+use Rattle.ficus_runs.specs.Numbered.{IsNumbered}
+use Rattle.ficus_world.specs.declared.member.Member.{Member}
+use Rattle.ficus_world.specs.declared.member.MemberState.TheVariants.{Up}
+use Rattle.ficus_world.specs.declared.opening.WorldFault.{WorldFault}
+use Rattle.ficus_world.specs.declared.opening.WorldFault.TheVariants.{Image, Memory, Occupied, Store}
+use Rattle.ficus_world.specs.Disks.{are_fused}
+use Rattle.ficus_world.specs.Fuses.{AreUnarmed}
+use Rattle.ficus_world.specs.Stand.{DisksKeep}
+
+-- both disks hold nothing
+abbrev pub IsEmptyPair : {D : Type 0} → (D → List ℕ) → Pair D → Type 0
+IsEmptyPair seen pair = (seen pair.a ≡ []) × (seen pair.b ≡ [])
+
+-- the disks of the members up to this one hold nothing
+pub record AreEmpty {D : Type 0} (seen : D → List ℕ) (disks : List (Pair D)) (count : ℕ) : Type 0 where
+  pub each : (r : ℕ) (pair : Pair D) → IsNumbered disks r pair → r ≤ count → IsEmptyPair seen pair
+
+-- a disk of this member holds something, and none of a member before it does
+pub record IsFirstOccupied {D : Type 0} (seen : D → List ℕ) (disks : List (Pair D)) (r : ℕ) : Type 0 where
+  pub pair : Pair D
+  pub is : IsNumbered disks r pair
+  pub some : (seen pair.a ≢ []) ⊎ (seen pair.b ≢ [])
+  pub before : (q : ℕ) (other : Pair D) → IsNumbered disks q other → q < r → IsEmptyPair seen other
+
+-- of each member what it saves before anything has happened is held
+pub record AreMade {D : Type 0} (kept : List ℕ → List ℕ → Option Kept) (seen : D → List ℕ) (volume : Volume)
+    (disks : List (Pair D)) : Type 0 where
+  pub each : (r : ℕ) (pair : Pair D) → IsNumbered disks r pair → IsMember volume.members r
+      → Holds (found_in kept seen pair) (fresh_saved volume r)
+
+-- a world is opened from what is of this member and of the same volume as the first member's, and of a generation below
+-- 2^62
+pub record MayOpen (first saved : Saved) (r : ℕ) : Type 0 where
+  pub me : saved.me ≡ r
+  pub members : saved.members ≡ first.members
+  pub ids : saved.ids ≡ first.ids
+  pub bytes : saved.bytes ≡ first.bytes
+  pub generation : saved.generation < 2 ^ 62
+
+-- what is held of a member, of which a world may be opened by what is held of the first one
+pub record Opens {D : Type 0} (kept : List ℕ → List ℕ → Option Kept) (seen : D → List ℕ) (disks : List (Pair D))
+    (first saved : Saved) (r : ℕ) : Type 0 where
+  pub pair : Pair D
+  pub is : IsNumbered disks r pair
+  pub fits : FitsImage saved
+  pub holds : Holds (found_in kept seen pair) saved
+  pub may : MayOpen first saved r
+
+-- with what the disks of this member hold no world may be opened
+abbrev pub IsBad : {D : Type 0} → (List ℕ → List ℕ → Option Kept) → (D → List ℕ) → List (Pair D) → ℕ → Type 0
+IsBad kept seen disks r =
+    (first saved : Saved) → Opens kept seen disks first first 1 → Opens kept seen disks first saved r → ⊥
+
+-- The disks of this member are those of no world: of all before it, a world may be opened, and not of it. It is a member,
+-- as far as the first one says how many there are.
+pub record IsFirstBad {D : Type 0} (kept : List ℕ → List ℕ → Option Kept) (seen : D → List ℕ) (disks : List (Pair D))
+    (r : ℕ) : Type 0 where
+  pub some : 1 ≤ r
+  pub member : (first : Saved) → Opens kept seen disks first first 1 → r ≤ first.members
+  pub bad : IsBad kept seen disks r
+  pub before : (q : ℕ) → 1 ≤ q → q < r
+      → (first : Saved) × (saved : Saved) × Opens kept seen disks first first 1 × Opens kept seen disks first saved q
+
+-- the disks stand for a lawful history, of fewer than 2^62 events
+pub record StandsOn {D : Type 0} (kept : List ℕ → List ℕ → Option Kept) (seen : D → List ℕ) (volume : Volume)
+    (H : List Event) (disks : List (Pair D)) : Type 0 where
+  pub count : IsCount volume.members
+  pub lawful : IsLawful volume H
+  pub few : length H < 2 ^ 62
+  pub keeps : DisksKeep kept seen volume H disks
+
+-- whether the disks of each member have a fuse
+abbrev pub fuses_in : {D : Type 0} → (D → Option ℕ) → List (Pair D) → List Bool
+fuses_in armings disks = map (are_fused armings) disks
+
+-- of the disks of each pair this stays
+pub record Steady {D A : Type 0} (what : D → A) (old new : List (Pair D)) : Type 0 where
+  pub count : length new ≡ length old
+  pub each : (r : ℕ) (was now : Pair D) → IsNumbered old r was → IsNumbered new r now → PairSame what was now
+
+-- what a read of each disk gives stays
+abbrev pub SeenSame : {D : Type 0} → (D → List ℕ) → List (Pair D) → List (Pair D) → Type 0
+SeenSame seen old new = Steady seen old new
+
+-- the disks of this member have failed, and counted that
+pub record IsAtFault {D : Type 0} (faults : D → ℕ) (old new : List (Pair D)) (r : ℕ) : Type 0 where
+  pub is : IsMember (length old) r
+  pub count : length new ≡ length old
+  pub each : (q : ℕ) (was now : Pair D) → IsNumbered old q was → IsNumbered new q now
+      → PairRose faults (if q == r then 1 else 0) was now
+
+-- of a pair on which no number was armed no disk has failed, and none is armed
+pub record PairUnfailing {D A : Type 0} (fuse : D → Fuse) (result : Result A WorldFault) (old new : Pair D) :
+    Type 0 where
+  pub unarmed : fuses_of fuse old ≡ both_unarmed → fuses_of fuse new ≡ both_unarmed
+  pub unfailing : fuses_of fuse old ≡ both_unarmed → (r : ℕ) → IsErrOf result (Store r) → ⊥
+
+-- and of all pairs, where on none a number was armed
+pub record Unfailing {D A : Type 0} (fuse : D → Fuse) (result : Result A WorldFault) (old new : List (Pair D)) :
+    Type 0 where
+  pub unarmed : AreUnarmed fuse old → AreUnarmed fuse new
+  pub unfailing : AreUnarmed fuse old → (r : ℕ) → IsErrOf result (Store r) → ⊥
+
+-- a disk failed, or memory was refused
+abbrev pub IsStoreFault : WorldFault → Type 0
+IsStoreFault (Store r) = Unit {0}
+IsStoreFault Memory = Unit {0}
+IsStoreFault (Occupied r) = ⊥
+IsStoreFault (Image r) = ⊥
+
+-- a disk failed, or one holds something
+abbrev pub IsFoundFault : WorldFault → Type 0
+IsFoundFault (Store r) = Unit {0}
+IsFoundFault (Occupied r) = Unit {0}
+IsFoundFault Memory = ⊥
+IsFoundFault (Image r) = ⊥
+
+-- each member holds what was read of its disks, and a world may be opened with that
+pub record AreRead {D : Type 0} (kept : List ℕ → List ℕ → Option Kept) (seen : D → List ℕ) (disks : List (Pair D))
+    (members : List Member) : Type 0 where
+  pub first : Saved
+  pub counted : length members ≡ first.members
+  pub each : (r : ℕ) (member : Member) → IsNumbered members r member
+      → (member.state ≡ Up) × Opens kept seen disks first member.replica.saved r
+
+-- no image of what a replica saves is held
+abbrev pub HoldsNoImage : {D : Type 0} → (List ℕ → List ℕ → Option Kept) → (D → List ℕ) → Pair D → Type 0
+HoldsNoImage kept seen pair = (saved : Saved) → FitsImage saved → Holds (found_in kept seen pair) saved → ⊥
+
+-- a member that was opened: it is up, waits for no answer, and holds an image with which a world may be opened
+pub record IsOpened (first : Saved) (r : ℕ) (member : Member) : Type 0 where
+  pub up : member.state ≡ Up
+  pub asks : member.replica.ask ≡ None
+  pub fits : FitsImage member.replica.saved
+  pub may : MayOpen first member.replica.saved r
+
+-- so is each of these members, by what the first of them holds
+pub record AreOpened (members : List Member) : Type 0 where
+  pub each : (r : ℕ) (first member : Member) → IsNumbered members 1 first → IsNumbered members r member
+      → IsOpened first.replica.saved r member
+
+-- there is one member more, behind the others
+pub record IsOneMore (old new : List Member) : Type 0 where
+  pub count : length new ≡ length old + 1
+  pub stays : (r : ℕ) (member : Member) → IsNumbered old r member → IsNumbered new r member
+
+-- the member that is opened with this
+abbrev pub opened_member : Saved → Bool → Member
+opened_member saved fused = record { replica = record { saved = saved; ask = None }; state = Up; fused = fused }

@@ -1,0 +1,151 @@
+ghost use Rattle.std.specs.Prelude.{◌≡◌, ◌⊎◌, ◌+◌, ◌-◌, ◌<◌, ◌≤◌, ◌++◌, ◌∷◌, [], Err, Some, length, IfErr, slice_set, IfOk, OnErr, OnOk, IsErrOf};
+ghost use Rattle.ficus_ids.specs.Members.{IsMember};
+ghost use Rattle.ficus_ids.specs.declared.refusal.Refusal.TheVariants.{Memory as OutOfMemory, Store as StoreFailed};
+ghost use Rattle.ficus_runs.specs.Numbered.{IsNumbered};
+ghost use Rattle.ficus_runs.specs.Outcome.{IsSaved, SaveFails};
+ghost use Rattle.ficus_world.specs.Disks.{AreDisksOf, DisksComeTo, IsPreparedAt, StaysOn};
+ghost use Rattle.ficus_world.specs.Moves.{advanced, downed};
+ghost use Rattle.ficus_world.specs.World.{IsSoundNext, IsUpIn, event_limit, most_events};
+ghost use Rattle.ficus_world.specs.declared.member.Member.{Member as MemberValue};
+ghost use Rattle.ficus_world.specs.declared.member.MemberState.TheVariants.{Down as IsDown, Up as IsUp};
+
+use crate::World;
+use crate::group::Group;
+use crate::member::{Member, Pending, hold, put_down};
+use crate::saving::{commit_at, prepare_at};
+use ficus_disk::{Disk, Pair};
+use ficus_faults::Failed;
+use ficus_ids::Refusal;
+use ficus_keep::Keep;
+use ficus_model::History;
+use ficus_outside::Link;
+use ficus_stable::Stable;
+
+impl<K: Keep + Drop, L: Link + Drop> World<K, L> {
+    /// Saves what a member that is up is after an event of its own, and stores the event. All memory is taken before
+    /// anything changes. Where the disks fail, the member is down, and the event is pending.
+    pub(crate) fn save<D: Disk>(
+        &mut self,
+        disks: &mut Vec<Pair<D>>,
+        by: u8,
+        next: Pending,
+    ) -> Result<(), Refusal>
+        requires room { length self.old.whole.events < event_limit + most_events }
+        requires pairs { length self.old.whole.members ≤ length disks.old.items }
+        requires disks { AreDisksOf D.tells K.kept K.fits D.seen D.may_leave D.armings self.old.whole.members
+            self.old.stables disks.old.items }
+        requires up { IsUpIn self.old.whole by }
+        requires next { (was : MemberValue) → IsNumbered self.old.whole.members by was
+            → IsSoundNext (length self.old.whole.members) (length self.old.whole.events) by was.replica next.replica }
+        ensures saved { OnOk result ((was : MemberValue) → IsNumbered self.old.whole.members by was
+            → self.new.whole ≡ advanced self.old.whole by was next.replica next.event) }
+        ensures followed { OnOk result (DisksComeTo K.Keep D.Disk (IsSaved by ∷ []) self.old.whole.members
+            self.new.whole.members disks.old.items disks.new.items) }
+        ensures failed { IsErrOf result StoreFailed → ((was : MemberValue) → IsNumbered self.old.whole.members by was
+            → self.new.whole ≡ downed self.old.whole by was (Some next)) }
+        ensures counted { IsErrOf result StoreFailed → DisksComeTo K.Keep D.Disk (SaveFails by ∷ [])
+            self.old.whole.members self.new.whole.members disks.old.items disks.new.items }
+        ensures memory { IsErrOf result OutOfMemory → StaysOn D.faults D.armings self.old.whole self.new.whole
+            disks.old.items disks.new.items }
+        ensures refused { IfErr result (λ refusal. (refusal ≡ StoreFailed) ⊎ (refusal ≡ OutOfMemory)) }
+        ensures disks { AreDisksOf D.tells K.kept K.fits D.seen D.may_leave D.armings self.new.whole.members
+            self.new.stables disks.new.items }
+    {
+        self.group.save(&mut self.stables, disks, by, next)
+    }
+}
+
+impl<L: Link + Drop> Group<L> {
+    // The same, over the stables of the members.
+    fn save<K: Keep + Drop, D: Disk>(
+        &mut self,
+        stables: &mut Vec<Stable<K>>,
+        disks: &mut Vec<Pair<D>>,
+        by: u8,
+        next: Pending,
+    ) -> Result<(), Refusal>
+        requires room { length self.old.events < event_limit + most_events }
+        requires stables { length stables.old.items ≡ length self.old.members }
+        requires pairs { length self.old.members ≤ length disks.old.items }
+        requires disks { AreDisksOf D.tells K.kept K.fits D.seen D.may_leave D.armings self.old.members
+            stables.old.items disks.old.items }
+        requires up { IsUpIn self.old by }
+        requires next { (was : MemberValue) → IsNumbered self.old.members by was
+            → IsSoundNext (length self.old.members) (length self.old.events) by was.replica next.replica }
+        ensures saved { OnOk result ((was : MemberValue) → IsNumbered self.old.members by was
+            → self.new ≡ advanced self.old by was next.replica next.event) }
+        ensures followed { OnOk result (DisksComeTo K.Keep D.Disk (IsSaved by ∷ []) self.old.members self.new.members
+            disks.old.items disks.new.items) }
+        ensures failed { IsErrOf result StoreFailed → ((was : MemberValue) → IsNumbered self.old.members by was
+            → self.new ≡ downed self.old by was (Some next)) }
+        ensures counted { IsErrOf result StoreFailed → DisksComeTo K.Keep D.Disk (SaveFails by ∷ []) self.old.members
+            self.new.members disks.old.items disks.new.items }
+        ensures memory { IsErrOf result OutOfMemory → StaysOn D.faults D.armings self.old self.new disks.old.items
+            disks.new.items }
+        ensures refused { IfErr result (λ refusal. (refusal ≡ StoreFailed) ⊎ (refusal ≡ OutOfMemory)) }
+        ensures members { length self.new.members ≡ length self.old.members }
+        ensures stables { length stables.new.items ≡ length stables.old.items }
+        ensures disks { AreDisksOf D.tells K.kept K.fits D.seen D.may_leave D.armings self.new.members
+            stables.new.items disks.new.items }
+    {
+        self.history.reserve(1)?;
+        prepare_at(stables, disks, by, &next.replica.saved)?;
+        keep(
+            &mut self.members,
+            &mut self.history,
+            stables,
+            disks,
+            by,
+            next,
+        )
+    }
+}
+
+/// Saves what was prepared, and stores its event; or the member is down, and it is pending. Takes no memory.
+pub(crate) fn keep<K: Keep + Drop, D: Disk>(
+    members: &mut Vec<Member>,
+    history: &mut History,
+    stables: &mut Vec<Stable<K>>,
+    disks: &mut Vec<Pair<D>>,
+    by: u8,
+    next: Pending,
+) -> Result<(), Refusal>
+    requires member { IsMember (length members.old.items) by }
+    requires stable { IsMember (length stables.old.items) by }
+    requires pair { IsMember (length disks.old.items) by }
+    requires up { (was : MemberValue) → IsNumbered members.old.items by was → was.state ≡ IsUp }
+    requires above { (was : MemberValue) → IsNumbered members.old.items by was
+        → next.replica.saved.generation ≡ was.replica.saved.generation + 1 }
+    requires prepared { IsPreparedAt K.buffered K.room K.size_of D.room stables.old.items disks.old.items by
+        next.replica.saved }
+    requires room { 1 ≤ history.old.room }
+    requires few { length history.old.events < event_limit + most_events }
+    requires disks { AreDisksOf D.tells K.kept K.fits D.seen D.may_leave D.armings members.old.items stables.old.items
+        disks.old.items }
+    ensures held { OnOk result ((was : MemberValue) → IsNumbered members.old.items by was
+        → members.new.items ≡ slice_set members.old.items (by - 1) (record was { replica = next.replica })) }
+    ensures stored { OnOk result (history.new.events ≡ history.old.events ++ next.event ∷ []) }
+    ensures followed { OnOk result (DisksComeTo K.Keep D.Disk (IsSaved by ∷ []) members.old.items members.new.items
+        disks.old.items disks.new.items) }
+    ensures pending { OnErr result ((was : MemberValue) → IsNumbered members.old.items by was
+        → members.new.items ≡ slice_set members.old.items (by - 1) (record was { state = IsDown (Some next) })) }
+    ensures kept { OnErr result (history.new.events ≡ history.old.events) }
+    ensures counted { OnErr result (DisksComeTo K.Keep D.Disk (SaveFails by ∷ []) members.old.items members.new.items
+        disks.old.items disks.new.items) }
+    ensures refused { OnErr result (result ≡ Err StoreFailed) }
+    ensures disks { AreDisksOf D.tells K.kept K.fits D.seen D.may_leave D.armings members.new.items stables.new.items
+        disks.new.items }
+    ensures count { length stables.new.items ≡ length stables.old.items }
+{
+    match commit_at(stables, disks, by, &next.replica.saved) {
+        Ok(()) => {
+            hold(members, by, next.replica);
+            history.push(next.event);
+            Ok(())
+        }
+        Err(Failed) => {
+            put_down(members, by, next);
+            Err(Refusal::Store)
+        }
+    }
+}
