@@ -1,14 +1,14 @@
 //! The program `ficus`: it hands the system's words, standard input, standard output and disks to the library.
 #![tactic(auto)]
 
+mod disks;
 mod ending;
-mod pairs;
 mod run;
 
+use disks::{Disks, disks_for};
 use ending::{end, status_without_call};
 use ficus_outside::{StdSink, StdSource};
-use ficus_top::{Status, root_of};
-use pairs::{in_folder, in_memory};
+use ficus_top::Status;
 use run::run;
 use std::io::ErrorKind;
 use std::process::ExitCode;
@@ -28,16 +28,10 @@ fn run_words(rt: HostRuntime) -> io::Result<Status> {
     let words = env::args(&rt)?.collect(alloc)?;
     let input = &mut StdSource::new(&rt);
     let output = &mut StdSink::new(&rt);
-    let root = root_of(alloc, &words).map_err(|_| ErrorKind::OutOfMemory)?;
-    let status = match root {
-        Some(root) => run(
-            alloc,
-            &words,
-            input,
-            output,
-            &mut in_folder(rt, alloc, root.as_str())?,
-        ),
-        None => run(alloc, &words, input, output, &mut in_memory(alloc)?),
+    let disks = disks_for(rt, alloc, &words).map_err(|_| ErrorKind::OutOfMemory)?;
+    let status = match disks {
+        Disks::InFolder(mut disks) => run(alloc, &words, input, output, &mut disks),
+        Disks::InMemory(mut disks) => run(alloc, &words, input, output, &mut disks),
     };
     Ok(status)
 }

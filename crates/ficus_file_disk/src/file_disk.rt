@@ -1,5 +1,6 @@
-ghost use Rattle.std.specs.Prelude.{◌≡◌, ◌^◌, ◌≤◌, ⊤, IfOk, IsOk, IsErr, OnOk, OnErr, [], None, ℕ, Ok};
+ghost use Rattle.std.specs.Prelude.{◌≡◌, ◌^◌, ◌≤◌, ⊤, IfOk, IsOk, IsErr, OnOk, OnErr, [], None, Ok, string_bytes};
 ghost use Rattle.ficus_faults.specs.Faults.{Rose, next_fault};
+ghost use Rattle.ficus_file_disk.specs.Place.{Placed};
 
 use crate::stored_file::StoredFile;
 use ficus_disk::{Disk, Failed};
@@ -21,17 +22,17 @@ pub struct FileDisk<R: Files + Clone + Drop> {
     faults: Faults,
 }
 
-// Contracts see the count of faults alone.
+// Contracts see where the file lies, and the count of faults.
 impl<R: Files + Clone + Drop> Model for FileDisk<R> {
-    ghost Value = { ℕ };
+    ghost Value = { Placed };
 
-    ghost view = { λ d. d.faults };
+    ghost view = { λ d. record { path = string_bytes d.file.path; faults = d.faults } };
 }
 
 impl<R: Files + Clone + Drop> FileDisk<R> {
     /// The file at `path`, in the runtime's own terms, with no fault counted.
     pub fn new(rt: R, path: String) -> FileDisk<R>
-        ensures { result ≡ 0 }
+        ensures { result ≡ record { path = string_bytes path; faults = 0 } }
     {
         FileDisk {
             file: StoredFile::new(rt, path),
@@ -74,7 +75,7 @@ impl<R: Files + Clone + Drop> Disk for FileDisk<R> {
 
     ghost room = { λ _. 2 ^ 64 };
 
-    ghost faults = { λ faults. faults };
+    ghost faults = { λ d. d.faults };
 
     ghost armings = { λ _. None };
 

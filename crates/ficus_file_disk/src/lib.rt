@@ -1,8 +1,11 @@
-//! A disk over a file of the system: with the standard streams, the edge that is trusted.
+//! A disk over a file of the system, and those of a volume in a folder: with the standard streams, the edge that is
+//! trusted.
 #![tactic(auto)]
 
 mod file_disk;
 mod folders;
 mod stored_file;
+mod volume;
 
 pub use file_disk::FileDisk;
+pub use volume::disks_in;

@@ -1,4 +1,6 @@
 // A file of the system that may be missing, with the system's errors.
+ghost use Rattle.std.specs.Prelude.{◌≡◌};
+
 use crate::folders;
 use std::fs::{File, OpenFile, OpenOptions};
 use std::io;
@@ -20,7 +22,9 @@ pub(crate) struct StoredFile<R: Files + Clone + Drop> {
 
 impl<R: Files + Clone + Drop> StoredFile<R> {
     /// The file at `path`, which no call has touched.
-    pub(crate) fn new(rt: R, path: String) -> StoredFile<R> {
+    pub(crate) fn new(rt: R, path: String) -> StoredFile<R>
+        ensures { result.path ≡ path }
+    {
         StoredFile {
             file: None,
             unsynced: 1,

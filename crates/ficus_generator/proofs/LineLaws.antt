@@ -150,7 +150,11 @@ module _ (by dir file : ℕ) (number : IsReplicaNumber by) (lt : dir < 10) (also
       let behind : start ++ codes " \"s" ++ decimal step ++ codes "\\n\"" ≡ start ++ (codes " \"s" ++ text) =
       append_assoc (start ++ codes " \"s") (decimal step) (codes "\\n\"") ∙ append_assoc start (codes " \"s") text in (
         change_line by (change.Write (file_path dir file) (written step)) _
-            (record { number = number; behind = is_file_path dir file lt also; takes = tt })
+            (record {
+              number = number;
+              behind = (is_file_path dir file lt also, (written step, refl));
+              takes = tt;
+            })
             (behind ∙ one_path_and by (codes " write ") (file_text dir file) _ (codes " \"s" ++ text) (file_spelled dir file lt also)
             ∙ ap (λ (t : List ℕ). decimal by ++ (codes " write " ++ (path_text (file_path dir file) ++ 32 ∷ t)))
             (written_spelled step fits)),

@@ -60,6 +60,7 @@ pub trait Keep {
         ensures armings { PairSame D.armings disks.old disks.new }
         ensures failed { IsErrOf result MakeFault.Failed → PairRose D.faults 1 disks.old disks.new }
         ensures steady { OnOk result (PairSame D.faults disks.old disks.new) }
+        ensures spared { IsErrOf result MakeFault.Memory → PairSame D.faults disks.old disks.new }
         ensures risen { PairRose D.faults 0 disks.old disks.new }
 
         // Without an armed fuse nothing fails.
@@ -82,6 +83,8 @@ pub trait Keep {
         ensures armings { PairSame D.armings disks.old disks.new }
         ensures failed { IsErrOf result StoreFault.Failed → PairRose D.faults 1 disks.old disks.new }
         ensures steady { OnOk result (PairSame D.faults disks.old disks.new) }
+        ensures spared { IsErrOf result StoreFault.Memory → PairSame D.faults disks.old disks.new }
+        ensures nothing { IsErrOf result StoreFault.NoImage → PairSame D.faults disks.old disks.new }
         ensures risen { PairRose D.faults 0 disks.old disks.new }
 
         // Without an armed fuse nothing fails.

@@ -1,7 +1,8 @@
 -- Bytes that are spelled one after the other, in a name or in a text.
 use Rattle.std.proofs.Common.{◌≡◌, ℕ, ◌<◌, ◌≤◌, List, [], ◌∷◌, ◌++◌, length, refl, sym, ◌∙◌, ap, arith, length-append}
 use Rattle.std.specs.List.{flat_map}
-use Rattle.std.proofs.lemmas.List.{append_assoc}
+use Rattle.std.proofs.lemmas.List.{append_assoc, append-nil}
+use Rattle.std.proofs.lemmas.List.Concat.{flat_map-append}
 use Rattle.ficus_path.proofs.ByteLaws.{first_byte, IsSpelling}
 use Rattle.ficus_path.proofs.Lists.{cons_same}
 
@@ -41,6 +42,13 @@ pub spelled_not_empty : (spell : ℕ → List ℕ) → IsSpelling spell → (byt
 spelled_not_empty spell is [] rest more e = omega arith
 spelled_not_empty spell is (b ∷ bytes) rest more e =
     first_not_empty spell is b (flat_map spell bytes ++ rest) (sym (append_assoc (spell b) (flat_map spell bytes) rest) ∙ e)
+
+-- one more byte is read
+pub spelled_more : (spell : ℕ → List ℕ) (text front : List ℕ) (byte : ℕ) (rest after : List ℕ) →
+    text ≡ flat_map spell front ++ rest → rest ≡ spell byte ++ after →
+    text ≡ flat_map spell (front ++ byte ∷ []) ++ after
+spelled_more spell text front byte rest after whole first =
+    rw (whole, first, flat_map-append spell front (byte ∷ []), append-nil (spell byte), append_assoc) refl
 
 -- the bytes go on behind their front, and the rest of their spelling spells what follows
 pub record GoesOn (spell : ℕ → List ℕ) (front bytes rest : List ℕ) : Type 0 where

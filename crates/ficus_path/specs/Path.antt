@@ -30,6 +30,18 @@ pub record IsPath (path : Path) : Type 0 where
   pub within_limit : length path.parts ≤ 32
   pub each : All IsPart path.parts
 
+-- what stands where no part does
+abbrev pub blank : Part
+blank = record { name = []; target = None }
+
+-- the path from the base through the parts
+abbrev pub path_from : Base → List Part → Path
+path_from base parts = record { base = base; parts = parts }
+
+-- the path that begins at the orphan, and has no part
+abbrev pub at_orphan : Id → Path
+at_orphan orphan = record { base = Orphan orphan; parts = [] }
+
 -- the path has a part
 abbrev pub IsEntry : Path → Type 0
 IsEntry path = path.parts ≢ []

@@ -1,5 +1,5 @@
 -- How texts are spelled.
-use Rattle.std.specs.Prelude.{codes, ℕ, ◌==◌, if◌then◌else◌, List, [], ◌∷◌, ◌++◌}
+use Rattle.std.specs.Prelude.{codes, ◌≡◌, ℕ, ◌==◌, if◌then◌else◌, List, [], ◌∷◌, ◌++◌}
 use Rattle.std.specs.List.{flat_map}
 use Rattle.ficus_path.specs.Spelling.{byte_text}
 use Rattle.ficus_path.specs.declared.text.TextFault.{TextFault}
@@ -15,6 +15,14 @@ quoted_byte_text byte =
 -- the bytes of the text, one after the other, between two quotation marks
 abbrev pub quoted_text : List ℕ → List ℕ
 quoted_text text = 34 ∷ flat_map quoted_byte_text text ++ 34 ∷ []
+
+-- the bytes are what stands between the quotation marks of a text
+abbrev pub SpellsInside : List ℕ → Type 0
+SpellsInside inside = (text : List ℕ) × (inside ≡ flat_map quoted_byte_text text)
+
+-- the bytes spell a text
+abbrev pub SpellsText : List ℕ → Type 0
+SpellsText bytes = (text : List ℕ) × (bytes ≡ quoted_text text)
 
 -- how a fault is written
 abbrev pub text_fault_text : TextFault → List ℕ

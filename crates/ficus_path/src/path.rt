@@ -3,7 +3,7 @@ ghost use Rattle.ficus_path.specs.declared.path.PathFault.TheVariants.{Memory as
 ghost use Rattle.ficus_path.specs.Path.{IsEntry, IsNew};
 
 use ficus_ids::{Id, Listed, Memory, Name};
-use std::alloc::{AllocError, AllocFailed, Global};
+use std::alloc::Global;
 use std::error::Error;
 use std::fmt;
 
@@ -59,24 +59,16 @@ impl fmt::Display for PathFault {
 
 impl Error for PathFault {}
 
-impl From<AllocError> for PathFault {
+impl From<Memory> for PathFault {
     ghost from_gives = { λ _ fault. fault ≡ OutOfMemory };
 
-    fn from(_: AllocError) -> PathFault {
-        PathFault::Memory
-    }
-}
-
-impl<T: Drop> From<AllocFailed<T>> for PathFault {
-    ghost from_gives = { λ _ fault. fault ≡ OutOfMemory };
-
-    fn from(_: AllocFailed<T>) -> PathFault {
+    fn from(_: Memory) -> PathFault {
         PathFault::Memory
     }
 }
 
 impl Part {
-    fn copy(&self) -> Result<Part, Memory>
+    pub(crate) fn copy(&self) -> Result<Part, Memory>
         ensures { IfOk result (λ part. part ≡ self.now) }
     {
         Ok(Part {

@@ -1,12 +1,12 @@
 ghost use Rattle.std.specs.Prelude.{◌≡◌, ◌≢◌, ◌↔◌, ℕ, List, ◌++◌, IsTrue, IfOk, IfSome, IfNone, OnOk, IsErrOf};
-ghost use Rattle.std.specs.List.{flat_map};
 ghost use Rattle.ficus_path.specs.Spelling.{byte_text};
 ghost use Rattle.ficus_path.specs.Text.{quoted_byte_text, quoted_text};
 ghost use Rattle.ficus_path.specs.declared.text.TextFault.TheVariants.{Memory as OutOfMemory};
 
 use crate::byte::{append_byte, read_byte};
+use crate::text_draft::TextDraft;
 use ficus_ids::Memory;
-use std::alloc::{AllocFailed, Global};
+use std::alloc::Global;
 use std::error::Error;
 use std::fmt;
 
@@ -35,48 +35,31 @@ impl fmt::Display for TextFault {
 
 impl Error for TextFault {}
 
-impl<T: Drop> From<AllocFailed<T>> for TextFault {
+impl From<Memory> for TextFault {
     ghost from_gives = { λ _ fault. fault ≡ OutOfMemory };
 
-    fn from(_: AllocFailed<T>) -> TextFault {
+    fn from(_: Memory) -> TextFault {
         TextFault::Memory
     }
 }
 
 /// The bytes that the text spelled here has, any bytes in any number, in time linear in their number. `NotText` comes
-/// exactly where the bytes spell no text, and `Memory` where memory was refused.
+/// exactly where the bytes spell no text, and `Memory` only where they spell one and memory was refused.
 pub fn read_text(alloc: Global, bytes: &[u8]) -> Result<Vec<u8>, TextFault>
     ensures spelling { IfOk result (λ text. bytes.now ≡ quoted_text text.items) }
     ensures not_text { IsErrOf result TextFault.NotText → (text : List ℕ) → bytes.now ≡ quoted_text text → ⊥ }
+    ensures memory { IsErrOf result TextFault.Memory → (text : List ℕ) × (bytes.now ≡ quoted_text text) }
 {
-    match bytes {
-        [b'"', inside @ .., b'"'] => read_inside(alloc, inside),
-        _ => Err(TextFault::NotText),
-    }
-}
-
-// The bytes that are spelled between the quotation marks.
-fn read_inside(alloc: Global, inside: &[u8]) -> Result<Vec<u8>, TextFault>
-    ensures spelling { IfOk result (λ text. inside.now ≡ flat_map quoted_byte_text text.items) }
-    ensures not_text { IsErrOf result TextFault.NotText →
-        (text : List ℕ) → inside.now ≡ flat_map quoted_byte_text text → ⊥ }
-{
-    let mut text = Vec::new(alloc);
-    let mut rest = inside;
-    while !rest.is_empty() {
-        let Some((byte, after)) = read_quoted_byte(rest) else {
-            return Err(TextFault::NotText);
-        };
-        text.push(byte)?;
-        rest = after;
-    }
-    Ok(text)
+    let Some(draft) = TextDraft::new(bytes) else {
+        return Err(TextFault::NotText);
+    };
+    Ok(draft.text(alloc)?)
 }
 
 // The byte whose spelling in a text stands at the front, and what stands behind it. `None` comes exactly where no
 // byte's does.
 #[tactic(auto, unfolding(crate::specs::Text::quoted_byte_text))]
-fn read_quoted_byte(text: &[u8]) -> Option<(u8, &[u8])>
+pub(crate) fn read_quoted_byte(text: &[u8]) -> Option<(u8, &[u8])>
     ensures found { IfSome result (λ read. text.now ≡ quoted_byte_text read.0 ++ read.1.now) }
     ensures none { IfNone result ((byte : ℕ) (rest : List ℕ) → text.now ≡ quoted_byte_text byte ++ rest → ⊥) }
 {

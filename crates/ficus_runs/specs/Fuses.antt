@@ -10,8 +10,8 @@ pub record Keeping : Type 0 where
   pub calls : ℕ → ℕ
   pub is_on_a : ℕ → Bool
 
--- the fuses of both disks of a member; how often it has saved; and whether what is pending, if anything is, will be found
--- on its disks
+-- the fuses of both disks of a member; how often it has saved; and whether what is pending, if anything is, will be
+-- found on its disks
 pub record FuseState : Type 0 where
   pub fuses : Fuses
   pub generation : ℕ

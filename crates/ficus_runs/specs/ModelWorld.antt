@@ -8,8 +8,8 @@ pub data Standing : Type 0 where
   Up : Standing
   Down : Option Event → Standing
 
--- all that has happened; how each member stands; whether both of its disks have a fuse; the position of the event behind
--- each posted message; and how many bytes were posted
+-- all that has happened; how each member stands; whether both of its disks have a fuse; the position of the event
+-- behind each posted message; and how many bytes were posted
 pub record ModelWorld : Type 0 where
   pub events : List Event
   pub standings : List Standing

@@ -2,9 +2,9 @@
 use Rattle.std.specs.Prelude.{◌≡◌, ℕ, Bool, true, false, ◌==◌, List, [], ◌∷◌, count_by}
 
 -- What became of one thing that was asked of the outside. Of the link: a message was posted or fetched, or the link
--- failed. Of the disks of a member: its state was saved, or they failed in this; they were opened again, and hold what the
--- member had, or they are found to hold what it had with the event that was pending, or they failed in this; or they were
--- armed to stop after so many calls, with a pick.
+-- failed. Of the disks of a member: its state was saved, or they failed in this; they were opened again, and hold what
+-- the member had, or they are found to hold what it had with the event that was pending, or they failed in this; or
+-- they were armed to stop after so many calls, with a pick.
 pub data Outcome : Type 0 where
   IsDone : Outcome
   LinkFails : Outcome

@@ -39,7 +39,8 @@ Does volume (command.Stop by calls pick) =
 -- nothing refuses the command, where all that it asks of the outside is done
 abbrev pub IsUnrefused : Volume → ModelWorld → Command → Type 0
 IsUnrefused volume W command =
-    (refusal : Refusal) (left : Effect ModelWorld) → AllDone left.outcomes → Does volume command W (Err refusal) left → ⊥
+    (refusal : Refusal) (left : Effect ModelWorld) → AllDone left.outcomes → Does volume command W (Err refusal) left
+    → ⊥
 
 -- two different members, which both take commands
 abbrev pub AreUpPeers : Volume → ModelWorld → ℕ → ℕ → Type 0

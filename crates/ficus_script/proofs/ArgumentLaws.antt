@@ -1,17 +1,12 @@
 -- No two arguments are spelled by the same words.
-use Rattle.std.proofs.Common.{◌≡◌, ◌≢◌, ◌⊎◌, ℕ, ◌<◌, ◌^◌, List, [], ◌∷◌, ◌++◌, get_or, Option, None, Some, Result, Ok, Err, refl, inl, inr, sym, ◌∙◌, ap, subst, arith, if◌then◌else◌, ◌==◌}
+use Rattle.std.proofs.Common.{◌≡◌, ◌≢◌, ◌⊎◌, ℕ, ◌<◌, ◌^◌, List, [], ◌∷◌, ◌++◌, get_or, Option, None, Some, refl, inl, inr, sym, ◌∙◌, ap, subst, arith, if◌then◌else◌, ◌==◌}
 use Rattle.std.specs.Fmt.{decimal}
 use Rattle.std.specs.List.{join_with_byte}
-use Rattle.std.specs.Result.{IsErrOf}
 use Rattle.std.proofs.lemmas.Bool.{ne_eqb}
 use Rattle.std.proofs.lemmas.List.{append-nil}
 use Rattle.ficus_ids.specs.Kind.{kind_word}
 use Rattle.ficus_ids.specs.declared.kind.Kind.{Kind}
 use Rattle.ficus_ids.specs.declared.kind.Kind.TheVariants.{Dir, Plain, Lines, Max, Keep}
-use Rattle.ficus_path.specs.declared.path.PathFault.{PathFault}
-use Rattle.ficus_path.specs.declared.path.PathFault.TheVariants as path_fault
-use Rattle.ficus_path.specs.declared.text.TextFault.{TextFault}
-use Rattle.ficus_path.specs.declared.text.TextFault.TheVariants as text_fault
 use Rattle.ficus_path.proofs.CutLaws.{IsFreeOf}
 use Rattle.ficus_path.proofs.PathLaws.{path_text_injective, path_text_visible, text_from}
 use Rattle.ficus_path.specs.declared.path.Base.{Base}
@@ -20,14 +15,10 @@ use Rattle.ficus_path.specs.declared.path.Part.{Part}
 use Rattle.ficus_path.specs.declared.path.Path.{Path}
 use Rattle.ficus_path.specs.Path.{IsPath}
 use Rattle.ficus_path.specs.Spelling.{path_text}
-use Rattle.ficus_path.specs.Text.{quoted_text}
-use Rattle.ficus_path.proofs.TextLaws.{quoted_text_injective}
-use Rattle.ficus_script.specs.declared.arguments.Arguments.{Arguments}
-use Rattle.ficus_script.specs.declared.arguments.Arguments.TheVariants.{Nothing, OnePath, PathAndKind, PathAndText, TwoPaths, OneNumber, TwoReplicas, Arming}
+use Rattle.ficus_path.specs.Text.{SpellsText, quoted_text}
+use Rattle.ficus_script.specs.Arguments.{Arguments}
+use Rattle.ficus_script.specs.Arguments.{Nothing, OnePath, PathAndKind, PathAndText, TwoPaths, OneNumber, TwoReplicas, Arming}
 use Rattle.ficus_script.specs.Arguments.{AreArguments, IsReplicaNumber, Begins, IsReadingBehind, IsReadingWords, BeginsPath, BeginsText, argument_words, left_of}
-use Rattle.ficus_script.specs.declared.line.LineFault.{LineFault}
-use Rattle.ficus_script.specs.declared.line.LineFault.TheVariants.{NotCommand, Memory as OutOfMemory}
-use Rattle.ficus_script.specs.Line.{fault_of, fault_of_text}
 use Rattle.ficus_script.proofs.Cuts.{join_first, one_first_word, spaced}
 use Rattle.ficus_script.proofs.Numbers.{IsFreeOf-number, IsFreeOf-replica, same_number, same_replica, first_digit}
 
@@ -102,6 +93,9 @@ number_shape first rest other =
 text_shape : (last : List ℕ) → BeginsText last → behind_path (Some last) ≡ 3
 text_shape last begins = ap last_shape_at begins
 
+spelled_text_shape : (last : List ℕ) → SpellsText last → behind_path (Some last) ≡ 3
+spelled_text_shape last spelled = text_shape last (ap (λ (word : List ℕ). get_or word 0 0) spelled.1)
+
 second_path_shape : (last : List ℕ) → BeginsPath last → behind_path (Some last) ≡ 5
 second_path_shape last (inl slash) = ap last_shape_at slash
 second_path_shape last (inr tilde) = ap last_shape_at tilde
@@ -126,7 +120,7 @@ shape_is : (arguments : Arguments) (first : List ℕ) (rest : Option (List ℕ))
 shape_is Nothing first rest are words = absurd words
 shape_is (OnePath path) first rest are words = path_words_shape path first rest words.0 ∙ ap behind_path words.1
 shape_is (PathAndText path text) first rest are words =
-    path_words_shape path first rest words.0 ∙ ap behind_path words.1
+    path_words_shape path first rest words.0 ∙ ap behind_path words.1 ∙ spelled_text_shape text are.1
 shape_is (PathAndKind path kind) first rest are words =
     path_words_shape path first rest words.0 ∙ ap behind_path words.1 ∙ kind_word_shape kind
 shape_is (TwoPaths one other) first rest are words =
@@ -172,9 +166,9 @@ one_of_words Nothing Nothing first rest are also words same = refl
 one_of_words (OnePath path) (OnePath other) first rest are also words same =
     ap (λ (path : Path). OnePath path) (path_text_injective path other are also (sym words.0 ∙ same.0))
 one_of_words (PathAndText path text) (PathAndText other another) first rest are also words same =
-    let spelled : Some (quoted_text text) ≡ Some (quoted_text another) = sym words.1 ∙ same.1 in
-    ap (λ (path : Path). PathAndText path text) (path_text_injective path other are also (sym words.0 ∙ same.0))
-    ∙ ap (λ (text : List ℕ). PathAndText other text) (quoted_text_injective text another (cc))
+    let spelled : Some text ≡ Some another = sym words.1 ∙ same.1 in
+    ap (λ (path : Path). PathAndText path text) (path_text_injective path other are.0 also.0 (sym words.0 ∙ same.0))
+    ∙ ap (λ (text : List ℕ). PathAndText other text) (cc)
 one_of_words (PathAndKind path kind) (PathAndKind other another) first rest are also words same =
     let spelled : Some (kind_word kind) ≡ Some (kind_word another) = sym words.1 ∙ same.1 in
     ap (λ (path : Path). PathAndKind path kind) (path_text_injective path other are.0 also.0 (sym words.0 ∙ same.0))
@@ -220,7 +214,7 @@ first_free : (arguments : Arguments) (first : List ℕ) (rest : Option (List ℕ
     Begins first rest (argument_words arguments) → IsFreeOf 32 first
 first_free Nothing first rest are words = absurd words
 first_free (OnePath path) first rest are words = rw words.0 (IsFreeOf-path path are)
-first_free (PathAndText path text) first rest are words = rw words.0 (IsFreeOf-path path are)
+first_free (PathAndText path text) first rest are words = rw words.0 (IsFreeOf-path path are.0)
 first_free (PathAndKind path kind) first rest are words = rw words.0 (IsFreeOf-path path are.0)
 first_free (TwoPaths one two) first rest are words = rw words.0 (IsFreeOf-path one are.0)
 first_free (OneNumber number) first rest are words = rw words.0 (IsFreeOf-number number are)
@@ -271,28 +265,25 @@ one_arguments arguments others are also same =
     ]
 
 -- what is read of the first word and the rest is read of them joined
-pub reading_words : (words first : List ℕ) (rest : Option (List ℕ)) (result : Result Arguments LineFault) →
+pub reading_words : (words first : List ℕ) (rest : Option (List ℕ)) (result : Option Arguments) →
     words ≡ first ++ spaced rest → IsFreeOf 32 first → IsReadingWords first rest result →
     IsReadingBehind (Some words) result
-reading_words words first rest (Ok arguments) whole free read =
+reading_words words first rest (Some arguments) whole free read =
     (read.0, ap (λ (text : List ℕ). Some text) whole ∙ sym (joined first rest (argument_words arguments) read.1))
-reading_words words first rest (Err NotCommand) whole free none = λ arguments are same.
+reading_words words first rest None whole free none = λ arguments are same.
     none arguments are (begins_again arguments first rest are free (ap (λ (text : List ℕ). Some text) (sym whole) ∙ same))
-reading_words words first rest (Err OutOfMemory) whole free none = tt
 
 -- what begins as a path and is none begins no arguments
-pub no_path : (first : List ℕ) (rest : Option (List ℕ)) (fault : PathFault) → BeginsPath first →
-    (IsErrOf {T = Path} (Err fault) path_fault.NotPath → (path : Path) → IsPath path → first ≡ path_text path → ⊥) →
-    IsReadingWords first rest (Err (fault_of fault))
-no_path first rest path_fault.Memory begins none = tt
-no_path first rest path_fault.NotPath begins none = go
+pub no_path : (first : List ℕ) (rest : Option (List ℕ)) → BeginsPath first →
+    ((path : Path) → IsPath path → first ≡ path_text path → ⊥) → IsReadingWords first rest None
+no_path first rest begins none = go
   where
     go : (arguments : Arguments) → AreArguments arguments → Begins first rest (argument_words arguments) → ⊥
     go Nothing are words = absurd words
-    go (OnePath path) are words = none refl path are words.0
-    go (PathAndText path text) are words = none refl path are words.0
-    go (PathAndKind path kind) are words = none refl path are.0 words.0
-    go (TwoPaths one two) are words = none refl one are.0 words.0
+    go (OnePath path) are words = none path are words.0
+    go (PathAndText path text) are words = none path are.0 words.0
+    go (PathAndKind path kind) are words = none path are.0 words.0
+    go (TwoPaths one two) are words = none one are.0 words.0
     go (OneNumber number) are words = no_path_begins first number are words.0 begins
     go (TwoReplicas one two) are words = no_replica_begins first one are.0 words.0 begins
     go (Arming by calls pick) are words = no_replica_begins first by are.0 words.0 begins
@@ -335,29 +326,28 @@ last_shape path last arguments are words =
     ∙ path_words_shape path (path_text path) (Some last) refl
 
 -- what begins as a text and is none ends no arguments
-pub no_text : (path : Path) (last : List ℕ) (fault : TextFault) → BeginsText last →
-    (fault ≡ text_fault.NotText → (text : List ℕ) → last ≡ quoted_text text → ⊥) →
-    IsReadingWords (path_text path) (Some last) (Err (fault_of_text fault))
-no_text path last text_fault.Memory begins none = tt
-no_text path last text_fault.NotText begins none = go
+pub no_text : (path : Path) (last : List ℕ) → BeginsText last → ((text : List ℕ) → last ≡ quoted_text text → ⊥) →
+    IsReadingWords (path_text path) (Some last) None
+no_text path last begins none = go
   where
     go : (arguments : Arguments) → AreArguments arguments →
         Begins (path_text path) (Some last) (argument_words arguments) → ⊥
     go (PathAndText other text) are words =
-        none refl text (let spelled : Some last ≡ Some (quoted_text text) = words.1 in cc)
+        let spelled : Some last ≡ Some text = words.1 in
+        let same : last ≡ text = cc in
+        none are.1.0 (same ∙ are.1.1)
     go arguments are words = omega (arith, last_shape path last arguments are words, text_shape last begins)
 
 -- what begins as a path and is none ends no arguments
-pub no_second_path : (path : Path) (last : List ℕ) (fault : PathFault) → BeginsPath last →
-    (IsErrOf {T = Path} (Err fault) path_fault.NotPath → (second : Path) → IsPath second → last ≡ path_text second → ⊥) →
-    IsReadingWords (path_text path) (Some last) (Err (fault_of fault))
-no_second_path path last path_fault.Memory begins none = tt
-no_second_path path last path_fault.NotPath begins none = go
+pub no_second_path : (path : Path) (last : List ℕ) → BeginsPath last →
+    ((second : Path) → IsPath second → last ≡ path_text second → ⊥) →
+    IsReadingWords (path_text path) (Some last) None
+no_second_path path last begins none = go
   where
     go : (arguments : Arguments) → AreArguments arguments →
         Begins (path_text path) (Some last) (argument_words arguments) → ⊥
     go (TwoPaths one two) are words =
-        none refl two are.1 (let spelled : Some last ≡ Some (path_text two) = words.1 in cc)
+        none two are.1 (let spelled : Some last ≡ Some (path_text two) = words.1 in cc)
     go arguments are words = omega (arith, last_shape path last arguments are words, second_path_shape last begins)
 
 -- what is no word of a kind, and begins neither as a text nor as a path, ends no arguments

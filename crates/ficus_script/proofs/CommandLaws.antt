@@ -1,6 +1,6 @@
 -- Each command is read off the table of verbs from its spelling, and no two commands share one.
-use Rattle.std.proofs.Common.{◌≡◌, ◌≢◌, ℕ, Bool, true, false, if◌then◌else◌, List, [], ◌∷◌, ◌++◌, get_or, Option, None, Some, Err, IfNone, refl, sym, ◌∙◌, ap, inl, inr, arith}
-use Rattle.std.specs.Prelude.{codes, nat_le, Ok, ok_or}
+use Rattle.std.proofs.Common.{◌≡◌, ◌≢◌, ℕ, Bool, true, false, if◌then◌else◌, List, [], ◌∷◌, ◌++◌, get_or, Option, None, Some, Result, Err, IfNone, refl, sym, ◌∙◌, ap, inl, inr, arith}
+use Rattle.std.specs.Prelude.{codes, nat_le, Ok}
 use Rattle.std.specs.Fmt.{decimal}
 use Rattle.std.specs.List.{AllByRecursion, join_with_byte}
 use Rattle.std.specs.Str.{bytes_eq}
@@ -14,15 +14,19 @@ use Rattle.ficus_path.specs.declared.path.Path.{Path}
 use Rattle.ficus_path.proofs.CutLaws.{IsFreeOf}
 use Rattle.ficus_commands.specs.declared.change.Change.TheVariants.{MkDir, Create, Write, Settle, Resolve, Rm, Ln, Mv, Adopt, Discard}
 use Rattle.ficus_commands.specs.declared.look.Look.TheVariants.{Ls, Read, Versions, Tree, Conflicts, Orphans, Detached, Marks}
-use Rattle.ficus_script.specs.declared.arguments.Arguments.{Arguments}
-use Rattle.ficus_script.specs.declared.arguments.Arguments.TheVariants.{Nothing, OnePath, PathAndKind, PathAndText, TwoPaths, OneNumber, TwoReplicas, Arming}
+use Rattle.ficus_script.specs.Arguments.{Arguments}
+use Rattle.ficus_script.specs.Arguments.{Nothing, OnePath, PathAndKind, PathAndText, TwoPaths, OneNumber, TwoReplicas, Arming}
 use Rattle.ficus_script.specs.declared.command.Command.{Command}
 use Rattle.ficus_script.specs.declared.command.Command.TheVariants as command
 use Rattle.ficus_script.specs.declared.line.LineFault.{LineFault}
 use Rattle.ficus_script.specs.declared.line.LineFault.TheVariants.{NotCommand, Memory as OutOfMemory}
 use Rattle.ficus_script.specs.Arguments.{IsReplicaNumber, IsReadingBehind, argument_words, left_of}
-use Rattle.ficus_script.specs.Command.{IsCommand, IsCommandOf, Spelling, at_orphan, of_replica, spelling_of, replica_words, spelling_text, command_text}
-use Rattle.ficus_script.specs.Line.{IsReadingOf, led_by}
+use Rattle.ficus_path.specs.Path.{at_orphan}
+use Rattle.ficus_path.specs.Text.{quoted_text}
+use Rattle.ficus_path.proofs.TextLaws.{quoted_text_injective}
+use Rattle.ficus_script.specs.Script.{IsCommandLine}
+use Rattle.ficus_script.specs.Command.{IsCommand, IsCommandOf, IsSpelled, Spelling, of_replica, spelling_of, replica_words, spelling_text, command_text}
+use Rattle.ficus_script.specs.Line.{IsReadingAt, IsReadingOf, led_by}
 use Rattle.ficus_script.proofs.ArgumentLaws.{one_arguments}
 use Rattle.ficus_script.proofs.Cuts.{IsCut, join_first, one_cut, one_first_word, spaced}
 use Rattle.ficus_script.proofs.Numbers.{IsFreeOf-replica, first_digit_of_replica}
@@ -32,31 +36,42 @@ abbrev orphan_of : Base → Id
 orphan_of Root = ROOT
 orphan_of (Orphan id) = id
 
--- the commands with these before and behind their verbs
-abbrev commands_with : Option ℕ → Arguments → List Command
-commands_with (Some by) Nothing =
+-- the text of the command, and nothing where it has none
+abbrev text_of : Command → List ℕ
+text_of (command.Change by (Write path text)) = text
+text_of (command.Change by (Settle path text)) = text
+text_of command = []
+
+-- how the text behind a verb is spelled, and how nothing is where there is none
+abbrev word_of : Arguments → List ℕ
+word_of (PathAndText path text) = text
+word_of arguments = quoted_text []
+
+-- the commands with these before and behind their verbs, and with this text where they have one
+abbrev commands_with : List ℕ → Option ℕ → Arguments → List Command
+commands_with text (Some by) Nothing =
     command.Look by Tree ∷ command.Look by Conflicts ∷ command.Look by Orphans ∷ command.Look by Detached
     ∷ command.Look by Marks ∷ command.Collect by ∷ []
-commands_with (Some by) (OnePath path) =
+commands_with text (Some by) (OnePath path) =
     command.Change by (MkDir path) ∷ command.Change by (Rm path) ∷ command.Change by (Resolve path)
     ∷ command.Change by (Discard (orphan_of path.base)) ∷ command.Look by (Ls path) ∷ command.Look by (Read path) ∷ command.Look by (Versions path) ∷ []
-commands_with (Some by) (PathAndKind path kind) = command.Change by (Create path kind) ∷ []
-commands_with (Some by) (PathAndText path text) =
+commands_with text (Some by) (PathAndKind path kind) = command.Change by (Create path kind) ∷ []
+commands_with text (Some by) (PathAndText path word) =
     command.Change by (Write path text) ∷ command.Change by (Settle path text) ∷ []
-commands_with (Some by) (TwoPaths from path) =
+commands_with text (Some by) (TwoPaths from path) =
     command.Change by (Ln from path) ∷ command.Change by (Mv from path)
     ∷ command.Change by (Adopt (orphan_of from.base) path) ∷ []
-commands_with None (OneNumber number) = command.Give number ∷ command.Restart number ∷ []
-commands_with None (TwoReplicas by to) = command.Ask by to ∷ command.Pull by to ∷ command.Alike by to ∷ []
-commands_with None (Arming by calls pick) = command.Stop by calls pick ∷ []
-commands_with (Some by) (OneNumber number) = []
-commands_with (Some by) (TwoReplicas first second) = []
-commands_with (Some by) (Arming replica calls pick) = []
-commands_with None Nothing = []
-commands_with None (OnePath path) = []
-commands_with None (PathAndKind path kind) = []
-commands_with None (PathAndText path text) = []
-commands_with None (TwoPaths from path) = []
+commands_with text None (OneNumber number) = command.Give number ∷ command.Restart number ∷ []
+commands_with text None (TwoReplicas by to) = command.Ask by to ∷ command.Pull by to ∷ command.Alike by to ∷ []
+commands_with text None (Arming by calls pick) = command.Stop by calls pick ∷ []
+commands_with text (Some by) (OneNumber number) = []
+commands_with text (Some by) (TwoReplicas first second) = []
+commands_with text (Some by) (Arming replica calls pick) = []
+commands_with text None Nothing = []
+commands_with text None (OnePath path) = []
+commands_with text None (PathAndKind path kind) = []
+commands_with text None (PathAndText path word) = []
+commands_with text None (TwoPaths from path) = []
 
 -- the verb of the command
 abbrev verb_of : Command → List ℕ
@@ -67,59 +82,67 @@ abbrev with_verb : List ℕ → List Command → Option Command
 with_verb verb [] = None
 with_verb verb (command ∷ commands) = if bytes_eq (verb_of command) verb then Some command else with_verb verb commands
 
--- the command that the table has for the spelling
-abbrev at_spelling : Spelling → Option Command
-at_spelling spelling = with_verb spelling.verb (commands_with spelling.by spelling.behind)
+-- the command that the table has for the spelling, with this text where it has one
+abbrev at_spelling : List ℕ → Spelling → Option Command
+at_spelling text spelling = with_verb spelling.verb (commands_with text spelling.by spelling.behind)
 
 -- no byte stands before the letters
 abbrev are_letters : List ℕ → Bool
 are_letters [] = true
 are_letters (byte ∷ bytes) = if nat_le 97 byte then are_letters bytes else false
 
--- The command's verb is of letters, and its spelling leads back to the command.
+-- The command's verb is of letters, its text is spelled behind it, and its spelling leads back to the command.
 record IsListed (command : Command) : Type 0 where
   letters : are_letters (verb_of command) ≡ true
-  found : at_spelling (spelling_of command) ≡ Some command
+  text : word_of (spelling_of command).behind ≡ quoted_text (text_of command)
+  found : at_spelling (text_of command) (spelling_of command) ≡ Some command
 
 -- the rows of the table, one for each verb
 listed : (command : Command) → IsListed command
-listed (command.Change by (MkDir path)) = record { letters = refl; found = refl }
-listed (command.Change by (Create path kind)) = record { letters = refl; found = refl }
-listed (command.Change by (Write path text)) = record { letters = refl; found = refl }
-listed (command.Change by (Settle path text)) = record { letters = refl; found = refl }
-listed (command.Change by (Resolve path)) = record { letters = refl; found = refl }
-listed (command.Change by (Rm path)) = record { letters = refl; found = refl }
-listed (command.Change by (Ln from path)) = record { letters = refl; found = refl }
-listed (command.Change by (Mv from path)) = record { letters = refl; found = refl }
-listed (command.Change by (Adopt orphan path)) = record { letters = refl; found = refl }
-listed (command.Change by (Discard orphan)) = record { letters = refl; found = refl }
-listed (command.Look by (Ls path)) = record { letters = refl; found = refl }
-listed (command.Look by (Read path)) = record { letters = refl; found = refl }
-listed (command.Look by (Versions path)) = record { letters = refl; found = refl }
-listed (command.Look by Tree) = record { letters = refl; found = refl }
-listed (command.Look by Conflicts) = record { letters = refl; found = refl }
-listed (command.Look by Orphans) = record { letters = refl; found = refl }
-listed (command.Look by Detached) = record { letters = refl; found = refl }
-listed (command.Look by Marks) = record { letters = refl; found = refl }
-listed (command.Collect by) = record { letters = refl; found = refl }
-listed (command.Ask by to) = record { letters = refl; found = refl }
-listed (command.Give mail) = record { letters = refl; found = refl }
-listed (command.Pull by to) = record { letters = refl; found = refl }
-listed (command.Alike by other) = record { letters = refl; found = refl }
-listed (command.Restart by) = record { letters = refl; found = refl }
-listed (command.Stop by calls pick) = record { letters = refl; found = refl }
+listed (command.Change by (MkDir path)) = record { letters = refl; text = refl; found = refl }
+listed (command.Change by (Create path kind)) = record { letters = refl; text = refl; found = refl }
+listed (command.Change by (Write path text)) = record { letters = refl; text = refl; found = refl }
+listed (command.Change by (Settle path text)) = record { letters = refl; text = refl; found = refl }
+listed (command.Change by (Resolve path)) = record { letters = refl; text = refl; found = refl }
+listed (command.Change by (Rm path)) = record { letters = refl; text = refl; found = refl }
+listed (command.Change by (Ln from path)) = record { letters = refl; text = refl; found = refl }
+listed (command.Change by (Mv from path)) = record { letters = refl; text = refl; found = refl }
+listed (command.Change by (Adopt orphan path)) = record { letters = refl; text = refl; found = refl }
+listed (command.Change by (Discard orphan)) = record { letters = refl; text = refl; found = refl }
+listed (command.Look by (Ls path)) = record { letters = refl; text = refl; found = refl }
+listed (command.Look by (Read path)) = record { letters = refl; text = refl; found = refl }
+listed (command.Look by (Versions path)) = record { letters = refl; text = refl; found = refl }
+listed (command.Look by Tree) = record { letters = refl; text = refl; found = refl }
+listed (command.Look by Conflicts) = record { letters = refl; text = refl; found = refl }
+listed (command.Look by Orphans) = record { letters = refl; text = refl; found = refl }
+listed (command.Look by Detached) = record { letters = refl; text = refl; found = refl }
+listed (command.Look by Marks) = record { letters = refl; text = refl; found = refl }
+listed (command.Collect by) = record { letters = refl; text = refl; found = refl }
+listed (command.Ask by to) = record { letters = refl; text = refl; found = refl }
+listed (command.Give mail) = record { letters = refl; text = refl; found = refl }
+listed (command.Pull by to) = record { letters = refl; text = refl; found = refl }
+listed (command.Alike by other) = record { letters = refl; text = refl; found = refl }
+listed (command.Restart by) = record { letters = refl; text = refl; found = refl }
+listed (command.Stop by calls pick) = record { letters = refl; text = refl; found = refl }
 
 -- the table has one command for a spelling
 one_command : (command other : Command) → spelling_of command ≡ spelling_of other → command ≡ other
 one_command command other same =
-    let found : Some command ≡ Some other = sym (listed command).found ∙ ap at_spelling same ∙ (listed other).found in
+    let words = ap (λ (spelling : Spelling). word_of spelling.behind) same in
+    let texts = quoted_text_injective (text_of command) (text_of other)
+    (sym (listed command).text ∙ words ∙ (listed other).text) in
+    let found : Some command ≡ Some other =
+    sym (listed command).found ∙ ap (λ (text : List ℕ). at_spelling text (spelling_of command)) texts
+    ∙ ap (at_spelling (text_of other)) same ∙ (listed other).found in
     cc
 
 -- where the table's command has another spelling, none has this one
-no_other : (spelling : Spelling) (candidate : Command) → at_spelling spelling ≡ Some candidate →
-    (spelling_of candidate ≡ spelling → ⊥) → IsCommandOf spelling None
+no_other : (spelling : Spelling) (candidate : Command) →
+    ((text : List ℕ) → at_spelling text spelling ≡ Some candidate) → (spelling_of candidate ≡ spelling → ⊥) →
+    IsCommandOf spelling None
 no_other spelling candidate found other = λ command valid same.
-    let both : Some candidate ≡ Some command = sym found ∙ sym (ap at_spelling same) ∙ (listed command).found in
+    let both : Some candidate ≡ Some command =
+    sym (found (text_of command)) ∙ sym (ap (at_spelling (text_of command)) same) ∙ (listed command).found in
     let is : candidate ≡ command = cc in
     other (ap spelling_of is ∙ same)
 
@@ -127,7 +150,8 @@ no_other spelling candidate found other = λ command valid same.
 pub no_discard : (by : ℕ) (path : Path) → ((orphan : Id) → path ≡ at_orphan orphan → ⊥) →
     IsCommandOf (of_replica by (codes "discard") (OnePath path)) None
 no_discard by path none =
-    no_other (of_replica by (codes "discard") (OnePath path)) (command.Change by (Discard (orphan_of path.base))) refl
+    no_other (of_replica by (codes "discard") (OnePath path))
+    (command.Change by (Discard (orphan_of path.base))) (λ _. refl)
     (λ same.
     let behind : OnePath (at_orphan (orphan_of path.base)) ≡ OnePath path = ap (λ (s : Spelling). s.behind) same in
     let is : at_orphan (orphan_of path.base) ≡ path = cc in
@@ -137,7 +161,7 @@ pub no_adopt : (by : ℕ) (from path : Path) → ((orphan : Id) → from ≡ at_
     IsCommandOf (of_replica by (codes "adopt") (TwoPaths from path)) None
 no_adopt by from path none =
     no_other (of_replica by (codes "adopt") (TwoPaths from path))
-    (command.Change by (Adopt (orphan_of from.base) path)) refl
+    (command.Change by (Adopt (orphan_of from.base) path)) (λ _. refl)
     (λ same.
     let behind : TwoPaths (at_orphan (orphan_of from.base)) path ≡ TwoPaths from path =
     ap (λ (s : Spelling). s.behind) same in
@@ -216,28 +240,45 @@ command_text_injective command other valid also same =
     let behind = one_arguments first.behind second.behind valid.behind also.behind cut.2 in
     one_command command other (same_spelling first second cut.0 cut.1 behind)
 
--- the line has the spelling of the command that is read off it, or no command's
-pub reading_of : (line verb : List ℕ) (by : Option ℕ) (left : Option (List ℕ)) (behind : Arguments)
-    (found : Option Command) → IsCut line by verb left → IsReadingBehind left (Ok behind) →
-    IsCommandOf (record { by = by; verb = verb; behind = behind }) found → IsReadingOf line (ok_or found NotCommand)
-reading_of line verb by left behind (Some command) cut read is = (
-  is.0,
-  cut.whole ∙ ap (λ (rest : Option (List ℕ)). led_by by (verb ++ spaced rest)) read.1 ∙ sym (led_words by verb (argument_words behind))
-      ∙ sym (ap spelling_text is.1),
-)
-reading_of line verb by left behind None cut read none = λ spelled.
-    let command : Command = spelled.0 in
-    let spelling : Spelling = spelling_of command in
-    let parts = one_cut line spelling.verb verb spelling.by by _ left (rw spelled.2 (IsCut-command command spelled.1)) cut in
-    let arguments = one_arguments spelling.behind behind spelled.1.behind read.0 (parts.2 ∙ read.1) in
-    none command spelled.1 (same_spelling spelling _ parts.0 parts.1 arguments)
+module _ (line verb : List ℕ) (by : Option ℕ) (left : Option (List ℕ)) (cut : IsCut line by verb left) where
+  -- where what is read off the line spells a command, the line does
+  pub spelled_line : (behind : Arguments) → IsReadingBehind left (Some behind) →
+      IsSpelled (record { by = by; verb = verb; behind = behind }) → IsCommandLine line
+  spelled_line behind read spelled = (
+    spelled.0,
+    spelled.1,
+    cut.whole ∙ ap (λ (rest : Option (List ℕ)). led_by by (verb ++ spaced rest)) read.1
+        ∙ sym (led_words by verb (argument_words behind)) ∙ sym (ap spelling_text spelled.2),
+  )
 
--- where what stands behind the verb are no arguments, the line is no command's
-pub reading_fault : (line verb : List ℕ) (by : Option ℕ) (left : Option (List ℕ)) (fault : LineFault) →
-    IsCut line by verb left → IsReadingBehind left (Err fault) → IsReadingOf line (Err fault)
-reading_fault line verb by left OutOfMemory cut none = tt
-reading_fault line verb by left NotCommand cut none = λ spelled.
-    let command : Command = spelled.0 in
-    let spelling : Spelling = spelling_of command in
-    let parts = one_cut line spelling.verb verb spelling.by by _ left (rw spelled.2 (IsCut-command command spelled.1)) cut in
-    none spelling.behind spelled.1.behind (sym parts.2)
+  -- a command that the line spells has these parts
+  same_parts : (command : Command) → IsCommand command → line ≡ command_text command →
+      ((spelling_of command).by ≡ by) × (verb_of command ≡ verb)
+      × (left_of (argument_words (spelling_of command).behind) ≡ left)
+  same_parts command valid same =
+      one_cut line (verb_of command) verb (spelling_of command).by by _ left (rw same (IsCut-command command valid)) cut
+
+  -- where the line spells a command, so does what is read off it
+  pub line_spelled : (behind : Arguments) → IsReadingBehind left (Some behind) → IsCommandLine line →
+      IsSpelled (record { by = by; verb = verb; behind = behind })
+  line_spelled behind read spelled =
+      let command : Command = spelled.0 in
+      let spelling : Spelling = spelling_of command in
+      let parts = same_parts command spelled.1 spelled.2 in
+      let arguments = one_arguments spelling.behind behind spelled.1.behind read.0 (parts.2 ∙ read.1) in
+      (command, spelled.1, same_spelling spelling _ parts.0 parts.1 arguments)
+
+  -- the line has the spelling of the command that is read off it, or no command's
+  pub reading_of : (behind : Arguments) (found : Result Command LineFault) → IsReadingBehind left (Some behind) →
+      IsReadingAt (record { by = by; verb = verb; behind = behind }) found → IsReadingOf line found
+  unfolding spelled_line
+  reading_of behind (Ok command) read is =
+      let spelled = spelled_line behind read (command, is.0, is.1) in
+      (is.0, spelled.2)
+  reading_of behind (Err NotCommand) read none = λ spelled. none (line_spelled behind read spelled)
+  reading_of behind (Err OutOfMemory) read spelled = spelled_line behind read spelled
+
+  -- where what stands behind the verb are no arguments, the line is no command's
+  pub no_arguments : IsReadingBehind left None → IsCommandLine line → ⊥
+  no_arguments none spelled =
+      none (spelling_of spelled.0).behind spelled.1.behind (sym (same_parts spelled.0 spelled.1 spelled.2).2)

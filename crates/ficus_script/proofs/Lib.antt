@@ -5,4 +5,5 @@ pub mod Numbers
 pub mod ScriptLaws
 pub mod Scripts
 pub mod VectorTexts
+pub mod VerbLaws
 pub mod SetTexts

@@ -1,9 +1,11 @@
 -- Bytes are the script of one list of commands, or have one first bad line.
 use Rattle.std.proofs.Common.{◌≡◌, ℕ, suc, List, [], ◌∷◌, ◌++◌, length, map, refl, sym, ◌∙◌, ap, subst, inl, inr, arith}
-use Rattle.std.specs.List.{AllByRecursion, filter}
+use Rattle.std.specs.List.{All, AllByRecursion, filter}
 use Rattle.std.proofs.lemmas.Bool.{cases_Bool}
 use Rattle.std.proofs.lemmas.List.Elements.{recursion_from_All}
 use Rattle.ficus_script.specs.declared.command.Command.{Command}
+use Rattle.ficus_script.specs.declared.fault.ScriptFault.{ScriptFault}
+use Rattle.ficus_script.specs.declared.fault.ScriptFault.TheVariants as script_fault
 use Rattle.ficus_script.specs.Command.{IsCommand, command_text}
 use Rattle.ficus_script.specs.Script.{lines_of, is_passed_over, is_kept, IsScriptLine, IsScript, IsFirstBadLine}
 use Rattle.ficus_script.proofs.CommandLaws.{command_text_injective}
@@ -92,3 +94,19 @@ one_bad_line bytes number other first also =
     (recursion_from_All IsScriptLine first.before first.each) (recursion_from_All IsScriptLine also.before also.each) first.no_line also.no_line
     (sym first.lines ∙ also.lines) in
     omega (arith, first.counted, also.counted)
+
+-- where every line may stand in a script, none is bad
+all_may : (bytes : List ℕ) (number : ℕ) → All IsScriptLine (lines_of bytes) → IsFirstBadLine bytes number → ⊥
+unfolding AreLines
+all_may bytes number all first =
+    first.no_line (among first.before first.bad first.behind
+    (subst AreLines first.lines (recursion_from_All IsScriptLine (lines_of bytes) all)))
+
+-- a fault that names the first bad line, and where there is none alone wants memory, is the one of that line
+pub fault_is : (bytes : List ℕ) (fault : ScriptFault) (number : ℕ) →
+    ((line : ℕ) → fault ≡ script_fault.BadLine line → IsFirstBadLine bytes line) →
+    (fault ≡ script_fault.Memory → All IsScriptLine (lines_of bytes)) → IsFirstBadLine bytes number →
+    fault ≡ script_fault.BadLine number
+fault_is bytes (script_fault.BadLine line) number named none first =
+    ap (λ (n : ℕ). script_fault.BadLine n) (one_bad_line bytes line number (named line refl) first)
+fault_is bytes script_fault.Memory number named none first = absurd (all_may bytes number (none refl) first)

@@ -2,14 +2,13 @@
 use Rattle.std.specs.Prelude.{◌≡◌, ℕ, List, [], ◌∷◌, ◌++◌, Option, Some, None, IfSome, codes}
 use Rattle.std.specs.List.{join_with_byte}
 use Rattle.std.specs.Fmt.{decimal}
-use Rattle.ficus_ids.specs.declared.id.Id.{Id}
-use Rattle.ficus_path.specs.declared.path.Base.TheVariants.{Orphan}
-use Rattle.ficus_path.specs.declared.path.Path.{Path}
+use Rattle.ficus_path.specs.Path.{at_orphan}
+use Rattle.ficus_path.specs.Text.{quoted_text}
 use Rattle.ficus_commands.specs.Change.{HasFitPaths}
 use Rattle.ficus_commands.specs.declared.change.Change.TheVariants.{MkDir, Create, Write, Settle, Resolve, Rm, Ln, Mv, Adopt, Discard}
 use Rattle.ficus_commands.specs.declared.look.Look.TheVariants.{Ls, Read, Versions, Tree, Conflicts, Orphans, Detached, Marks}
-use Rattle.ficus_script.specs.declared.arguments.Arguments.{Arguments}
-use Rattle.ficus_script.specs.declared.arguments.Arguments.TheVariants.{Nothing, OnePath, PathAndKind, PathAndText, TwoPaths, OneNumber, TwoReplicas, Arming}
+use Rattle.ficus_script.specs.Arguments.{Arguments}
+use Rattle.ficus_script.specs.Arguments.{Nothing, OnePath, PathAndKind, PathAndText, TwoPaths, OneNumber, TwoReplicas, Arming}
 use Rattle.ficus_script.specs.declared.command.Command.{Command}
 use Rattle.ficus_script.specs.declared.command.Command.TheVariants as command
 use Rattle.ficus_script.specs.Arguments.{AreArguments, IsReplicaNumber, argument_words}
@@ -28,16 +27,13 @@ of_replica by verb behind = record { by = Some by; verb = verb; behind = behind 
 abbrev pub of_none : List ℕ → Arguments → Spelling
 of_none verb behind = record { by = None; verb = verb; behind = behind }
 
--- the path that begins at the orphan, and has no part
-abbrev pub at_orphan : Id → Path
-at_orphan orphan = record { base = Orphan orphan; parts = [] }
-
 -- the one table of verbs: each command's verb, and what stands before and behind it
 abbrev pub spelling_of : Command → Spelling
 spelling_of (command.Change by (MkDir path)) = of_replica by (codes "mkdir") (OnePath path)
 spelling_of (command.Change by (Create path kind)) = of_replica by (codes "create") (PathAndKind path kind)
-spelling_of (command.Change by (Write path text)) = of_replica by (codes "write") (PathAndText path text)
-spelling_of (command.Change by (Settle path text)) = of_replica by (codes "settle") (PathAndText path text)
+spelling_of (command.Change by (Write path text)) = of_replica by (codes "write") (PathAndText path (quoted_text text))
+spelling_of (command.Change by (Settle path text)) =
+    of_replica by (codes "settle") (PathAndText path (quoted_text text))
 spelling_of (command.Change by (Resolve path)) = of_replica by (codes "resolve") (OnePath path)
 spelling_of (command.Change by (Rm path)) = of_replica by (codes "rm") (OnePath path)
 spelling_of (command.Change by (Ln from path)) = of_replica by (codes "ln") (TwoPaths from path)
@@ -92,6 +88,10 @@ spelling_text spelling =
 -- the one text of the command
 abbrev pub command_text : Command → List ℕ
 command_text command = spelling_text (spelling_of command)
+
+-- a command has this spelling
+abbrev pub IsSpelled : Spelling → Type 0
+IsSpelled spelling = (command : Command) × IsCommand command × (spelling_of command ≡ spelling)
 
 -- the command with this spelling, or none where none has it
 abbrev pub IsCommandOf : Spelling → Option Command → Type 0

@@ -3,3 +3,4 @@ pub mod Arguments
 pub mod Command
 pub mod Line
 pub mod Script
+pub mod Verb

@@ -1,33 +1,32 @@
-ghost use Rattle.std.specs.Prelude.{◌≡◌, ◌≢◌, ◌↔◌, IsTrue, Some, IfSome, IfNone, ok_or};
+ghost use Rattle.std.specs.Prelude.{◌≡◌, ◌≢◌, ◌↔◌, IsTrue, Some, IfSome, IfNone, option_map};
 ghost use Rattle.ficus_ids.specs.Kind.{kind_word};
 ghost use Rattle.ficus_ids.specs.declared.kind.Kind.{Kind};
 ghost use Rattle.ficus_ids.specs.declared.kind.Kind.TheVariants.{Dir};
 ghost use Rattle.ficus_path.specs.Path.{IsPath};
 ghost use Rattle.ficus_path.specs.Spelling.{path_text};
-ghost use Rattle.ficus_script.specs.Arguments.{bytes_of, BeginsPath, BeginsText, IsReadingBehind, IsReadingWords};
-ghost use Rattle.ficus_script.specs.declared.line.LineFault.TheVariants.{NotCommand};
+ghost use Rattle.ficus_script.specs.Arguments.{arguments_of, bytes_of, BeginsPath, BeginsText, IsReadingBehind, IsReadingWords};
+ghost use Rattle.ficus_script.specs.declared.line_paths.LinePaths.{LinePaths};
 
 use crate::cut::cut_at;
-use crate::line::LineFault;
+use crate::line_paths::LinePaths;
 use crate::pick::read_pick;
 use crate::replica::read_replica;
-use ficus_ids::{Kind, Listed, read_number};
-use ficus_path::{Path, read_path, read_text};
-use std::alloc::Global;
+use ficus_ids::{Kind, read_number};
+use ficus_path::TextDraft;
 
-/// What stands behind the verb of a command, by its shape.
+/// What stands behind the verb of a command, by its shape, but for its paths, which are read into `LinePaths`.
 #[derive(Drop)]
-pub(crate) enum Arguments {
+pub(crate) enum Shape<'a> {
     /// Nothing: the line ends with the verb.
     Nothing,
-    /// One path.
-    OnePath(Path),
-    /// A path and the kind of a file.
-    PathAndKind(Path, Kind),
-    /// A path and a text. The text is all that stands behind the path and a space, to the end of the line.
-    PathAndText(Path, Listed<u8>),
-    /// Two paths.
-    TwoPaths(Path, Path),
+    /// One path, the first.
+    OnePath,
+    /// The first path and the kind of a file.
+    PathAndKind(Kind),
+    /// The first path and a text. The text is all that stands behind the path and a space, to the end of the line.
+    PathAndText(TextDraft<'a>),
+    /// Both paths.
+    TwoPaths,
     /// One number, that of a message or of a replica.
     OneNumber(u32),
     /// The numbers of two replicas.
@@ -36,18 +35,22 @@ pub(crate) enum Arguments {
     Arming(u8, u32, u8),
 }
 
-/// The arguments that stand behind a verb, where a space and these bytes do, or nothing.
-pub(crate) fn read_arguments(alloc: Global, behind: Option<&[u8]>) -> Result<Arguments, LineFault>
-    ensures { IsReadingBehind (bytes_of behind.entry) result }
+/// The arguments that stand behind a verb, where a space and these bytes do, or nothing. They are read without memory,
+/// and are `None` exactly where the bytes spell none. What the paths are that have no part in them is not said.
+pub(crate) fn read_arguments<'a>(
+    behind: Option<&'a [u8]>,
+    paths: &mut LinePaths,
+) -> Option<Shape<'a>>
+    ensures { IsReadingBehind (bytes_of behind.entry) (option_map (arguments_of paths.new) result) }
 {
     let Some(words) = behind else {
-        return Ok(Arguments::Nothing);
+        return Some(Shape::Nothing);
     };
     let (first, rest) = cut_at(words, b' ');
     if begins_path(first) {
-        path_first(alloc, first, rest)
+        path_first(first, rest, paths)
     } else {
-        number_first(first, rest).ok_or(LineFault::NotCommand)
+        number_first(first, rest)
     }
 }
 
@@ -58,33 +61,31 @@ fn begins_path(word: &[u8]) -> bool
 }
 
 // The shapes whose first word is a path.
-fn path_first(alloc: Global, first: &[u8], rest: Option<&[u8]>) -> Result<Arguments, LineFault>
+fn path_first<'a>(first: &[u8], rest: Option<&'a [u8]>, paths: &mut LinePaths) -> Option<Shape<'a>>
     requires { BeginsPath first.now }
-    ensures { IsReadingWords first.now (bytes_of rest.entry) result }
+    ensures { IsReadingWords first.now (bytes_of rest.entry) (option_map (arguments_of paths.new) result) }
 {
-    let path = read_path(alloc, first)?;
+    paths.first.read(first)?;
     match rest {
-        None => Ok(Arguments::OnePath(path)),
-        Some(last) => path_and_last(alloc, path, last),
+        None => Some(Shape::OnePath),
+        Some(last) => path_and_last(last, paths),
     }
 }
 
-// The shapes of a path and something behind it.
-fn path_and_last(alloc: Global, path: Path, last: &[u8]) -> Result<Arguments, LineFault>
-    requires { IsPath path }
-    ensures { IsReadingWords (path_text path) (Some last.now) result }
+// The shapes of a path, which is read already, and something behind it.
+fn path_and_last<'a>(last: &'a [u8], paths: &mut LinePaths) -> Option<Shape<'a>>
+    requires { IsPath paths.old.first }
+    ensures { IsReadingWords (path_text paths.old.first) (Some last.now) (option_map (arguments_of paths.new) result) }
 {
     if begins_text(last) {
-        let text = read_text(alloc, last)?;
-        Ok(Arguments::PathAndText(path, Listed::of(text)))
+        let text = TextDraft::new(last)?;
+        Some(Shape::PathAndText(text))
     } else if begins_path(last) {
-        let second = read_path(alloc, last)?;
-        Ok(Arguments::TwoPaths(path, second))
+        paths.second.read(last)?;
+        Some(Shape::TwoPaths)
     } else {
-        let Some(kind) = read_kind(last) else {
-            return Err(LineFault::NotCommand);
-        };
-        Ok(Arguments::PathAndKind(path, kind))
+        let kind = read_kind(last)?;
+        Some(Shape::PathAndKind(kind))
     }
 }
 
@@ -110,25 +111,27 @@ fn read_kind(word: &[u8]) -> Option<Kind>
 }
 
 // The shapes whose first word is a number.
-fn number_first(first: &[u8], rest: Option<&[u8]>) -> Option<Arguments>
+fn number_first<'a>(first: &[u8], rest: Option<&[u8]>) -> Option<Shape<'a>>
     requires { BeginsPath first.now → ⊥ }
-    ensures { IsReadingWords first.now (bytes_of rest.entry) (ok_or result NotCommand) }
+    ensures { (paths : LinePaths) →
+        IsReadingWords first.now (bytes_of rest.entry) (option_map (arguments_of paths) result) }
 {
     match rest {
-        None => Some(Arguments::OneNumber(read_number(first)?)),
+        None => Some(Shape::OneNumber(read_number(first)?)),
         Some(words) => replica_first(first, words),
     }
 }
 
 // The shapes whose first word is the number of a replica, with something behind it.
-fn replica_first(first: &[u8], words: &[u8]) -> Option<Arguments>
+fn replica_first<'a>(first: &[u8], words: &[u8]) -> Option<Shape<'a>>
     requires { BeginsPath first.now → ⊥ }
-    ensures { IsReadingWords first.now (Some words.now) (ok_or result NotCommand) }
+    ensures { (paths : LinePaths) →
+        IsReadingWords first.now (Some words.now) (option_map (arguments_of paths) result) }
 {
     let by = read_replica(first)?;
     let (second, last) = cut_at(words, b' ');
     match last {
-        None => Some(Arguments::TwoReplicas(by, read_replica(second)?)),
-        Some(last) => Some(Arguments::Arming(by, read_number(second)?, read_pick(last)?)),
+        None => Some(Shape::TwoReplicas(by, read_replica(second)?)),
+        Some(last) => Some(Shape::Arming(by, read_number(second)?, read_pick(last)?)),
     }
 }

@@ -9,6 +9,8 @@ mod cut;
 mod fault;
 mod laws;
 mod line;
+mod line_paths;
+mod making;
 mod marks;
 mod pick;
 mod replica;

@@ -1,14 +1,17 @@
-ghost use Rattle.std.specs.Prelude.{◌≡◌, ℕ, List, Some, IfSome, IfNone};
+ghost use Rattle.std.specs.Prelude.{◌≡◌, ◌↔◌, ℕ, List, Some, IsTrue, IfSome, IfNone};
 ghost use Rattle.ficus_script.specs.Arguments.{IsReplicaNumber};
 ghost use Rattle.ficus_script.specs.declared.line.LineFault.TheVariants.{Memory as OutOfMemory};
-ghost use Rattle.ficus_script.specs.Line.{fault_at, fault_of, fault_of_text, led_by, IsReadingOf};
+ghost use Rattle.ficus_script.specs.Line.{fault_at, led_by, IsReadingOf};
+ghost use Rattle.ficus_script.specs.Script.{IsCommandLine};
 
 use crate::arguments::read_arguments;
 use crate::cut::cut_at;
+use crate::line_paths::LinePaths;
+use crate::making::command_of;
 use crate::replica::read_replica;
-use crate::verbs::command_of;
+use crate::verbs::is_command_of;
 use crate::{Command, ScriptFault};
-use ficus_path::{PathFault, TextFault};
+use ficus_ids::Memory;
 use std::alloc::{AllocFailed, Global};
 
 /// Why a line gave no command.
@@ -20,25 +23,11 @@ pub(crate) enum LineFault {
     Memory,
 }
 
-impl From<PathFault> for LineFault {
-    ghost from_gives = { λ path_fault fault. fault ≡ fault_of path_fault };
+impl From<Memory> for LineFault {
+    ghost from_gives = { λ _ fault. fault ≡ OutOfMemory };
 
-    fn from(fault: PathFault) -> LineFault {
-        match fault {
-            PathFault::NotPath => LineFault::NotCommand,
-            PathFault::Memory => LineFault::Memory,
-        }
-    }
-}
-
-impl From<TextFault> for LineFault {
-    ghost from_gives = { λ text_fault fault. fault ≡ fault_of_text text_fault };
-
-    fn from(fault: TextFault) -> LineFault {
-        match fault {
-            TextFault::NotText => LineFault::NotCommand,
-            TextFault::Memory => LineFault::Memory,
-        }
+    fn from(_: Memory) -> LineFault {
+        LineFault::Memory
     }
 }
 
@@ -62,14 +51,33 @@ impl LineFault {
     }
 }
 
-/// The command that the line spells. `NotCommand` comes exactly where it spells none.
-pub(crate) fn read_command(alloc: Global, line: &[u8]) -> Result<Command, LineFault>
+/// The command that the line spells. `NotCommand` comes exactly where it spells none, and `Memory` only where it spells
+/// one and memory was refused.
+pub(crate) fn read_command(
+    alloc: Global,
+    line: &[u8],
+    paths: &mut LinePaths,
+) -> Result<Command, LineFault>
     ensures { IsReadingOf line.now result }
 {
     let (by, words) = cut_replica(line);
     let (verb, behind) = cut_at(words, b' ');
-    let arguments = read_arguments(alloc, behind)?;
-    command_of(by, verb, arguments).ok_or(LineFault::NotCommand)
+    let Some(shape) = read_arguments(behind, paths) else {
+        return Err(LineFault::NotCommand);
+    };
+    command_of(alloc, by, verb, paths, &shape)
+}
+
+/// Whether the line spells a command, which is found without memory.
+pub(crate) fn is_command(line: &[u8], paths: &mut LinePaths) -> bool
+    ensures { IsTrue result ↔ IsCommandLine line.now }
+{
+    let (by, words) = cut_replica(line);
+    let (verb, behind) = cut_at(words, b' ');
+    match read_arguments(behind, paths) {
+        Some(shape) => is_command_of(by, verb, paths, &shape),
+        None => false,
+    }
 }
 
 // The number of a replica that leads the line, and what stands behind it and a space; or none, and the line.

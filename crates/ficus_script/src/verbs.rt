@@ -1,146 +1,198 @@
-ghost use Rattle.std.specs.Prelude.{◌≡◌, ◌≢◌, ◌<◌, Some, IfSome, IfNone, codes};
+ghost use Rattle.std.specs.Prelude.{◌≡◌, ◌≢◌, ◌↔◌, ◌<◌, ℕ, List, IsTrue, IfSome, codes, option_map};
+ghost use Rattle.ficus_ids.specs.declared.kind.Kind.{Kind};
 ghost use Rattle.ficus_ids.specs.declared.kind.Kind.TheVariants.{Dir};
-ghost use Rattle.ficus_ids.specs.declared.id.Id.{Id};
+ghost use Rattle.ficus_path.specs.declared.path.Path.{Path};
 ghost use Rattle.ficus_path.specs.Path.{IsNew, IsPath};
-ghost use Rattle.ficus_script.specs.Arguments.{AreArguments, IsReplicaNumber};
-ghost use Rattle.ficus_script.specs.Command.{Spelling, IsCommandOf, at_orphan, of_none, of_replica};
-ghost use Rattle.ficus_script.specs.declared.command.Command.TheVariants as command;
-ghost use Rattle.ficus_script.specs.declared.arguments.Arguments.TheVariants.{Nothing, OnePath, PathAndKind, PathAndText, TwoPaths, OneNumber, TwoReplicas, Arming};
+ghost use Rattle.ficus_path.specs.Text.{quoted_text};
+ghost use Rattle.ficus_script.specs.Arguments.{AreArguments, IsReplicaNumber, arguments_of};
+ghost use Rattle.ficus_script.specs.Command.{IsCommandOf, IsSpelled, Spelling, of_none, of_replica};
+ghost use Rattle.ficus_script.specs.Verb.{kind_command, path_command, paths_command, text_command};
+ghost use Rattle.ficus_script.specs.Arguments.{Nothing, OnePath, PathAndKind, PathAndText, TwoPaths, OneNumber, TwoReplicas, Arming};
 
 use crate::Command;
-use crate::arguments::Arguments;
+use crate::arguments::Shape;
+use crate::line_paths::LinePaths;
 use crate::replica::is_replica;
-use ficus_commands::{Change, Look};
-use ficus_ids::{Id, Kind, Listed};
-use ficus_path::{Base, Path};
+use ficus_commands::Look;
+use ficus_ids::Id;
+use ficus_path::PathDraft;
 
-/// The command that the verb makes of what stands before and behind it.
-pub(crate) fn command_of(by: Option<u8>, verb: &[u8], behind: Arguments) -> Option<Command>
+/// The verbs that stand before one path; before that of an orphan alone, with the orphan.
+#[derive(Clone, Copy)]
+pub(crate) enum PathVerb {
+    MkDir,
+    Rm,
+    Resolve,
+    Discard(Id),
+    Ls,
+    Read,
+    Versions,
+}
+
+/// The verb that stands before a path and the kind of a file.
+#[derive(Clone, Copy)]
+pub(crate) enum KindVerb {
+    Create,
+}
+
+/// The verbs that stand before a path and a text.
+#[derive(Clone, Copy)]
+pub(crate) enum TextVerb {
+    Write,
+    Settle,
+}
+
+/// The verbs that stand before two paths; where the first is that of an orphan alone, with the orphan.
+#[derive(Clone, Copy)]
+pub(crate) enum PathsVerb {
+    Ln,
+    Mv,
+    Adopt(Id),
+}
+
+/// Whether a command is spelled by the verb between these, which is found without memory.
+pub(crate) fn is_command_of(by: Option<u8>, verb: &[u8], paths: &LinePaths, behind: &Shape) -> bool
     requires replica { IfSome by IsReplicaNumber }
-    requires arguments { AreArguments behind }
-    ensures { IsCommandOf (record { by = by; verb = verb.now; behind = behind }) result }
+    requires arguments { AreArguments (arguments_of paths.now behind.now) }
+    ensures { IsTrue result ↔
+        IsSpelled (record { by = by; verb = verb.now; behind = arguments_of paths.now behind.now }) }
 {
     match (by, behind) {
-        (Some(by), Arguments::Nothing) => with_nothing(by, verb),
-        (Some(by), Arguments::OnePath(path)) => with_path(by, verb, path),
-        (Some(by), Arguments::PathAndKind(path, kind)) => with_kind(by, verb, path, kind),
-        (Some(by), Arguments::PathAndText(path, text)) => with_text(by, verb, path, text),
-        (Some(by), Arguments::TwoPaths(from, path)) => with_paths(by, verb, from, path),
-        (None, Arguments::OneNumber(number)) => with_number(verb, number),
-        (None, Arguments::TwoReplicas(first, second)) => with_replicas(verb, first, second),
-        (None, Arguments::Arming(by, calls, pick)) => with_arming(verb, by, calls, pick),
-        _ => None,
+        (Some(by), Shape::Nothing) => is_one(with_nothing(by, verb)),
+        (Some(_), Shape::OnePath) => path_verb(verb, &paths.first).is_some(),
+        (Some(_), Shape::PathAndKind(_)) => kind_verb(verb, &paths.first).is_some(),
+        (Some(_), Shape::PathAndText(_)) => text_verb(verb).is_some(),
+        (Some(_), Shape::TwoPaths) => paths_verb(verb, &paths.first, &paths.second).is_some(),
+        (None, Shape::OneNumber(number)) => is_one(with_number(verb, *number)),
+        (None, Shape::TwoReplicas(first, second)) => is_one(with_replicas(verb, *first, *second)),
+        (None, Shape::Arming(by, calls, pick)) => is_one(with_arming(verb, *by, *calls, *pick)),
+        _ => false,
     }
 }
 
-fn with_nothing(by: u8, verb: &[u8]) -> Option<Command>
+// Whether a command was found.
+fn is_one(found: Option<Command>) -> bool
+    ensures { (spelling : Spelling) → IsCommandOf spelling found → (IsTrue result ↔ IsSpelled spelling) }
+{
+    found.is_some()
+}
+
+/// The command that the verb makes of the number before it, with nothing behind it.
+pub(crate) fn with_nothing(by: u8, verb: &[u8]) -> Option<Command>
     requires { IsReplicaNumber by }
     ensures { IsCommandOf (of_replica by verb.now Nothing) result }
 {
     match verb {
-        _ if verb == b"tree".as_slice() => look(by, Look::Tree),
-        _ if verb == b"conflicts".as_slice() => look(by, Look::Conflicts),
-        _ if verb == b"orphans".as_slice() => look(by, Look::Orphans),
-        _ if verb == b"detached".as_slice() => look(by, Look::Detached),
-        _ if verb == b"marks".as_slice() => look(by, Look::Marks),
+        _ if verb == b"tree".as_slice() => Some(Command::Look {
+            by,
+            look: Look::Tree,
+        }),
+        _ if verb == b"conflicts".as_slice() => Some(Command::Look {
+            by,
+            look: Look::Conflicts,
+        }),
+        _ if verb == b"orphans".as_slice() => Some(Command::Look {
+            by,
+            look: Look::Orphans,
+        }),
+        _ if verb == b"detached".as_slice() => Some(Command::Look {
+            by,
+            look: Look::Detached,
+        }),
+        _ if verb == b"marks".as_slice() => Some(Command::Look {
+            by,
+            look: Look::Marks,
+        }),
         _ if verb == b"collect".as_slice() => Some(Command::Collect { by }),
         _ => None,
     }
 }
 
-fn with_path(by: u8, verb: &[u8], path: Path) -> Option<Command>
-    requires replica { IsReplicaNumber by }
-    requires path { IsPath path }
-    ensures { IsCommandOf (of_replica by verb.now (OnePath path)) result }
+/// The verb that stands before the path, or `None` exactly where the word is none that may.
+pub(crate) fn path_verb(verb: &[u8], path: &PathDraft) -> Option<PathVerb>
+    requires { IsPath path.now }
+    ensures { (by : ℕ) → IsReplicaNumber by →
+        IsCommandOf (of_replica by verb.now (OnePath path.now)) (option_map (path_command by path.now) result) }
 {
     match verb {
-        _ if verb == b"mkdir".as_slice() && path.is_new() => change(by, Change::MkDir { path }),
-        _ if verb == b"rm".as_slice() && path.is_entry() => change(by, Change::Rm { path }),
-        _ if verb == b"resolve".as_slice() => change(by, Change::Resolve { path }),
-        _ if verb == b"discard".as_slice() => discard(by, path),
-        _ if verb == b"ls".as_slice() => look(by, Look::Ls { path }),
-        _ if verb == b"read".as_slice() => look(by, Look::Read { path }),
-        _ if verb == b"versions".as_slice() => look(by, Look::Versions { path }),
+        _ if verb == b"mkdir".as_slice() && path.is_new() => Some(PathVerb::MkDir),
+        _ if verb == b"rm".as_slice() && path.is_entry() => Some(PathVerb::Rm),
+        _ if verb == b"resolve".as_slice() => Some(PathVerb::Resolve),
+        _ if verb == b"discard".as_slice() => discard(path),
+        _ if verb == b"ls".as_slice() => Some(PathVerb::Ls),
+        _ if verb == b"read".as_slice() => Some(PathVerb::Read),
+        _ if verb == b"versions".as_slice() => Some(PathVerb::Versions),
         _ => None,
     }
 }
 
-fn with_kind(by: u8, verb: &[u8], path: Path, kind: Kind) -> Option<Command>
-    requires replica { IsReplicaNumber by }
-    requires path { IsPath path }
-    requires kind { kind ≢ Dir }
-    ensures { IsCommandOf (of_replica by verb.now (PathAndKind path kind)) result }
+fn discard(path: &PathDraft) -> Option<PathVerb>
+    requires { IsPath path.now }
+    ensures { (by : ℕ) → IsReplicaNumber by → IsCommandOf (of_replica by (codes "discard") (OnePath path.now))
+        (option_map (path_command by path.now) result) }
+{
+    let orphan = path.orphan()?;
+    Some(PathVerb::Discard(orphan))
+}
+
+/// The verb that stands before the path and the kind of a file, or `None` exactly where the word is none that may.
+pub(crate) fn kind_verb(verb: &[u8], path: &PathDraft) -> Option<KindVerb>
+    requires { IsPath path.now }
+    ensures { (by : ℕ) (kind : Kind) → IsReplicaNumber by → kind ≢ Dir →
+        IsCommandOf (of_replica by verb.now (PathAndKind path.now kind))
+        (option_map (kind_command by path.now kind) result) }
 {
     match verb {
-        _ if verb == b"create".as_slice() && path.is_new() => change(
-            by,
-            Change::Create { path, kind },
-        ),
+        _ if verb == b"create".as_slice() && path.is_new() => Some(KindVerb::Create),
         _ => None,
     }
 }
 
-fn with_text(by: u8, verb: &[u8], path: Path, text: Listed<u8>) -> Option<Command>
-    requires replica { IsReplicaNumber by }
-    requires path { IsPath path }
-    ensures { IsCommandOf (of_replica by verb.now (PathAndText path text)) result }
+/// The verb that stands before a path and a text, or `None` exactly where the word is none that may.
+pub(crate) fn text_verb(verb: &[u8]) -> Option<TextVerb>
+    ensures { (by : ℕ) (path : Path) (text : List ℕ) → IsReplicaNumber by → IsPath path →
+        IsCommandOf (of_replica by verb.now (PathAndText path (quoted_text text)))
+        (option_map (text_command by path text) result) }
 {
     match verb {
-        _ if verb == b"write".as_slice() => change(by, Change::Write { path, text }),
-        _ if verb == b"settle".as_slice() => change(by, Change::Settle { path, text }),
+        _ if verb == b"write".as_slice() => Some(TextVerb::Write),
+        _ if verb == b"settle".as_slice() => Some(TextVerb::Settle),
         _ => None,
     }
 }
 
-fn with_paths(by: u8, verb: &[u8], from: Path, path: Path) -> Option<Command>
-    requires replica { IsReplicaNumber by }
-    requires from { IsPath from }
-    requires path { IsPath path }
-    ensures { IsCommandOf (of_replica by verb.now (TwoPaths from path)) result }
+/// The verb that stands before the two paths, or `None` exactly where the word is none that may.
+pub(crate) fn paths_verb(verb: &[u8], from: &PathDraft, path: &PathDraft) -> Option<PathsVerb>
+    requires from { IsPath from.now }
+    requires path { IsPath path.now }
+    ensures { (by : ℕ) → IsReplicaNumber by →
+        IsCommandOf (of_replica by verb.now (TwoPaths from.now path.now))
+        (option_map (paths_command by from.now path.now) result) }
 {
     if !path.is_new() {
         return None;
     }
     match verb {
-        _ if verb == b"ln".as_slice() && from.is_entry() => change(by, Change::Ln { from, path }),
-        _ if verb == b"mv".as_slice() && from.is_entry() => change(by, Change::Mv { from, path }),
-        _ if verb == b"adopt".as_slice() => adopt(by, from, path),
+        _ if verb == b"ln".as_slice() && from.is_entry() => Some(PathsVerb::Ln),
+        _ if verb == b"mv".as_slice() && from.is_entry() => Some(PathsVerb::Mv),
+        _ if verb == b"adopt".as_slice() => adopt(from, path),
         _ => None,
     }
 }
 
-fn discard(by: u8, path: Path) -> Option<Command>
-    requires replica { IsReplicaNumber by }
-    requires path { IsPath path }
-    ensures { IsCommandOf (of_replica by (codes "discard") (OnePath path)) result }
+fn adopt(from: &PathDraft, path: &PathDraft) -> Option<PathsVerb>
+    requires from { IsPath from.now }
+    requires path { IsPath path.now }
+    requires new { IsNew path.now }
+    ensures { (by : ℕ) → IsReplicaNumber by → IsCommandOf (of_replica by (codes "adopt") (TwoPaths from.now path.now))
+        (option_map (paths_command by from.now path.now) result) }
 {
-    let orphan = orphan_at(&path)?;
-    change(by, Change::Discard { orphan })
+    let orphan = from.orphan()?;
+    Some(PathsVerb::Adopt(orphan))
 }
 
-fn adopt(by: u8, from: Path, path: Path) -> Option<Command>
-    requires replica { IsReplicaNumber by }
-    requires from { IsPath from }
-    requires path { IsPath path }
-    requires new { IsNew path }
-    ensures { IsCommandOf (of_replica by (codes "adopt") (TwoPaths from path)) result }
-{
-    let orphan = orphan_at(&from)?;
-    change(by, Change::Adopt { orphan, path })
-}
-
-// The orphan at which the path begins, if it has no part.
-fn orphan_at(path: &Path) -> Option<Id>
-    ensures found { IfSome result (λ orphan. path.now ≡ at_orphan orphan) }
-    ensures none { IfNone result ((orphan : Id) → path.now ≡ at_orphan orphan → ⊥) }
-{
-    match (path.base, path.parts.items()) {
-        (Base::Orphan(orphan), []) => Some(orphan),
-        _ => None,
-    }
-}
-
-fn with_number(verb: &[u8], number: u32) -> Option<Command>
+/// The command that the verb makes of one number behind it.
+pub(crate) fn with_number(verb: &[u8], number: u32) -> Option<Command>
     ensures { IsCommandOf (of_none verb.now (OneNumber number)) result }
 {
     match verb {
@@ -152,7 +204,8 @@ fn with_number(verb: &[u8], number: u32) -> Option<Command>
     }
 }
 
-fn with_replicas(verb: &[u8], by: u8, to: u8) -> Option<Command>
+/// The command that the verb makes of the numbers of two replicas behind it.
+pub(crate) fn with_replicas(verb: &[u8], by: u8, to: u8) -> Option<Command>
     requires by { IsReplicaNumber by }
     requires to { IsReplicaNumber to }
     ensures { IsCommandOf (of_none verb.now (TwoReplicas by to)) result }
@@ -165,7 +218,8 @@ fn with_replicas(verb: &[u8], by: u8, to: u8) -> Option<Command>
     }
 }
 
-fn with_arming(verb: &[u8], by: u8, calls: u32, pick: u8) -> Option<Command>
+/// The command that the verb makes of the number of a replica, a number of calls and a pick behind it.
+pub(crate) fn with_arming(verb: &[u8], by: u8, calls: u32, pick: u8) -> Option<Command>
     requires replica { IsReplicaNumber by }
     requires pick { pick < 4 }
     ensures { IsCommandOf (of_none verb.now (Arming by calls pick)) result }
@@ -174,16 +228,4 @@ fn with_arming(verb: &[u8], by: u8, calls: u32, pick: u8) -> Option<Command>
         _ if verb == b"stop".as_slice() => Some(Command::Stop { by, calls, pick }),
         _ => None,
     }
-}
-
-fn change(by: u8, change: Change) -> Option<Command>
-    ensures { result ≡ Some (command.Change by change) }
-{
-    Some(Command::Change { by, change })
-}
-
-fn look(by: u8, look: Look) -> Option<Command>
-    ensures { result ≡ Some (command.Look by look) }
-{
-    Some(Command::Look { by, look })
 }

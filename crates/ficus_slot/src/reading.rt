@@ -74,6 +74,7 @@ pub fn read_all<D: Disk>(alloc: Global, disk: &mut D) -> Result<Vec<u8>, StoreFa
     ensures room { D.room disk.old ≤ D.room disk.new }
     ensures failed { IsErrOf result StoreFault.Failed → Rose (D.faults disk.old) (D.faults disk.new) }
     ensures steady { OnOk result (D.faults disk.new ≡ D.faults disk.old) }
+    ensures spared { IsErrOf result StoreFault.Memory → D.faults disk.new ≡ D.faults disk.old }
     ensures risen { D.faults disk.old ≤ D.faults disk.new }
     ensures armings { D.armings disk.new ≡ D.armings disk.old }
     ensures never { D.tells_fuse → is_intact (D.fuse disk.old) ≡ true → IsErrOf result StoreFault.Failed → ⊥ }

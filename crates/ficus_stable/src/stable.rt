@@ -57,6 +57,7 @@ impl<K: Keep + Drop> Stable<K> {
         ensures armings { PairSame D.armings disks.old disks.new }
         ensures failed { IsErrOf result MakeFault.Failed → PairRose D.faults 1 disks.old disks.new }
         ensures steady { OnOk result (PairSame D.faults disks.old disks.new) }
+        ensures spared { IsErrOf result MakeFault.Memory → PairSame D.faults disks.old disks.new }
         ensures risen { PairRose D.faults 0 disks.old disks.new }
 
         // Without an armed fuse nothing fails.
@@ -84,6 +85,8 @@ impl<K: Keep + Drop> Stable<K> {
         ensures armings { PairSame D.armings disks.old disks.new }
         ensures failed { IsErrOf result StoreFault.Failed → PairRose D.faults 1 disks.old disks.new }
         ensures steady { OnOk result (PairSame D.faults disks.old disks.new) }
+        ensures spared { IsErrOf result StoreFault.Memory → PairSame D.faults disks.old disks.new }
+        ensures nothing { IsErrOf result StoreFault.NoImage → PairSame D.faults disks.old disks.new }
         ensures risen { PairRose D.faults 0 disks.old disks.new }
 
         // Without an armed fuse nothing fails.
@@ -111,6 +114,8 @@ impl<K: Keep + Drop> Stable<K> {
         ensures armings { PairSame D.armings disks.old disks.new }
         ensures failed { IsErrOf result StoreFault.Failed → PairRose D.faults 1 disks.old disks.new }
         ensures steady { OnOk result (PairSame D.faults disks.old disks.new) }
+        ensures spared { IsErrOf result StoreFault.Memory → PairSame D.faults disks.old disks.new }
+        ensures nothing { IsErrOf result StoreFault.NoImage → PairSame D.faults disks.old disks.new }
         ensures risen { PairRose D.faults 0 disks.old disks.new }
 
         // Where the disks tell their fuses, it never fails, and each becomes the image of its pick.

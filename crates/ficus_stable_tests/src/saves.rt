@@ -146,27 +146,39 @@ fn each_commit_is_found(rt: HostRuntime) -> Result<(), Fail> {
     Ok(())
 }
 
+// What comes of opening the disks.
+fn opens<D: Disk>(alloc: Global, disks: &mut Pair<D>) -> Result<(), StoreFault>
+    ensures { D.tells → PairSame D.seen disks.old disks.new }
+{
+    let _found = Stable::<TwoSlot>::open(alloc, disks)?;
+    Ok(())
+}
+
+// What comes of opening two disks that were found empty, once these bytes are kept on them as an image. None where
+// they weren't.
+fn opens_with(alloc: Global, image: &[u8]) -> Option<Result<(), StoreFault>> {
+    let mut disks = Pair {
+        a: MemDisk::new(alloc),
+        b: MemDisk::new(alloc),
+    };
+    if opens(alloc, &mut disks) != Err(StoreFault::NoImage)
+        || TwoSlot::make(alloc, &mut disks, image).is_err()
+    {
+        return None;
+    }
+    Some(opens(alloc, &mut disks))
+}
+
 #[test]
 fn only_an_image_of_its_generation_is_opened(rt: HostRuntime) -> Result<(), Fail> {
-    let alloc = rt.alloc();
-    let rows: [(&[u8], bool); 4] = [
-        (&FRESH, true),
-        (&FRESH[..37], false),
-        (b"", false),
-        (&FIRST, false),
+    let rows: [(&[u8], Result<(), StoreFault>); 4] = [
+        (&FRESH, Ok(())),
+        (&FRESH[..37], Err(StoreFault::NoImage)),
+        (b"", Err(StoreFault::NoImage)),
+        (&FIRST, Err(StoreFault::NoImage)),
     ];
-    for (bytes, is_opened) in rows {
-        let mut disks = Pair {
-            a: MemDisk::new(alloc),
-            b: MemDisk::new(alloc),
-        };
-        let none = Stable::<TwoSlot>::open(alloc, &mut disks);
-        assert!(rt; matches!(none, Err(StoreFault::NoImage)));
-        assert!(rt; TwoSlot::make(alloc, &mut disks, bytes).is_ok());
-        match Stable::<TwoSlot>::open(alloc, &mut disks) {
-            Ok(_) => assert!(rt; is_opened),
-            Err(fault) => assert!(rt; !is_opened && fault == StoreFault::NoImage),
-        }
+    for (image, opened) in rows {
+        assert!(rt; opens_with(rt.alloc(), image) == Some(opened));
     }
     Ok(())
 }

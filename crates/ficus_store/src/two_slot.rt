@@ -24,9 +24,9 @@ pub struct TwoSlot {
 }
 
 impl Keep for TwoSlot {
-    ghost use Rattle.std.specs.Prelude.{◌+◌, ◌==◌, ◌%◌, true, refl};
+    ghost use Rattle.std.specs.Prelude.{◌+◌, true, refl};
     ghost use Rattle.ficus_slot.specs.Slot.{range_size};
-    ghost use Rattle.ficus_store.specs.Slots.{IsRegular, kept_in};
+    ghost use Rattle.ficus_store.specs.Slots.{IsRegular, calls_of_slots, kept_in, lies_on_a};
     ghost use Rattle.ficus_store.specs.TwoSlot.{Fits, room_in};
 
     ghost kept = { kept_in };
@@ -41,9 +41,9 @@ impl Keep for TwoSlot {
 
     ghost size_of = { λ _ length. 1 + range_size + length };
 
-    ghost calls = { λ _. 6 };
+    ghost calls = { calls_of_slots };
 
-    ghost is_on_a = { λ generation. generation % 2 == 0 };
+    ghost is_on_a = { lies_on_a };
 
     ghost Regular = { IsRegular };
 

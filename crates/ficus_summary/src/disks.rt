@@ -5,8 +5,8 @@ use ficus_disk::{MemDisk, Pair};
 use ficus_ids::Memory;
 use std::alloc::Global;
 
-/// Eight pairs of empty disks in memory.
-pub(crate) fn fresh_disks(alloc: Global) -> Result<Vec<Pair<MemDisk>>, Memory>
+/// Eight pairs of empty disks in memory, a pair for each replica that a volume may have. No fuse is armed.
+pub fn fresh_disks(alloc: Global) -> Result<Vec<Pair<MemDisk>>, Memory>
     ensures count { IfOk result (λ disks. length disks.items ≡ 8) }
     ensures fresh { IfOk result (λ disks. All IsFreshPair disks.items) }
 {

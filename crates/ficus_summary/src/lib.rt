@@ -11,5 +11,6 @@ mod summary;
 mod text;
 mod world;
 
+pub use disks::fresh_disks;
 pub use laws::one_summary;
 pub use summary::summarize;

@@ -82,6 +82,7 @@ module _ {D tells : Type 0} {disk : Disk D} {Rest : (ℕ → FuseState) → Type
       disks = front.ends.disks;
       fuses = front.ends.fuses;
       stand = front.ends.stand;
+      outlasts = front.ends.outlasts;
     };
     lawful = front.lawful;
     no_return = front.no_return;

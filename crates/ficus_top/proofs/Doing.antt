@@ -9,12 +9,12 @@ use Rattle.ficus_outside.specs.declared.source.Source.{Ghosts as Source}
 use Rattle.ficus_model.specs.Lawful.{Volume}
 use Rattle.ficus_model.specs.declared.event.Event.{Event}
 use Rattle.ficus_store.specs.Slots.{kept_in}
-use Rattle.ficus_top.specs.Codes.{IsIdleCode}
+use Rattle.ficus_top.specs.Codes.{IsCode, IsIdleCode}
 use Rattle.ficus_top.specs.Ending.{IsAnswering, IsIdle, IsInterruption, IsOfMaking, IsUntouched, TakesAsEnded}
 use Rattle.ficus_top.specs.Headline.{CarriesOutNothing}
 use Rattle.ficus_top.specs.Making.{MakesVolume, volume_of}
 use Rattle.ficus_top.specs.Modes.Init.{DoesInit, IsInitCode}
-use Rattle.ficus_top.specs.Modes.Replay.{DoesReplay}
+use Rattle.ficus_top.specs.Modes.Replay.{DoesReplay, IsReplayCode}
 use Rattle.ficus_top.specs.Modes.Run.{DoesRun, HoldsSame, IsRunCode}
 use Rattle.ficus_top.specs.Program.{Does, EndsAsAnyMode}
 use Rattle.ficus_top.specs.Reading.{TakesUntil}
@@ -31,13 +31,14 @@ use Rattle.ficus_words.specs.declared.mode.Mode.{Mode}
 use Rattle.ficus_words.specs.declared.mode.Mode.TheVariants.{Init, Run, Replay, Gen}
 use Rattle.ficus_words.specs.declared.mode.Size.{Size}
 use Rattle.ficus_world.specs.Fuses.{AreUnarmed}
-use Rattle.ficus_world.specs.Opening.{IsAtFault, IsFirstBad, IsFirstOccupied, StandsOn, Steady}
+use Rattle.ficus_world.specs.Opening.{AreSynced, IsAtFault, IsFirstBad, IsFirstOccupied, IsUnfailed, SeenSame, StandsOn, Steady}
+use Rattle.ficus_world.specs.declared.opening.WorldFault.{WorldFault}
 use Rattle.ficus_world.specs.declared.opening.WorldFault.TheVariants as world
 use Rattle.ficus_world.proofs.Steadies.{steady_none}
 use Rattle.ficus_top.proofs.Answering.{answers_where}
 use Rattle.ficus_top.proofs.Codes.{done_of_code, idle_of_code, image_of_code, is_code, line_of_code, occupied_of_code, prefix_of_code, replica_of_code, sink_of_code, source_of_code, store_of_code, untouched_of_code, usage_of_code}
 use Rattle.ficus_top.proofs.Earlier.{not_at_fault}
-use Rattle.ficus_top.proofs.Endings.{AreUsed, IsStored, bad_line_comes, bad_line_told, complete_of_code, image_comes, made_of_code, nothing_left, occupied_comes, too_long_comes, too_long_of_code, within_of_code}
+use Rattle.ficus_top.proofs.Endings.{AreUsed, IsStored, bad_line_comes, bad_line_told, complete_of_code, made_of_code, nothing_left, refusal_comes, too_long_comes, too_long_of_code, within_of_code}
 use Rattle.ficus_serving.proofs.Places.{not_occupied}
 
 -- what was seen of a source, a sink and disks
@@ -55,6 +56,17 @@ seen_of source in_old in_new sink out_old out_new disk old new = record {
 -- how a run ended, as numbers
 abbrev pub status_of : {Done : Type 0} → Result Done Fault → Status
 status_of ended = record { code = code_of ended; line = line_of ended; replica = replica_of ended }
+
+-- a code that isn't 1 is one of a replay, and one of those that isn't 9 is one of a run
+but_one : {code : ℕ} → IsCode code → (code ≡ 1 → ⊥) → IsReplayCode code
+but_one codes none = elim codes [
+  | inl zero ↦ inl zero
+  | inr (inl one) ↦ absurd (none one)
+  | inr (inr other) ↦ inr other
+]
+
+but_nine : {code : ℕ} → IsReplayCode code → (code ≡ 9 → ⊥) → IsRunCode code
+but_nine codes none = grind arith
 
 module _ {Done : Type 0} where
   -- what making a volume doesn't end with
@@ -129,20 +141,13 @@ module _ {Done : Type 0} where
   making_code (Err (Storing (world.Occupied r))) making = inr (inr (inr refl))
   making_code (Err (Answering fault)) making = absurd making
 
+  replay_code : (ended : Result Done Fault) → AreUsed ended → IsReplayCode (code_of ended)
+  replay_code ended used = but_one (is_code ended) (λ one. used word.Usage (usage_of_code ended one))
+
   run_code : (ended : Result Done Fault) → AreUsed ended
       → ((r : ℕ) → IsErrOf ended (Storing (world.Occupied r)) → ⊥) → IsRunCode (code_of ended)
-  run_code (Ok done) used occupied = inl refl
-  run_code (Err (Words fault)) used occupied = absurd (used fault refl)
-  run_code (Err (Reading (reading.BadLine line))) used occupied = inr (inl refl)
-  run_code (Err (Reading reading.Memory)) used occupied = inr (inr (inl refl))
-  run_code (Err (Reading reading.Source)) used occupied = inr (inr (inr (inl refl)))
-  run_code (Err (Reading reading.TooLong)) used occupied = inr (inr (inr (inr (inr (inr (inr refl))))))
-  run_code (Err (Storing world.Memory)) used occupied = inr (inr (inl refl))
-  run_code (Err (Storing (world.Store r))) used occupied = inr (inr (inr (inr (inr (inl refl)))))
-  run_code (Err (Storing (world.Image r))) used occupied = inr (inr (inr (inr (inr (inr (inl refl))))))
-  run_code (Err (Storing (world.Occupied r))) used occupied = absurd (occupied r refl)
-  run_code (Err (Answering answering.Memory)) used occupied = inr (inr (inl refl))
-  run_code (Err (Answering answering.Sink)) used occupied = inr (inr (inr (inr (inl refl))))
+  run_code ended used occupied =
+      but_nine (replay_code ended used) (λ nine. occupied (replica_of ended) (occupied_of_code ended nine))
 
 idle_either : {code : ℕ} → (code ≡ 6) ⊎ (code ≡ 7) → IsIdleCode code
 idle_either (inl six) = inr (inr (inl six))
@@ -164,6 +169,7 @@ module _ {S K D Done : Type 0} (seen : Seen S K D) (ended : Result Done Fault) w
     pub unarmed : IfErr ended (λ fault. IsIdle fault
         → Steady seen.disk.armings (disks_before seen) (disks_after seen))
     pub untouched : IfErr ended (λ fault. IsUntouched fault → seen.disks.new ≡ seen.disks.old)
+    pub pairs : length (disks_after seen) ≡ length (disks_before seen)
     pub source_counted : seen.source.faults seen.input.old ≤ seen.source.faults seen.input.new
     pub sink_counted : seen.sink.faults seen.output.old ≤ seen.sink.faults seen.output.new
 
@@ -179,6 +185,7 @@ module _ {S K D Done : Type 0} (seen : Seen S K D) (ended : Result Done Fault) w
     idle = λ code. idle_of_code ended code facts.idle;
     untouched = λ code. untouched_of_code ended code facts.untouched;
     unarmed = λ code. idle_of_code ended code facts.unarmed;
+    pairs = facts.pairs;
     line = line_of_code ended;
     replica = replica_of_code ended;
     source_counted = facts.source_counted;
@@ -221,18 +228,39 @@ module _ {S K D Done : Type 0} (seen : Seen S K D) (ended : Result Done Fault) w
         cut = put.1;
       }
 
+  -- no disk has failed where no such fault of a volume was told
+  abbrev pub Spares : Type 0
+  Spares = (fault : WorldFault) → IsUnfailed fault → IsErrOf ended (Storing fault)
+      → Steady seen.disk.faults (disks_before seen) (disks_after seen)
+
   -- what is known of a run that makes a volume of so many members
   makes_of : (members : ℕ)
       → ((r : ℕ) → IsErrOf ended (Storing (world.Occupied r))
       → IsFirstOccupied seen.disk.seen (disks_before seen) r × (r ≤ members))
       → ((r : ℕ) → r ≤ members → IsFirstOccupied seen.disk.seen (disks_before seen) r
       → IsErrAnd ended (λ fault. (fault ≡ Storing (world.Occupied r)) ⊎ IsInterruption fault))
-      → MakesVolume members seen (status_of ended)
-  makes_of members occupied comes = record {
+      → ((r : ℕ) → r ≤ members → IsFirstOccupied seen.disk.seen (disks_before seen) r
+      → SeenSame seen.disk.seen (disks_before seen) (disks_after seen)) → MakesVolume members seen (status_of ended)
+  makes_of members occupied comes held = record {
     occupied = λ code. (occupied (replica_of ended) (occupied_of_code ended code)).0;
     is_member = λ code. (occupied (replica_of ended) (occupied_of_code ended code)).1;
-    occupied_comes = λ r within first. occupied_comes ended r (comes r within first);
+    occupied_comes = λ r within first. refusal_comes ended (world.Occupied r) (comes r within first);
+    held = held;
   }
+
+  unfailed_where : (made : Result Done Fault) → IfErr made IsOfMaking
+      → OnOk made (Steady seen.disk.faults (disks_before seen) (disks_after seen))
+      → ((fault : WorldFault) → IsUnfailed fault → IsErrOf made (Storing fault)
+      → Steady seen.disk.faults (disks_before seen) (disks_after seen)) → (code_of made ≡ 6 → ⊥)
+      → Steady seen.disk.faults (disks_before seen) (disks_after seen)
+  unfailed_where (Ok done) making steady spared other = steady
+  unfailed_where (Err (Words fault)) making steady spared other = absurd making
+  unfailed_where (Err (Reading fault)) making steady spared other = absurd making
+  unfailed_where (Err (Storing (world.Store r))) making steady spared other = absurd (other refl)
+  unfailed_where (Err (Storing (world.Occupied r))) making steady spared other = spared (world.Occupied r) tt refl
+  unfailed_where (Err (Storing (world.Image r))) making steady spared other = absurd making
+  unfailed_where (Err (Storing world.Memory)) making steady spared other = spared world.Memory tt refl
+  unfailed_where (Err (Answering fault)) making steady spared other = absurd making
 
   pub init_of : (size : Size) → IfErr ended IsOfMaking → seen.input.new ≡ seen.input.old
       → seen.output.new ≡ seen.output.old → Steady seen.disk.armings (disks_before seen) (disks_after seen)
@@ -243,14 +271,23 @@ module _ {S K D Done : Type 0} (seen : Seen S K D) (ended : Result Done Fault) w
       → (seen.disk.tells → (r : ℕ) → r ≤ size.members → IsFirstOccupied seen.disk.seen (disks_before seen) r
       → IsErrAnd ended (λ fault. (fault ≡ Storing (world.Occupied r)) ⊎ IsInterruption fault))
       → (seen.disk.tells → OnOk ended (StandsOn kept_in seen.disk.seen (volume_of size) [] (disks_after seen)))
+      → ((r : ℕ) → IsErrOf ended (Storing (world.Store r)) → r ≤ size.members)
+      → (seen.disk.tells → (r : ℕ) → r ≤ size.members → IsFirstOccupied seen.disk.seen (disks_before seen) r
+      → SeenSame seen.disk.seen (disks_before seen) (disks_after seen))
+      → OnOk ended (Steady seen.disk.faults (disks_before seen) (disks_after seen)) → Spares
+      → (seen.disk.tells → AreSynced seen.disk.seen seen.disk.may_leave (disks_before seen) size.members
+      → OnOk ended (AreSynced seen.disk.seen seen.disk.may_leave (disks_after seen) size.members))
       → DoesInit size seen (status_of ended)
-  init_of size making unread silent unarmed fault occupied comes made = record {
+  init_of size making unread silent unarmed fault occupied comes made member held steady spared synced = record {
     codes = making_code ended making;
     unread = unread;
     silent = silent;
     unarmed = unarmed;
-    makes = λ tells. makes_of size.members (occupied tells) (comes tells);
+    unfailed = unfailed_where ended making steady spared;
+    member = λ code. member (replica_of ended) (store_of_code ended code);
+    makes = λ tells. makes_of size.members (occupied tells) (comes tells) (held tells);
     made = λ tells code. done_of_code ended code (made tells);
+    synced = λ tells code at_first. done_of_code ended code (synced tells at_first);
     complete = λ tells empty none. made_of_code ended making (record {
       store = λ r is. not_at_fault none r (fault r is);
       image = making_opens_nothing ended making;
@@ -272,6 +309,7 @@ module _ {S K D Done : Type 0} (seen : Seen S K D) (ended : Result Done Fault) w
     idle = if_idle ended silent;
     unarmed = if_idle ended unarmed;
     untouched = making_touches _ ended making;
+    pairs = unarmed.count;
     source_counted = omega (arith, ap seen.source.faults unread);
     sink_counted = omega (arith, ap seen.sink.faults silent);
   })
@@ -291,12 +329,13 @@ module _ {S K D Done : Type 0} (seen : Seen S K D) (ended : Result Done Fault) w
       → (seen.disk.tells → (volume : Volume) (H : List Event)
       → StandsOn kept_in seen.disk.seen volume H (disks_before seen) → (r : ℕ)
       → IsErrOf ended (Storing (world.Image r)) → ⊥)
-      → ((r : ℕ) → IsErrOf ended (Storing (world.Occupied r)) → ⊥) → DoesRun seen (status_of ended)
-  run_of any takes answers front idle image comes never never_occupied = record {
+      → ((r : ℕ) → IsErrOf ended (Storing (world.Occupied r)) → ⊥) → Spares → DoesRun seen (status_of ended)
+  run_of any takes answers front idle image comes never never_occupied spared = record {
     codes = run_code ended any.used never_occupied;
     reads = λ tells. reads_of any.used any.read_fault (takes tells);
     image = λ tells code. image tells (replica_of ended) (image_of_code ended code);
-    image_comes = λ tells r bad. image_comes ended r (comes tells r bad);
+    image_comes = λ tells r bad. refusal_comes ended (world.Image r) (comes tells r bad);
+    unfailed = λ code. spared (world.Image (replica_of ended)) tt (image_of_code ended code);
     unwritten = λ codes. (idle_of_code ended (idle_either codes) idle).besides;
     answers = λ tells told volume H stands.
         script_answered (HoldsSame seen) volume H (takes tells)
@@ -333,10 +372,17 @@ module _ {S K D Done : Type 0} (seen : Seen S K D) (ended : Result Done Fault) w
       → IsFirstOccupied seen.disk.seen (disks_before seen) r × (r ≤ size.members))
       → (seen.disk.tells → (r : ℕ) → r ≤ size.members → IsFirstOccupied seen.disk.seen (disks_before seen) r
       → IsErrAnd ended (λ fault. (fault ≡ Storing (world.Occupied r)) ⊎ IsInterruption fault))
-      → DoesReplay size seen (status_of ended)
-  replay_of size any takes answers front idle unfailing never occupied comes = record {
+      → (seen.disk.tells → (r : ℕ) → r ≤ size.members → IsFirstOccupied seen.disk.seen (disks_before seen) r
+      → SeenSame seen.disk.seen (disks_before seen) (disks_after seen))
+      → Spares → DoesReplay size seen (status_of ended)
+  replay_of size any takes answers front idle unfailing never occupied comes held spared = record {
+    codes = replay_code ended any.used;
     reads = λ tells. reads_of any.used any.read_fault (takes tells);
-    makes = λ tells. makes_of size.members (occupied tells) (comes tells);
+    makes = λ tells. makes_of size.members (occupied tells) (comes tells) (held tells);
+    unfailed = λ codes. elim codes [
+      | inl image ↦ spared (world.Image (replica_of ended)) tt (image_of_code ended image)
+      | inr occupied ↦ spared (world.Occupied (replica_of ended)) tt (occupied_of_code ended occupied)
+    ];
     opens = λ tells code. never tells (replica_of ended) (image_of_code ended code);
     answers = λ tells told.
         script_answered (Unit {0}) (volume_of size) [] (takes tells) (answers tells told) (front tells told) idle;
@@ -374,6 +420,11 @@ module _ {S K D : Type 0} (seen : Seen S K D) (unread : seen.input.new ≡ seen.
       subst (λ (disks : Vec (Pair D) Global). Steady seen.disk.seen (disks_before seen) (vec_items disks))
       (sym untouched) (steady_none seen.disk.seen (disks_before seen))
 
+  unfailed_now : Steady seen.disk.faults (disks_before seen) (disks_after seen)
+  unfailed_now =
+      subst (λ (disks : Vec (Pair D) Global). Steady seen.disk.faults (disks_before seen) (vec_items disks))
+      (sym untouched) (steady_none seen.disk.faults (disks_before seen))
+
   takes : TakesUntil (script_of seen) (left_of seen) reading.Memory
   takes = record {
     count = 0;
@@ -392,6 +443,7 @@ module _ {S K D : Type 0} (seen : Seen S K D) (unread : seen.input.new ≡ seen.
     idle = λ idle. silent;
     unarmed = λ idle. unarmed;
     untouched = λ none. untouched;
+    pairs = unarmed.count;
     source_counted = omega (arith, ap seen.source.faults unread);
     sink_counted = omega (arith, ap seen.sink.faults silent);
   }
@@ -399,15 +451,18 @@ module _ {S K D : Type 0} (seen : Seen S K D) (unread : seen.input.new ≡ seen.
   pub nothing_done : (mode : Mode) → Does mode seen (record { code = 3; line = 0; replica = 0 })
   nothing_done (Init size root) =
       init_of seen unmade_end size tt unread silent unarmed (λ r is. absurd (cc is))
-      (λ tells r is. absurd (cc is)) (λ tells r within first. inr tt) (λ tells. tt)
+      (λ tells r is. absurd (cc is)) (λ tells r within first. inr tt) (λ tells. tt) (λ r is. absurd (cc is))
+      (λ tells r within first. held tells) tt (λ fault unfailed is. unfailed_now) (λ tells at_first. tt)
   nothing_done (Run root) =
       run_of seen unread_end any (λ tells. takes) (λ tells told. tt)
       (λ tells told is. absurd is) (λ idle. record { put = silent; unarmed = unarmed; besides = held })
       (λ tells r is. absurd (cc is)) (λ tells r bad. inr tt) (λ tells volume H stands r is. cc) (λ r is. cc)
+      (λ fault unfailed is. unfailed_now)
   nothing_done (Replay size) =
       replay_of seen unread_end size any (λ tells. takes) (λ tells told. tt)
       (λ tells told is. absurd is) (λ idle. record { put = silent; unarmed = unarmed; besides = tt })
       (λ fused none r is. cc) (λ tells r is. cc) (λ tells r is. absurd (cc is)) (λ tells r within first. inr tt)
+      (λ tells r within first. held tells) (λ fault unfailed is. unfailed_now)
   nothing_done (Gen members seed steps) = record {
     codes = inr (inl refl);
     unread = unread;

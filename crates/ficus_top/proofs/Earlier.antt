@@ -70,6 +70,7 @@ module _ {D : Type 0} (disk : Disk D) {old middle new : List (Pair D)} (steady :
           done = λ none. ends.done (none_failed_since none);
           fuses = λ F at_first. ends.fuses F (rests F at_first);
           stand = ends.stand;
+          outlasts = ends.outlasts;
         })
 
     pub front_since : {may : Type 0} → EndsFront tells may disk Rest volume
@@ -86,4 +87,5 @@ module _ {D : Type 0} (disk : Disk D) {old middle new : List (Pair D)} (steady :
           disks = follows_since front.disks;
           fuses = λ F at_first. front.fuses F (rests F at_first);
           stand = front.stand;
+          outlasts = front.outlasts;
         })

@@ -5,7 +5,7 @@ use Rattle.ficus_faults.specs.Faults.{Rose}
 use Rattle.ficus_script.specs.declared.command.Command.{Command}
 use Rattle.ficus_script.specs.Script.{IsScript, IsFirstBadLine}
 use Rattle.ficus_script.proofs.ScriptLaws.{no_bad_line, one_bad_line}
-use Rattle.ficus_top.specs.Codes.{IsBadLineCode, IsImageCode, IsOccupiedCode, IsReadCode}
+use Rattle.ficus_top.specs.Codes.{IsBadLineCode, IsReadCode, IsRefusalCode}
 use Rattle.ficus_top.specs.Ending.{IsInterruption, IsOfMaking, TakesAsEnded}
 use Rattle.ficus_top.specs.Outside.{GivesCount}
 use Rattle.ficus_serving.specs.Serving.{script_limit}
@@ -16,6 +16,7 @@ use Rattle.ficus_top.specs.declared.fault.ReadingFault.TheVariants.{BadLine, Mem
 use Rattle.ficus_serving.specs.declared.fault.AnsweringFault.TheVariants.{Memory as NoMemory, Sink}
 use Rattle.ficus_words.specs.declared.fault.WordsFault.{WordsFault}
 use Rattle.ficus_words.specs.declared.fault.WordsFault.TheVariants as word
+use Rattle.ficus_world.specs.declared.opening.WorldFault.{WorldFault}
 use Rattle.ficus_world.specs.declared.opening.WorldFault.TheVariants as world
 
 one_unread : IsReadCode 1 → ⊥
@@ -178,36 +179,21 @@ module _ {Done : Type 0} where
   made_of_code (Err (Storing (world.Occupied r))) making stored = absurd (stored.occupied r refl)
   made_of_code (Err (Answering fault)) making stored = absurd making
 
-  -- what is left of a volume that isn't made where something is held: it is said, or a fault came before
-  pub occupied_comes : (ended : Result Done Fault) (r : ℕ)
-      → IsErrAnd ended (λ fault. (fault ≡ Storing (world.Occupied r)) ⊎ IsInterruption fault)
-      → IsOccupiedCode r (code_of ended) (replica_of ended)
-  occupied_comes (Ok done) r said = absurd said
-  occupied_comes (Err fault) r (inl is) = rw is (inl (refl, refl))
-  occupied_comes (Err (Words fault)) r (inr said) = absurd said
-  occupied_comes (Err (Reading (BadLine line))) r (inr said) = inr (inl (inr refl))
-  occupied_comes (Err (Reading Memory)) r (inr said) = inr (inr (inl refl))
-  occupied_comes (Err (Reading Source)) r (inr said) = inr (inl (inl (inr (inl refl))))
-  occupied_comes (Err (Reading TooLong)) r (inr said) = inr (inl (inl (inr (inr refl))))
-  occupied_comes (Err (Storing world.Memory)) r (inr said) = inr (inr (inl refl))
-  occupied_comes (Err (Storing (world.Store q))) r (inr said) = inr (inr (inr refl))
-  occupied_comes (Err (Storing (world.Image q))) r (inr said) = absurd said
-  occupied_comes (Err (Storing (world.Occupied q))) r (inr said) = absurd said
-  occupied_comes (Err (Answering fault)) r (inr said) = absurd said
-
-  -- what is left of a world that isn't opened: it is said whose disks are those of none, or a fault came before
-  pub image_comes : (ended : Result Done Fault) (r : ℕ)
-      → IsErrAnd ended (λ fault. (fault ≡ Storing (world.Image r)) ⊎ IsInterruption fault)
-      → IsImageCode r (code_of ended) (replica_of ended)
-  image_comes (Ok done) r said = absurd said
-  image_comes (Err fault) r (inl is) = rw is (inl (refl, refl))
-  image_comes (Err (Words fault)) r (inr said) = absurd said
-  image_comes (Err (Reading (BadLine line))) r (inr said) = inr (inl (inr refl))
-  image_comes (Err (Reading Memory)) r (inr said) = inr (inr (inl refl))
-  image_comes (Err (Reading Source)) r (inr said) = inr (inl (inl (inr (inl refl))))
-  image_comes (Err (Reading TooLong)) r (inr said) = inr (inl (inl (inr (inr refl))))
-  image_comes (Err (Storing world.Memory)) r (inr said) = inr (inr (inl refl))
-  image_comes (Err (Storing (world.Store q))) r (inr said) = inr (inr (inr refl))
-  image_comes (Err (Storing (world.Image q))) r (inr said) = absurd said
-  image_comes (Err (Storing (world.Occupied q))) r (inr said) = absurd said
-  image_comes (Err (Answering fault)) r (inr said) = absurd said
+  -- what is left of a volume that isn't made, or not opened, where a replica's disks are refused: it is said which, or
+  -- a fault came before
+  pub refusal_comes : (ended : Result Done Fault) (refusal : WorldFault)
+      → IsErrAnd ended (λ fault. (fault ≡ Storing refusal) ⊎ IsInterruption fault)
+      → IsRefusalCode (code_of {Done = Done} (Err (Storing refusal))) (replica_of {Done = Done} (Err (Storing refusal)))
+      (code_of ended) (replica_of ended)
+  refusal_comes (Ok done) refusal said = absurd said
+  refusal_comes (Err fault) refusal (inl is) = rw is (inl (refl, refl))
+  refusal_comes (Err (Words fault)) refusal (inr said) = absurd said
+  refusal_comes (Err (Reading (BadLine line))) refusal (inr said) = inr (inl (inr refl))
+  refusal_comes (Err (Reading Memory)) refusal (inr said) = inr (inr (inl refl))
+  refusal_comes (Err (Reading Source)) refusal (inr said) = inr (inl (inl (inr (inl refl))))
+  refusal_comes (Err (Reading TooLong)) refusal (inr said) = inr (inl (inl (inr (inr refl))))
+  refusal_comes (Err (Storing world.Memory)) refusal (inr said) = inr (inr (inl refl))
+  refusal_comes (Err (Storing (world.Store q))) refusal (inr said) = inr (inr (inr refl))
+  refusal_comes (Err (Storing (world.Image q))) refusal (inr said) = absurd said
+  refusal_comes (Err (Storing (world.Occupied q))) refusal (inr said) = absurd said
+  refusal_comes (Err (Answering fault)) refusal (inr said) = absurd said

@@ -21,7 +21,7 @@ use Rattle.ficus_world.specs.Disks.{DisksFollow}
 use Rattle.ficus_store.specs.Slots.{kept_in}
 use Rattle.ficus_world.specs.Fuses.{FusesPermit, keeping_of}
 use Rattle.ficus_world.specs.Opening.{Steady}
-use Rattle.ficus_world.specs.Stand.{DisksStand}
+use Rattle.ficus_world.specs.Stand.{DisksOutlast, DisksStand}
 use Rattle.ficus_world.specs.World.{Whole, WorldStandsFor}
 use Rattle.ficus_world.proofs.Disks.{follows_steady, follows_then}
 use Rattle.ficus_top.specs.Ends.{AllUp, Ends, EndsFront, NoneFailed, StandNow, two_slots}
@@ -90,6 +90,8 @@ module _ {K D : Type 0} {tells : Type 0} {keep : Keep K} {disk : Disk D} {volume
     {old_disks new_disks : List (Pair D)} (slots : keeping_of keep ≡ two_slots) (told : disk.tells)
     (nothing : world.post.faults ≡ 0)
     (stand : (M : ModelWorld) → WorldStandsFor volume M world → DisksStand kept_in disk.seen volume M new_disks)
+    (outlast : (M : ModelWorld) → WorldStandsFor volume M world
+    → DisksOutlast kept_in disk.may_leave volume M new_disks)
   where
     -- what was served over a link that hasn't failed, from a world in which all are up
     pub served_ends : AllUp W → length W.standings ≤ length old_disks
@@ -106,6 +108,7 @@ module _ {K D : Type 0} {tells : Type 0} {keep : Keep K} {disk : Disk D} {volume
           fuses = permitted keep disk before old_disks slots told (all_outcomes served.serves.outcomes)
               served.fuses.permit;
           stand = stand served.after served.stands;
+          outlasts = outlast served.after served.stands;
         }
 
     -- and of first commands
@@ -120,6 +123,7 @@ module _ {K D : Type 0} {tells : Type 0} {keep : Keep K} {disk : Disk D} {volume
       fuses = permitted keep disk before old_disks slots told
           (all_outcomes front.serves.outcomes ++ front.serves.more_outcomes) front.fuses;
       stand = stand front.after front.stands;
+      outlasts = outlast front.after front.stands;
     }
 
 module _ {D : Type 0} (disk : Disk D) {old_disks mid_disks new_disks : List (Pair D)}
@@ -156,6 +160,7 @@ module _ {D : Type 0} (disk : Disk D) {old_disks mid_disks new_disks : List (Pai
       done = λ none. ends.done (none_behind none);
       fuses = λ F before. ends.fuses F (rests F before);
       stand = ends.stand;
+      outlasts = ends.outlasts;
     }
 
     pub front_ends_behind : {may : Type 0}
@@ -168,6 +173,7 @@ module _ {D : Type 0} (disk : Disk D) {old_disks mid_disks new_disks : List (Pai
       disks = follows_behind ends.disks;
       fuses = λ F before. ends.fuses F (rests F before);
       stand = ends.stand;
+      outlasts = ends.outlasts;
     }
 
 -- what may be may be wherever this is so
@@ -183,4 +189,5 @@ front_ends_where further ends = record {
   disks = ends.disks;
   fuses = ends.fuses;
   stand = ends.stand;
+  outlasts = ends.outlasts;
 }

@@ -7,6 +7,7 @@ pub mod Ends
 pub mod Fronts
 pub mod Lines
 pub mod Members
+pub mod NextRuns
 pub mod Repeating
 pub mod Resting
 pub mod Returning

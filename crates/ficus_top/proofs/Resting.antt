@@ -81,3 +81,12 @@ rest_made rest unfailing regular = record {
   own = regular;
   states = rest.states;
 }
+
+-- empty disks are those of a volume that nobody wrote
+none_regular : IsRegular [] []
+none_regular = record { even = λ saved is. absurd (cc is); odd = λ saved is. absurd (cc is) }
+
+pub nothing_regular : {a b : List ℕ} → a ≡ [] → b ≡ [] → IsRegular a b
+nothing_regular {a} {b} no_a no_b =
+    subst (λ (x : List ℕ). IsRegular x b) (sym no_a)
+    (subst (λ (y : List ℕ). IsRegular [] y) (sym no_b) none_regular)

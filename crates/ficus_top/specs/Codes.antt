@@ -30,12 +30,7 @@ NamesReplica code = (code ≡ 6) ⊎ (code ≡ 7) ⊎ (code ≡ 9)
 abbrev pub IsBadLineCode : ℕ → ℕ → ℕ → Type 0
 IsBadLineCode n code line = ((code ≡ 2) × (line ≡ n)) ⊎ (code ≡ 3)
 
--- a code that stands for the first replica that is occupied, by its number; or a fault came before, or want of memory
-abbrev pub IsOccupiedCode : ℕ → ℕ → ℕ → Type 0
-IsOccupiedCode r code replica =
-    ((code ≡ 9) × (replica ≡ r)) ⊎ IsUntouchedCode code ⊎ (code ≡ 3) ⊎ (code ≡ 6)
-
--- a code that stands for the first replica whose disks are those of no world, by its number; or a fault came before, or
--- want of memory
-abbrev pub IsImageCode : ℕ → ℕ → ℕ → Type 0
-IsImageCode r code replica = ((code ≡ 7) × (replica ≡ r)) ⊎ IsUntouchedCode code ⊎ (code ≡ 3) ⊎ (code ≡ 6)
+-- a code that refuses the disks of this replica, and names it; or a fault came before, or want of memory
+abbrev pub IsRefusalCode : ℕ → ℕ → ℕ → ℕ → Type 0
+IsRefusalCode refusal r code replica =
+    ((code ≡ refusal) × (replica ≡ r)) ⊎ IsUntouchedCode code ⊎ (code ≡ 3) ⊎ (code ≡ 6)

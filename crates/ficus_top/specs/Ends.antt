@@ -1,5 +1,5 @@
 -- What commands are answered with over disks, from a world of the model on, and what the disks hold then.
-use Rattle.std.specs.Prelude.{◌≡◌, ◌==◌, ◌<◌, ◌-◌, ◌^◌, ◌%◌, ℕ, List, ◌++◌}
+use Rattle.std.specs.Prelude.{◌≡◌, ◌<◌, ◌-◌, ◌^◌, ℕ, List, ◌++◌}
 use Rattle.ficus_disk.specs.declared.disk.Disk.{Ghosts as Disk}
 use Rattle.ficus_disk.specs.declared.pair.Pair.{Pair}
 use Rattle.ficus_keep.specs.declared.keep.Keep.{Ghosts as Keep}
@@ -11,12 +11,12 @@ use Rattle.ficus_runs.specs.ModelWorld.{ModelWorld, Standing, Up}
 use Rattle.ficus_runs.specs.Numbered.{IsNumbered}
 use Rattle.ficus_runs.specs.Outcome.{link_failures}
 use Rattle.ficus_runs.specs.Run.{EachDone}
-use Rattle.ficus_store.specs.Slots.{kept_in}
+use Rattle.ficus_store.specs.Slots.{calls_of_slots, kept_in, lies_on_a}
 use Rattle.ficus_world.specs.Disks.{DisksFollow}
 use Rattle.ficus_world.specs.Fuses.{FusesStand}
 use Rattle.ficus_world.specs.World.{Whole}
 use Rattle.ficus_world.specs.Opening.{Steady}
-use Rattle.ficus_world.specs.Stand.{DisksStand}
+use Rattle.ficus_world.specs.Stand.{DisksOutlast, DisksStand}
 use Rattle.ficus_serving.specs.Serving.{Serves, ServesFront}
 
 -- each member takes commands
@@ -29,9 +29,9 @@ pub record NoneFailed {D : Type 0} (faults : D → ℕ) (old new : List (Pair D)
   pub each : (r : ℕ) (pair : Pair D) → IsNumbered new r pair
       → (faults pair.a < 2 ^ 64 - 1) × (faults pair.b < 2 ^ 64 - 1)
 
--- how many calls save a generation on a pair of slots, and that the even ones lie on `a`
+-- how many calls save a generation on a pair of slots, and on which disk it lies
 abbrev pub two_slots : Keeping
-two_slots = record { calls = λ generation. 6; is_on_a = λ generation. generation % 2 == 0 }
+two_slots = record { calls = calls_of_slots; is_on_a = lies_on_a }
 
 -- the disks tell their fuses, and so these stand of the members of a world
 abbrev pub StandNow : {K D : Type 0} → Keep K → Disk D → Whole → List (Pair D) → (ℕ → FuseState) → Type 0
@@ -50,6 +50,7 @@ pub record Ends {D : Type 0} (tells : Type 0) (disk : Disk D) (Rest : (ℕ → F
   pub done : NoneFailed disk.faults old_disks new_disks → EachDone serves.outcomes
   pub fuses : (F : ℕ → FuseState) → Rest F → FusesAllowAll two_slots F (all_outcomes serves.outcomes)
   pub stand : DisksStand kept_in disk.seen volume after new_disks
+  pub outlasts : DisksOutlast kept_in disk.may_leave volume after new_disks
 
 -- some first commands were served; the same of the link and of the disks
 pub record EndsFront {D : Type 0} (tells may : Type 0) (disk : Disk D) (Rest : (ℕ → FuseState) → Type 0)
@@ -63,3 +64,4 @@ pub record EndsFront {D : Type 0} (tells may : Type 0) (disk : Disk D) (Rest : (
   pub fuses : (F : ℕ → FuseState) → Rest F
       → FusesAllowAll two_slots F (all_outcomes serves.outcomes ++ serves.more_outcomes)
   pub stand : DisksStand kept_in disk.seen volume after new_disks
+  pub outlasts : DisksOutlast kept_in disk.may_leave volume after new_disks

@@ -1,5 +1,5 @@
 -- What the program does, by the mode that the words are of.
-use Rattle.std.specs.Prelude.{◌≡◌, ◌≢◌, ◌<◌, ◌≤◌, ◌^◌}
+use Rattle.std.specs.Prelude.{◌≡◌, ◌≢◌, ◌<◌, ◌≤◌, ◌^◌, length}
 use Rattle.ficus_ids.specs.Members.{IsCount}
 use Rattle.ficus_words.specs.declared.mode.Mode.{Mode}
 use Rattle.ficus_words.specs.declared.mode.Mode.TheVariants.{Init, Run, Replay, Gen}
@@ -39,6 +39,7 @@ pub record EndsAsAnyMode {S K D : Type 0} (seen : Seen S K D) (status : Status) 
   pub idle : IsIdleCode status.code → seen.output.new ≡ seen.output.old
   pub untouched : IsUntouchedCode status.code → seen.disks.new ≡ seen.disks.old
   pub unarmed : IsIdleCode status.code → Steady seen.disk.armings (disks_before seen) (disks_after seen)
+  pub pairs : length (disks_after seen) ≡ length (disks_before seen)
   pub line : status.code ≢ 2 → status.line ≡ 0
   pub replica : (NamesReplica status.code → ⊥) → status.replica ≡ 0
   pub source_counted : seen.source.faults seen.input.old ≤ seen.source.faults seen.input.new

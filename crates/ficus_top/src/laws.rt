@@ -1,13 +1,23 @@
-ghost use Rattle.std.specs.Prelude.{◌≡◌, ◌≢◌, ◌↔◌, ◌⊎◌, ◌≤◌, ℕ, List, ◌++◌, length, Contains, ⊤};
+ghost use Rattle.std.specs.Prelude.{◌≡◌, ◌≢◌, ◌↔◌, ◌⊎◌, ◌<◌, ◌≤◌, ◌-◌, ◌^◌, ℕ, List, [], ◌++◌, length, Contains, ⊤};
 ghost use Rattle.ficus_disk.specs.declared.pair.Pair.{Pair as PairValue};
-ghost use Rattle.ficus_model.specs.Lawful.{Volume};
+ghost use Rattle.ficus_ids.specs.Members.{IsCount};
+ghost use Rattle.ficus_model.specs.Lawful.{IsLawful, Volume};
 ghost use Rattle.ficus_model.specs.declared.event.Event.{Event};
 ghost use Rattle.ficus_runs.specs.Fuses.{FuseState};
-ghost use Rattle.ficus_keep.specs.Pairs.{PairSame};
+ghost use Rattle.ficus_keep.specs.Pairs.{PairLeft, PairSame};
 ghost use Rattle.ficus_runs.specs.Numbered.{IsNumbered};
 ghost use Rattle.ficus_script.specs.declared.command.Command.{Command};
 ghost use Rattle.ficus_script.specs.declared.command.Command.TheVariants.{Stop as Stops};
-ghost use Rattle.ficus_top.specs.Codes.{IsCode, IsIdleCode, IsReadCode};
+ghost use Rattle.ficus_store.specs.Slots.{kept_in};
+ghost use Rattle.ficus_world.specs.Fuses.{AreUnarmed, at_rest};
+ghost use Rattle.ficus_world.specs.Opening.{AreEmpty, StandsOn, Steady};
+ghost use Rattle.ficus_world.specs.Stand.{DisksOutlast, DisksStand};
+ghost use Rattle.ficus_top.specs.Codes.{IsCode, IsIdleCode, IsReadCode, IsUntouchedCode};
+ghost use Rattle.ficus_top.specs.Ends.{AllUp, NoneFailed};
+ghost use Rattle.ficus_top.specs.Modes.Gen.{IsGenCode};
+ghost use Rattle.ficus_top.specs.Modes.Init.{IsInitCode};
+ghost use Rattle.ficus_top.specs.Modes.Replay.{IsReplayCode};
+ghost use Rattle.ficus_top.specs.Modes.Run.{IsRunCode};
 ghost use Rattle.ficus_serving.specs.Puts.{PutsFront};
 ghost use Rattle.ficus_serving.specs.Serving.{ServesFront, PutsAllButLast};
 ghost use Rattle.ficus_top.specs.Headline.{Answers, AnswersFront, AreFusesAtRest, fuses_of};
@@ -81,4 +91,46 @@ pub fn only_stops_arm_disks<K: Sink, D: Disk>()
         → (answers : AnswersFront K.tells ⊥ D.Disk (AreFusesAtRest D.Disk volume.members earlier disks) volume earlier
         script old new disks after) → (r : ℕ) (was now : PairValue D) → IsNumbered disks r was → IsNumbered after r now
         → ((calls pick : ℕ) → Contains answers.commands (Stops r calls pick) → ⊥) → PairSame D.armings was now }
+{}
+
+/// The law that where nobody is down at the end of a run, the next one begins with all that has happened, whether the
+/// disks still hold what they held then, or a crash has left something of them. It does nothing when it runs.
+pub fn next_run_goes_on<D: Disk>()
+    ensures stand { (volume : Volume) (after : ModelWorld) (disks : List (PairValue D)) → IsCount volume.members
+        → IsLawful volume after.events → length after.events < 2 ^ 62 → length after.standings ≡ volume.members
+        → AllUp after → DisksStand kept_in D.seen volume after disks
+        → StandsOn kept_in D.seen volume after.events disks }
+    ensures outlasts { (volume : Volume) (after : ModelWorld) (disks left : List (PairValue D))
+        → IsCount volume.members → IsLawful volume after.events → length after.events < 2 ^ 62
+        → length after.standings ≡ volume.members → AllUp after
+        → DisksOutlast kept_in D.may_leave volume after disks → length left ≡ length disks
+        → ((r : ℕ) (was now : PairValue D) → IsNumbered disks r was → IsNumbered left r now
+        → PairLeft D.seen D.may_leave was now) → StandsOn kept_in D.seen volume after.events left }
+{}
+
+/// The law that the fuses of empty disks of which none is armed are at rest before anything has happened. It does
+/// nothing when it runs.
+pub fn empty_disks_are_at_rest<D: Disk>()
+    ensures { (members : ℕ) (disks : List (PairValue D)) (F : ℕ → FuseState) → D.tells_fuse
+        → AreEmpty D.seen disks members → AreUnarmed D.fuse disks → ((r : ℕ) → F r ≡ at_rest 0)
+        → AreFusesAtRest D.Disk members [] disks F }
+{}
+
+/// The law that no disk has failed where no count of faults has risen or stands at its last value. It does nothing when
+/// it runs.
+pub fn unrisen_counts_are_no_failures<D: Disk>()
+    ensures { (old new : List (PairValue D)) → Steady D.faults old new
+        → ((r : ℕ) (pair : PairValue D) → IsNumbered new r pair
+        → (D.faults pair.a < 2 ^ 64 - 1) × (D.faults pair.b < 2 ^ 64 - 1)) → NoneFailed D.faults old new }
+{}
+
+/// The law that each mode ends with some of the codes: a run with each but 1 and 9, a replay with each but 1, the making
+/// of a volume with each but those of a script and of opening, and a summary with 0, 3 and 5. It does nothing when it
+/// runs.
+pub fn mode_codes()
+    ensures run { (code : ℕ) → IsRunCode code ↔ (IsCode code × (code ≢ 1) × (code ≢ 9)) }
+    ensures replay { (code : ℕ) → IsReplayCode code ↔ (IsCode code × (code ≢ 1)) }
+    ensures init { (code : ℕ) → IsInitCode code
+        ↔ (IsCode code × (code ≢ 5) × (code ≢ 7) × (IsUntouchedCode code → ⊥)) }
+    ensures summary { (code : ℕ) → IsGenCode code ↔ (IsCode code × (IsIdleCode code → ⊥)) }
 {}

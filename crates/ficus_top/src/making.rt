@@ -3,7 +3,8 @@ ghost use Rattle.ficus_store.specs.Slots.{IsRegular, kept_in};
 ghost use Rattle.ficus_top.specs.Ending.{IsInterruption, IsOfMaking};
 ghost use Rattle.ficus_top.specs.Making.{FitsSize, volume_of};
 ghost use Rattle.ficus_world.specs.Fuses.{AreRegular};
-ghost use Rattle.ficus_world.specs.Opening.{AreEmpty, IsAtFault, IsFirstOccupied, IsStoreFault, StandsOn, Steady, Unfailing};
+ghost use Rattle.ficus_world.specs.declared.opening.WorldFault.{WorldFault as WorldFaultValue};
+ghost use Rattle.ficus_world.specs.Opening.{AreEmpty, AreSynced, IsAtFault, IsFirstOccupied, IsStoreFault, IsUnfailed, SeenSame, StandsOn, Steady, Unfailing};
 
 use crate::fault::Fault;
 use ficus_disk::{Disk, Pair};
@@ -27,8 +28,16 @@ pub(crate) fn init<D: Disk>(
         → IsFirstOccupied D.seen disks.old.items r × (r ≤ size.members) }
     ensures occupied_comes { D.tells → (r : ℕ) → r ≤ size.members → IsFirstOccupied D.seen disks.old.items r
         → IsErrAnd result (λ fault. (fault ≡ Fault.Storing (WorldFault.Occupied r)) ⊎ IsInterruption fault) }
+    ensures held { D.tells → (r : ℕ) → r ≤ size.members → IsFirstOccupied D.seen disks.old.items r
+        → SeenSame D.seen disks.old.items disks.new.items }
+    ensures spared { (fault : WorldFaultValue) → IsUnfailed fault → IsErrOf result (Fault.Storing fault)
+        → Steady D.faults disks.old.items disks.new.items }
     ensures failed { (r : ℕ) → IsErrOf result (Fault.Storing (WorldFault.Store r))
         → IsAtFault D.faults disks.old.items disks.new.items r }
+    ensures member { (r : ℕ) → IsErrOf result (Fault.Storing (WorldFault.Store r)) → r ≤ size.members }
+    ensures synced { D.tells → AreSynced D.seen D.may_leave disks.old.items size.members
+        → OnOk result (AreSynced D.seen D.may_leave disks.new.items size.members) }
+    ensures steady { OnOk result (Steady D.faults disks.old.items disks.new.items) }
     ensures unarmed { Steady D.armings disks.old.items disks.new.items }
 {
     Ok(make(alloc, size, disks)?)
@@ -48,9 +57,16 @@ pub(crate) fn make<D: Disk>(
         → IsFirstOccupied D.seen disks.old.items r × (r ≤ size.members) }
     ensures comes { D.tells → (r : ℕ) → IsFirstOccupied D.seen disks.old.items r → r ≤ size.members
         → IsErrAnd result (λ fault. (fault ≡ WorldFault.Occupied r) ⊎ IsStoreFault fault) }
+    ensures held { D.tells → (r : ℕ) → r ≤ size.members → IsFirstOccupied D.seen disks.old.items r
+        → SeenSame D.seen disks.old.items disks.new.items }
+    ensures spared { (fault : WorldFaultValue) → IsUnfailed fault → IsErrOf result fault
+        → Steady D.faults disks.old.items disks.new.items }
     ensures failed { (r : ℕ) → IsErrOf result (WorldFault.Store r) → IsAtFault D.faults disks.old.items
         disks.new.items r }
+    ensures member { (r : ℕ) → IsErrOf result (WorldFault.Store r) → r ≤ size.members }
     ensures never { (r : ℕ) → IsErrOf result (WorldFault.Image r) → ⊥ }
+    ensures synced { D.tells → AreSynced D.seen D.may_leave disks.old.items size.members
+        → OnOk result (AreSynced D.seen D.may_leave disks.new.items size.members) }
     ensures steady { OnOk result (Steady D.faults disks.old.items disks.new.items) }
     ensures unarmed { Steady D.armings disks.old.items disks.new.items }
     ensures unfailing { D.tells_fuse → Unfailing D.fuse result disks.old.items disks.new.items }

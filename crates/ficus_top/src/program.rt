@@ -68,6 +68,7 @@ pub fn ficus<S: Source, K: Sink, D: Disk>(
     ensures idle { IsIdleCode result.code → output.new ≡ output.old }
     ensures untouched { IsUntouchedCode result.code → disks.new ≡ disks.old }
     ensures unarmed { IsIdleCode result.code → Steady D.armings disks.old.items disks.new.items }
+    ensures pairs { length disks.new.items ≡ length disks.old.items }
     ensures line { result.code ≢ 2 → result.line ≡ 0 }
     ensures replica { (NamesReplica result.code → ⊥) → result.replica ≡ 0 }
     ensures counted { (S.faults input.old ≤ S.faults input.new) × (K.faults output.old ≤ K.faults output.new) }

@@ -16,7 +16,8 @@ ghost use Rattle.ficus_serving.specs.Serving.{serving_limit};
 ghost use Rattle.ficus_world.specs.Disks.{AreDisksOf};
 ghost use Rattle.ficus_world.specs.World.{WorldStandsFor};
 ghost use Rattle.ficus_world.specs.Fuses.{AreUnarmed};
-ghost use Rattle.ficus_world.specs.Opening.{IsAtFault, IsFirstBad, IsFirstOccupied, SeenSame, StandsOn, Steady};
+ghost use Rattle.ficus_world.specs.Opening.{IsAtFault, IsFirstBad, IsFirstOccupied, IsUnfailed, SeenSame, StandsOn, Steady};
+ghost use Rattle.ficus_world.specs.declared.opening.WorldFault.{WorldFault as WorldFaultValue};
 ghost use Rattle.ficus_words.specs.declared.fault.WordsFault.{WordsFault as WordsFaultValue};
 
 use crate::fault::{Fault, ReadingFault};
@@ -55,6 +56,7 @@ pub(crate) fn run<S: Source, K: Sink, D: Disk>(
         → SeenSame D.seen disks.old.items disks.new.items) D.armings output.old output.new disks.old.items
         disks.new.items) }
     ensures untouched { IfErr result (λ fault. IsUntouched fault → disks.new ≡ disks.old) }
+    ensures pairs { length disks.new.items ≡ length disks.old.items }
     ensures failed { (r : ℕ) → IsErrOf result (Fault.Storing (WorldFault.Store r))
         → IsAtFault D.faults disks.old.items disks.new.items r }
     ensures image { D.tells → (r : ℕ) → IsErrOf result (Fault.Storing (WorldFault.Image r))
@@ -65,6 +67,8 @@ pub(crate) fn run<S: Source, K: Sink, D: Disk>(
         → StandsOn kept_in D.seen volume H disks.old.items → (r : ℕ)
         → IsErrOf result (Fault.Storing (WorldFault.Image r)) → ⊥ }
     ensures never_occupied { (r : ℕ) → IsErrOf result (Fault.Storing (WorldFault.Occupied r)) → ⊥ }
+    ensures spared { (fault : WorldFaultValue) → IsUnfailed fault → IsErrOf result (Fault.Storing fault)
+        → Steady D.faults disks.old.items disks.new.items }
     ensures read_fault { IsErrOf result (Fault.Reading ReadingFault.Source)
         → Rose (S.faults input.old) (S.faults input.new) }
     ensures read_fault_comes { S.faults input.old < S.faults input.new
@@ -104,6 +108,7 @@ pub(crate) fn replay<S: Source, K: Sink, D: Disk>(
     ensures idle { IfErr result (λ fault. IsIdle fault → CarriesOutNothing (Unit {0}) D.armings output.old output.new
         disks.old.items disks.new.items) }
     ensures untouched { IfErr result (λ fault. IsUntouched fault → disks.new ≡ disks.old) }
+    ensures pairs { length disks.new.items ≡ length disks.old.items }
     ensures failed { (r : ℕ) → IsErrOf result (Fault.Storing (WorldFault.Store r))
         → IsAtFault D.faults disks.old.items disks.new.items r }
     ensures unfailing { D.tells_fuse → AreUnarmed D.fuse disks.old.items → (r : ℕ)
@@ -113,6 +118,10 @@ pub(crate) fn replay<S: Source, K: Sink, D: Disk>(
         → IsFirstOccupied D.seen disks.old.items r × (r ≤ size.members) }
     ensures occupied_comes { D.tells → (r : ℕ) → r ≤ size.members → IsFirstOccupied D.seen disks.old.items r
         → IsErrAnd result (λ fault. (fault ≡ Fault.Storing (WorldFault.Occupied r)) ⊎ IsInterruption fault) }
+    ensures held { D.tells → (r : ℕ) → r ≤ size.members → IsFirstOccupied D.seen disks.old.items r
+        → SeenSame D.seen disks.old.items disks.new.items }
+    ensures spared { (fault : WorldFaultValue) → IsUnfailed fault → IsErrOf result (Fault.Storing fault)
+        → Steady D.faults disks.old.items disks.new.items }
     ensures read_fault { IsErrOf result (Fault.Reading ReadingFault.Source)
         → Rose (S.faults input.old) (S.faults input.new) }
     ensures read_fault_comes { S.faults input.old < S.faults input.new
@@ -153,6 +162,7 @@ fn run_on<K: Sink, D: Disk>(
         (K.written output.old) (K.written output.new) disks.old.items disks.new.items) }
     ensures idle { IfErr result (λ fault. IsIdle fault → output.new ≡ output.old) }
     ensures unarmed { IfErr result (λ fault. IsIdle fault → Steady D.armings disks.old.items disks.new.items) }
+    ensures pairs { length disks.new.items ≡ length disks.old.items }
     ensures same { D.tells → IfErr result (λ fault. IsIdle fault → SeenSame D.seen disks.old.items disks.new.items) }
     ensures failed { (r : ℕ) → IsErrOf result (Fault.Storing (WorldFault.Store r))
         → IsAtFault D.faults disks.old.items disks.new.items r }
@@ -165,6 +175,8 @@ fn run_on<K: Sink, D: Disk>(
         → IsErrOf result (Fault.Storing (WorldFault.Image r)) → ⊥ }
     ensures unfailing { D.tells_fuse → AreUnarmed D.fuse disks.old.items → (r : ℕ)
         → IsErrOf result (Fault.Storing (WorldFault.Store r)) → ⊥ }
+    ensures spared { (fault : WorldFaultValue) → IsUnfailed fault → IsErrOf result (Fault.Storing fault)
+        → Steady D.faults disks.old.items disks.new.items }
     ensures kinds { IfErr result IsOfRunning }
     ensures write_fault { IsErrOf result (Fault.Answering AnsweringFault.Sink)
         → Rose (K.faults output.old) (K.faults output.new) }
@@ -202,6 +214,7 @@ fn answer_on<K: Sink, D: Disk>(
         → EndsFront K.tells (fault ≡ AnsweringFault.Memory) D.Disk
         (StandNow ⟦<TwoSlot as Keep>⟧ D.Disk world.old.whole disks.old.items) volume W commands.now
         (K.written output.old) (K.written output.new) disks.old.items disks.new.items) }
+    ensures pairs { length disks.new.items ≡ length disks.old.items }
     ensures failed { IsErrOf result AnsweringFault.Sink → Rose (K.faults output.old) (K.faults output.new) }
     ensures told { K.faults output.old < K.faults output.new → IsErrOf result AnsweringFault.Sink }
     ensures counted { K.faults output.old ≤ K.faults output.new }

@@ -103,8 +103,8 @@ fn a_link_takes_what_fits_and_no_more(rt: HostRuntime) -> Result<(), Fail> {
 
 const ASKED: &str = "ask 1 2\ngive 1\ngive 1\ngive 2\n";
 
-// Which call of the link fails, a script, and its answers: what failed is done when it is asked for once more, but an ask
-// that wasn't posted has no message to give.
+// Which call of the link fails, a script, and its answers: what failed is done when it is asked for once more, but an
+// ask that wasn't posted has no message to give.
 const FAILING: &[(u32, &str, &str)] = &[
     (1, ASKED, "no link\nno nomail\nno nomail\nno nomail\n"),
     (2, ASKED, "ok 1\nno link\nok 2\nok\n"),

@@ -3,7 +3,8 @@ use crate::calls::{Call, DONE, ends_so, ends_so_where};
 use crate::disks::fused_pairs;
 use ficus_script::ScriptFault;
 use ficus_top::Status;
-use std::alloc::Global;
+use ficus_world::WorldFault;
+use std::alloc::{AllocError, Global};
 use std::test::Fail;
 
 const REPLAY: &str = "ficus replay --members 2";
@@ -123,19 +124,46 @@ fn a_source_or_a_sink_fails_at_each_call_in_turn(rt: HostRuntime) -> Result<(), 
     Ok(())
 }
 
-fn has_text(alloc: Global, fault: &ScriptFault, text: &str) -> Result<bool, Fail> {
-    let found = fault.to_string(alloc)?;
+/// Why a script wasn't read, or why no volume was made or opened.
+#[derive(Clone, Copy)]
+enum Fault {
+    Script(ScriptFault),
+    World(WorldFault),
+}
+
+fn text_of(alloc: Global, fault: &Fault) -> Result<String, AllocError> {
+    match fault {
+        Fault::Script(fault) => fault.to_string(alloc),
+        Fault::World(fault) => fault.to_string(alloc),
+    }
+}
+
+fn has_text(alloc: Global, fault: &Fault, text: &str) -> Result<bool, Fail> {
+    let found = text_of(alloc, fault)?;
     Ok(found.as_str() == text)
 }
 
-const FAULT_TEXTS: &[(ScriptFault, &str)] = &[
-    (ScriptFault::BadLine(1), "bad line 1"),
-    (ScriptFault::BadLine(1_048_577), "bad line 1048577"),
-    (ScriptFault::Memory, "memory"),
+const FAULT_TEXTS: &[(Fault, &str)] = &[
+    (Fault::Script(ScriptFault::BadLine(1)), "bad line 1"),
+    (
+        Fault::Script(ScriptFault::BadLine(1_048_577)),
+        "bad line 1048577",
+    ),
+    (Fault::Script(ScriptFault::Memory), "memory"),
+    (
+        Fault::World(WorldFault::Occupied(8)),
+        "replica 8 is occupied",
+    ),
+    (
+        Fault::World(WorldFault::Store(1)),
+        "store fault at replica 1",
+    ),
+    (Fault::World(WorldFault::Image(2)), "no image at replica 2"),
+    (Fault::World(WorldFault::Memory), "memory"),
 ];
 
 #[test]
-fn faults_of_a_script_have_their_texts(rt: HostRuntime) -> Result<(), Fail> {
+fn faults_have_their_texts(rt: HostRuntime) -> Result<(), Fail> {
     for (fault, text) in FAULT_TEXTS {
         let has = has_text(rt.alloc(), fault, text)?;
         assert!(rt; has, "{text}");

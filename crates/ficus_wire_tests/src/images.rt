@@ -3,6 +3,7 @@ use crate::variants::{Change, Grammar, changed, reads_variants};
 use ficus_codec::Reader;
 use ficus_ids::{ATTIC, Id, Members, Memory, ROOT};
 use ficus_image::{ImageFault, decode_image, encode_image};
+use ficus_saved::Saved;
 use std::alloc::Global;
 use std::test::Fail;
 
@@ -215,27 +216,37 @@ fn images_are_those_of_the_grammar(rt: HostRuntime) -> Result<(), Fail> {
     Ok(())
 }
 
+// Whether the bytes are refused.
+fn is_refused(alloc: Global, bytes: &[u8]) -> bool {
+    matches!(decode_image(alloc, bytes), Err(ImageFault::NotImage))
+}
+
 #[test]
 fn other_bytes_are_no_image(rt: HostRuntime) -> Result<(), Fail> {
     let refused: [&[u8]; 3] = [&FRESH[..37], &LONGER, &EXCHANGED];
     for bytes in refused {
-        assert!(rt; matches!(decode_image(rt.alloc(), bytes), Err(ImageFault::NotImage)));
+        assert!(rt; is_refused(rt.alloc(), bytes));
     }
     assert!(rt; are_images(rt.alloc(), &STILL, true)?);
     assert!(rt; are_images(rt.alloc(), &NO_MORE, false)?);
     Ok(())
 }
 
+// Whether it is what the replica saves that has written a byte.
+fn is_written(saved: &Saved) -> bool {
+    saved.me == 1
+        && saved.members.count() == 2
+        && saved.ids == 100_000
+        && saved.bytes == 1
+        && saved.next == 3
+        && saved.used == 1
+        && saved.generation == 2
+        && saved.entries.len() == 1
+        && saved.files.len() == 1
+}
+
 #[test]
 fn an_image_gives_what_was_saved(rt: HostRuntime) -> Result<(), Fail> {
-    match decode_image(rt.alloc(), &WRITTEN) {
-        Ok(saved) => {
-            assert_eq!(rt; (saved.me, saved.members.count()), (1, 2));
-            assert_eq!(rt; (saved.ids, saved.bytes), (100_000, 1));
-            assert_eq!(rt; (saved.next, saved.used, saved.generation), (3, 1, 2));
-            assert_eq!(rt; (saved.entries.len(), saved.files.len()), (1, 1));
-        }
-        Err(_) => assert!(rt; false, "an image"),
-    }
+    assert!(rt; decode_image(rt.alloc(), &WRITTEN).is_ok_and(|saved| is_written(&saved)));
     Ok(())
 }

@@ -53,6 +53,11 @@ impl Grammar for Messages {
     }
 }
 
+// Whether the bytes are refused.
+fn is_refused(alloc: Global, bytes: &[u8], members: Members) -> bool {
+    matches!(decode(alloc, bytes, members), Err(WireFault::NotMessage))
+}
+
 #[test]
 fn reads_the_grammar_and_nothing_else(rt: HostRuntime) -> Result<(), Fail> {
     let members = Members::new(2).ok_or("two")?;
@@ -60,37 +65,41 @@ fn reads_the_grammar_and_nothing_else(rt: HostRuntime) -> Result<(), Fail> {
     assert!(rt; reads_variants(&messages, rt.alloc(), &ASK)?);
     assert!(rt; reads_variants(&messages, rt.alloc(), &ANSWER)?);
     for bytes in REFUSED {
-        assert!(rt;
-            matches!(
-                decode(rt.alloc(), bytes, members),
-                Err(WireFault::NotMessage)
-            )
-        );
+        assert!(rt; is_refused(rt.alloc(), bytes, members));
     }
     Ok(())
+}
+
+// Whether it is the ask that is written out above.
+fn is_ask(message: &Message) -> bool {
+    matches!(
+        message,
+        Message::Ask {
+            from: 1,
+            to: 2,
+            number: 1
+        }
+    )
+}
+
+// Whether it is the answer.
+fn is_answer(message: &Message) -> bool {
+    match message {
+        Message::Answer {
+            from: 2,
+            to: 1,
+            number: 1,
+            entries,
+            files,
+        } => entries.len() == 0 && files.len() == 0,
+        _ => false,
+    }
 }
 
 #[test]
 fn gives_what_is_spelled(rt: HostRuntime) -> Result<(), Fail> {
     let members = Members::new(2).ok_or("two")?;
-    match decode(rt.alloc(), &ASK, members) {
-        Ok(Message::Ask { from, to, number }) => assert_eq!(rt; (from, to, number), (1, 2, 1)),
-        _ => assert!(rt; false, "an ask"),
-    }
-    match decode(rt.alloc(), &ANSWER, members) {
-        Ok(
-            Message::Answer {
-                from,
-                to,
-                number,
-                entries,
-                files,
-            },
-        ) => {
-            assert_eq!(rt; (from, to, number), (2, 1, 1));
-            assert_eq!(rt; (entries.len(), files.len()), (0, 0));
-        }
-        _ => assert!(rt; false, "an answer"),
-    }
+    assert!(rt; decode(rt.alloc(), &ASK, members).is_ok_and(|message| is_ask(&message)));
+    assert!(rt; decode(rt.alloc(), &ANSWER, members).is_ok_and(|message| is_answer(&message)));
     Ok(())
 }

@@ -7,7 +7,7 @@ use Rattle.ficus_disk.specs.declared.pair.Pair.{Pair}
 use Rattle.ficus_ids.specs.Members.{IsMember}
 use Rattle.ficus_keep.specs.Pairs.{PairSame}
 use Rattle.ficus_runs.specs.Numbered.{IsNumbered}
-use Rattle.ficus_world.specs.Opening.{Steady, IsAtFault}
+use Rattle.ficus_world.specs.Opening.{AreSynced, IsAtFault, IsSynced, Steady}
 use Rattle.ficus_run_laws.proofs.Numbers.{number_once, number_read, number_exists}
 use Rattle.ficus_run_laws.proofs.Replaced.{replaced}
 
@@ -132,3 +132,18 @@ pub steady_one : {D A : Type 0} (what : D → A) (disks : List (Pair D)) (index 
     → Steady what disks (slice_set disks index after)
 steady_one what disks index before after within is same =
     steady_set what disks disks index before after (steady_none what disks) (number_at disks index before within is) same
+
+module _ {D : Type 0} (seen : D → List ℕ) (may_leave : D → List ℕ → Type 0) where
+  -- where one pair stays so, all do
+  pub synced_set : (disks : List (Pair D)) (index count : ℕ) (before after : Pair D)
+      → AreSynced seen may_leave disks count → IsNumbered disks (index + 1) before
+      → (IsSynced seen may_leave before → IsSynced seen may_leave after) → index < count
+      → AreSynced seen may_leave (slice_set disks index after) count
+  synced_set disks index count before after synced at keeps within = record {
+    each = λ r pair at_pair most. elim (set_at disks index r after pair at_pair) [
+      | inl (number, is) ↦
+          subst (λ (p : Pair D). IsSynced seen may_leave p) (sym is)
+          (keeps (synced.each (index + 1) before at (omega (arith, within))))
+      | inr (differs, kept) ↦ synced.each r pair kept most
+    ];
+  }

@@ -36,8 +36,8 @@ use Rattle.ficus_world.specs.declared.member.MemberState.TheVariants.{Up, Down}
 abbrev pub are_fused : {D : Type 0} → (D → Option ℕ) → Pair D → Bool
 are_fused armings pair = is_some (armings pair.a) && is_some (armings pair.b)
 
--- What the disks of a member hold: what it has saved, where it is up, and its keeper is ready to save what follows. Where
--- it is down, whatever a crash leaves of them holds that, or what it saves with the event that is pending.
+-- What the disks of a member hold: what it has saved, where it is up, and its keeper is ready to save what follows.
+-- Where it is down, whatever a crash leaves of them holds that, or what it saves with the event that is pending.
 abbrev pub HoldsFor : {K D : Type 0} → (List ℕ → List ℕ → Option Kept) → (K → List ℕ → List ℕ → Type 0)
     → (D → List ℕ) → (D → List ℕ → Type 0) → Stable K → Pair D → Saved → MemberState → Type 0
 HoldsFor kept fits seen may_leave stable pair saved Up = IsReady kept fits seen may_leave stable pair saved
@@ -158,8 +158,8 @@ IsReadAt was (Ok read) = (read ≡ was.replica.saved) ⊎ ((pending : Pending) �
 IsReadAt was (Err NoImage) = ⊥
 IsReadAt was (Err fault) = Unit {0}
 
--- A member whose disks were opened again is up, with what was read; or it is down, with what was pending before; or, where
--- nothing was read, as it was.
+-- A member whose disks were opened again is up, with what was read; or it is down, with what was pending before; or,
+-- where nothing was read, as it was.
 abbrev pub IsAfterOpening : Member → Result Saved StoreFault → Member → Type 0
 IsAfterOpening was (Ok read) now =
     (now ≡ restarted was read) ⊎ (now ≡ record was { state = Down (still_pending was.state) })
@@ -173,7 +173,8 @@ pub record ReopensAt (by : ℕ) (result : Result Saved StoreFault) (old new : Li
   pub after : IsAfterOpening was result now
   pub set : new ≡ slice_set old (by - 1) now
 
--- What a member that was this one comes to, which events are stored, and what is answered, by what was read of its disks.
+-- What a member that was this one comes to, which events are stored, and what is answered, by what was read of its
+-- disks.
 pub data ComesBack (by : ℕ) (was : Member) :
     Result Saved StoreFault → Result Answer Refusal → Member → List Event → Type 0 where
   BackAsWas : {read : Saved} → IsLike was.replica.saved read

@@ -41,8 +41,8 @@ pub record FollowsPart (volume : Volume) (W : ModelWorld) (old : Whole) (part : 
   pub stored : StoresAsMany W old after left.after
   pub stands : WorldStandsFor volume after left.after
 
--- The model allows the answer, by these outcomes, and the world stands for what it leads to; as many events are stored as
--- happen. Each failure of the link is one that it counted.
+-- The model allows the answer, by these outcomes, and the world stands for what it leads to; as many events are stored
+-- as happen. Each failure of the link is one that it counted.
 pub record Follows (volume : Volume) (W : ModelWorld) (old : Whole) (command : Command) (outcomes : List Outcome)
     (answer : Answer) (new : Whole) : Type 0 where
   pub after : ModelWorld

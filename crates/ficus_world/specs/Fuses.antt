@@ -21,7 +21,8 @@ abbrev pub keeping_of : {K : Type 0} → Keep K → Keeping
 keeping_of keep = record { calls = keep.calls; is_on_a = keep.is_on_a }
 
 -- The fuses of a member that is up stand as in this state, and nothing is pending. Of one that is down, what its disks
--- are found to hold once they are opened again is what is pending, where that will be found, and else what it has saved.
+-- are found to hold once they are opened again is what is pending, where that will be found, and else what it has
+-- saved.
 abbrev pub StandsSo : FuseState → Fuses → Option Kept → Saved → MemberState → Type 0
 StandsSo state fuses found saved Up = (fuses ≡ state.fuses) × (state.will_find ≡ false)
 StandsSo state fuses found saved (Down None) = Holds found saved × (state.will_find ≡ false)

@@ -130,7 +130,8 @@ pub data Sends (tells : Type 0) (place : ℕ) (bytes : List ℕ) (old : Whole) :
   Sent : {number : ℕ} {post : Outbox} → IsSent tells old.post place bytes number post
       → Sends tells place bytes old (Ok number) (record { outcomes = IsDone ∷ []; after = with_post old post })
   NotSent : {post : Outbox} → HasFailed old.post post
-      → Sends tells place bytes old (Err refusal.Link) (record { outcomes = LinkFails ∷ []; after = with_post old post })
+      → Sends tells place bytes old (Err refusal.Link)
+      (record { outcomes = LinkFails ∷ []; after = with_post old post })
 
 -- the bytes of a message among the members of the world
 abbrev pub bytes_in : Whole → Message → List ℕ
@@ -354,7 +355,8 @@ pub record ArePeersUp (old : Whole) (by other : ℕ) : Type 0 where
   pub two : IsUpIn old other
 
 -- where the command may end for want of memory, by what the members hold: a message is spelled before there is known
--- to be room for it, and is fetched before it is known what it says, and disks are read before it is known what they hold
+-- to be room for it, and is fetched before it is known what it says, and disks are read before it is known what they
+-- hold
 abbrev pub TablesMayWantMemory : Whole → Command → Type 0
 TablesMayWantMemory old (command.Change by change) =
     IsWantedBy old by (λ member. MayWantMemory (tables_view member.replica.saved) change)

@@ -1,5 +1,6 @@
 -- What it means that a volume is made on disks, and that a world is opened on them.
 use Rattle.std.specs.Prelude.{◌≡◌, ◌≢◌, ◌⊎◌, ℕ, ◌^◌, ◌<◌, ◌≤◌, ◌+◌, ◌==◌, Bool, if◌then◌else◌, List, [], length, map, Option, None, Result, IsErrOf}
+use Rattle.ficus_disk.specs.Crash.{Only}
 use Rattle.ficus_disk.specs.Pair.{PairRose}
 use Rattle.ficus_disk.specs.declared.fuse.Fuse.{Fuse}
 use Rattle.ficus_disk.specs.declared.pair.Pair.{Pair}
@@ -66,8 +67,8 @@ abbrev pub IsBad : {D : Type 0} → (List ℕ → List ℕ → Option Kept) → 
 IsBad kept seen disks r =
     (first saved : Saved) → Opens kept seen disks first first 1 → Opens kept seen disks first saved r → ⊥
 
--- The disks of this member are those of no world: of all before it, a world may be opened, and not of it. It is a member,
--- as far as the first one says how many there are.
+-- The disks of this member are those of no world: of all before it, a world may be opened, and not of it. It is a
+-- member, as far as the first one says how many there are.
 pub record IsFirstBad {D : Type 0} (kept : List ℕ → List ℕ → Option Kept) (seen : D → List ℕ) (disks : List (Pair D))
     (r : ℕ) : Type 0 where
   pub some : 1 ≤ r
@@ -97,6 +98,16 @@ pub record Steady {D A : Type 0} (what : D → A) (old new : List (Pair D)) : Ty
 abbrev pub SeenSame : {D : Type 0} → (D → List ℕ) → List (Pair D) → List (Pair D) → Type 0
 SeenSame seen old new = Steady seen old new
 
+-- nothing is unsynced on both disks
+pub record IsSynced {D : Type 0} (seen : D → List ℕ) (may_leave : D → List ℕ → Type 0) (pair : Pair D) : Type 0 where
+  pub a : Only (seen pair.a) (may_leave pair.a)
+  pub b : Only (seen pair.b) (may_leave pair.b)
+
+-- so it is of the members up to this one
+pub record AreSynced {D : Type 0} (seen : D → List ℕ) (may_leave : D → List ℕ → Type 0) (disks : List (Pair D))
+    (count : ℕ) : Type 0 where
+  pub each : (r : ℕ) (pair : Pair D) → IsNumbered disks r pair → r ≤ count → IsSynced seen may_leave pair
+
 -- the disks of this member have failed, and counted that
 pub record IsAtFault {D : Type 0} (faults : D → ℕ) (old new : List (Pair D)) (r : ℕ) : Type 0 where
   pub is : IsMember (length old) r
@@ -115,6 +126,13 @@ pub record Unfailing {D A : Type 0} (fuse : D → Fuse) (result : Result A World
     Type 0 where
   pub unarmed : AreUnarmed fuse old → AreUnarmed fuse new
   pub unfailing : AreUnarmed fuse old → (r : ℕ) → IsErrOf result (Store r) → ⊥
+
+-- no disk failed
+abbrev pub IsUnfailed : WorldFault → Type 0
+IsUnfailed (Store r) = ⊥
+IsUnfailed (Occupied r) = Unit {0}
+IsUnfailed (Image r) = Unit {0}
+IsUnfailed Memory = Unit {0}
 
 -- a disk failed, or memory was refused
 abbrev pub IsStoreFault : WorldFault → Type 0

@@ -23,7 +23,8 @@ pub record HasRoom (state : PostState) : Type 0 where
 
 -- These bytes were posted, with this stored position behind them, and have this number. That they are what was posted
 -- is a claim where the link tells.
-pub record IsSent (tells : Type 0) (old : Outbox) (place : ℕ) (bytes : List ℕ) (number : ℕ) (new : Outbox) : Type 0 where
+pub record IsSent (tells : Type 0) (old : Outbox) (place : ℕ) (bytes : List ℕ) (number : ℕ) (new : Outbox) :
+    Type 0 where
   pub number_is : number ≡ length old.posts + 1
   pub counted : length new.posts ≡ length old.posts + 1
   pub told : tells → new.posts ≡ old.posts ++ bytes ∷ []

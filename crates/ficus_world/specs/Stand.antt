@@ -32,6 +32,13 @@ pub record DisksStand {D : Type 0} (kept : List ℕ → List ℕ → Option Kept
   pub each : (r : ℕ) (pair : Pair D) (standing : Standing) → IsNumbered disks r pair
       → IsNumbered W.standings r standing → KeepsFor volume W.events r (found_in kept seen pair) standing
 
+-- The same of whatever a crash leaves of the pairs: nothing that has happened hangs on what is unsynced.
+pub record DisksOutlast {D : Type 0} (kept : List ℕ → List ℕ → Option Kept) (may_leave : D → List ℕ → Type 0)
+    (volume : Volume) (W : ModelWorld) (disks : List (Pair D)) : Type 0 where
+  pub each : (r : ℕ) (pair : Pair D) (standing : Standing) → IsNumbered disks r pair
+      → IsNumbered W.standings r standing → (a b : List ℕ) → may_leave pair.a a → may_leave pair.b b
+      → KeepsFor volume W.events r (kept a b) standing
+
 -- the pairs of the members stand for the history
 pub record DisksKeep {D : Type 0} (kept : List ℕ → List ℕ → Option Kept) (seen : D → List ℕ) (volume : Volume)
     (H : List Event) (disks : List (Pair D)) : Type 0 where

@@ -94,8 +94,8 @@ abbrev pub AreOthers : ℕ → List Event → Type 0
 AreOthers r [] = Unit {0}
 AreOthers r (event ∷ events) = (actor event ≢ r) × AreOthers r events
 
--- What is pending at member r, as in the code and as in the model: an event of its own. Whatever others do meanwhile, the
--- event may still come, and the replica stands for the history with it.
+-- What is pending at member r, as in the code and as in the model: an event of its own. Whatever others do meanwhile,
+-- the event may still come, and the replica stands for the history with it.
 pub record IsPendingFor (volume : Volume) (H : List Event) (raise r : ℕ) (pending : Pending) (event : Event) :
     Type 0 where
   pub raises : raised raise pending.event ≡ event
@@ -111,7 +111,8 @@ StateStandsFor volume H raise r (state.Down (Some pending)) (model.Down (Some ev
     IsPendingFor volume H raise r pending event
 StateStandsFor volume H raise r other modelled = ⊥
 
--- the replica of a member stands for the history, its state is that of the model, and so is whether its disks have a fuse
+-- the replica of a member stands for the history, its state is that of the model, and so is whether its disks have a
+-- fuse
 pub record MemberStandsFor (volume : Volume) (H : List Event) (raise r : ℕ) (member : Member) (modelled : Standing)
     (fused : Bool) : Type 0 where
   pub replica : StandsFor volume H r member.replica

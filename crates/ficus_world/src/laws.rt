@@ -8,7 +8,7 @@ ghost use Rattle.ficus_removal_laws.specs.Marks.{IsMarked};
 ghost use Rattle.ficus_runs.specs.ModelWorld.{ModelWorld};
 ghost use Rattle.ficus_runs.specs.Numbered.{IsNumbered};
 ghost use Rattle.ficus_world.specs.Disks.{AreDisksOf};
-ghost use Rattle.ficus_world.specs.Stand.{DisksStand};
+ghost use Rattle.ficus_world.specs.Stand.{DisksOutlast, DisksStand};
 ghost use Rattle.ficus_world.specs.World.{Whole, WorldStandsFor};
 ghost use Rattle.ficus_world.specs.declared.member.Member.{Member as MemberValue};
 
@@ -44,8 +44,11 @@ pub fn disks_stand<K: Keep + Drop, L: Link + Drop, D: Disk>(
 )
     requires { AreDisksOf D.tells K.kept K.fits D.seen D.may_leave D.armings world.now.whole.members world.now.stables
         disks.now.items }
-    ensures { D.tells → (volume : Volume) (W : ModelWorld) → WorldStandsFor volume W world.now.whole
+    ensures stand { D.tells → (volume : Volume) (W : ModelWorld) → WorldStandsFor volume W world.now.whole
         → DisksStand K.kept D.seen volume W disks.now.items }
+    // Whatever a crash leaves of them does too.
+    ensures outlasts { D.tells → (volume : Volume) (W : ModelWorld) → WorldStandsFor volume W world.now.whole
+        → DisksOutlast K.kept D.may_leave volume W disks.now.items }
 {
     // Reading its fields tells what holds of every world.
     let _ = &world.stables;

@@ -17,9 +17,10 @@ ghost use Rattle.ficus_runs.specs.Start.{restarts, start};
 ghost use Rattle.ficus_runs.specs.Fuses.{FuseState};
 ghost use Rattle.ficus_world.specs.Disks.{AreDisksOf, are_fused};
 ghost use Rattle.ficus_world.specs.Fuses.{AreAtRest, AreRegular, AreUnarmed, FusesStand};
-ghost use Rattle.ficus_world.specs.Opening.{AreEmpty, AreMade, AreOpened, AreRead, HoldsNoImage, IsAtFault, IsBad, IsEmptyPair, IsFirstBad, IsFirstOccupied, IsFoundFault, IsOneMore, IsStoreFault, MayOpen, PairUnfailing, SeenSame, StandsOn, Steady, Unfailing, fuses_in, opened_member};
+ghost use Rattle.ficus_world.specs.Opening.{AreEmpty, AreMade, AreOpened, AreRead, AreSynced, HoldsNoImage, IsAtFault, IsBad, IsEmptyPair, IsFirstBad, IsFirstOccupied, IsFoundFault, IsOneMore, IsStoreFault, IsSynced, IsUnfailed, MayOpen, PairUnfailing, SeenSame, StandsOn, Steady, Unfailing, fuses_in, opened_member};
 ghost use Rattle.ficus_world.specs.World.{WorldStandsFor};
 ghost use Rattle.ficus_world.specs.declared.member.Member.{Member as MemberValue};
+ghost use Rattle.ficus_world.specs.declared.opening.WorldFault.{WorldFault as WorldFaultValue};
 
 use crate::World;
 use crate::group::Group;
@@ -35,17 +36,22 @@ use ficus_replica::Replica;
 use ficus_saved::Saved;
 use ficus_stable::{Recovered, Stable};
 use std::alloc::Global;
+use thiserror::Error;
 
 /// Why no volume was made, or no world opened: with the number of the replica at fault.
-#[derive(Clone, Copy, Debug, PartialEq, Eq)]
+#[derive(Clone, Copy, Debug, PartialEq, Eq, Error)]
 pub enum WorldFault {
     /// A disk of this replica holds something already. The first such replica is named.
+    #[error("replica {0} is occupied")]
     Occupied(u8),
     /// A disk of this replica failed.
+    #[error("store fault at replica {0}")]
     Store(u8),
     /// The disks of this replica hold no image with which a world may be opened. The first such replica is named.
+    #[error("no image at replica {0}")]
     Image(u8),
     /// Memory was refused.
+    #[error("memory")]
     Memory,
 }
 
@@ -87,17 +93,24 @@ impl<K: Keep + Drop, L: Link + Drop> World<K, L> {
         ensures empty { D.tells → OnOk result (AreEmpty D.seen disks.old.items members) }
         ensures occupied { D.tells → (r : ℕ) → IsErrOf result (WorldFault.Occupied r)
             → IsFirstOccupied D.seen disks.old.items r × (r ≤ members) }
-        ensures held { D.tells → (r : ℕ) → IsErrOf result (WorldFault.Occupied r) → SeenSame D.seen disks.old.items
-            disks.new.items }
-        ensures unfailed { (r : ℕ) → IsErrOf result (WorldFault.Occupied r) → Steady D.faults disks.old.items
-            disks.new.items }
+        // What the disks hold stays where a member's hold something.
+        ensures held { D.tells → (r : ℕ) → r ≤ members → IsFirstOccupied D.seen disks.old.items r
+            → SeenSame D.seen disks.old.items disks.new.items }
+        // No disk has failed where no such fault is told.
+        ensures spared { (fault : WorldFaultValue) → IsUnfailed fault → IsErrOf result fault
+            → Steady D.faults disks.old.items disks.new.items }
         ensures comes { D.tells → (r : ℕ) → IsFirstOccupied D.seen disks.old.items r → r ≤ members
             → (result ≡ Err (WorldFault.Occupied r)) ⊎ ((q : ℕ) × (result ≡ Err (WorldFault.Store q))) }
         ensures failed { (r : ℕ) → IsErrOf result (WorldFault.Store r) → IsAtFault D.faults disks.old.items
             disks.new.items r }
+        ensures member { (r : ℕ) → IsErrOf result (WorldFault.Store r) → r ≤ members }
         ensures never { (r : ℕ) → IsErrOf result (WorldFault.Image r) → ⊥ }
+        // Where nothing was unsynced on the members' disks, nothing of what is made is.
+        ensures synced { D.tells → AreSynced D.seen D.may_leave disks.old.items members
+            → OnOk result (AreSynced D.seen D.may_leave disks.new.items members) }
         ensures steady { OnOk result (Steady D.faults disks.old.items disks.new.items) }
         ensures armings { Steady D.armings disks.old.items disks.new.items }
+        ensures pairs { length disks.new.items ≡ length disks.old.items }
         // On disks that tell their fuses, of which none is armed, none fails, and none is armed afterwards.
         ensures unfailing { D.tells_fuse → Unfailing D.fuse result disks.old.items disks.new.items }
         ensures regular { D.tells → OnOk result (AreRegular K.Regular D.seen disks.new.items members) }
@@ -109,8 +122,8 @@ impl<K: Keep + Drop, L: Link + Drop> World<K, L> {
     /// Opens the world that the disks hold, over a link without messages. The history is one restart of each member. It
     /// writes no byte to a disk. After a fault the link is dropped.
     ///
-    /// `Store` comes only where a disk of that replica failed; `Image` exactly where its disks hold no image with which a
-    /// world may be opened.
+    /// `Store` comes only where a disk of that replica failed; `Image` exactly where its disks hold no image with which
+    /// a world may be opened.
     pub fn open<D: Disk>(
         alloc: Global,
         disks: &mut Vec<Pair<D>>,
@@ -125,7 +138,8 @@ impl<K: Keep + Drop, L: Link + Drop> World<K, L> {
             world.whole.members world.stables disks.new.items) }
         ensures opened { D.tells → IfOk result (λ world. AreRead K.kept D.seen disks.old.items world.whole.members) }
         // Whatever lawful history the disks stood for, the world stands for it with the restarts.
-        ensures stands { D.tells → (volume : Volume) (H : List EventValue) → StandsOn K.kept D.seen volume H disks.old.items
+        ensures stands { D.tells → (volume : Volume) (H : List EventValue)
+            → StandsOn K.kept D.seen volume H disks.old.items
             → IfOk result (λ world. WorldStandsFor volume (start H volume.members (L.total link)
             (take volume.members (fuses_in D.armings disks.old.items))) world.whole) }
         ensures image { D.tells → (r : ℕ) → IsErrOf result (WorldFault.Image r)
@@ -136,10 +150,14 @@ impl<K: Keep + Drop, L: Link + Drop> World<K, L> {
             → StandsOn K.kept D.seen volume H disks.old.items → (r : ℕ) → IsErrOf result (WorldFault.Image r) → ⊥ }
         ensures failed { (r : ℕ) → IsErrOf result (WorldFault.Store r) → IsAtFault D.faults disks.old.items
             disks.new.items r }
+        // No disk has failed where no such fault is told.
+        ensures spared { (fault : WorldFaultValue) → IsUnfailed fault → IsErrOf result fault
+            → Steady D.faults disks.old.items disks.new.items }
         ensures never { (r : ℕ) → IsErrOf result (WorldFault.Occupied r) → ⊥ }
         ensures same { D.tells → SeenSame D.seen disks.old.items disks.new.items }
         ensures steady { OnOk result (Steady D.faults disks.old.items disks.new.items) }
         ensures armings { Steady D.armings disks.old.items disks.new.items }
+        ensures pairs { length disks.new.items ≡ length disks.old.items }
         // On disks that tell their fuses, of which none is armed, none fails, and none is armed afterwards. Where what
         // they hold is of volumes that this keeper alone wrote, it tells how the fuses stand of the members.
         ensures unfailing { D.tells_fuse → Unfailing D.fuse result disks.old.items disks.new.items }
@@ -164,12 +182,15 @@ fn look_for_empty<D: Disk>(disks: &mut Vec<Pair<D>>, members: Members) -> Result
     ensures empty { D.tells → OnOk result (AreEmpty D.seen disks.old.items members) }
     ensures occupied { D.tells → (r : ℕ) → IsErrOf result (WorldFault.Occupied r)
         → IsFirstOccupied D.seen disks.old.items r × (r ≤ members) }
-    ensures unfailed { (r : ℕ) → IsErrOf result (WorldFault.Occupied r) → Steady D.faults disks.old.items
-        disks.new.items }
+    ensures spared { (fault : WorldFaultValue) → IsUnfailed fault → IsErrOf result fault
+        → Steady D.faults disks.old.items disks.new.items }
     ensures failed { (r : ℕ) → IsErrOf result (WorldFault.Store r) → IsAtFault D.faults disks.old.items
         disks.new.items r }
+    ensures member { (r : ℕ) → IsErrOf result (WorldFault.Store r) → r ≤ members }
     ensures refused { IfErr result IsFoundFault }
     ensures same { D.tells → SeenSame D.seen disks.old.items disks.new.items }
+    ensures synced { D.tells → AreSynced D.seen D.may_leave disks.old.items members
+        → OnOk result (AreSynced D.seen D.may_leave disks.new.items members) }
     ensures steady { OnOk result (Steady D.faults disks.old.items disks.new.items) }
     ensures armings { Steady D.armings disks.old.items disks.new.items }
     ensures unfailing { D.tells_fuse → Unfailing D.fuse result disks.old.items disks.new.items }
@@ -202,6 +223,7 @@ fn or_occupied(occupied: Option<u8>, is_empty: bool, number: u8) -> Option<u8>
 fn look_at<D: Disk>(pair: &mut Pair<D>, number: u8) -> Result<bool, WorldFault>
     ensures empty { D.tells → IfOk result (λ is. IsTrue is ↔ IsEmptyPair D.seen pair.old) }
     ensures same { D.tells → PairSame D.seen pair.old pair.new }
+    ensures synced { D.tells → IsSynced D.seen D.may_leave pair.old → IsSynced D.seen D.may_leave pair.new }
     ensures failed { IfErr result (λ fault. fault ≡ WorldFault.Store number) }
     ensures risen { OnErr result (PairRose D.faults 1 pair.old pair.new) }
     ensures steady { OnOk result (PairSame D.faults pair.old pair.new) }
@@ -218,6 +240,7 @@ fn look_at<D: Disk>(pair: &mut Pair<D>, number: u8) -> Result<bool, WorldFault>
 fn is_empty<D: Disk>(pair: &mut Pair<D>) -> Result<bool, Failed>
     ensures empty { D.tells → IfOk result (λ is. IsTrue is ↔ IsEmptyPair D.seen pair.old) }
     ensures same { D.tells → PairSame D.seen pair.old pair.new }
+    ensures synced { D.tells → IsSynced D.seen D.may_leave pair.old → IsSynced D.seen D.may_leave pair.new }
     ensures risen { OnErr result (PairRose D.faults 1 pair.old pair.new) }
     ensures steady { OnOk result (PairSame D.faults pair.old pair.new) }
     ensures armings { PairSame D.armings pair.old pair.new }
@@ -246,7 +269,12 @@ fn make_all<K: Keep + Drop, D: Disk>(
         (record { members = members; ids = ids; bytes = bytes }) disks.new.items) }
     ensures failed { (r : ℕ) → IsErrOf result (WorldFault.Store r) → IsAtFault D.faults disks.old.items
         disks.new.items r }
+    ensures member { (r : ℕ) → IsErrOf result (WorldFault.Store r) → r ≤ members }
     ensures refused { IfErr result IsStoreFault }
+    ensures synced { D.tells → AreSynced D.seen D.may_leave disks.old.items members
+        → OnOk result (AreSynced D.seen D.may_leave disks.new.items members) }
+    ensures spared { (fault : WorldFaultValue) → IsUnfailed fault → IsErrOf result fault
+        → Steady D.faults disks.old.items disks.new.items }
     ensures steady { OnOk result (Steady D.faults disks.old.items disks.new.items) }
     ensures armings { Steady D.armings disks.old.items disks.new.items }
     ensures unfailing { D.tells_fuse → Unfailing D.fuse result disks.old.items disks.new.items }
@@ -278,6 +306,10 @@ fn make_one<K: Keep + Drop, D: Disk>(
     ensures failed { (r : ℕ) → IsErrOf result (WorldFault.Store r)
         → (r ≡ me) × PairRose D.faults 1 pair.old pair.new }
     ensures refused { IfErr result IsStoreFault }
+    ensures synced { D.tells → IsSynced D.seen D.may_leave pair.old
+        → OnOk result (IsSynced D.seen D.may_leave pair.new) }
+    ensures spared { (fault : WorldFaultValue) → IsUnfailed fault → IsErrOf result fault
+        → PairSame D.faults pair.old pair.new }
     ensures steady { OnOk result (PairSame D.faults pair.old pair.new) }
     ensures armings { PairSame D.armings pair.old pair.new }
     ensures unfailing { D.tells_fuse → PairUnfailing D.fuse result pair.old pair.new }
@@ -310,6 +342,8 @@ fn open_all<K: Keep + Drop, D: Disk>(
         disks.new.items r }
     ensures never { (r : ℕ) → IsErrOf result (WorldFault.Occupied r) → ⊥ }
     ensures same { D.tells → SeenSame D.seen disks.old.items disks.new.items }
+    ensures spared { (fault : WorldFaultValue) → IsUnfailed fault → IsErrOf result fault
+        → Steady D.faults disks.old.items disks.new.items }
     ensures steady { OnOk result (Steady D.faults disks.old.items disks.new.items) }
     ensures armings { Steady D.armings disks.old.items disks.new.items }
     ensures unfailing { D.tells_fuse → Unfailing D.fuse result disks.old.items disks.new.items }
@@ -358,6 +392,8 @@ fn open_next<K: Keep + Drop, D: Disk>(
         disks.new.items r }
     ensures never { (r : ℕ) → IsErrOf result (WorldFault.Occupied r) → ⊥ }
     ensures same { D.tells → SeenSame D.seen disks.old.items disks.new.items }
+    ensures spared { (fault : WorldFaultValue) → IsUnfailed fault → IsErrOf result fault
+        → Steady D.faults disks.old.items disks.new.items }
     ensures steady { OnOk result (Steady D.faults disks.old.items disks.new.items) }
     ensures armings { Steady D.armings disks.old.items disks.new.items }
     ensures unfailing { D.tells_fuse → Unfailing D.fuse result disks.old.items disks.new.items }
@@ -399,6 +435,8 @@ fn open_one<K: Keep + Drop, D: Disk>(
         → (r ≡ number) × PairRose D.faults 1 pair.old pair.new }
     ensures never { (r : ℕ) → IsErrOf result (WorldFault.Occupied r) → ⊥ }
     ensures same { D.tells → PairSame D.seen pair.old pair.new }
+    ensures spared { (fault : WorldFaultValue) → IsUnfailed fault → IsErrOf result fault
+        → PairSame D.faults pair.old pair.new }
     ensures steady { OnOk result (PairSame D.faults pair.old pair.new) }
     ensures armings { PairSame D.armings pair.old pair.new }
     ensures unfailing { D.tells_fuse → PairUnfailing D.fuse result pair.old pair.new }
@@ -422,7 +460,8 @@ fn may_open(first: &Saved, saved: &Saved, number: u8) -> bool
         && saved.generation < GENERATION_LIMIT
 }
 
-/// A world is opened from fewer saves than this of each member, so that each has a generation for every command to come.
+/// A world is opened from fewer saves than this of each member, so that each has a generation for every command to
+/// come.
 const GENERATION_LIMIT: u64 = 1 << 62;
 
 // Whether both disks have a fuse.

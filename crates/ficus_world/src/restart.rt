@@ -22,8 +22,8 @@ use ficus_script::Answer;
 use std::alloc::Global;
 
 impl<K: Keep + Drop, L: Link + Drop> World<K, L> {
-    /// Restarts a member: its disks are opened again, and what they hold decides whether what was pending has happened. It
-    /// no longer waits for an answer. All memory is taken before anything changes.
+    /// Restarts a member: its disks are opened again, and what they hold decides whether what was pending has happened.
+    /// It no longer waits for an answer. All memory is taken before anything changes.
     pub(crate) fn restart<D: Disk>(
         &mut self,
         alloc: Global,

@@ -24,7 +24,7 @@ impl<K: Keep + Drop, L: Link + Drop> World<K, L> {
     ghost use Rattle.ficus_runs.specs.ModelWorld.{ModelWorld};
     ghost use Rattle.ficus_runs.specs.Run.{CommandMayWantMemory};
     ghost use Rattle.ficus_world.specs.Follows.{FollowsOn, StopsOn, TellsFor};
-    ghost use Rattle.ficus_world.specs.Stepped.{ComesTo, CutOn, LookComesTo, Stepped};
+    ghost use Rattle.ficus_world.specs.Stepped.{ComesTo, CutOn, LookComesTo, OnlyLooks, Stepped};
     ghost use Rattle.ficus_world.specs.Moves.{HasCollected};
     ghost use Rattle.ficus_world.specs.World.{WorldStandsFor};
 
@@ -49,17 +49,19 @@ impl<K: Keep + Drop, L: Link + Drop> World<K, L> {
         ensures pairs { length disks.new.items ≡ length disks.old.items }
         ensures memory { OnErr result (CutOn L.tells K.Keep D.Disk command.now self.old.whole self.new.whole
             disks.old.items disks.new.items) }
-        // The disks are still those of the world: they hold what each member that is up has saved, and of one that is down
-        // that, or what is pending.
+        // What only looks saves nothing.
+        ensures unsaved { OnlyLooks command.now → (self.new ≡ self.old) × (disks.new ≡ disks.old) }
+        // The disks are still those of the world: they hold what each member that is up has saved, and of one that is
+        // down that, or what is pending.
         ensures disks { AreDisksOf D.tells K.kept K.fits D.seen D.may_leave D.armings self.new.whole.members
             self.new.stables disks.new.items }
         // A replica that has collected holds no removed entry of which everybody is known to know that all know, and no
         // file or directory that nothing which it holds names or lies in, unless it is an orphan.
         ensures collected { IfOk result (λ answer. HasCollected command.now answer self.new.whole) }
         // Whatever the world stood for before, over a link that tells its posts, and for a restart over disks that tell
-        // what they hold: the model allows the answer there, and the world stands for what it leads to; after `Memory`, for
-        // what the command has done. Where the disks tell their fuses, these allow what became of all that was asked of
-        // the disks.
+        // what they hold: the model allows the answer there, and the world stands for what it leads to; after `Memory`,
+        // for what the command has done. Where the disks tell their fuses, these allow what became of all that was
+        // asked of the disks.
         ensures stands { L.tells → TellsFor D.tells command.now → (volume : Volume) (W : ModelWorld)
             → WorldStandsFor volume W self.old.whole
             → IfOk result (λ answer. FollowsOn K.Keep D.Disk volume W self.old.whole command.now answer self.new.whole
@@ -91,6 +93,7 @@ impl<K: Keep + Drop, L: Link + Drop> World<K, L> {
         ensures members { length self.new.whole.members ≡ length self.old.whole.members }
         ensures memory { IsErrOf result OutOfMemory → CutOn L.tells K.Keep D.Disk command.now self.old.whole
             self.new.whole disks.old.items disks.new.items }
+        ensures unsaved { OnlyLooks command.now → (self.new ≡ self.old) × (disks.new ≡ disks.old) }
         ensures disks { AreDisksOf D.tells K.kept K.fits D.seen D.may_leave D.armings self.new.whole.members
             self.new.stables disks.new.items }
     {

@@ -16,7 +16,8 @@ pub const DEFAULT_IDS: u32 = UPDATE_LIMIT;
 pub const DEFAULT_BYTES: u32 = BYTE_LIMIT;
 
 /// The members of a volume, the history of this run, the link over which they exchange messages, with the position
-/// behind each posted message, and for each member the keeper of what it saves. A world's disks are handed to its calls.
+/// behind each posted message, and for each member the keeper of what it saves. A world's disks are handed to its
+/// calls.
 #[derive(Drop)]
 pub struct World<K: Keep + Drop, L: Link + Drop> {
     pub(crate) group: Group<L>,

@@ -1,8 +1,8 @@
 -- The mode `init`: a fresh volume is made.
-use Rattle.std.specs.Prelude.{◌≡◌, ◌⊎◌, ℕ, []}
+use Rattle.std.specs.Prelude.{◌≡◌, ◌≢◌, ◌⊎◌, ◌≤◌, ℕ, []}
 use Rattle.ficus_store.specs.Slots.{kept_in}
 use Rattle.ficus_words.specs.declared.mode.Size.{Size}
-use Rattle.ficus_world.specs.Opening.{AreEmpty, StandsOn, Steady}
+use Rattle.ficus_world.specs.Opening.{AreEmpty, AreSynced, StandsOn, Steady}
 use Rattle.ficus_top.specs.Ends.{NoneFailed}
 use Rattle.ficus_top.specs.Making.{MakesVolume, volume_of}
 use Rattle.ficus_top.specs.Seen.{Seen, disks_before, disks_after}
@@ -12,14 +12,21 @@ abbrev pub IsInitCode : ℕ → Type 0
 IsInitCode code = (code ≡ 0) ⊎ (code ≡ 3) ⊎ (code ≡ 6) ⊎ (code ≡ 9)
 
 -- Nothing is taken and nothing put, and no disk is armed. With code 0 the disks stand for the empty history of a volume
--- of this size. Empty disks get there, unless one fails or memory is wanted.
+-- of this size, and nothing of that is unsynced, if nothing was before. Empty disks get there, unless one fails or
+-- memory is wanted. Code 6 comes wherever a disk has failed, also where the disks don't tell what they hold, and names
+-- a member.
 pub record DoesInit {S K D : Type 0} (size : Size) (seen : Seen S K D) (status : Status) : Type 0 where
   pub codes : IsInitCode status.code
   pub unread : seen.input.new ≡ seen.input.old
   pub silent : seen.output.new ≡ seen.output.old
   pub unarmed : Steady seen.disk.armings (disks_before seen) (disks_after seen)
+  pub unfailed : status.code ≢ 6 → Steady seen.disk.faults (disks_before seen) (disks_after seen)
+  pub member : status.code ≡ 6 → status.replica ≤ size.members
   pub makes : seen.disk.tells → MakesVolume size.members seen status
   pub made : seen.disk.tells → status.code ≡ 0
       → StandsOn kept_in seen.disk.seen (volume_of size) [] (disks_after seen)
+  pub synced : seen.disk.tells → status.code ≡ 0
+      → AreSynced seen.disk.seen seen.disk.may_leave (disks_before seen) size.members
+      → AreSynced seen.disk.seen seen.disk.may_leave (disks_after seen) size.members
   pub complete : seen.disk.tells → AreEmpty seen.disk.seen (disks_before seen) size.members
       → NoneFailed seen.disk.faults (disks_before seen) (disks_after seen) → (status.code ≡ 0) ⊎ (status.code ≡ 3)

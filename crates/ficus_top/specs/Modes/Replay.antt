@@ -1,21 +1,29 @@
 -- The mode `replay`: a fresh volume is made, and the script is run on it.
-use Rattle.std.specs.Prelude.{◌≡◌, ◌⊎◌, []}
+use Rattle.std.specs.Prelude.{◌≡◌, ◌⊎◌, ℕ, []}
 use Rattle.ficus_words.specs.declared.mode.Size.{Size}
 use Rattle.ficus_world.specs.Fuses.{AreUnarmed}
-use Rattle.ficus_world.specs.Opening.{AreEmpty}
+use Rattle.ficus_world.specs.Opening.{AreEmpty, Steady}
 use Rattle.ficus_top.specs.Ends.{NoneFailed}
 use Rattle.ficus_top.specs.Making.{MakesVolume, volume_of}
 use Rattle.ficus_top.specs.Script.{AnswersScript, HasScript, ReadsScript}
 use Rattle.ficus_top.specs.Seen.{Seen, disks_before, disks_after}
 use Rattle.ficus_top.specs.declared.status.Status.{Status}
 
--- The script is answered on a volume of this size to which nothing has happened. What was made can be opened. A script
--- is answered over empty disks, unless the outside fails or memory is wanted; over empty disks that tell their fuses,
--- of which none is armed, whatever becomes of the disks.
+abbrev pub IsReplayCode : ℕ → Type 0
+IsReplayCode code = (code ≡ 0) ⊎ (code ≡ 2) ⊎ (code ≡ 3) ⊎ (code ≡ 4) ⊎ (code ≡ 5) ⊎ (code ≡ 6) ⊎ (code ≡ 7)
+    ⊎ (code ≡ 8) ⊎ (code ≡ 9)
+
+-- The script is answered on a volume of this size to which nothing has happened. What was made can be opened, so that
+-- code 7 comes only over disks that don't tell what they hold. A script is answered over empty disks, unless the
+-- outside fails or memory is wanted; over empty disks that tell their fuses, of which none is armed, whatever becomes
+-- of the disks. With codes 7 and 9 no disk has failed.
 pub record DoesReplay {S K D : Type 0} (size : Size) (seen : Seen S K D) (status : Status) : Type 0 where
+  pub codes : IsReplayCode status.code
   pub reads : seen.source.tells → ReadsScript seen status
   pub makes : seen.disk.tells → MakesVolume size.members seen status
   pub opens : seen.disk.tells → status.code ≡ 7 → ⊥
+  pub unfailed : (status.code ≡ 7) ⊎ (status.code ≡ 9)
+      → Steady seen.disk.faults (disks_before seen) (disks_after seen)
   pub answers : seen.source.tells → seen.disk.tells → AnswersScript seen status (Unit {0}) (volume_of size) []
   pub complete : seen.source.tells → seen.disk.tells → AreEmpty seen.disk.seen (disks_before seen) size.members
       → HasScript seen → NoneFailed seen.disk.faults (disks_before seen) (disks_after seen)

@@ -3,8 +3,8 @@ use Rattle.std.specs.Prelude.{◌≡◌, ◌⊎◌, ℕ, List}
 use Rattle.ficus_model.specs.Lawful.{Volume}
 use Rattle.ficus_model.specs.declared.event.Event.{Event}
 use Rattle.ficus_store.specs.Slots.{kept_in}
-use Rattle.ficus_world.specs.Opening.{IsFirstBad, SeenSame, StandsOn}
-use Rattle.ficus_top.specs.Codes.{IsImageCode}
+use Rattle.ficus_world.specs.Opening.{IsFirstBad, SeenSame, StandsOn, Steady}
+use Rattle.ficus_top.specs.Codes.{IsRefusalCode}
 use Rattle.ficus_top.specs.Ends.{NoneFailed}
 use Rattle.ficus_top.specs.Script.{AnswersScript, HasScript, ReadsScript}
 use Rattle.ficus_top.specs.Seen.{Seen, disks_before, disks_after}
@@ -18,14 +18,16 @@ abbrev pub HoldsSame : {S K D : Type 0} → Seen S K D → Type 0
 HoldsSame seen = seen.disk.tells → SeenSame seen.disk.seen (disks_before seen) (disks_after seen)
 
 -- The script is answered on the volume, whatever lawful history it is that the disks stood for. Code 7 names the first
--- replica whose disks are those of no world, and comes wherever there is one, unless a fault comes before. What was held stays where no command was carried out. A script is answered
--- over disks that stand for a lawful history, unless the outside fails or memory is wanted.
+-- replica whose disks are those of no world, and comes wherever there is one, unless a fault comes before; no disk has
+-- failed then. What was held stays where no command was carried out. A script is answered over disks that stand for a
+-- lawful history, unless the outside fails or memory is wanted.
 pub record DoesRun {S K D : Type 0} (seen : Seen S K D) (status : Status) : Type 0 where
   pub codes : IsRunCode status.code
   pub reads : seen.source.tells → ReadsScript seen status
   pub image : seen.disk.tells → status.code ≡ 7 → IsFirstBad kept_in seen.disk.seen (disks_before seen) status.replica
   pub image_comes : seen.disk.tells → (r : ℕ) → IsFirstBad kept_in seen.disk.seen (disks_before seen) r
-      → IsImageCode r status.code status.replica
+      → IsRefusalCode 7 r status.code status.replica
+  pub unfailed : status.code ≡ 7 → Steady seen.disk.faults (disks_before seen) (disks_after seen)
   pub unwritten : (status.code ≡ 6) ⊎ (status.code ≡ 7) → HoldsSame seen
   pub answers : seen.source.tells → seen.disk.tells → (volume : Volume) (H : List Event)
       → StandsOn kept_in seen.disk.seen volume H (disks_before seen)

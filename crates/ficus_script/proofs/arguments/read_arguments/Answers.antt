@@ -8,5 +8,6 @@ returns-then-begins_path c =
 
 pub returns-else-begins_path : goal.returns-else-begins_path
 returns-else-begins_path c =
-    rw (c.in-Some.is, c.ok_or.ensures.value)
-    (reading_words c.in-Some.words.now _ _ _ (cut_whole _ _ _ c.cut_at.ensures.whole) c.cut_at.ensures.front c.number_first.ensures)
+    rw c.in-Some.is
+    (reading_words c.in-Some.words.now _ _ _ (cut_whole _ _ _ c.cut_at.ensures.whole) c.cut_at.ensures.front
+    (c.number_first.ensures _))

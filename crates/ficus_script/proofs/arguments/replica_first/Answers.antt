@@ -7,7 +7,7 @@ use Rattle.ficus_script.proofs.arguments.replica_first.Goals as goal
 pub returns-in_err-read_replica-in-None : goal.returns-in_err-read_replica-in-None
 returns-in_err-read_replica-in-None c =
     rw c.from_residual-in_err-read_replica-in-None.ensures
-    (no_numbers c.args.first.now c.args.words.now _ _ c.requires
+    (λ paths. no_numbers c.args.first.now c.args.words.now _ _ c.requires
     (cut_whole _ _ _ c.cut_at.ensures.whole) c.cut_at.ensures.front
     (λ replica is same _. c.in_err-read_replica-in-None.ensures.none replica is same)
     (λ calls pick fits is same behind.
@@ -17,7 +17,7 @@ returns-in_err-read_replica-in-None c =
 pub returns-in_err-read_number-in-Some : goal.returns-in_err-read_number-in-Some
 returns-in_err-read_number-in-Some c =
     rw c.from_residual-in_err-read_number-in-Some.ensures
-    (no_numbers c.args.first.now c.args.words.now _ _ c.requires
+    (λ paths. no_numbers c.args.first.now c.args.words.now _ _ c.requires
     (cut_whole _ _ _ c.cut_at.ensures.whole) c.cut_at.ensures.front
     (λ replica is same nothing.
     let some : Some c.in-Some.last.now ≡ None = sym (ap bytes_of c.in-Some.is) ∙ nothing in
@@ -27,7 +27,7 @@ returns-in_err-read_number-in-Some c =
 pub returns-in_err-read_pick-in-Some : goal.returns-in_err-read_pick-in-Some
 returns-in_err-read_pick-in-Some c =
     rw c.from_residual-in_err-read_pick-in-Some.ensures
-    (no_numbers c.args.first.now c.args.words.now _ _ c.requires
+    (λ paths. no_numbers c.args.first.now c.args.words.now _ _ c.requires
     (cut_whole _ _ _ c.cut_at.ensures.whole) c.cut_at.ensures.front
     (λ replica is same nothing.
     let some : Some c.in-Some.last.now ≡ None = sym (ap bytes_of c.in-Some.is) ∙ nothing in

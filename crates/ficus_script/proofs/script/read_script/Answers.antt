@@ -1,7 +1,16 @@
-use Rattle.ficus_script.proofs.Scripts.{IsReadTo-more, from_ok}
+use Rattle.std.proofs.Common.{Err, refl, ap}
+use Rattle.ficus_script.proofs.ScriptLaws.{fault_is, no_bad_line, one_bad_line}
+use Rattle.ficus_script.specs.declared.fault.ScriptFault.TheVariants.{BadLine}
 use Rattle.ficus_script.proofs.script.read_script.Goals as goal
 
-pub loop-line-preserved : goal.loop-line-preserved
-loop-line-preserved c =
-    IsReadTo-more c.in-Some.line.now c.in-Some.others.now c.loop-line.invariant c.in-Some.ensures.lines c.in-Some.ensures.shorter
-    (from_ok c.take_line.result c.map_err.result _ c.in_ok-map_err.was c.map_err.ensures.variant c.take_line.ensures.taken)
+pub returns-in-Ok-clause-no_line : goal.returns-in-Ok-clause-no_line
+returns-in-Ok-clause-no_line c = λ line first. absurd (no_bad_line _ _ line c.in-Ok.ensures.script first)
+
+pub returns-in-Err-BadLine-clause-no_line : goal.returns-in-Err-BadLine-clause-no_line
+returns-in-Err-BadLine-clause-no_line c = λ line first.
+    let named = rw c.in-Err-BadLine.field-0-is at c.in-Err-BadLine.ensures.bad_line in
+    ap (λ number. Err (BadLine number)) (one_bad_line _ _ line (named c.in-Err-BadLine.line refl) first)
+
+pub returns-in-Err-Memory-clause-no_line : goal.returns-in-Err-Memory-clause-no_line
+returns-in-Err-Memory-clause-no_line c = λ line first.
+    ap Err (fault_is _ _ line c.fault_without_memory.ensures.bad_line c.fault_without_memory.ensures.memory first)

@@ -2,4 +2,5 @@ use Rattle.ficus_script.proofs.CommandLaws.{no_discard}
 use Rattle.ficus_script.proofs.verbs.discard.Goals as goal
 
 pub returns-in_err-orphan : goal.returns-in_err-orphan
-returns-in_err-orphan c = rw c.from_residual.ensures (no_discard c.args.by c.args.path c.in_err-orphan.ensures.none)
+returns-in_err-orphan c =
+    rw c.from_residual.ensures (λ by number. no_discard by c.args.path.now c.in_err-orphan.ensures.none)

@@ -19,7 +19,9 @@ returns-in-Init g c =
     c.args.disks.now c.init.new.disks in
     in_mode seen (status_of c.init.result) c.in-Init.is c.of.ensures (record {
       does = init_of seen c.init.result c.in-Init.size c.init.ensures.kinds refl refl c.init.ensures.unarmed
-          c.init.ensures.failed c.init.ensures.occupied c.init.ensures.occupied_comes c.init.ensures.made;
+          c.init.ensures.failed c.init.ensures.occupied c.init.ensures.occupied_comes c.init.ensures.made
+          c.init.ensures.member c.init.ensures.held c.init.ensures.steady c.init.ensures.spared
+          c.init.ensures.synced;
       ends = init_ends seen c.init.result c.init.ensures.kinds refl refl c.init.ensures.unarmed c.init.ensures.failed;
     })
 
@@ -37,13 +39,14 @@ returns-in-Run g c =
       idle = put_nothing _ _ _ _ _ _ c.run.result c.run.ensures.idle;
       unarmed = armed_nothing _ _ _ _ _ _ c.run.result c.run.ensures.idle;
       untouched = c.run.ensures.untouched;
+      pairs = c.run.ensures.pairs;
       source_counted = c.run.ensures.source_counted;
       sink_counted = c.run.ensures.sink_counted;
     } in
     in_mode seen (status_of c.run.result) c.in-Run.is c.of-in-Run.ensures (record {
       does = run_of seen c.run.result any c.run.ensures.takes c.run.ensures.answers c.run.ensures.prefix
           c.run.ensures.idle c.run.ensures.image c.run.ensures.image_comes c.run.ensures.never_image
-          c.run.ensures.never_occupied;
+          c.run.ensures.never_occupied c.run.ensures.spared;
       ends = any_of seen c.run.result any;
     })
 
@@ -62,12 +65,13 @@ returns-in-Replay g c =
       idle = put_nothing _ _ _ _ _ _ c.replay.result c.replay.ensures.idle;
       unarmed = armed_nothing _ _ _ _ _ _ c.replay.result c.replay.ensures.idle;
       untouched = c.replay.ensures.untouched;
+      pairs = c.replay.ensures.pairs;
       source_counted = c.replay.ensures.source_counted;
       sink_counted = c.replay.ensures.sink_counted;
     } in
     in_mode seen (status_of c.replay.result) c.in-Replay.is c.of-in-Replay.ensures (record {
       does = replay_of seen c.replay.result c.in-Replay.size any c.replay.ensures.takes c.replay.ensures.answers
           c.replay.ensures.prefix c.replay.ensures.idle c.replay.ensures.unfailing c.replay.ensures.never_image
-          c.replay.ensures.occupied c.replay.ensures.occupied_comes;
+          c.replay.ensures.occupied c.replay.ensures.occupied_comes c.replay.ensures.held c.replay.ensures.spared;
       ends = any_of seen c.replay.result any;
     })

@@ -7,12 +7,14 @@ use Rattle.ficus_top.proofs.running.answer_on.Goals as goal
 pub returns-clause-answers : goal.returns-clause-answers
 returns-clause-answers g c = λ told.
     on_ok_weaker c.answer_all-answered.result (λ serve volume W stands up.
-    served_ends refl told (sym c.link.ensures.faults) (c.disks_stand.ensures told volume) up
+    served_ends refl told (sym c.link.ensures.faults) (c.disks_stand.ensures.stand told volume)
+    (c.disks_stand.ensures.outlasts told volume) up
     (omega (arith, c.requires.pairs, stands.members, stands.standings)) (serve volume W stands))
     (c.answer_all-answered.ensures.answers tt (tells_all told c.args.commands.now))
 
 pub returns-clause-prefix : goal.returns-clause-prefix
 returns-clause-prefix g c = λ told.
     IfErr-weaker c.answer_all-answered.result _ _ (λ fault serve volume W stands.
-    front_ends refl told (sym c.link.ensures.faults) (c.disks_stand.ensures told volume) (serve volume W stands))
+    front_ends refl told (sym c.link.ensures.faults) (c.disks_stand.ensures.stand told volume)
+    (c.disks_stand.ensures.outlasts told volume) (serve volume W stands))
     (c.answer_all-answered.ensures.prefix tt (tells_all told c.args.commands.now))

@@ -1,7 +1,7 @@
-use Rattle.std.proofs.Common.{[]}
+use Rattle.std.proofs.Common.{[], ◌∙◌}
 use Rattle.std.proofs.lemmas.Result.{IfErr-weaker, err_from_is_err_and, on_ok_weaker}
 use Rattle.ficus_world.specs.declared.opening.WorldFault.TheVariants.{Occupied, Store}
-use Rattle.ficus_world.proofs.Steadies.{fault_behind, steady_trans}
+use Rattle.ficus_world.proofs.Steadies.{fault_behind, steady_none, steady_trans}
 use Rattle.ficus_top.specs.Making.{volume_of}
 use Rattle.ficus_top.proofs.Answering.{answers_of, front_of}
 use Rattle.ficus_top.proofs.Earlier.{ends_since, front_since}
@@ -61,9 +61,32 @@ returns-clause-idle g c =
       besides = tt;
     }) c.run_on.ensures.idle c.run_on.ensures.unarmed
 
+pub returns-in_err-make-clause-pairs : goal.returns-in_err-make-clause-pairs
+returns-in_err-make-clause-pairs g c = c.make.ensures.unarmed.count
+
+pub returns-clause-pairs : goal.returns-clause-pairs
+returns-clause-pairs g c = c.run_on.ensures.pairs ∙ c.make.ensures.unarmed.count
+
 pub returns-clause-failed : goal.returns-clause-failed
 returns-clause-failed g c = λ r is.
     fault_behind g.D.Disk.faults _ _ _ r c.in_ok-make.ensures.steady (c.run_on.ensures.failed r is)
 
 pub returns-clause-occupied_comes : goal.returns-clause-occupied_comes
 returns-clause-occupied_comes g c = λ tells r within first. absurd (c.in_ok-make.ensures.comes tells r first within)
+
+pub returns-in_err-commands-clause-held : goal.returns-in_err-commands-clause-held
+returns-in_err-commands-clause-held g c = λ tells r within first.
+    steady_none g.D.Disk.seen c.args.disks.now.items
+
+pub returns-clause-held : goal.returns-clause-held
+returns-clause-held g c = λ tells r within first. absurd (c.in_ok-make.ensures.comes tells r first within)
+
+pub returns-in_err-make-clause-spared : goal.returns-in_err-make-clause-spared
+returns-in_err-make-clause-spared g c = λ fault unfailed is.
+    let given = err_from_is_err_and c.from_residual-in_err-make.result c.from_residual-in_err-make.ensures.1 in
+    c.make.ensures.spared fault unfailed
+    (handed_on c.make.result c.from_residual-in_err-make.result _ _ c.in_err-make.was given.1 given.2 fault is)
+
+pub returns-clause-spared : goal.returns-clause-spared
+returns-clause-spared g c = λ fault unfailed is.
+    steady_trans g.D.Disk.faults _ _ _ c.in_ok-make.ensures.steady (c.run_on.ensures.spared fault unfailed is)

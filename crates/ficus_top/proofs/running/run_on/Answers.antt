@@ -10,7 +10,7 @@ use Rattle.ficus_top.specs.declared.fault.Fault.TheVariants.{Answering}
 use Rattle.ficus_world.specs.declared.opening.WorldFault.TheVariants.{Image}
 use Rattle.ficus_top.proofs.Ends.{ends_behind, front_ends_behind, front_ends_where, opened_stands}
 use Rattle.ficus_top.proofs.Resting.{rests_open}
-use Rattle.ficus_top.proofs.Stored.{told_on}
+use Rattle.ficus_top.proofs.Stored.{handed_on, told_on}
 use Rattle.ficus_top.proofs.running.run_on.Goals as goal
 
 pub answer_on-requires-clause-room : goal.answer_on-requires-clause-room
@@ -44,6 +44,12 @@ returns-clause-answers g c = λ told volume H on.
     ends_behind g.D.Disk {mid_disks = c.open.new.disks.items} c.in_ok-world.ensures.steady c.open.ensures.armings rests
     (c.in_ok-answer_on.ensures.answers told volume _ stands (up_first volume.members).each)
 
+pub returns-in_err-answer_on-clause-pairs : goal.returns-in_err-answer_on-clause-pairs
+returns-in_err-answer_on-clause-pairs g c = c.answer_on.ensures.pairs ∙ c.open.ensures.pairs
+
+pub returns-clause-pairs : goal.returns-clause-pairs
+returns-clause-pairs g c = c.answer_on.ensures.pairs ∙ c.open.ensures.pairs
+
 pub returns-in_err-world-clause-image_comes : goal.returns-in_err-world-clause-image_comes
 returns-in_err-world-clause-image_comes g c = λ tells r bad.
     let given = err_from_is_err_and c.from_residual.result c.from_residual.ensures.1 in
@@ -52,3 +58,9 @@ returns-in_err-world-clause-image_comes g c = λ tells r bad.
 
 pub returns-in_err-answer_on-clause-image_comes : goal.returns-in_err-answer_on-clause-image_comes
 returns-in_err-answer_on-clause-image_comes g c = λ tells r bad. absurd (c.in_ok-world.ensures.image_comes tells r bad)
+
+pub returns-in_err-world-clause-spared : goal.returns-in_err-world-clause-spared
+returns-in_err-world-clause-spared g c = λ fault unfailed is.
+    let given = err_from_is_err_and c.from_residual.result c.from_residual.ensures.1 in
+    c.open.ensures.spared fault unfailed
+    (handed_on c.open.result c.from_residual.result _ _ c.in_err-world.was given.1 given.2 fault is)

@@ -1,10 +1,10 @@
 use Rattle.std.proofs.Common.{◌≡◌, ◌+◌, subst, sym, ◌∙◌, arith}
 use Rattle.std.proofs.lemmas.Result.{err_from_is_err_and}
 use Rattle.ficus_runs.specs.Numbered.{IsNumbered}
-use Rattle.ficus_world.specs.Opening.{IsAtFault, IsFirstOccupied}
+use Rattle.ficus_world.specs.Opening.{IsAtFault, IsFirstOccupied, IsUnfailed}
 use Rattle.ficus_world.proofs.Faults.{handed_on, same_err, same_occupied, same_store}
 use Rattle.ficus_world.proofs.Making.{FoundSo, empty_none, found_more}
-use Rattle.ficus_world.proofs.Steadies.{fault_set, number_at, steady_none, steady_set}
+use Rattle.ficus_world.proofs.Steadies.{fault_set, number_at, steady_none, steady_set, synced_set}
 use Rattle.ficus_world.proofs.Unarmed.{unarmed_set, unfailing_none, unfailing_set}
 use Rattle.ficus_world.specs.declared.opening.WorldFault.TheVariants.{Store}
 use Rattle.ficus_world.proofs.opening.look_for_empty.Goals as goal
@@ -15,6 +15,7 @@ loop-before-init g c = record {
   seen = λ tells. steady_none g.D.Disk.seen c.args.disks.now.items;
   faults = steady_none g.D.Disk.faults c.args.disks.now.items;
   armings = steady_none g.D.Disk.armings c.args.disks.now.items;
+  synced = λ tells at_first. at_first;
   unarmed = λ fused none. none;
 }
 
@@ -68,6 +69,11 @@ loop-before-preserved g c =
           c.index_mut.result.now c.look_at.new.pair c.loop-before.invariant.faults at c.in_ok-is_empty.ensures.steady;
       armings = steady_set g.D.Disk.armings c.args.disks.now.items c.loop-before.disks.items c.from.result
           c.index_mut.result.now c.look_at.new.pair c.loop-before.invariant.armings at c.look_at.ensures.armings;
+      synced = λ tells at_first.
+          synced_set g.D.Disk.seen g.D.Disk.may_leave c.loop-before.disks.items c.from.result c.args.members
+          c.index_mut.result.now c.look_at.new.pair (c.loop-before.invariant.synced tells at_first) at
+          (c.look_at.ensures.synced tells)
+          (omega (arith, c.from.ensures, c.loop-before-test.true, c.count-before-end.ensures.value));
       unarmed = λ fused none.
           let before = c.loop-before.invariant.unarmed fused none in
           unarmed_set g.D.Disk.fuse c.loop-before.disks.items c.from.result c.look_at.new.pair before
@@ -84,8 +90,15 @@ returns-in-Some-clause-occupied g c = λ tells r is.
       omega (arith, number, within, c.loop-before.auto.before-end, c.count-before-end.ensures.value),
     )
 
-pub returns-in-Some-clause-unfailed : goal.returns-in-Some-clause-unfailed
-returns-in-Some-clause-unfailed g c = λ r is. c.loop-before.invariant.faults
+pub returns-in-Some-clause-spared : goal.returns-in-Some-clause-spared
+returns-in-Some-clause-spared g c = λ fault unfailed is. c.loop-before.invariant.faults
+
+pub returns-in_err-is_empty-clause-spared : goal.returns-in_err-is_empty-clause-spared
+returns-in_err-is_empty-clause-spared g c = λ fault unfailed is.
+    let given = err_from_is_err_and c.from_residual.result c.from_residual.ensures.1 in
+    let named = same_err given.0 fault (sym given.1 ∙ is) in
+    let failed = given.2 ∙ c.in_err-is_empty.ensures.failed in
+    absurd (subst IsUnfailed (sym named ∙ failed) unfailed)
 
 pub returns-in-Some-clause-same : goal.returns-in-Some-clause-same
 returns-in-Some-clause-same g c = c.loop-before.invariant.seen
@@ -132,3 +145,13 @@ pub returns-in-None-clause-unfailing : goal.returns-in-None-clause-unfailing
 returns-in-None-clause-unfailing g c = λ fused.
     unfailing_none g.D.Disk.fuse _ c.args.disks.now.items c.loop-before.disks.items
     (c.loop-before.invariant.unarmed fused) (λ r is. absurd (cc))
+
+pub returns-in_err-is_empty-clause-member : goal.returns-in_err-is_empty-clause-member
+returns-in_err-is_empty-clause-member g c = λ r is.
+    let given = err_from_is_err_and c.from_residual.result c.from_residual.ensures.1 in
+    let answered = same_store (c.loop-before.before + 1) r
+    (sym c.in_err-is_empty.ensures.failed ∙ sym given.2 ∙ same_err given.0 _ (sym given.1 ∙ is)) in
+    omega (arith, answered, c.loop-before-test.true, c.count-before-end.ensures.value)
+
+pub returns-in-None-clause-synced : goal.returns-in-None-clause-synced
+returns-in-None-clause-synced g c = c.loop-before.invariant.synced

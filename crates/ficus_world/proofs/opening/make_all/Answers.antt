@@ -3,7 +3,7 @@ use Rattle.std.proofs.lemmas.Result.{err_from_is_err_and}
 use Rattle.ficus_world.specs.Opening.{IsAtFault}
 use Rattle.ficus_world.proofs.Faults.{handed_on}
 use Rattle.ficus_world.proofs.Making.{made_all, made_more, made_none}
-use Rattle.ficus_world.proofs.Steadies.{fault_set, number_at, steady_none, steady_set}
+use Rattle.ficus_world.proofs.Steadies.{fault_set, number_at, steady_none, steady_set, synced_set}
 use Rattle.ficus_world.proofs.Unarmed.{regular_more, regular_none, unarmed_set, unfailing_none, unfailing_set}
 use Rattle.ficus_world.specs.declared.opening.WorldFault.TheVariants.{Store}
 use Rattle.ficus_world.proofs.opening.make_all.Goals as goal
@@ -13,6 +13,7 @@ loop-before-init g c = record {
   made = λ tells. made_none g.K.Keep.kept g.D.Disk.seen _ c.args.disks.now.items;
   faults = steady_none g.D.Disk.faults c.args.disks.now.items;
   armings = steady_none g.D.Disk.armings c.args.disks.now.items;
+  synced = λ tells at_first. at_first;
   unarmed = λ fused none. none;
   regular = λ tells. regular_none g.K.Keep.Regular g.D.Disk.seen c.args.disks.now.items;
 }
@@ -68,6 +69,11 @@ loop-before-preserved g c =
       armings = steady_set g.D.Disk.armings c.args.disks.now.items c.loop-before.disks.items c.from.result
           c.index_mut-pair.result.now c.make_one.new.pair c.loop-before.invariant.armings at
           c.make_one.ensures.armings;
+      synced = λ tells at_first.
+          synced_set g.D.Disk.seen g.D.Disk.may_leave c.loop-before.disks.items c.from.result c.args.members
+          c.index_mut-pair.result.now c.make_one.new.pair (c.loop-before.invariant.synced tells at_first) at
+          (c.in_ok-make_one.ensures.synced tells)
+          (omega (arith, c.from.ensures, c.loop-before-test.true, c.count-before-end.ensures.value));
       unarmed = λ fused none.
           let before = c.loop-before.invariant.unarmed fused none in
           unarmed_set g.D.Disk.fuse c.loop-before.disks.items c.from.result c.make_one.new.pair before
@@ -114,3 +120,27 @@ returns-clause-regular g c = λ tells. record {
       (c.loop-before.invariant.regular tells).each r pair at
       (omega (arith, most, c.loop-before-test.false, c.count-before-end.ensures.value));
 }
+
+pub returns-in_err-make_one-clause-member : goal.returns-in_err-make_one-clause-member
+returns-in_err-make_one-clause-member g c = λ r is.
+    let given = err_from_is_err_and c.from_residual.result c.from_residual.ensures.1 in
+    let failed = c.make_one.ensures.failed r
+    (handed_on c.make_one.result c.from_residual.result given.0 c.in_err-make_one.field-0.0 (Store r) c.in_err-make_one.was
+    given.1 given.2 is) in
+    let same = failed.0 in
+    omega (arith, same, c.loop-before-test.true, c.count-before-end.ensures.value)
+
+pub returns-clause-synced : goal.returns-clause-synced
+returns-clause-synced g c = c.loop-before.invariant.synced
+
+pub returns-in_err-make_one-clause-spared : goal.returns-in_err-make_one-clause-spared
+returns-in_err-make_one-clause-spared g c = λ fault unfailed is.
+    let given = err_from_is_err_and c.from_residual.result c.from_residual.ensures.1 in
+    let at = number_at c.loop-before.disks.items c.from.result c.index_mut-pair.result.now
+    (omega (arith, c.from.ensures, c.loop-before.invariant.faults.count, c.requires.pairs, c.loop-before-test.true, c.count-before-end.ensures.value, c.count-before-end.ensures.valid.at_most))
+    c.index_mut-pair.ensures.value in
+    steady_set g.D.Disk.faults c.args.disks.now.items c.loop-before.disks.items c.from.result
+    c.index_mut-pair.result.now c.make_one.new.pair c.loop-before.invariant.faults at
+    (c.make_one.ensures.spared fault unfailed
+    (handed_on c.make_one.result c.from_residual.result given.0 c.in_err-make_one.field-0.0 fault c.in_err-make_one.was
+    given.1 given.2 is))

@@ -8,7 +8,7 @@ use Rattle.ficus_world.specs.declared.opening.WorldFault.TheVariants.{Image, Sto
 use Rattle.ficus_world.proofs.Faults.{handed_on}
 use Rattle.ficus_run_laws.proofs.Numbers.{number_exists, number_once}
 use Rattle.ficus_world.proofs.Openings.{first_bad_more, first_bad_one, held_of}
-use Rattle.ficus_world.proofs.Steadies.{fault_behind, number_at, steady_trans}
+use Rattle.ficus_world.proofs.Steadies.{fault_behind, number_at, steady_none, steady_trans}
 use Rattle.ficus_world.proofs.Unarmed.{unfailing_behind, unfailing_none}
 use Rattle.ficus_world.proofs.opening.open_all.Goals as goal
 
@@ -204,3 +204,24 @@ pub returns-clause-unfailing : goal.returns-clause-unfailing
 returns-clause-unfailing g c = λ fused.
     unfailing_none g.D.Disk.fuse _ c.args.disks.now.items c.loop-before.disks.items
     (c.loop-before.invariant.unarmed fused) (λ r is. absurd (cc))
+
+pub returns-in_err-opened-clause-spared : goal.returns-in_err-opened-clause-spared
+returns-in_err-opened-clause-spared g c = λ fault unfailed is. steady_none g.D.Disk.faults c.args.disks.now.items
+
+pub returns-in_err-open_next-clause-spared : goal.returns-in_err-open_next-clause-spared
+returns-in_err-open_next-clause-spared g c = λ fault unfailed is.
+    let given =
+    err_from_is_err_and c.from_residual-in_err-open_next.result c.from_residual-in_err-open_next.ensures.1 in
+    c.open_next.ensures.spared fault unfailed
+    (handed_on c.open_next.result c.from_residual-in_err-open_next.result given.0 c.in_err-open_next.field-0.0 fault
+    c.in_err-open_next.was given.1 given.2 is)
+
+pub returns-in_err-open_next-2-clause-spared : goal.returns-in_err-open_next-2-clause-spared
+returns-in_err-open_next-2-clause-spared g c = λ fault unfailed is.
+    let given =
+    err_from_is_err_and c.from_residual-in_err-open_next-2.result c.from_residual-in_err-open_next-2.ensures.1 in
+    steady_trans g.D.Disk.faults c.args.disks.now.items c.loop-before.disks.items
+    c.open_next-in-loop-before.new.disks.items c.loop-before.invariant.faults
+    (c.open_next-in-loop-before.ensures.spared fault unfailed
+    (handed_on c.open_next-in-loop-before.result c.from_residual-in_err-open_next-2.result given.0
+    c.in_err-open_next-2.field-0.0 fault c.in_err-open_next-2.was given.1 given.2 is))

@@ -7,7 +7,7 @@ use Rattle.ficus_runs.specs.Numbered.{IsNumbered}
 use Rattle.ficus_world.specs.Disks.{are_fused}
 use Rattle.ficus_world.specs.Opening.{IsBad}
 use Rattle.ficus_world.specs.declared.member.Member.{Member as MemberValue}
-use Rattle.ficus_world.proofs.Faults.{same_err, same_image}
+use Rattle.ficus_world.proofs.Faults.{handed_on, same_err, same_image}
 use Rattle.ficus_world.proofs.Openings.{disks_more, held_of, holds_same, none_may, one_more, opened_more}
 use Rattle.ficus_world.proofs.Steadies.{number_at, steady_one}
 use Rattle.ficus_world.proofs.Unarmed.{unfailing_set}
@@ -139,3 +139,24 @@ returns-in_err-enter-clause-unfailing g c = λ fused.
     c.args.disks.now.items (c.from-index.result - 1) c.index_mut.result.now c.open_one.new.pair (λ none. none) at
     (c.open_one.ensures.unfailing fused)
     (λ r is. let given = refused.1 in let memory = refused.2 in absurd (cc))
+
+pub returns-in_err-stable-clause-spared : goal.returns-in_err-stable-clause-spared
+returns-in_err-stable-clause-spared g c = λ fault unfailed is.
+    let given = err_from_is_err_and c.from_residual.result c.from_residual.ensures.1 in
+    steady_one g.D.Disk.faults c.args.disks.now.items (c.from-index.result - 1) c.index_mut.result.now
+    c.open_one.new.pair (omega (arith, c.from-index.ensures, c.requires.pair.at_least, c.requires.pair.at_most))
+    c.index_mut.ensures.value (c.open_one.ensures.spared fault unfailed
+    (handed_on c.open_one.result c.from_residual.result given.0 c.in_err-stable.field-0.0 fault c.in_err-stable.was
+    given.1 given.2 is))
+
+pub returns-then-not-may_open_behind-clause-spared : goal.returns-then-not-may_open_behind-clause-spared
+returns-then-not-may_open_behind-clause-spared g c = λ fault unfailed is.
+    steady_one g.D.Disk.faults c.args.disks.now.items (c.from-index.result - 1) c.index_mut.result.now
+    c.open_one.new.pair (omega (arith, c.from-index.ensures, c.requires.pair.at_least, c.requires.pair.at_most))
+    c.index_mut.ensures.value c.in_ok-stable.ensures.steady
+
+pub returns-in_err-enter-clause-spared : goal.returns-in_err-enter-clause-spared
+returns-in_err-enter-clause-spared g c = λ fault unfailed is.
+    steady_one g.D.Disk.faults c.args.disks.now.items (c.from-index.result - 1) c.index_mut.result.now
+    c.open_one.new.pair (omega (arith, c.from-index.ensures, c.requires.pair.at_least, c.requires.pair.at_most))
+    c.index_mut.ensures.value c.in_ok-stable.ensures.steady

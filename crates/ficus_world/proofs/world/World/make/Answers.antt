@@ -1,4 +1,4 @@
-use Rattle.std.proofs.Common.{subst, sym}
+use Rattle.std.proofs.Common.{subst, sym, ◌∙◌}
 use Rattle.std.proofs.lemmas.Result.{err_from_is_err_and}
 use Rattle.ficus_world.specs.Opening.{IsFoundFault}
 use Rattle.ficus_world.specs.declared.opening.WorldFault.TheVariants.{Occupied, Store}
@@ -16,13 +16,18 @@ returns-in_err-look_for_empty-clause-occupied g c = λ tells r is.
     (handed_on c.look_for_empty.result c.from_residual.result given.0 c.in_err-look_for_empty.field-0.0 (Occupied r)
     c.in_err-look_for_empty.was given.1 given.2 is)
 
-pub returns-in_err-look_for_empty-clause-unfailed :
-    goal.returns-in_err-look_for_empty-clause-unfailed
-returns-in_err-look_for_empty-clause-unfailed g c = λ r is.
+pub returns-in_err-look_for_empty-clause-spared :
+    goal.returns-in_err-look_for_empty-clause-spared
+returns-in_err-look_for_empty-clause-spared g c = λ fault unfailed is.
     let given = err_from_is_err_and c.from_residual.result c.from_residual.ensures.1 in
-    c.look_for_empty.ensures.unfailed r
-    (handed_on c.look_for_empty.result c.from_residual.result given.0 c.in_err-look_for_empty.field-0.0 (Occupied r)
+    c.look_for_empty.ensures.spared fault unfailed
+    (handed_on c.look_for_empty.result c.from_residual.result given.0 c.in_err-look_for_empty.field-0.0 fault
     c.in_err-look_for_empty.was given.1 given.2 is)
+
+pub returns-clause-spared : goal.returns-clause-spared
+returns-clause-spared g c = λ fault unfailed is.
+    steady_trans g.D.Disk.faults c.args.disks.now.items c.look_for_empty.new.disks.items c.make_all.new.disks.items
+    c.in_ok-look_for_empty.ensures.steady (c.make_all.ensures.spared fault unfailed is)
 
 pub returns-in_err-look_for_empty-clause-comes : goal.returns-in_err-look_for_empty-clause-comes
 returns-in_err-look_for_empty-clause-comes g c = λ tells r first within.
@@ -59,6 +64,12 @@ returns-clause-armings g c =
     steady_trans g.D.Disk.armings c.args.disks.now.items c.look_for_empty.new.disks.items c.make_all.new.disks.items
     c.look_for_empty.ensures.armings c.make_all.ensures.armings
 
+pub returns-in_err-look_for_empty-clause-pairs : goal.returns-in_err-look_for_empty-clause-pairs
+returns-in_err-look_for_empty-clause-pairs g c = c.look_for_empty.ensures.armings.count
+
+pub returns-clause-pairs : goal.returns-clause-pairs
+returns-clause-pairs g c = c.make_all.ensures.armings.count ∙ c.look_for_empty.ensures.armings.count
+
 pub returns-in_err-look_for_empty-clause-unfailing :
     goal.returns-in_err-look_for_empty-clause-unfailing
 returns-in_err-look_for_empty-clause-unfailing g c = λ fused.
@@ -73,3 +84,23 @@ returns-clause-unfailing g c = λ fused.
     unfailing_behind g.D.Disk.fuse c.make_all.result c.make_all.result c.args.disks.now.items
     c.look_for_empty.new.disks.items c.make_all.new.disks.items (c.look_for_empty.ensures.unfailing fused).unarmed
     (c.make_all.ensures.unfailing fused) (λ r is. is)
+
+pub returns-clause-held : goal.returns-clause-held
+returns-clause-held g c = λ tells r within first.
+    absurd (none_occupied g.D.Disk.seen c.args.disks.now.items c.args.members r
+    (c.in_ok-look_for_empty.ensures.empty tells) first within)
+
+pub returns-in_err-look_for_empty-clause-held : goal.returns-in_err-look_for_empty-clause-held
+returns-in_err-look_for_empty-clause-held g c = λ tells r within first. c.look_for_empty.ensures.same tells
+
+pub returns-in_err-look_for_empty-clause-member :
+    goal.returns-in_err-look_for_empty-clause-member
+returns-in_err-look_for_empty-clause-member g c = λ r is.
+    let given = err_from_is_err_and c.from_residual.result c.from_residual.ensures.1 in
+    c.look_for_empty.ensures.member r
+    (handed_on c.look_for_empty.result c.from_residual.result given.0 c.in_err-look_for_empty.field-0.0 (Store r)
+    c.in_err-look_for_empty.was given.1 given.2 is)
+
+pub returns-clause-synced : goal.returns-clause-synced
+returns-clause-synced g c = λ tells at_first.
+    c.make_all.ensures.synced tells (c.in_ok-look_for_empty.ensures.synced tells at_first)

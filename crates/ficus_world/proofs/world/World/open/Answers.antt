@@ -71,6 +71,15 @@ returns-clause-stands g c = λ tells volume H on.
     (empty_post c.new.result.now _ _ _ c.new.ensures c.requires.link)
     (ap (λ (p : Outbox). p.total) c.new.ensures)
 
+pub returns-in_err-members-clause-pairs : goal.returns-in_err-members-clause-pairs
+returns-in_err-members-clause-pairs g c = c.open_all.ensures.armings.count
+
+pub returns-in_err-restart_all-clause-pairs : goal.returns-in_err-restart_all-clause-pairs
+returns-in_err-restart_all-clause-pairs g c = c.open_all.ensures.armings.count
+
+pub returns-clause-pairs : goal.returns-clause-pairs
+returns-clause-pairs g c = c.open_all.ensures.armings.count
+
 pub returns-in_err-members-clause-unfailing : goal.returns-in_err-members-clause-unfailing
 returns-in_err-members-clause-unfailing g c = λ fused.
     let given = err_from_is_err_and c.from_residual.result c.from_residual.ensures.1 in
@@ -105,3 +114,13 @@ pub returns-clause-image_comes : goal.returns-clause-image_comes
 returns-clause-image_comes g c = λ tells r bad.
     none_bad_where_read g.K.Keep.kept g.D.Disk.seen c.args.disks.now.items c.in_ok-members.field-0.members.items
     (omega (arith, c.in_ok-members.ensures.count.at_least)) (returns-clause-opened g c tells) r bad
+
+pub returns-in_err-members-clause-spared : goal.returns-in_err-members-clause-spared
+returns-in_err-members-clause-spared g c = λ fault unfailed is.
+    let given = err_from_is_err_and c.from_residual.result c.from_residual.ensures.1 in
+    c.open_all.ensures.spared fault unfailed
+    (handed_on c.open_all.result c.from_residual.result given.0 c.in_err-members.field-0.0 fault
+    c.in_err-members.was given.1 given.2 is)
+
+pub returns-in_err-restart_all-clause-spared : goal.returns-in_err-restart_all-clause-spared
+returns-in_err-restart_all-clause-spared g c = λ fault unfailed is. c.in_ok-members.ensures.steady

@@ -1,0 +1,11 @@
+use Rattle.std.proofs.Common.{◌≡◌, ◌++◌, length}
+use Rattle.std.specs.List.{flat_map}
+use Rattle.ficus_path.specs.Text.{quoted_byte_text}
+use Rattle.ficus_path.proofs.text_draft.read_inside.Given as goal
+
+-- what stands inside is the spelling of the bytes so far, and the rest
+abbrev pub invariant-loop-rest : goal.invariant-loop-rest
+invariant-loop-rest l = l.inside ≡ flat_map quoted_byte_text l.text.items ++ l.rest
+
+abbrev pub decreases-loop-rest : goal.decreases-loop-rest
+decreases-loop-rest l = length l.rest

@@ -1,0 +1,4 @@
+use Rattle.ficus_script.proofs.arguments.number_first.Goals as goal
+
+pub returns-in-Some : goal.returns-in-Some
+returns-in-Some c = rw c.in-Some.is c.replica_first.ensures

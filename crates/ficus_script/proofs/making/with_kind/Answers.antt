@@ -1,0 +1,17 @@
+use Rattle.std.proofs.lemmas.Result.{err_from_is_err_and}
+use Rattle.ficus_script.proofs.making.with_kind.Goals as goal
+
+pub returns-in_default : goal.returns-in_default
+returns-in_default c = λ spelled.
+    c.in_default.ensures c.args.by c.args.kind c.requires.replica c.requires.kind spelled.0 spelled.1 spelled.2
+
+pub returns-in_err-path : goal.returns-in_err-path
+returns-in_err-path c =
+    let fault = err_from_is_err_and c.from_residual.result c.from_residual.ensures.1 in
+    let is = c.in-Some.ensures c.args.by c.args.kind c.requires.replica c.requires.kind in
+    rw (fault.1, fault.2) (_, is.0, is.1)
+
+pub returns : goal.returns
+returns c =
+    rw (c.kind_command.ensures, c.in_ok-path.ensures)
+    (c.in-Some.ensures c.args.by c.args.kind c.requires.replica c.requires.kind)

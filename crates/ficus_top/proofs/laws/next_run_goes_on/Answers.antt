@@ -1,0 +1,11 @@
+use Rattle.ficus_top.proofs.NextRuns.{stands_left, stands_next}
+use Rattle.ficus_top.proofs.laws.next_run_goes_on.Goals as goal
+
+pub returns-clause-stand : goal.returns-clause-stand
+returns-clause-stand g c = λ volume after disks count lawful few standings up stand.
+    stands_next g.D.Disk.seen volume after disks count lawful few standings up stand
+
+pub returns-clause-outlasts : goal.returns-clause-outlasts
+returns-clause-outlasts g c = λ volume after disks left count lawful few standings up outlast same leaves.
+    stands_left g.D.Disk.seen g.D.Disk.may_leave volume after disks left count lawful few standings up outlast same
+    leaves
