@@ -81,6 +81,7 @@ module _ {D tells : Type 0} {disk : Disk D} {Rest : (ℕ → FuseState) → Type
       linked = front.ends.linked;
       disks = front.ends.disks;
       fuses = front.ends.fuses;
+      standings = front.ends.standings;
       stand = front.ends.stand;
       outlasts = front.ends.outlasts;
     };

@@ -69,6 +69,7 @@ module _ {D : Type 0} (disk : Disk D) {old middle new : List (Pair D)} (steady :
           disks = follows_since ends.disks;
           done = λ none. ends.done (none_failed_since none);
           fuses = λ F at_first. ends.fuses F (rests F at_first);
+          standings = ends.standings;
           stand = ends.stand;
           outlasts = ends.outlasts;
         })
@@ -86,6 +87,7 @@ module _ {D : Type 0} (disk : Disk D) {old middle new : List (Pair D)} (steady :
           linked = front.linked;
           disks = follows_since front.disks;
           fuses = λ F at_first. front.fuses F (rests F at_first);
+          standings = front.standings;
           stand = front.stand;
           outlasts = front.outlasts;
         })

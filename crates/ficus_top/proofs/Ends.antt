@@ -107,6 +107,7 @@ module _ {K D : Type 0} {tells : Type 0} {keep : Keep K} {disk : Disk D} {volume
           done = done_where_none served.serves.run up pairs linked served.disks;
           fuses = permitted keep disk before old_disks slots told (all_outcomes served.serves.outcomes)
               served.fuses.permit;
+          standings = served.stands.standings;
           stand = stand served.after served.stands;
           outlasts = outlast served.after served.stands;
         }
@@ -122,6 +123,7 @@ module _ {K D : Type 0} {tells : Type 0} {keep : Keep K} {disk : Disk D} {volume
       disks = front.disks;
       fuses = permitted keep disk before old_disks slots told
           (all_outcomes front.serves.outcomes ++ front.serves.more_outcomes) front.fuses;
+      standings = front.stands.standings;
       stand = stand front.after front.stands;
       outlasts = outlast front.after front.stands;
     }
@@ -159,6 +161,7 @@ module _ {D : Type 0} (disk : Disk D) {old_disks mid_disks new_disks : List (Pai
       disks = follows_behind ends.disks;
       done = λ none. ends.done (none_behind none);
       fuses = λ F before. ends.fuses F (rests F before);
+      standings = ends.standings;
       stand = ends.stand;
       outlasts = ends.outlasts;
     }
@@ -172,6 +175,7 @@ module _ {D : Type 0} (disk : Disk D) {old_disks mid_disks new_disks : List (Pai
       linked = ends.linked;
       disks = follows_behind ends.disks;
       fuses = λ F before. ends.fuses F (rests F before);
+      standings = ends.standings;
       stand = ends.stand;
       outlasts = ends.outlasts;
     }
@@ -188,6 +192,7 @@ front_ends_where further ends = record {
   linked = ends.linked;
   disks = ends.disks;
   fuses = ends.fuses;
+  standings = ends.standings;
   stand = ends.stand;
   outlasts = ends.outlasts;
 }

@@ -1,5 +1,5 @@
 -- What commands are answered with over disks, from a world of the model on, and what the disks hold then.
-use Rattle.std.specs.Prelude.{◌≡◌, ◌<◌, ◌-◌, ◌^◌, ℕ, List, ◌++◌}
+use Rattle.std.specs.Prelude.{◌≡◌, ◌<◌, ◌-◌, ◌^◌, ℕ, List, ◌++◌, length}
 use Rattle.ficus_disk.specs.declared.disk.Disk.{Ghosts as Disk}
 use Rattle.ficus_disk.specs.declared.pair.Pair.{Pair}
 use Rattle.ficus_keep.specs.declared.keep.Keep.{Ghosts as Keep}
@@ -39,7 +39,8 @@ StandNow keep disk world disks F = disk.tells_fuse × FusesStand keep disk F wor
 
 -- The commands were served. The link never failed, and of the disks of each member so many saves and openings failed as
 -- their count rose by, at most; where no disk failed, all was done. Where the fuses stood so before, they allow what
--- became of all that was asked of the disks. The disks stand for what the commands led to.
+-- became of all that was asked of the disks. The disks stand for what the commands led to, of each member, and so does
+-- whatever a crash leaves of them.
 pub record Ends {D : Type 0} (tells : Type 0) (disk : Disk D) (Rest : (ℕ → FuseState) → Type 0) (volume : Volume)
     (W : ModelWorld) (commands : List Command) (old new : List ℕ) (old_disks new_disks : List (Pair D)) :
     Type 0 where
@@ -49,6 +50,7 @@ pub record Ends {D : Type 0} (tells : Type 0) (disk : Disk D) (Rest : (ℕ → F
   pub disks : DisksFollow disk.faults disk.armings (all_outcomes serves.outcomes) old_disks new_disks
   pub done : NoneFailed disk.faults old_disks new_disks → EachDone serves.outcomes
   pub fuses : (F : ℕ → FuseState) → Rest F → FusesAllowAll two_slots F (all_outcomes serves.outcomes)
+  pub standings : length after.standings ≡ volume.members
   pub stand : DisksStand kept_in disk.seen volume after new_disks
   pub outlasts : DisksOutlast kept_in disk.may_leave volume after new_disks
 
@@ -63,5 +65,6 @@ pub record EndsFront {D : Type 0} (tells may : Type 0) (disk : Disk D) (Rest : (
       new_disks
   pub fuses : (F : ℕ → FuseState) → Rest F
       → FusesAllowAll two_slots F (all_outcomes serves.outcomes ++ serves.more_outcomes)
+  pub standings : length after.standings ≡ volume.members
   pub stand : DisksStand kept_in disk.seen volume after new_disks
   pub outlasts : DisksOutlast kept_in disk.may_leave volume after new_disks
