@@ -33,13 +33,13 @@ pub record Extends (H longer : List Event) : Type 0 where
   pub later : List Event
   pub is : longer ≡ H ++ later
 
-as_it_was : (H : List Event) → Extends H H
+pub as_it_was : (H : List Event) → Extends H H
 as_it_was H = record { later = []; is = sym (append-nil H) }
 
 one_more : (H : List Event) (event : Event) → Extends H (H ++ event ∷ [])
 one_more H event = record { later = event ∷ []; is = refl }
 
-further : {H longer longest : List Event} → Extends H longer → Extends longer longest → Extends H longest
+pub further : {H longer longest : List Event} → Extends H longer → Extends longer longest → Extends H longest
 further {H} first second = record {
   later = first.later ++ second.later;
   is = second.is ∙ ap (λ front. front ++ second.later) first.is ∙ append_assoc H first.later second.later;

@@ -1,11 +1,12 @@
 -- Commands are served one after the other.
-use Rattle.std.proofs.Common.{◌≡◌, ℕ, ◌+◌, ◌<◌, List, [], ◌∷◌, ◌++◌, length, get_or, take, drop, refl, sym, ◌∙◌, ap, subst, arith, length-append, length-take, append_assoc}
+use Rattle.std.proofs.Common.{◌≡◌, ℕ, ◌+◌, ◌<◌, ◌≤◌, List, [], ◌∷◌, ◌++◌, Option, length, get_or, take, drop, refl, sym, ◌∙◌, ap, subst, inl, inr, arith, length-append, length-take, append_assoc}
 use Rattle.std.specs.Prelude.{All}
 use Rattle.std.proofs.lemmas.List.{append-nil, take-take, take_more, drop-append-le, take-append-drop}
 use Rattle.std.proofs.lemmas.List.Concat.{flat_map-append}
 use Rattle.std.proofs.Math.Seq.{take-append-add, drop-append-add}
 use Rattle.ficus_disk.specs.declared.disk.Disk.{Ghosts as Disk}
 use Rattle.ficus_disk.specs.declared.pair.Pair.{Pair}
+use Rattle.ficus_keep.specs.Kept.{Kept}
 use Rattle.ficus_keep.specs.declared.keep.Keep.{Ghosts as Keep}
 use Rattle.ficus_model.specs.Lawful.{Volume}
 use Rattle.ficus_script.specs.declared.command.Command.{Command}
@@ -24,6 +25,9 @@ use Rattle.ficus_world.specs.Fuses.{FusesFollow, FusesPermit}
 use Rattle.ficus_world.proofs.Fuses.{fuses_none, fuses_then, permit_then}
 use Rattle.ficus_world.proofs.Disks.{follows_none, follows_then}
 use Rattle.ficus_world.proofs.Outcomes.{both_caused, steady_caused}
+use Rattle.ficus_kills.specs.Trail.{FrontOn, RunOn, Trail}
+use Rattle.ficus_kills.specs.Trail.RunOn.{EndOn, ThenOn}
+use Rattle.ficus_kills.proofs.Stepping.{run_on_append}
 use Rattle.ficus_serving.specs.Puts.{PutsFront}
 use Rattle.ficus_serving.specs.Serving.{texts_of, Serves, IsCut, ServesFront, ServesWorld, ServesWorldFront}
 use Rattle.ficus_serving.specs.Serving.IsCut.{Uncut, CutIn}
@@ -160,6 +164,7 @@ module _ {K D : Type 0} {tells : Type 0} {keep : Keep K} {disk : Disk D} {volume
   module _ (W : ModelWorld) (before : Whole) (command : Command) (answer : Answer) (world : Whole)
       (old_disks new_disks : List (Pair D))
       (on : FollowsOn keep disk volume W before command answer world old_disks new_disks)
+      (trail : disk.tells → Trail keep.kept disk volume W on.follows.after old_disks new_disks)
       (old new : List ℕ) where
     -- one command, whose answer's text was put
     abbrev pub world_one : (tells → new ≡ old ++ answer_text_of answer)
@@ -180,6 +185,7 @@ module _ {K D : Type 0} {tells : Type 0} {keep : Keep K} {disk : Disk D} {volume
           (one_asked on.outcomes) on.disks;
       fuses = subst (λ (asked : List Outcome). FusesFollow keep disk asked before.members world.members old_disks
           new_disks) (one_asked on.outcomes) on.fuses;
+      runs = λ told. ThenOn on.follows.step (trail told) EndOn;
     }
 
     -- one command, of whose answer's text a front was put
@@ -216,14 +222,20 @@ module _ {K D : Type 0} {tells : Type 0} {keep : Keep K} {disk : Disk D} {volume
               on.disks;
           fuses = subst (λ (asked : List Outcome). FusesPermit keep disk asked before.members old_disks) asked_is
               on.fuses.permit;
+          runs = λ told. record {
+            mid = new_disks;
+            run = ThenOn on.follows.step (trail told) EndOn;
+            rest = inl (refl, refl);
+          };
         }
 
   -- one command, which was cut short
   pub world_stopped : {may : Type 0} (W : ModelWorld) (before : Whole) (command : Command) (world : Whole)
       (old new : List ℕ) (old_disks new_disks : List (Pair D)) → may
-      → StopsOn keep disk volume W before command world old_disks new_disks → new ≡ old
+      → (on : StopsOn keep disk volume W before command world old_disks new_disks)
+      → (disk.tells → Trail keep.kept disk volume W on.stops.after old_disks new_disks) → new ≡ old
       → ServesWorldFront tells may keep disk volume W before (command ∷ []) world old new old_disks new_disks
-  world_stopped W before command world old new old_disks new_disks allowed on same = record {
+  world_stopped W before command world old new old_disks new_disks allowed on trail same = record {
     after = on.stops.after;
     serves = record {
       count = 0;
@@ -248,6 +260,7 @@ module _ {K D : Type 0} {tells : Type 0} {keep : Keep K} {disk : Disk D} {volume
     stands = on.stops.stands;
     disks = on.disks;
     fuses = on.fuses;
+    runs = λ told. record { mid = old_disks; run = EndOn; rest = inr (trail told) };
   }
 
 pub take_command : (commands : List Command) (index : ℕ) (command : Command) → index < length commands
@@ -260,6 +273,30 @@ pub command_at : (P : Command → Type 0) (commands : List Command) (index : ℕ
     → index < length commands
     → command ≡ get_or commands index command → All P commands → P command
 command_at P commands index command within is all = subst P (sym is) (all index command within)
+
+-- some first commands of first ones, with the disks
+module _ {D : Type 0} {kept : List ℕ → List ℕ → Option Kept} {disk : Disk D} {volume : Volume} where
+  pub front_runs : {W M N after : ModelWorld} (some others commands : List Command) (n : ℕ)
+      {outcomes later : List (List Outcome)} {answers : List Answer} (whole last : List Answer) (count : ℕ)
+      {x y z : List (Pair D)} → take n commands ≡ some ++ others → count ≤ length others
+      → RunOn kept disk volume W some outcomes answers M x y
+      → FrontOn kept disk volume M (take count others) later (whole ++ last) N after y z
+      → FrontOn kept disk volume W (take (length some + count) commands) (outcomes ++ later)
+      ((answers ++ whole) ++ last) N after x z
+  front_runs {W} {M} {N} some others commands n {outcomes} {later} {answers} whole last count {x} split within first
+      behind =
+      let all : take (length some + count) commands ≡ some ++ take count others =
+      sym (take-take (length some + count) n commands
+      (omega (arith, within, ap length split, length-append some others, length-take n commands)))
+      ∙ ap (take (length some + count)) split ∙ take-append-add some others count in
+      record {
+        mid = behind.mid;
+        run = subst (λ (given : List Command). RunOn kept disk volume W given (outcomes ++ later)
+            ((answers ++ whole) ++ last) N x behind.mid) (sym all)
+            (subst (λ (given : List Answer). RunOn kept disk volume W (some ++ take count others) (outcomes ++ later)
+            given N x behind.mid) (sym (append_assoc answers whole last)) (run_on_append first behind.run));
+        rest = behind.rest;
+      }
 
 module _ {K D : Type 0} {tells : Type 0} {keep : Keep K} {disk : Disk D} {volume : Volume} where
   -- no command, over a world that stands for it
@@ -274,6 +311,7 @@ module _ {K D : Type 0} {tells : Type 0} {keep : Keep K} {disk : Disk D} {volume
     stands = stands;
     disks = follows_none;
     fuses = fuses_none;
+    runs = λ told. EndOn;
   }
 
   module _ {W : ModelWorld} {before world : Whole} {old mid new : List ℕ} {old_disks mid_disks : List (Pair D)}
@@ -303,6 +341,11 @@ module _ {K D : Type 0} {tells : Type 0} {keep : Keep K} {disk : Disk D} {volume
               (follows_then first.disks behind.disks);
           fuses = subst (λ (asked : List Outcome). FusesFollow keep disk asked before.members next.members old_disks
               new_disks) asked (fuses_then first.fuses behind.fuses);
+          runs = λ told. subst
+              (λ (some : List Command). RunOn keep.kept disk volume W some
+              (first.serves.outcomes ++ behind.serves.outcomes) (first.serves.answers ++ behind.serves.answers)
+              behind.after old_disks new_disks) (sym (take_command commands index command within is))
+              (run_on_append (first.runs told) (behind.runs told));
         }
 
     -- the first commands are served, and of the next one's answer a front was put
@@ -326,6 +369,9 @@ module _ {K D : Type 0} {tells : Type 0} {keep : Keep K} {disk : Disk D} {volume
               (follows_then first.disks behind.disks);
           fuses = subst (λ (asked : List Outcome). FusesPermit keep disk asked before.members old_disks) asked
               (permit_then first.fuses behind.fuses);
+          runs = λ told. front_runs (take index commands) (command ∷ []) commands (index + 1) behind.serves.whole
+              behind.serves.last behind.serves.count (take_command commands index command within is)
+              behind.serves.within (first.runs told) (behind.runs told);
         }
 
 -- what may be may be wherever this is so
@@ -363,4 +409,5 @@ module _ {may other : Type 0} (further : may → other) {volume : Volume} where
     stands = front.stands;
     disks = front.disks;
     fuses = front.fuses;
+    runs = front.runs;
   }

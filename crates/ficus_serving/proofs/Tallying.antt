@@ -9,6 +9,7 @@ use Rattle.ficus_runs.specs.ModelWorld.{ModelWorld}
 use Rattle.ficus_script.specs.declared.answer.Answer.{Answer}
 use Rattle.ficus_script.specs.declared.answer.Answer.TheVariants.{Done, Made, Mail, Collected, Told, Alike, Refused}
 use Rattle.ficus_script.specs.declared.command.Command.{Command}
+use Rattle.ficus_kills.specs.Trail.{Trail}
 use Rattle.ficus_serving.specs.Tally.{Tallies, is_no_refusal, is_refusal, with_answer}
 use Rattle.ficus_serving.specs.declared.tally.Tally.{Tally}
 use Rattle.ficus_serving.proofs.Serves.{world_more, world_none, world_one}
@@ -39,10 +40,12 @@ module _ {K D : Type 0} {keep : Keep K} {disk : Disk D} {volume : Volume} where
   -- one command
   pub tallies_one : (W : ModelWorld) (before : Whole) (command : Command) (answer : Answer) (world : Whole)
       (old new : Tally) (old_disks new_disks : List (Pair D))
-      → FollowsOn keep disk volume W before command answer world old_disks new_disks → new ≡ with_answer old answer
+      → (on : FollowsOn keep disk volume W before command answer world old_disks new_disks)
+      → (disk.tells → Trail keep.kept disk volume W on.follows.after old_disks new_disks)
+      → new ≡ with_answer old answer
       → Tallies keep disk volume W before (command ∷ []) world old new old_disks new_disks
-  tallies_one W before command answer world old new old_disks new_disks on is = record {
-    served = world_one W before command answer world old_disks new_disks on [] [] (λ told. absurd told);
+  tallies_one W before command answer world old new old_disks new_disks on trail is = record {
+    served = world_one W before command answer world old_disks new_disks on trail [] [] (λ told. absurd told);
     ok = omega (
       arith,
       ap (λ (tally : Tally). tally.ok) is,

@@ -18,6 +18,7 @@ use Rattle.ficus_world.specs.Disks.{DisksFollow}
 use Rattle.ficus_world.specs.Follows.{StoresAsMany}
 use Rattle.ficus_world.specs.Fuses.{FusesFollow, FusesPermit}
 use Rattle.ficus_world.specs.World.{Whole, WorldStandsFor}
+use Rattle.ficus_kills.specs.Trail.{FrontOn, RunOn}
 use Rattle.ficus_serving.specs.Puts.{PutsFront}
 
 -- the most bytes of a script, and so the most commands: 1 MiB
@@ -96,6 +97,8 @@ pub record ServesWorld {K D : Type 0} (tells : Type 0) (keep : Keep K) (disk : D
   pub stands : WorldStandsFor volume after world
   pub disks : DisksFollow disk.faults disk.armings (all_outcomes serves.outcomes) old_disks new_disks
   pub fuses : FusesFollow keep disk (all_outcomes serves.outcomes) before.members world.members old_disks new_disks
+  pub runs : disk.tells → RunOn keep.kept disk volume W commands serves.outcomes serves.answers after old_disks
+      new_disks
 
 -- some first commands were served, and the world stands for what they led to; the same of the link and of the disks
 pub record ServesWorldFront {K D : Type 0} (tells may : Type 0) (keep : Keep K) (disk : Disk D) (volume : Volume)
@@ -109,3 +112,5 @@ pub record ServesWorldFront {K D : Type 0} (tells may : Type 0) (keep : Keep K) 
   pub disks : DisksFollow disk.faults disk.armings (all_outcomes serves.outcomes ++ serves.more_outcomes) old_disks
       new_disks
   pub fuses : FusesPermit keep disk (all_outcomes serves.outcomes ++ serves.more_outcomes) before.members old_disks
+  pub runs : disk.tells → FrontOn keep.kept disk volume W (take serves.count commands) serves.outcomes
+      (serves.whole ++ serves.last) serves.middle after old_disks new_disks

@@ -9,6 +9,7 @@ ghost use Rattle.ficus_serving.specs.Serving.{serving_limit, ServesWorld, Serves
 ghost use Rattle.ficus_serving.specs.Serving.{script_limit};
 ghost use Rattle.ficus_world.specs.Disks.{AreDisksOf};
 ghost use Rattle.ficus_world.specs.Follows.{TellsFor};
+ghost use Rattle.ficus_world.specs.Kills.{OthersStay};
 ghost use Rattle.ficus_world.specs.World.{WorldStandsFor, event_limit, most_events};
 
 use crate::fault::AnsweringFault;
@@ -46,6 +47,7 @@ pub fn answer_all<K: Sink, D: Disk, P: Keep + Drop, L: Link + Drop>(
     ensures disks { AreDisksOf D.tells P.kept P.fits D.seen D.may_leave D.armings world.new.whole.members
         world.new.stables disks.new.items }
     ensures members { length world.new.whole.members ≡ length world.old.whole.members }
+    ensures others { OthersStay (length world.old.whole.members) disks.old.items disks.new.items }
     ensures pairs { length disks.new.items ≡ length disks.old.items }
     ensures failed { IsErrOf result AnsweringFault.Sink → Rose (K.faults output.old) (K.faults output.new) }
     ensures told { K.faults output.old < K.faults output.new → IsErrOf result AnsweringFault.Sink }
@@ -82,6 +84,7 @@ fn answer_one<K: Sink, D: Disk, P: Keep + Drop, L: Link + Drop>(
     ensures disks { AreDisksOf D.tells P.kept P.fits D.seen D.may_leave D.armings world.new.whole.members
         world.new.stables disks.new.items }
     ensures members { length world.new.whole.members ≡ length world.old.whole.members }
+    ensures others { OthersStay (length world.old.whole.members) disks.old.items disks.new.items }
     ensures pairs { length disks.new.items ≡ length disks.old.items }
     ensures failed { IsErrOf result AnsweringFault.Sink → Rose (K.faults output.old) (K.faults output.new) }
     ensures told { K.faults output.old < K.faults output.new → IsErrOf result AnsweringFault.Sink }

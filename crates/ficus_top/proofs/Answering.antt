@@ -80,8 +80,10 @@ module _ {D tells : Type 0} {disk : Disk D} {Rest : (ℕ → FuseState) → Type
       serves = front_where further front.ends.serves;
       linked = front.ends.linked;
       disks = front.ends.disks;
+      done = front.ends.done;
       fuses = front.ends.fuses;
       standings = front.ends.standings;
+      pending = front.ends.pending;
       stand = front.ends.stand;
       outlasts = front.ends.outlasts;
     };

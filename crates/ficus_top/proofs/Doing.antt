@@ -1,7 +1,8 @@
 -- What the program does in a mode, by how the run ended.
 use Rattle.std.proofs.Common.{◌≡◌, ◌⊎◌, ℕ, ◌<◌, ◌≤◌, List, [], Option, Result, Ok, Err, refl, sym, ap, subst, inl, inr, arith, length}
 use Rattle.std.specs.declared.alloc.Global.{Global}
-use Rattle.std.specs.Prelude.{IfErr, IsErrAnd, IsErrOf, OnOk, Vec, vec_items}
+use Rattle.std.specs.Prelude.{IfErr, IsErrAnd, IsErrOf, OnErr, OnOk, Vec, vec_items}
+use Rattle.ficus_saved.specs.declared.saved.Saved.{Saved}
 use Rattle.ficus_disk.specs.declared.disk.Disk.{Ghosts as Disk}
 use Rattle.ficus_disk.specs.declared.pair.Pair.{Pair}
 use Rattle.ficus_outside.specs.declared.sink.Sink.{Ghosts as Sink}
@@ -14,8 +15,14 @@ use Rattle.ficus_top.specs.Ending.{IsAnswering, IsIdle, IsInterruption, IsOfMaki
 use Rattle.ficus_top.specs.Headline.{CarriesOutNothing}
 use Rattle.ficus_top.specs.Making.{MakesVolume, volume_of}
 use Rattle.ficus_top.specs.Modes.Init.{DoesInit, IsInitCode}
-use Rattle.ficus_top.specs.Modes.Replay.{DoesReplay, IsReplayCode}
-use Rattle.ficus_top.specs.Modes.Run.{DoesRun, HoldsSame, IsRunCode}
+use Rattle.ficus_top.specs.Modes.Replay.{DoesReplay, IsReplayCode, StaysUnmade}
+use Rattle.ficus_top.specs.Killed.{KilledFrontOf, KilledOf}
+use Rattle.ficus_top.specs.Modes.Run.{DoesRun, HoldsSame, IsRunCode, StaysUnopened}
+use Rattle.ficus_top.proofs.Kills.{killed_where}
+use Rattle.ficus_world.specs.Kills.{AllRest, OthersRest, OthersStay}
+use Rattle.ficus_world.proofs.Kills.{all_rest_none}
+use Rattle.ficus_world.proofs.Making.{none_in_part}
+use Rattle.ficus_world.proofs.Others.{all_others_rest, others_none}
 use Rattle.ficus_top.specs.Program.{Does, EndsAsAnyMode}
 use Rattle.ficus_top.specs.Reading.{TakesUntil}
 use Rattle.ficus_top.specs.Script.{AnswersFrontOf, AnswersOf, AnswersScript, HasScript, ReadsScript}
@@ -31,13 +38,14 @@ use Rattle.ficus_words.specs.declared.mode.Mode.{Mode}
 use Rattle.ficus_words.specs.declared.mode.Mode.TheVariants.{Init, Run, Replay, Gen}
 use Rattle.ficus_words.specs.declared.mode.Size.{Size}
 use Rattle.ficus_world.specs.Fuses.{AreUnarmed}
-use Rattle.ficus_world.specs.Opening.{AreSynced, IsAtFault, IsFirstBad, IsFirstOccupied, IsUnfailed, SeenSame, StandsOn, Steady}
+use Rattle.ficus_world.specs.Opening.{AreEmpty, AreMadeInPart, AreSynced, IsAtFault, IsFirstBad, IsFirstOccupied, IsUnfailed, Opens, SeenSame, StandsOn, Steady}
 use Rattle.ficus_world.specs.declared.opening.WorldFault.{WorldFault}
 use Rattle.ficus_world.specs.declared.opening.WorldFault.TheVariants as world
 use Rattle.ficus_world.proofs.Steadies.{steady_none}
 use Rattle.ficus_top.proofs.Answering.{answers_where}
 use Rattle.ficus_top.proofs.Codes.{done_of_code, idle_of_code, image_of_code, is_code, line_of_code, occupied_of_code, prefix_of_code, replica_of_code, sink_of_code, source_of_code, store_of_code, untouched_of_code, usage_of_code}
 use Rattle.ficus_top.proofs.Earlier.{not_at_fault}
+use Rattle.ficus_top.proofs.Stored.{idle_both}
 use Rattle.ficus_top.proofs.Endings.{AreUsed, IsStored, bad_line_comes, bad_line_told, complete_of_code, made_of_code, nothing_left, refusal_comes, too_long_comes, too_long_of_code, within_of_code}
 use Rattle.ficus_serving.proofs.Places.{not_occupied}
 
@@ -149,6 +157,13 @@ module _ {Done : Type 0} where
   run_code ended used occupied =
       but_nine (replay_code ended used) (λ nine. occupied (replica_of ended) (occupied_of_code ended nine))
 
+-- a run that doesn't end with code 0 ended with a fault
+where_failed : {Done P : Type 0} (ended : Result Done Fault) → (code_of ended ≡ 3) ⊎ (code_of ended ≡ 6) → OnErr ended P
+    → P
+where_failed (Ok done) (inl three) failed = absurd (cc)
+where_failed (Ok done) (inr six) failed = absurd (cc)
+where_failed (Err fault) codes failed = failed
+
 idle_either : {code : ℕ} → (code ≡ 6) ⊎ (code ≡ 7) → IsIdleCode code
 idle_either (inl six) = inr (inr (inl six))
 idle_either (inr seven) = inr (inr (inr (inl seven)))
@@ -240,13 +255,40 @@ module _ {S K D Done : Type 0} (seen : Seen S K D) (ended : Result Done Fault) w
       → ((r : ℕ) → r ≤ members → IsFirstOccupied seen.disk.seen (disks_before seen) r
       → IsErrAnd ended (λ fault. (fault ≡ Storing (world.Occupied r)) ⊎ IsInterruption fault))
       → ((r : ℕ) → r ≤ members → IsFirstOccupied seen.disk.seen (disks_before seen) r
-      → SeenSame seen.disk.seen (disks_before seen) (disks_after seen)) → MakesVolume members seen (status_of ended)
-  makes_of members occupied comes held = record {
+      → SeenSame seen.disk.seen (disks_before seen) (disks_after seen))
+      → ((r : ℕ) → r ≤ members → IsFirstOccupied seen.disk.seen (disks_before seen) r
+      → AllRest seen.disk (disks_before seen) (disks_after seen)) → MakesVolume members seen (status_of ended)
+  makes_of members occupied comes held rests = record {
     occupied = λ code. (occupied (replica_of ended) (occupied_of_code ended code)).0;
     is_member = λ code. (occupied (replica_of ended) (occupied_of_code ended code)).1;
     occupied_comes = λ r within first. refusal_comes ended (world.Occupied r) (comes r within first);
     held = held;
+    rests = rests;
   }
+
+  -- where nothing is done no disk has failed, unless the code says so
+  unfailed_idle : Spares → IfErr ended (λ fault. IsUntouched fault → seen.disks.new ≡ seen.disks.old)
+      → IfErr ended (λ fault. IsIdle fault → (code_of ended ≡ 6 → ⊥)
+      → Steady seen.disk.faults (disks_before seen) (disks_after seen))
+  unfailed_idle spared untouched = go ended refl untouched
+    where
+      same : seen.disks.new ≡ seen.disks.old → Steady seen.disk.faults (disks_before seen) (disks_after seen)
+      same is =
+          subst (λ (disks : Vec (Pair D) Global). Steady seen.disk.faults (disks_before seen) (vec_items disks)) (sym is)
+          (steady_none seen.disk.faults (disks_before seen))
+
+      go : (result : Result Done Fault) → ended ≡ result
+          → IfErr result (λ fault. IsUntouched fault → seen.disks.new ≡ seen.disks.old)
+          → IfErr result (λ fault. IsIdle fault → (code_of ended ≡ 6 → ⊥)
+          → Steady seen.disk.faults (disks_before seen) (disks_after seen))
+      go (Ok done) is none = tt
+      go (Err (Words fault)) is none = λ idle other. same (none tt)
+      go (Err (Reading fault)) is none = λ idle other. same (none tt)
+      go (Err (Storing (world.Store r))) is none = λ idle other. absurd (other (ap code_of is))
+      go (Err (Storing (world.Occupied r))) is none = λ idle other. spared (world.Occupied r) tt is
+      go (Err (Storing (world.Image r))) is none = λ idle other. spared (world.Image r) tt is
+      go (Err (Storing world.Memory)) is none = λ idle other. spared world.Memory tt is
+      go (Err (Answering fault)) is none = λ idle. absurd idle
 
   unfailed_where : (made : Result Done Fault) → IfErr made IsOfMaking
       → OnOk made (Steady seen.disk.faults (disks_before seen) (disks_after seen))
@@ -277,23 +319,31 @@ module _ {S K D Done : Type 0} (seen : Seen S K D) (ended : Result Done Fault) w
       → OnOk ended (Steady seen.disk.faults (disks_before seen) (disks_after seen)) → Spares
       → (seen.disk.tells → AreSynced seen.disk.seen seen.disk.may_leave (disks_before seen) size.members
       → OnOk ended (AreSynced seen.disk.seen seen.disk.may_leave (disks_after seen) size.members))
-      → DoesInit size seen (status_of ended)
-  init_of size making unread silent unarmed fault occupied comes made member held steady spared synced = record {
-    codes = making_code ended making;
-    unread = unread;
-    silent = silent;
-    unarmed = unarmed;
-    unfailed = unfailed_where ended making steady spared;
-    member = λ code. member (replica_of ended) (store_of_code ended code);
-    makes = λ tells. makes_of size.members (occupied tells) (comes tells) (held tells);
-    made = λ tells code. done_of_code ended code (made tells);
-    synced = λ tells code at_first. done_of_code ended code (synced tells at_first);
-    complete = λ tells empty none. made_of_code ended making (record {
-      store = λ r is. not_at_fault none r (fault r is);
-      image = making_opens_nothing ended making;
-      occupied = λ r is. not_occupied empty (occupied tells r is).0 (occupied tells r is).1;
-    });
-  }
+      → (seen.disk.tells → (r : ℕ) → r ≤ size.members → IsFirstOccupied seen.disk.seen (disks_before seen) r
+      → AllRest seen.disk (disks_before seen) (disks_after seen))
+      → (seen.disk.tells → AreEmpty seen.disk.seen (disks_before seen) size.members
+      → AreSynced seen.disk.seen seen.disk.may_leave (disks_before seen) size.members
+      → OnErr ended (AreMadeInPart kept_in seen.disk.may_leave (volume_of size) (disks_after seen)))
+      → OthersStay size.members (disks_before seen) (disks_after seen) → DoesInit size seen (status_of ended)
+  init_of size making unread silent unarmed fault occupied comes made member held steady spared synced rests partly
+      others = record {
+        codes = making_code ended making;
+        unread = unread;
+        silent = silent;
+        unarmed = unarmed;
+        unfailed = unfailed_where ended making steady spared;
+        member = λ code. member (replica_of ended) (store_of_code ended code);
+        makes = λ tells. makes_of size.members (occupied tells) (comes tells) (held tells) (rests tells);
+        made = λ tells code. done_of_code ended code (made tells);
+        synced = λ tells code at_first. done_of_code ended code (synced tells at_first);
+        partly = λ tells codes empty synced. where_failed ended codes (partly tells empty synced);
+        others = others;
+        complete = λ tells empty none. made_of_code ended making (record {
+          store = λ r is. not_at_fault none r (fault r is);
+          image = making_opens_nothing ended making;
+          occupied = λ r is. not_occupied empty (occupied tells r is).0 (occupied tells r is).1;
+        });
+      }
 
   pub init_ends : IfErr ended IsOfMaking → seen.input.new ≡ seen.input.old
       → seen.output.new ≡ seen.output.old → Steady seen.disk.armings (disks_before seen) (disks_after seen)
@@ -329,26 +379,80 @@ module _ {S K D Done : Type 0} (seen : Seen S K D) (ended : Result Done Fault) w
       → (seen.disk.tells → (volume : Volume) (H : List Event)
       → StandsOn kept_in seen.disk.seen volume H (disks_before seen) → (r : ℕ)
       → IsErrOf ended (Storing (world.Image r)) → ⊥)
-      → ((r : ℕ) → IsErrOf ended (Storing (world.Occupied r)) → ⊥) → Spares → DoesRun seen (status_of ended)
-  run_of any takes answers front idle image comes never never_occupied spared = record {
-    codes = run_code ended any.used never_occupied;
-    reads = λ tells. reads_of any.used any.read_fault (takes tells);
-    image = λ tells code. image tells (replica_of ended) (image_of_code ended code);
-    image_comes = λ tells r bad. refusal_comes ended (world.Image r) (comes tells r bad);
-    unfailed = λ code. spared (world.Image (replica_of ended)) tt (image_of_code ended code);
-    unwritten = λ codes. (idle_of_code ended (idle_either codes) idle).besides;
-    answers = λ tells told volume H stands.
-        script_answered (HoldsSame seen) volume H (takes tells)
-        (on_ok ended (λ all. all volume H stands) (answers tells told))
-        (on_fault ended (λ fault all is. all is volume H stands) (front tells told)) idle;
-    complete = λ tells told volume H stands script none.
-        script_done any.used any.read_fault (takes tells) (record {
-          store = λ r is. not_at_fault none r (any.store_fault r is);
-          image = never told volume H stands;
-          occupied = never_occupied;
-        }) any.write_fault script;
-  }
+      → ((r : ℕ) → IsErrOf ended (Storing (world.Occupied r)) → ⊥) → Spares
+      → IfErr ended (λ fault. IsIdle fault → AllRest seen.disk (disks_before seen) (disks_after seen))
+      → (seen.source.tells → seen.disk.tells → OnOk ended ((volume : Volume) (H : List Event)
+      → StandsOn kept_in seen.disk.seen volume H (disks_before seen)
+      → AreSynced seen.disk.seen seen.disk.may_leave (disks_before seen) volume.members → KilledOf seen volume H))
+      → (seen.source.tells → seen.disk.tells → IfErr ended (λ fault. IsAnswering fault
+      → (volume : Volume) (H : List Event) → StandsOn kept_in seen.disk.seen volume H (disks_before seen)
+      → AreSynced seen.disk.seen seen.disk.may_leave (disks_before seen) volume.members
+      → KilledFrontOf (fault ≡ Answering answering.Memory) seen volume H))
+      → (seen.disk.tells → (q r : ℕ) → IsErrOf ended (Storing (world.Store q))
+      → IsFirstBad kept_in seen.disk.seen (disks_before seen) r → q ≤ r)
+      → (seen.disk.tells → (r : ℕ) → IsErrOf ended (Storing (world.Store r)) → (first : Saved)
+      → Opens kept_in seen.disk.seen (disks_before seen) first first 1 → r ≤ first.members)
+      → (seen.disk.tells → (volume : Volume) (H : List Event)
+      → StandsOn kept_in seen.disk.seen volume H (disks_before seen)
+      → OthersRest seen.disk volume.members (disks_before seen) (disks_after seen))
+      → DoesRun seen (status_of ended)
+  run_of any takes answers front idle image comes never never_occupied spared rests killed killed_front earlier member
+      others = record {
+        codes = run_code ended any.used never_occupied;
+        reads = λ tells. reads_of any.used any.read_fault (takes tells);
+        image = λ tells code. image tells (replica_of ended) (image_of_code ended code);
+        image_comes = λ tells r bad. refusal_comes ended (world.Image r) (comes tells r bad);
+        unfailed = λ code. spared (world.Image (replica_of ended)) tt (image_of_code ended code);
+        unwritten = λ codes. (idle_of_code ended (idle_either codes) idle).besides;
+        answers = λ tells told volume H stands.
+            script_answered (StaysUnopened seen (status_of ended)) volume H (takes tells)
+            (on_ok ended (λ all. all volume H stands) (answers tells told))
+            (on_fault ended (λ fault all is. all is volume H stands) (front tells told)) unopened;
+        opens = λ tells volume H stands code. never tells volume H stands (replica_of ended) (image_of_code ended code);
+        earlier = λ tells r bad code. earlier tells (replica_of ended) r (store_of_code ended code) bad;
+        member = λ tells first opens code. member tells (replica_of ended) (store_of_code ended code) first opens;
+        others = others;
+        complete = λ tells told volume H stands script none.
+            script_done any.used any.read_fault (takes tells) (record {
+              store = λ r is. not_at_fault none r (any.store_fault r is);
+              image = never told volume H stands;
+              occupied = never_occupied;
+            }) any.write_fault script;
+        rests = λ code. idle_of_code ended code rests;
+        killed = λ tells told volume H stands synced.
+            let put = prefix_of_code (λ may. KilledFrontOf may seen volume H) killed_where ended unopened
+            (on_fault ended (λ fault all is. all is volume H stands synced) (killed_front tells told)) in
+            record {
+              whole = λ code. done_of_code ended code
+                  (on_ok ended (λ all. all volume H stands synced) (killed tells told));
+              prefix = put.0;
+              cut = put.1;
+            };
+      }
     where
+      unopened : IfErr ended (λ fault. IsIdle fault
+          → CarriesOutNothing (StaysUnopened seen (status_of ended)) seen.disk.armings seen.output.old
+          seen.output.new (disks_before seen) (disks_after seen))
+      unopened = go ended idle rests (unfailed_idle spared any.untouched)
+        where
+          go : (result : Result Done Fault)
+              → IfErr result (λ fault. IsIdle fault → CarriesOutNothing (HoldsSame seen) seen.disk.armings
+              seen.output.old seen.output.new (disks_before seen) (disks_after seen))
+              → IfErr result (λ fault. IsIdle fault → AllRest seen.disk (disks_before seen) (disks_after seen))
+              → IfErr result (λ fault. IsIdle fault → (code_of ended ≡ 6 → ⊥)
+              → Steady seen.disk.faults (disks_before seen) (disks_after seen))
+              → IfErr result (λ fault. IsIdle fault
+              → CarriesOutNothing (StaysUnopened seen (status_of ended)) seen.disk.armings seen.output.old
+              seen.output.new (disks_before seen) (disks_after seen))
+          go (Ok done) nothing rest unfailed = tt
+          go (Err fault) nothing rest unfailed = λ is.
+              let so = nothing is in
+              record {
+                put = so.put;
+                unarmed = so.unarmed;
+                besides = record { same = so.besides; rests = rest is; unfailed = unfailed is };
+              }
+
       on_ok : {P Q : Type 0} (result : Result Done Fault) → (P → Q) → OnOk result P → OnOk result Q
       on_ok (Ok done) makes holds = makes holds
       on_ok (Err fault) makes holds = tt
@@ -374,31 +478,62 @@ module _ {S K D Done : Type 0} (seen : Seen S K D) (ended : Result Done Fault) w
       → IsErrAnd ended (λ fault. (fault ≡ Storing (world.Occupied r)) ⊎ IsInterruption fault))
       → (seen.disk.tells → (r : ℕ) → r ≤ size.members → IsFirstOccupied seen.disk.seen (disks_before seen) r
       → SeenSame seen.disk.seen (disks_before seen) (disks_after seen))
-      → Spares → DoesReplay size seen (status_of ended)
-  replay_of size any takes answers front idle unfailing never occupied comes held spared = record {
-    codes = replay_code ended any.used;
-    reads = λ tells. reads_of any.used any.read_fault (takes tells);
-    makes = λ tells. makes_of size.members (occupied tells) (comes tells) (held tells);
-    unfailed = λ codes. elim codes [
-      | inl image ↦ spared (world.Image (replica_of ended)) tt (image_of_code ended image)
-      | inr occupied ↦ spared (world.Occupied (replica_of ended)) tt (occupied_of_code ended occupied)
-    ];
-    opens = λ tells code. never tells (replica_of ended) (image_of_code ended code);
-    answers = λ tells told.
-        script_answered (Unit {0}) (volume_of size) [] (takes tells) (answers tells told) (front tells told) idle;
-    complete = λ tells told empty script none.
-        script_done any.used any.read_fault (takes tells) (record {
-          store = λ r is. not_at_fault none r (any.store_fault r is);
-          image = never told;
-          occupied = λ r is. not_occupied empty (occupied told r is).0 (occupied told r is).1;
-        }) any.write_fault script;
-    complete_by_fuses = λ tells told fused empty unarmed script.
-        script_done any.used any.read_fault (takes tells) (record {
-          store = unfailing fused unarmed;
-          image = never told;
-          occupied = λ r is. not_occupied empty (occupied told r is).0 (occupied told r is).1;
-        }) any.write_fault script;
-  }
+      → Spares
+      → (seen.disk.tells → (r : ℕ) → r ≤ size.members → IsFirstOccupied seen.disk.seen (disks_before seen) r
+      → AllRest seen.disk (disks_before seen) (disks_after seen))
+      → (seen.disk.tells → AreEmpty seen.disk.seen (disks_before seen) size.members
+      → AreSynced seen.disk.seen seen.disk.may_leave (disks_before seen) size.members → IfErr ended (λ fault. IsIdle fault
+      → AreMadeInPart kept_in seen.disk.may_leave (volume_of size) (disks_after seen)))
+      → (seen.disk.tells → (r : ℕ) → IsErrOf ended (Storing (world.Store r)) → r ≤ size.members)
+      → (seen.disk.tells → OthersRest seen.disk size.members (disks_before seen) (disks_after seen))
+      → DoesReplay size seen (status_of ended)
+  replay_of size any takes answers front idle unfailing never occupied comes held spared rests partly member others =
+      record {
+        codes = replay_code ended any.used;
+        reads = λ tells. reads_of any.used any.read_fault (takes tells);
+        makes = λ tells. makes_of size.members (occupied tells) (comes tells) (held tells) (rests tells);
+        unfailed = λ codes. elim codes [
+          | inl image ↦ spared (world.Image (replica_of ended)) tt (image_of_code ended image)
+          | inr occupied ↦ spared (world.Occupied (replica_of ended)) tt (occupied_of_code ended occupied)
+        ];
+        opens = λ tells code. never tells (replica_of ended) (image_of_code ended code);
+        answers = λ tells told.
+            script_answered (StaysUnmade size seen (status_of ended)) (volume_of size) [] (takes tells) (answers tells told)
+            (front tells told) (idle_both ended
+            (λ nothing unmade. record { put = nothing.put; unarmed = nothing.unarmed; besides = unmade }) idle unmade);
+        unmade = λ code. idle_of_code ended (inr (inr (inl code))) unmade;
+        member = λ tells code. member tells (replica_of ended) (store_of_code ended code);
+        others = others;
+        complete = λ tells told empty script none.
+            script_done any.used any.read_fault (takes tells) (record {
+              store = λ r is. not_at_fault none r (any.store_fault r is);
+              image = never told;
+              occupied = λ r is. not_occupied empty (occupied told r is).0 (occupied told r is).1;
+            }) any.write_fault script;
+        complete_by_fuses = λ tells told fused empty unarmed script.
+            script_done any.used any.read_fault (takes tells) (record {
+              store = unfailing fused unarmed;
+              image = never told;
+              occupied = λ r is. not_occupied empty (occupied told r is).0 (occupied told r is).1;
+            }) any.write_fault script;
+      }
+    where
+      unmade : IfErr ended (λ fault. IsIdle fault → StaysUnmade size seen (status_of ended))
+      unmade = go ended refl partly (unfailed_idle spared any.untouched)
+        where
+          go : (result : Result Done Fault) → ended ≡ result
+              → (seen.disk.tells → AreEmpty seen.disk.seen (disks_before seen) size.members
+              → AreSynced seen.disk.seen seen.disk.may_leave (disks_before seen) size.members
+              → IfErr result (λ fault. IsIdle fault
+              → AreMadeInPart kept_in seen.disk.may_leave (volume_of size) (disks_after seen)))
+              → IfErr result (λ fault. IsIdle fault → (code_of ended ≡ 6 → ⊥)
+              → Steady seen.disk.faults (disks_before seen) (disks_after seen))
+              → IfErr result (λ fault. IsIdle fault → StaysUnmade size seen (status_of ended))
+          go (Ok done) is made unfailed = tt
+          go (Err fault) is made unfailed = λ idle. record {
+            partly = λ tells empty synced. made tells empty synced idle;
+            unfailed = unfailed idle;
+          }
 
 -- where memory was refused before anything was asked of the outside, all is as each mode does
 module _ {S K D : Type 0} (seen : Seen S K D) (unread : seen.input.new ≡ seen.input.old)
@@ -424,6 +559,16 @@ module _ {S K D : Type 0} (seen : Seen S K D) (unread : seen.input.new ≡ seen.
   unfailed_now =
       subst (λ (disks : Vec (Pair D) Global). Steady seen.disk.faults (disks_before seen) (vec_items disks))
       (sym untouched) (steady_none seen.disk.faults (disks_before seen))
+
+  rests_now : AllRest seen.disk (disks_before seen) (disks_after seen)
+  rests_now =
+      subst (λ (disks : Vec (Pair D) Global). AllRest seen.disk (disks_before seen) (vec_items disks))
+      (sym untouched) (all_rest_none seen.disk (disks_before seen))
+
+  others_now : (count : ℕ) → OthersStay count (disks_before seen) (disks_after seen)
+  others_now count =
+      subst (λ (disks : Vec (Pair D) Global). OthersStay count (disks_before seen) (vec_items disks))
+      (sym untouched) (others_none count (disks_before seen))
 
   takes : TakesUntil (script_of seen) (left_of seen) reading.Memory
   takes = record {
@@ -453,16 +598,26 @@ module _ {S K D : Type 0} (seen : Seen S K D) (unread : seen.input.new ≡ seen.
       init_of seen unmade_end size tt unread silent unarmed (λ r is. absurd (cc is))
       (λ tells r is. absurd (cc is)) (λ tells r within first. inr tt) (λ tells. tt) (λ r is. absurd (cc is))
       (λ tells r within first. held tells) tt (λ fault unfailed is. unfailed_now) (λ tells at_first. tt)
+      (λ tells r within first. rests_now)
+      (λ tells empty synced.
+      none_in_part kept_in seen.disk (volume_of size) (disks_before seen) (disks_after seen) rests_now empty synced)
+      (others_now size.members)
   nothing_done (Run root) =
       run_of seen unread_end any (λ tells. takes) (λ tells told. tt)
       (λ tells told is. absurd is) (λ idle. record { put = silent; unarmed = unarmed; besides = held })
       (λ tells r is. absurd (cc is)) (λ tells r bad. inr tt) (λ tells volume H stands r is. cc) (λ r is. cc)
-      (λ fault unfailed is. unfailed_now)
+      (λ fault unfailed is. unfailed_now) (λ idle. rests_now) (λ tells told. tt) (λ tells told is. absurd is)
+      (λ tells q r is bad. absurd (cc is)) (λ tells r is first opens. absurd (cc is))
+      (λ tells volume H stands. all_others_rest seen.disk volume.members (disks_before seen) (disks_after seen) rests_now)
   nothing_done (Replay size) =
       replay_of seen unread_end size any (λ tells. takes) (λ tells told. tt)
       (λ tells told is. absurd is) (λ idle. record { put = silent; unarmed = unarmed; besides = tt })
       (λ fused none r is. cc) (λ tells r is. cc) (λ tells r is. absurd (cc is)) (λ tells r within first. inr tt)
-      (λ tells r within first. held tells) (λ fault unfailed is. unfailed_now)
+      (λ tells r within first. held tells) (λ fault unfailed is. unfailed_now) (λ tells r within first. rests_now)
+      (λ tells empty synced idle.
+      none_in_part kept_in seen.disk (volume_of size) (disks_before seen) (disks_after seen) rests_now empty synced)
+      (λ tells r is. absurd (cc is))
+      (λ tells. all_others_rest seen.disk size.members (disks_before seen) (disks_after seen) rests_now)
   nothing_done (Gen members seed steps) = record {
     codes = inr (inl refl);
     unread = unread;

@@ -70,6 +70,7 @@ module _ {D : Type 0} (disk : Disk D) {old middle new : List (Pair D)} (steady :
           done = λ none. ends.done (none_failed_since none);
           fuses = λ F at_first. ends.fuses F (rests F at_first);
           standings = ends.standings;
+          pending = ends.pending;
           stand = ends.stand;
           outlasts = ends.outlasts;
         })
@@ -86,8 +87,10 @@ module _ {D : Type 0} (disk : Disk D) {old middle new : List (Pair D)} (steady :
           serves = front.serves;
           linked = front.linked;
           disks = follows_since front.disks;
+          done = λ none. front.done (none_failed_since none);
           fuses = λ F at_first. front.fuses F (rests F at_first);
           standings = front.standings;
+          pending = front.pending;
           stand = front.stand;
           outlasts = front.outlasts;
         })

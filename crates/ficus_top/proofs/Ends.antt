@@ -1,5 +1,5 @@
 -- What was served over a link that never fails, and over disks.
-use Rattle.std.proofs.Common.{◌≡◌, ◌⊎◌, ℕ, ◌≤◌, Bool, List, ◌++◌, length, Option, refl, sym, subst, ◌∙◌, inl, inr, arith}
+use Rattle.std.proofs.Common.{◌≡◌, ◌⊎◌, ℕ, ◌≤◌, Bool, List, ◌++◌, length, take, Option, refl, sym, subst, ◌∙◌, inl, inr, arith}
 use Rattle.std.proofs.lemmas.Bool.{cases_lt}
 use Rattle.ficus_disk.specs.declared.disk.Disk.{Ghosts as Disk}
 use Rattle.ficus_disk.specs.declared.pair.Pair.{Pair}
@@ -11,19 +11,23 @@ use Rattle.ficus_script.specs.declared.command.Command.{Command}
 use Rattle.ficus_script.specs.declared.answer.Answer.{Answer}
 use Rattle.ficus_runs.specs.Fuses.{FuseState, FusesAllowAll, Keeping}
 use Rattle.ficus_runs.specs.ModelWorld.{ModelWorld}
-use Rattle.ficus_runs.specs.Outcome.{Outcome, link_failures, store_failures}
+use Rattle.ficus_runs.specs.Outcome.{Outcome, is_link_failure, is_store_failure, link_failures, store_failures}
 use Rattle.ficus_runs.specs.Run.{Run, EachDone}
 use Rattle.ficus_runs.specs.Start.{start}
 use Rattle.ficus_run_laws.specs.Outcomes.{all_outcomes}
+use Rattle.ficus_run_laws.proofs.Outcomes.{count_append}
 use Rattle.ficus_run_laws.proofs.Numbers.{number_exists}
 use Rattle.ficus_run_laws.proofs.Up.{run_up}
 use Rattle.ficus_world.specs.Disks.{DisksFollow}
 use Rattle.ficus_store.specs.Slots.{kept_in}
 use Rattle.ficus_world.specs.Fuses.{FusesPermit, keeping_of}
 use Rattle.ficus_world.specs.Opening.{Steady}
-use Rattle.ficus_world.specs.Stand.{DisksOutlast, DisksStand}
+use Rattle.ficus_world.specs.Stand.{ArePending, DisksOutlast, DisksStand}
 use Rattle.ficus_world.specs.World.{Whole, WorldStandsFor}
 use Rattle.ficus_world.proofs.Disks.{follows_steady, follows_then}
+use Rattle.ficus_keep.specs.Kept.{Kept}
+use Rattle.ficus_kills.specs.Trail.{FrontOn, RunOn}
+use Rattle.ficus_top.specs.Killed.{EndsFrontOn, EndsOn}
 use Rattle.ficus_top.specs.Ends.{AllUp, Ends, EndsFront, NoneFailed, StandNow, two_slots}
 use Rattle.ficus_serving.specs.Serving.{ServesWorld, ServesWorldFront}
 use Rattle.ficus_serving.proofs.Places.{none_caused}
@@ -49,7 +53,7 @@ member_or_not members r =
 
 module _ {D : Type 0} {disk_faults : D → ℕ} {armings : D → Option ℕ} where
   -- where no disk has failed, none of a member has
-  none_at : {outcomes : List Outcome} {old new : List (Pair D)} (r : ℕ) → IsMember (length old) r
+  pub none_at : {outcomes : List Outcome} {old new : List (Pair D)} (r : ℕ) → IsMember (length old) r
       → DisksFollow disk_faults armings outcomes old new → NoneFailed disk_faults old new
       → store_failures r outcomes ≡ 0
   none_at {outcomes} {old} {new} r member follows none =
@@ -61,7 +65,7 @@ module _ {D : Type 0} {disk_faults : D → ℕ} {armings : D → Option ℕ} whe
       omega (arith, risen, same.a, same.b)
 
   -- where neither the link nor a disk has failed, all was done
-  done_where_none : {volume : Volume} {W after : ModelWorld} {commands : List Command}
+  pub done_where_none : {volume : Volume} {W after : ModelWorld} {commands : List Command}
       {outcomes : List (List Outcome)} {answers : List Answer} {old new : List (Pair D)}
       → Run volume W commands outcomes answers after → AllUp W → length W.standings ≤ length old
       → link_failures (all_outcomes outcomes) ≡ 0 → DisksFollow disk_faults armings (all_outcomes outcomes) old new
@@ -77,8 +81,28 @@ module _ {D : Type 0} {disk_faults : D → ℕ} {armings : D → Option ℕ} whe
         ];
       })).0
 
+  -- so it is of some first commands, whatever was asked behind them
+  pub front_done_where_none : {volume : Volume} {W after : ModelWorld} {commands : List Command}
+      {outcomes : List (List Outcome)} {answers : List Answer} {old new : List (Pair D)} (more : List Outcome)
+      → Run volume W commands outcomes answers after → AllUp W → length W.standings ≤ length old
+      → link_failures (all_outcomes outcomes ++ more) ≡ 0
+      → DisksFollow disk_faults armings (all_outcomes outcomes ++ more) old new
+      → NoneFailed disk_faults old new → EachDone outcomes
+  front_done_where_none {W = W} {outcomes = outcomes} {old = old} more run up pairs linked follows none =
+      (run_up run (record { each = up }) (record {
+        link = omega (arith, linked, count_append is_link_failure (all_outcomes outcomes) more);
+        stores = λ r. elim (member_or_not (length W.standings) r) [
+          | inl member ↦
+              let all =
+              none_at r (record { at_least = member.at_least; at_most = omega (arith, pairs, member.at_most) }) follows
+              none in
+              omega (arith, all, count_append (is_store_failure r) (all_outcomes outcomes) more)
+          | inr other ↦ run_spares run refl r other
+        ];
+      })).0
+
 -- what the fuses permit of two slots
-permitted : {K D : Type 0} (keep : Keep K) (disk : Disk D) (before : Whole) (disks : List (Pair D))
+pub permitted : {K D : Type 0} (keep : Keep K) (disk : Disk D) (before : Whole) (disks : List (Pair D))
     → keeping_of keep ≡ two_slots → disk.tells → (outcomes : List Outcome)
     → FusesPermit keep disk outcomes before.members disks → (F : ℕ → FuseState) → StandNow keep disk before disks F
     → FusesAllowAll two_slots F outcomes
@@ -92,9 +116,10 @@ module _ {K D : Type 0} {tells : Type 0} {keep : Keep K} {disk : Disk D} {volume
     (stand : (M : ModelWorld) → WorldStandsFor volume M world → DisksStand kept_in disk.seen volume M new_disks)
     (outlast : (M : ModelWorld) → WorldStandsFor volume M world
     → DisksOutlast kept_in disk.may_leave volume M new_disks)
+    (pend : (M : ModelWorld) → WorldStandsFor volume M world → ArePending volume M)
   where
     -- what was served over a link that hasn't failed, from a world in which all are up
-    pub served_ends : AllUp W → length W.standings ≤ length old_disks
+    abbrev pub served_ends : AllUp W → length W.standings ≤ length old_disks
         → ServesWorld tells keep disk volume W before commands world old new old_disks new_disks
         → Ends tells disk (StandNow keep disk before old_disks) volume W commands old new old_disks new_disks
     served_ends up pairs served =
@@ -108,35 +133,61 @@ module _ {K D : Type 0} {tells : Type 0} {keep : Keep K} {disk : Disk D} {volume
           fuses = permitted keep disk before old_disks slots told (all_outcomes served.serves.outcomes)
               served.fuses.permit;
           standings = served.stands.standings;
+          pending = pend served.after served.stands;
           stand = stand served.after served.stands;
           outlasts = outlast served.after served.stands;
         }
 
     -- and of first commands
-    pub front_ends : {may : Type 0}
+    abbrev pub front_ends : {may : Type 0} → AllUp W → length W.standings ≤ length old_disks
         → ServesWorldFront tells may keep disk volume W before commands world old new old_disks new_disks
         → EndsFront tells may disk (StandNow keep disk before old_disks) volume W commands old new old_disks new_disks
-    front_ends front = record {
+    front_ends up pairs front = record {
       after = front.after;
       serves = front.serves;
       linked = none_caused nothing front.caused;
       disks = front.disks;
+      done = front_done_where_none front.serves.more_outcomes front.serves.run up pairs
+          (none_caused nothing front.caused) front.disks;
       fuses = permitted keep disk before old_disks slots told
           (all_outcomes front.serves.outcomes ++ front.serves.more_outcomes) front.fuses;
       standings = front.stands.standings;
+      pending = pend front.after front.stands;
       stand = stand front.after front.stands;
       outlasts = outlast front.after front.stands;
     }
 
+    -- each command with the disks
+    module _ (same : keep.kept ≡ kept_in) where
+      pub served_on : AllUp W → length W.standings ≤ length old_disks
+          → ServesWorld tells keep disk volume W before commands world old new old_disks new_disks
+          → EndsOn tells disk (StandNow keep disk before old_disks) volume W commands old new old_disks new_disks
+      served_on up pairs served = record {
+        ends = served_ends up pairs served;
+        runs = subst (λ (kept : List ℕ → List ℕ → Option Kept). RunOn kept disk volume W commands
+            served.serves.outcomes served.serves.answers served.after old_disks new_disks) same (served.runs told);
+      }
+
+      pub front_on : {may : Type 0} → AllUp W → length W.standings ≤ length old_disks
+          → ServesWorldFront tells may keep disk volume W before commands world old new old_disks new_disks
+          → EndsFrontOn tells may disk (StandNow keep disk before old_disks) volume W commands old new old_disks
+          new_disks
+      front_on up pairs front = record {
+        ends = front_ends up pairs front;
+        runs = subst (λ (kept : List ℕ → List ℕ → Option Kept). FrontOn kept disk volume W
+            (take front.serves.count commands) front.serves.outcomes (front.serves.whole ++ front.serves.last)
+            front.serves.middle front.after old_disks new_disks) same (front.runs told);
+      }
+
 module _ {D : Type 0} (disk : Disk D) {old_disks mid_disks new_disks : List (Pair D)}
     (steady : Steady disk.faults old_disks mid_disks) (unarmed : Steady disk.armings old_disks mid_disks) where
-  follows_behind : {outcomes : List Outcome} → DisksFollow disk.faults disk.armings outcomes mid_disks new_disks
+  pub follows_behind : {outcomes : List Outcome} → DisksFollow disk.faults disk.armings outcomes mid_disks new_disks
       → DisksFollow disk.faults disk.armings outcomes old_disks new_disks
   follows_behind follows =
       follows_then (follows_steady steady.count (λ r was now is_was is_now.
       (steady.each r was now is_was is_now, unarmed.each r was now is_was is_now))) follows
 
-  none_behind : NoneFailed disk.faults old_disks new_disks → NoneFailed disk.faults mid_disks new_disks
+  pub none_behind : NoneFailed disk.faults old_disks new_disks → NoneFailed disk.faults mid_disks new_disks
   none_behind none = record {
     steady = record {
       count = none.steady.count ∙ sym steady.count;
@@ -152,7 +203,7 @@ module _ {D : Type 0} (disk : Disk D) {old_disks mid_disks new_disks : List (Pai
   module _ {tells : Type 0} {Rest Before : (ℕ → FuseState) → Type 0} {volume : Volume} {W : ModelWorld}
       {commands : List Command} {old new : List ℕ} (rests : (F : ℕ → FuseState) → Before F → Rest F) where
     -- what was served over disks that nothing had happened to before
-    pub ends_behind : Ends tells disk Rest volume W commands old new mid_disks new_disks
+    abbrev pub ends_behind : Ends tells disk Rest volume W commands old new mid_disks new_disks
         → Ends tells disk Before volume W commands old new old_disks new_disks
     ends_behind ends = record {
       after = ends.after;
@@ -162,11 +213,12 @@ module _ {D : Type 0} (disk : Disk D) {old_disks mid_disks new_disks : List (Pai
       done = λ none. ends.done (none_behind none);
       fuses = λ F before. ends.fuses F (rests F before);
       standings = ends.standings;
+      pending = ends.pending;
       stand = ends.stand;
       outlasts = ends.outlasts;
     }
 
-    pub front_ends_behind : {may : Type 0}
+    abbrev pub front_ends_behind : {may : Type 0}
         → EndsFront tells may disk Rest volume W commands old new mid_disks new_disks
         → EndsFront tells may disk Before volume W commands old new old_disks new_disks
     front_ends_behind ends = record {
@@ -174,14 +226,16 @@ module _ {D : Type 0} (disk : Disk D) {old_disks mid_disks new_disks : List (Pai
       serves = ends.serves;
       linked = ends.linked;
       disks = follows_behind ends.disks;
+      done = λ none. ends.done (none_behind none);
       fuses = λ F before. ends.fuses F (rests F before);
       standings = ends.standings;
+      pending = ends.pending;
       stand = ends.stand;
       outlasts = ends.outlasts;
     }
 
 -- what may be may be wherever this is so
-pub front_ends_where : {may other : Type 0} → (may → other) → {D : Type 0} {tells : Type 0} {disk : Disk D}
+abbrev pub front_ends_where : {may other : Type 0} → (may → other) → {D : Type 0} {tells : Type 0} {disk : Disk D}
     {Rest : (ℕ → FuseState) → Type 0} {volume : Volume} {W : ModelWorld} {commands : List Command} {old new : List ℕ}
     {old_disks new_disks : List (Pair D)}
     → EndsFront tells may disk Rest volume W commands old new old_disks new_disks
@@ -191,8 +245,10 @@ front_ends_where further ends = record {
   serves = front_where further ends.serves;
   linked = ends.linked;
   disks = ends.disks;
+  done = ends.done;
   fuses = ends.fuses;
   standings = ends.standings;
+  pending = ends.pending;
   stand = ends.stand;
   outlasts = ends.outlasts;
 }

@@ -14,3 +14,5 @@ pub mod Returning
 pub mod Stopping
 pub mod Stored
 pub mod WordLaws
+pub mod Kills
+pub mod KilledRuns

@@ -20,7 +20,7 @@ use Rattle.ficus_runs.specs.Actions.Arms.{Armed}
 use Rattle.ficus_runs.specs.Exchange.{Asks, Behind, AnAsk, AnAnswer, Handles, GivesMail, GivesNext, receiver}
 use Rattle.ficus_runs.specs.ModelWorld.{ModelWorld, IsUp}
 use Rattle.ficus_runs.specs.Outcome.{Outcome, is_store_failure, store_failures}
-use Rattle.ficus_runs.specs.Run.{Does, Run}
+use Rattle.ficus_runs.specs.Run.{Does, Run, Step}
 use Rattle.ficus_runs.specs.Run.Run.{End, Then}
 use Rattle.ficus_runs.specs.Sequence.{First, ByRule, Effect}
 use Rattle.ficus_runs.specs.Sequence.First.{Ends, Goes}
@@ -180,3 +180,17 @@ run_spares {volume} {members} {old}
     let here = does_among members volume command old step.result
     (record { outcomes = first; after = middle }) count step.does in
     spares_both members first (all_outcomes more) here.spares (run_spares rest here.count)
+
+-- a command and a run leave as many standings
+pub step_count : {volume : Volume} {old new : ModelWorld} {command : Command} {outcomes : List Outcome}
+    {answer : Answer} → Step volume old command outcomes answer new → length old.standings ≡ volume.members
+    → length new.standings ≡ volume.members
+step_count {volume} {old} {new} {command} {outcomes} step count =
+    (does_among volume.members volume command old step.result (record { outcomes = outcomes; after = new }) count
+    step.does).count
+
+pub run_count : {volume : Volume} {old new : ModelWorld} {commands : List Command} {outcomes : List (List Outcome)}
+    {answers : List Answer} → Run volume old commands outcomes answers new → length old.standings ≡ volume.members
+    → length new.standings ≡ volume.members
+run_count End count = count
+run_count (Then step rest) count = run_count rest (step_count step count)

@@ -16,7 +16,7 @@ use Rattle.ficus_world.specs.Disks.{DisksFollow}
 use Rattle.ficus_world.specs.Fuses.{FusesStand}
 use Rattle.ficus_world.specs.World.{Whole}
 use Rattle.ficus_world.specs.Opening.{Steady}
-use Rattle.ficus_world.specs.Stand.{DisksOutlast, DisksStand}
+use Rattle.ficus_world.specs.Stand.{ArePending, DisksOutlast, DisksStand}
 use Rattle.ficus_serving.specs.Serving.{Serves, ServesFront}
 
 -- each member takes commands
@@ -40,7 +40,7 @@ StandNow keep disk world disks F = disk.tells_fuse × FusesStand keep disk F wor
 -- The commands were served. The link never failed, and of the disks of each member so many saves and openings failed as
 -- their count rose by, at most; where no disk failed, all was done. Where the fuses stood so before, they allow what
 -- became of all that was asked of the disks. The disks stand for what the commands led to, of each member, and so does
--- whatever a crash leaves of them.
+-- whatever a crash leaves of them; what is pending of a member that is down may still come.
 pub record Ends {D : Type 0} (tells : Type 0) (disk : Disk D) (Rest : (ℕ → FuseState) → Type 0) (volume : Volume)
     (W : ModelWorld) (commands : List Command) (old new : List ℕ) (old_disks new_disks : List (Pair D)) :
     Type 0 where
@@ -51,6 +51,7 @@ pub record Ends {D : Type 0} (tells : Type 0) (disk : Disk D) (Rest : (ℕ → F
   pub done : NoneFailed disk.faults old_disks new_disks → EachDone serves.outcomes
   pub fuses : (F : ℕ → FuseState) → Rest F → FusesAllowAll two_slots F (all_outcomes serves.outcomes)
   pub standings : length after.standings ≡ volume.members
+  pub pending : ArePending volume after
   pub stand : DisksStand kept_in disk.seen volume after new_disks
   pub outlasts : DisksOutlast kept_in disk.may_leave volume after new_disks
 
@@ -63,8 +64,10 @@ pub record EndsFront {D : Type 0} (tells may : Type 0) (disk : Disk D) (Rest : (
   pub linked : link_failures (all_outcomes serves.outcomes ++ serves.more_outcomes) ≡ 0
   pub disks : DisksFollow disk.faults disk.armings (all_outcomes serves.outcomes ++ serves.more_outcomes) old_disks
       new_disks
+  pub done : NoneFailed disk.faults old_disks new_disks → EachDone serves.outcomes
   pub fuses : (F : ℕ → FuseState) → Rest F
       → FusesAllowAll two_slots F (all_outcomes serves.outcomes ++ serves.more_outcomes)
   pub standings : length after.standings ≡ volume.members
+  pub pending : ArePending volume after
   pub stand : DisksStand kept_in disk.seen volume after new_disks
   pub outlasts : DisksOutlast kept_in disk.may_leave volume after new_disks

@@ -11,3 +11,4 @@ pub mod Script
 pub mod Making
 pub mod Modes
 pub mod Program
+pub mod Killed

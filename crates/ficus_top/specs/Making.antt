@@ -4,6 +4,7 @@ use Rattle.ficus_ids.specs.Members.{IsCount}
 use Rattle.ficus_model.specs.Lawful.{Volume}
 use Rattle.ficus_saved.specs.Limits.{byte_limit, update_limit}
 use Rattle.ficus_words.specs.declared.mode.Size.{Size}
+use Rattle.ficus_world.specs.Kills.{AllRest}
 use Rattle.ficus_world.specs.Opening.{IsFirstOccupied, SeenSame}
 use Rattle.ficus_top.specs.Codes.{IsRefusalCode}
 use Rattle.ficus_top.specs.Seen.{Seen, disks_after, disks_before}
@@ -21,7 +22,7 @@ abbrev pub volume_of : Size → Volume
 volume_of size = record { members = size.members; ids = size.ids; bytes = size.bytes }
 
 -- Code 9 names the first of so many members of which a disk holds something, and comes wherever there is one, unless a
--- fault comes before. Then what the disks hold stays, whatever the code.
+-- fault comes before. Then nothing is written, and what the disks hold stays, whatever the code.
 pub record MakesVolume {S K D : Type 0} (members : ℕ) (seen : Seen S K D) (status : Status) : Type 0 where
   pub occupied : status.code ≡ 9 → IsFirstOccupied seen.disk.seen (disks_before seen) status.replica
   pub is_member : status.code ≡ 9 → status.replica ≤ members
@@ -29,3 +30,5 @@ pub record MakesVolume {S K D : Type 0} (members : ℕ) (seen : Seen S K D) (sta
       → IsRefusalCode 9 r status.code status.replica
   pub held : (r : ℕ) → r ≤ members → IsFirstOccupied seen.disk.seen (disks_before seen) r
       → SeenSame seen.disk.seen (disks_before seen) (disks_after seen)
+  pub rests : (r : ℕ) → r ≤ members → IsFirstOccupied seen.disk.seen (disks_before seen) r
+      → AllRest seen.disk (disks_before seen) (disks_after seen)

@@ -13,8 +13,8 @@ mod telling;
 mod words;
 
 pub use laws::{
-    all_but_the_last_are_put, empty_disks_are_at_rest, fronts_go_on, idle_codes, mode_codes,
-    next_run_goes_on, only_stops_arm_disks, read_codes, same_script_same_answers,
+    all_but_the_last_are_put, empty_disks_are_at_rest, fronts_go_on, idle_codes, killed_runs_go_on,
+    mode_codes, next_run_goes_on, only_stops_arm_disks, read_codes, same_script_same_answers,
     unrisen_counts_are_no_failures,
 };
 pub use program::ficus;

@@ -1,10 +1,11 @@
-ghost use Rattle.std.specs.Prelude.{◌≡◌, ◌⊎◌, ◌≤◌, ℕ, [], length, IfErr, IsErrAnd, IsErrOf, OnOk};
+ghost use Rattle.std.specs.Prelude.{◌≡◌, ◌⊎◌, ◌≤◌, ℕ, [], length, IfErr, IsErrAnd, IsErrOf, OnErr, OnOk};
 ghost use Rattle.ficus_store.specs.Slots.{IsRegular, kept_in};
 ghost use Rattle.ficus_top.specs.Ending.{IsInterruption, IsOfMaking};
 ghost use Rattle.ficus_top.specs.Making.{FitsSize, volume_of};
 ghost use Rattle.ficus_world.specs.Fuses.{AreRegular};
 ghost use Rattle.ficus_world.specs.declared.opening.WorldFault.{WorldFault as WorldFaultValue};
-ghost use Rattle.ficus_world.specs.Opening.{AreEmpty, AreSynced, IsAtFault, IsFirstOccupied, IsStoreFault, IsUnfailed, SeenSame, StandsOn, Steady, Unfailing};
+ghost use Rattle.ficus_world.specs.Kills.{AllRest, OthersStay};
+ghost use Rattle.ficus_world.specs.Opening.{AreEmpty, AreMade, AreMadeInPart, AreSynced, IsAtFault, IsFirstOccupied, IsStoreFault, IsUnfailed, SeenSame, StandsOn, Steady, Unfailing};
 
 use crate::fault::Fault;
 use ficus_disk::{Disk, Pair};
@@ -30,6 +31,12 @@ pub(crate) fn init<D: Disk>(
         → IsErrAnd result (λ fault. (fault ≡ Fault.Storing (WorldFault.Occupied r)) ⊎ IsInterruption fault) }
     ensures held { D.tells → (r : ℕ) → r ≤ size.members → IsFirstOccupied D.seen disks.old.items r
         → SeenSame D.seen disks.old.items disks.new.items }
+    ensures rests { D.tells → (r : ℕ) → r ≤ size.members → IsFirstOccupied D.seen disks.old.items r
+        → AllRest D.Disk disks.old.items disks.new.items }
+    ensures partly { D.tells → AreEmpty D.seen disks.old.items size.members
+        → AreSynced D.seen D.may_leave disks.old.items size.members
+        → OnErr result (AreMadeInPart kept_in D.may_leave (volume_of size) disks.new.items) }
+    ensures others { OthersStay size.members disks.old.items disks.new.items }
     ensures spared { (fault : WorldFaultValue) → IsUnfailed fault → IsErrOf result (Fault.Storing fault)
         → Steady D.faults disks.old.items disks.new.items }
     ensures failed { (r : ℕ) → IsErrOf result (Fault.Storing (WorldFault.Store r))
@@ -51,6 +58,7 @@ pub(crate) fn make<D: Disk>(
 ) -> Result<(), WorldFault>
     requires size { FitsSize size }
     requires pairs { length disks.old.items ≡ 8 }
+    ensures all { D.tells → OnOk result (AreMade kept_in D.seen (volume_of size) disks.new.items) }
     ensures made { D.tells → OnOk result (StandsOn kept_in D.seen (volume_of size) [] disks.new.items) }
     ensures empty { D.tells → OnOk result (AreEmpty D.seen disks.old.items size.members) }
     ensures occupied { D.tells → (r : ℕ) → IsErrOf result (WorldFault.Occupied r)
@@ -59,6 +67,12 @@ pub(crate) fn make<D: Disk>(
         → IsErrAnd result (λ fault. (fault ≡ WorldFault.Occupied r) ⊎ IsStoreFault fault) }
     ensures held { D.tells → (r : ℕ) → r ≤ size.members → IsFirstOccupied D.seen disks.old.items r
         → SeenSame D.seen disks.old.items disks.new.items }
+    ensures rests { D.tells → (r : ℕ) → r ≤ size.members → IsFirstOccupied D.seen disks.old.items r
+        → AllRest D.Disk disks.old.items disks.new.items }
+    ensures partly { D.tells → AreEmpty D.seen disks.old.items size.members
+        → AreSynced D.seen D.may_leave disks.old.items size.members
+        → OnErr result (AreMadeInPart kept_in D.may_leave (volume_of size) disks.new.items) }
+    ensures others { OthersStay size.members disks.old.items disks.new.items }
     ensures spared { (fault : WorldFaultValue) → IsUnfailed fault → IsErrOf result fault
         → Steady D.faults disks.old.items disks.new.items }
     ensures failed { (r : ℕ) → IsErrOf result (WorldFault.Store r) → IsAtFault D.faults disks.old.items

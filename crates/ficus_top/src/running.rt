@@ -4,19 +4,22 @@ ghost use Rattle.ficus_model.specs.Lawful.{Volume};
 ghost use Rattle.ficus_model.specs.declared.event.Event.{Event as EventValue};
 ghost use Rattle.ficus_runs.specs.ModelWorld.{ModelWorld};
 ghost use Rattle.ficus_runs.specs.Start.{start};
+ghost use Rattle.ficus_saved.specs.declared.saved.Saved.{Saved as SavedValue};
 ghost use Rattle.ficus_script.specs.Command.{IsCommand};
 ghost use Rattle.ficus_store.specs.Slots.{kept_in};
 ghost use Rattle.ficus_store.specs.TwoSlot.{Fits};
 ghost use Rattle.ficus_top.specs.Ending.{IsAnswering, IsIdle, IsInterruption, IsOfRunning, IsUntouched, TakesAsEnded};
 ghost use Rattle.ficus_top.specs.Ends.{AllUp, Ends, EndsFront, StandNow};
+ghost use Rattle.ficus_top.specs.Killed.{EndsFrontKilled, EndsFrontOn, EndsKilled, EndsOn, KilledAnswers, KilledAnswersFront};
 ghost use Rattle.ficus_top.specs.Headline.{Answers, AnswersFront, AreFusesAtRest, CarriesOutNothing, fuses_of};
 ghost use Rattle.ficus_top.specs.Making.{FitsSize, volume_of};
 ghost use Rattle.ficus_serving.specs.Serving.{script_limit};
 ghost use Rattle.ficus_serving.specs.Serving.{serving_limit};
 ghost use Rattle.ficus_world.specs.Disks.{AreDisksOf};
+ghost use Rattle.ficus_world.specs.Kills.{AllRest, OthersRest, OthersStay};
 ghost use Rattle.ficus_world.specs.World.{WorldStandsFor};
 ghost use Rattle.ficus_world.specs.Fuses.{AreUnarmed};
-ghost use Rattle.ficus_world.specs.Opening.{IsAtFault, IsFirstBad, IsFirstOccupied, IsUnfailed, SeenSame, StandsOn, Steady};
+ghost use Rattle.ficus_world.specs.Opening.{AreEmpty, AreMadeInPart, AreSynced, IsAtFault, IsFirstBad, IsFirstOccupied, IsUnfailed, Opens, SeenSame, StandsOn, Steady};
 ghost use Rattle.ficus_world.specs.declared.opening.WorldFault.{WorldFault as WorldFaultValue};
 ghost use Rattle.ficus_words.specs.declared.fault.WordsFault.{WordsFault as WordsFaultValue};
 
@@ -29,7 +32,7 @@ use ficus_script::Command;
 use ficus_serving::{AnsweringFault, answer_all};
 use ficus_store::{Keep, TwoSlot};
 use ficus_words::Size;
-use ficus_world::{World, WorldFault, disks_stand};
+use ficus_world::{World, WorldFault, disks_stand, pending_events_may_come};
 use std::alloc::Global;
 
 /// Reads the script, opens the volume that the disks hold, and answers the commands.
@@ -52,6 +55,18 @@ pub(crate) fn run<S: Source, K: Sink, D: Disk>(
         (AreFusesAtRest D.Disk volume.members H disks.old.items) volume H (S.left input.old) (K.written output.old)
         (K.written output.new) disks.old.items
         disks.new.items) }
+    ensures killed { S.tells → D.tells → OnOk result ((volume : Volume) (H : List EventValue)
+        → StandsOn kept_in D.seen volume H disks.old.items
+        → AreSynced D.seen D.may_leave disks.old.items volume.members
+        → KilledAnswers K.tells D.Disk (AreFusesAtRest D.Disk volume.members H disks.old.items) volume H
+        (S.left input.old) (K.written output.old) (K.written output.new) disks.old.items disks.new.items) }
+    ensures front_killed { S.tells → D.tells → IfErr result (λ fault. IsAnswering fault
+        → (volume : Volume) (H : List EventValue) → StandsOn kept_in D.seen volume H disks.old.items
+        → AreSynced D.seen D.may_leave disks.old.items volume.members
+        → KilledAnswersFront K.tells (fault ≡ Fault.Answering AnsweringFault.Memory) D.Disk
+        (AreFusesAtRest D.Disk volume.members H disks.old.items) volume H (S.left input.old) (K.written output.old)
+        (K.written output.new) disks.old.items disks.new.items) }
+    ensures rests { IfErr result (λ fault. IsIdle fault → AllRest D.Disk disks.old.items disks.new.items) }
     ensures idle { IfErr result (λ fault. IsIdle fault → CarriesOutNothing (D.tells
         → SeenSame D.seen disks.old.items disks.new.items) D.armings output.old output.new disks.old.items
         disks.new.items) }
@@ -66,6 +81,13 @@ pub(crate) fn run<S: Source, K: Sink, D: Disk>(
     ensures never_image { D.tells → (volume : Volume) (H : List EventValue)
         → StandsOn kept_in D.seen volume H disks.old.items → (r : ℕ)
         → IsErrOf result (Fault.Storing (WorldFault.Image r)) → ⊥ }
+    ensures earlier { D.tells → (q r : ℕ) → IsErrOf result (Fault.Storing (WorldFault.Store q))
+        → IsFirstBad kept_in D.seen disks.old.items r → q ≤ r }
+    ensures member { D.tells → (r : ℕ) → IsErrOf result (Fault.Storing (WorldFault.Store r)) → (first : SavedValue)
+        → Opens kept_in D.seen disks.old.items first first 1 → r ≤ first.members }
+    ensures others { D.tells → (volume : Volume) (H : List EventValue)
+        → StandsOn kept_in D.seen volume H disks.old.items
+        → OthersRest D.Disk volume.members disks.old.items disks.new.items }
     ensures never_occupied { (r : ℕ) → IsErrOf result (Fault.Storing (WorldFault.Occupied r)) → ⊥ }
     ensures spared { (fault : WorldFaultValue) → IsUnfailed fault → IsErrOf result (Fault.Storing fault)
         → Steady D.faults disks.old.items disks.new.items }
@@ -120,6 +142,13 @@ pub(crate) fn replay<S: Source, K: Sink, D: Disk>(
         → IsErrAnd result (λ fault. (fault ≡ Fault.Storing (WorldFault.Occupied r)) ⊎ IsInterruption fault) }
     ensures held { D.tells → (r : ℕ) → r ≤ size.members → IsFirstOccupied D.seen disks.old.items r
         → SeenSame D.seen disks.old.items disks.new.items }
+    ensures rests { D.tells → (r : ℕ) → r ≤ size.members → IsFirstOccupied D.seen disks.old.items r
+        → AllRest D.Disk disks.old.items disks.new.items }
+    ensures partly { D.tells → AreEmpty D.seen disks.old.items size.members
+        → AreSynced D.seen D.may_leave disks.old.items size.members → IfErr result (λ fault. IsIdle fault
+        → AreMadeInPart kept_in D.may_leave (volume_of size) disks.new.items) }
+    ensures member { D.tells → (r : ℕ) → IsErrOf result (Fault.Storing (WorldFault.Store r)) → r ≤ size.members }
+    ensures others { D.tells → OthersRest D.Disk size.members disks.old.items disks.new.items }
     ensures spared { (fault : WorldFaultValue) → IsUnfailed fault → IsErrOf result (Fault.Storing fault)
         → Steady D.faults disks.old.items disks.new.items }
     ensures read_fault { IsErrOf result (Fault.Reading ReadingFault.Source)
@@ -160,6 +189,21 @@ fn run_on<K: Sink, D: Disk>(
         (AreFusesAtRest D.Disk volume.members H disks.old.items) volume
         (start H volume.members 0 (fuses_of D.armings volume.members disks.old.items)) commands.now
         (K.written output.old) (K.written output.new) disks.old.items disks.new.items) }
+    // What a kill at any moment of it leaves, where nothing was unsynced before.
+    ensures killed { D.tells → OnOk result ((volume : Volume) (H : List EventValue)
+        → StandsOn kept_in D.seen volume H disks.old.items
+        → AreSynced D.seen D.may_leave disks.old.items volume.members
+        → EndsKilled K.tells D.Disk (AreFusesAtRest D.Disk volume.members H disks.old.items) volume
+        (start H volume.members 0 (fuses_of D.armings volume.members disks.old.items)) commands.now
+        (K.written output.old) (K.written output.new) disks.old.items disks.new.items) }
+    ensures front_killed { D.tells → IfErr result (λ fault. IsAnswering fault → (volume : Volume) (H : List EventValue)
+        → StandsOn kept_in D.seen volume H disks.old.items
+        → AreSynced D.seen D.may_leave disks.old.items volume.members
+        → EndsFrontKilled K.tells (fault ≡ Fault.Answering AnsweringFault.Memory) D.Disk
+        (AreFusesAtRest D.Disk volume.members H disks.old.items) volume
+        (start H volume.members 0 (fuses_of D.armings volume.members disks.old.items)) commands.now
+        (K.written output.old) (K.written output.new) disks.old.items disks.new.items) }
+    ensures rests { IfErr result (λ fault. IsIdle fault → AllRest D.Disk disks.old.items disks.new.items) }
     ensures idle { IfErr result (λ fault. IsIdle fault → output.new ≡ output.old) }
     ensures unarmed { IfErr result (λ fault. IsIdle fault → Steady D.armings disks.old.items disks.new.items) }
     ensures pairs { length disks.new.items ≡ length disks.old.items }
@@ -173,6 +217,13 @@ fn run_on<K: Sink, D: Disk>(
     ensures never_image { D.tells → (volume : Volume) (H : List EventValue)
         → StandsOn kept_in D.seen volume H disks.old.items → (r : ℕ)
         → IsErrOf result (Fault.Storing (WorldFault.Image r)) → ⊥ }
+    ensures earlier { D.tells → (q r : ℕ) → IsErrOf result (Fault.Storing (WorldFault.Store q))
+        → IsFirstBad kept_in D.seen disks.old.items r → q ≤ r }
+    ensures member { D.tells → (r : ℕ) → IsErrOf result (Fault.Storing (WorldFault.Store r)) → (first : SavedValue)
+        → Opens kept_in D.seen disks.old.items first first 1 → r ≤ first.members }
+    ensures others { D.tells → (volume : Volume) (H : List EventValue)
+        → StandsOn kept_in D.seen volume H disks.old.items
+        → OthersRest D.Disk volume.members disks.old.items disks.new.items }
     ensures unfailing { D.tells_fuse → AreUnarmed D.fuse disks.old.items → (r : ℕ)
         → IsErrOf result (Fault.Storing (WorldFault.Store r)) → ⊥ }
     ensures spared { (fault : WorldFaultValue) → IsUnfailed fault → IsErrOf result (Fault.Storing fault)
@@ -211,9 +262,19 @@ fn answer_on<K: Sink, D: Disk>(
         (K.written output.old) (K.written output.new) disks.old.items disks.new.items) }
     ensures prefix { D.tells → IfErr result (λ fault. (volume : Volume) (W : ModelWorld)
         → WorldStandsFor volume W world.old.whole
-        → EndsFront K.tells (fault ≡ AnsweringFault.Memory) D.Disk
+        → AllUp W → EndsFront K.tells (fault ≡ AnsweringFault.Memory) D.Disk
         (StandNow ⟦<TwoSlot as Keep>⟧ D.Disk world.old.whole disks.old.items) volume W commands.now
         (K.written output.old) (K.written output.new) disks.old.items disks.new.items) }
+    ensures runs { D.tells → OnOk result ((volume : Volume) (W : ModelWorld)
+        → WorldStandsFor volume W world.old.whole
+        → AllUp W → EndsOn K.tells D.Disk (StandNow ⟦<TwoSlot as Keep>⟧ D.Disk world.old.whole disks.old.items) volume
+        W commands.now (K.written output.old) (K.written output.new) disks.old.items disks.new.items) }
+    ensures front_runs { D.tells → IfErr result (λ fault. (volume : Volume) (W : ModelWorld)
+        → WorldStandsFor volume W world.old.whole
+        → AllUp W → EndsFrontOn K.tells (fault ≡ AnsweringFault.Memory) D.Disk
+        (StandNow ⟦<TwoSlot as Keep>⟧ D.Disk world.old.whole disks.old.items) volume W commands.now
+        (K.written output.old) (K.written output.new) disks.old.items disks.new.items) }
+    ensures others { OthersStay (length world.old.whole.members) disks.old.items disks.new.items }
     ensures pairs { length disks.new.items ≡ length disks.old.items }
     ensures failed { IsErrOf result AnsweringFault.Sink → Rose (K.faults output.old) (K.faults output.new) }
     ensures told { K.faults output.old < K.faults output.new → IsErrOf result AnsweringFault.Sink }
@@ -222,5 +283,6 @@ fn answer_on<K: Sink, D: Disk>(
     let answered = answer_all(alloc, world, disks, commands, output);
     let _ = world.link();
     disks_stand(world, disks);
+    pending_events_may_come();
     answered
 }

@@ -101,17 +101,23 @@ fn a_link_takes_what_fits_and_no_more(rt: HostRuntime) -> Result<(), Fail> {
     Ok(())
 }
 
+const PULLED: &str = "pull 1 2\npull 1 2\n";
+
 const ASKED: &str = "ask 1 2\ngive 1\ngive 1\ngive 2\n";
 
 // Which call of the link fails, a script, and its answers: what failed is done when it is asked for once more, but an
-// ask that wasn't posted has no message to give.
+// ask that wasn't posted has no message to give. A pull makes four calls.
 const FAILING: &[(u32, &str, &str)] = &[
     (1, ASKED, "no link\nno nomail\nno nomail\nno nomail\n"),
     (2, ASKED, "ok 1\nno link\nok 2\nok\n"),
     (3, ASKED, "ok 1\nno link\nok 2\nok\n"),
     (4, ASKED, "ok 1\nok 2\nno link\nok\n"),
     (6, ASKED, "ok 1\nok 2\nok 3\nno link\n"),
-    (3, "pull 1 2\npull 1 2\n", "no link\nok\n"),
+    (1, PULLED, "no link\nok\n"),
+    (2, PULLED, "no link\nok\n"),
+    (3, PULLED, "no link\nok\n"),
+    (4, PULLED, "no link\nok\n"),
+    (5, "pull 1 2\n", "ok\n"),
 ];
 
 #[test]

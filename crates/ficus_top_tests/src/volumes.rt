@@ -307,3 +307,90 @@ fn each_call_of_a_disk_before_the_commands_may_fail(rt: HostRuntime) -> Result<(
     }
     Ok(())
 }
+
+// A volume that isn't made since a disk of replica 2 fails, and what a second making says: at the first call nothing has
+// been written, and at the second replica 1 is made.
+const UNMADE: &[(u32, Status)] = &[(1, DONE), (2, OCCUPIED_AT_1)];
+
+const FAULT_AT_2: Status = Status {
+    code: 6,
+    line: 0,
+    replica: 2,
+};
+
+fn init_ends<D: Disk>(
+    alloc: Global,
+    disks: &mut Vec<Pair<D>>,
+    ended: Status,
+) -> Result<bool, Fail> {
+    let call = Call {
+        words: "ficus init --members 2 vol",
+        lines: "",
+        ended,
+    };
+    ends_so(alloc, &call, disks)
+}
+
+#[test]
+fn a_volume_that_was_made_in_part_is_occupied(rt: HostRuntime) -> Result<(), Fail> {
+    for &(fails, ended) in UNMADE {
+        let mut disks = failing_pairs(rt.alloc(), 2, fails)?;
+        let so = init_ends(rt.alloc(), &mut disks, FAULT_AT_2)?;
+        assert!(rt; so, "{fails}");
+        let again = init_ends(rt.alloc(), &mut disks, ended)?;
+        assert!(rt; again, "{fails}");
+    }
+    Ok(())
+}
+
+// A restart of which a call failed, and one of which none did.
+const NOT_RESTARTED: &str = "restart 1
+    no store
+1 tree
+    no down
+restart 1
+    ok
+1 tree
+    ok 0";
+
+const RESTARTED: &str = "restart 1
+    ok
+1 tree
+    ok 0";
+
+fn replay_ends<D: Disk>(
+    alloc: Global,
+    disks: &mut Vec<Pair<D>>,
+    lines: &str,
+) -> Result<bool, Fail> {
+    let call = Call {
+        words: "ficus replay --members 2",
+        lines,
+        ended: DONE,
+    };
+    ends_so(alloc, &call, disks)
+}
+
+// How many calls a restart makes of this disk of replica 1, each of which may fail; or none, where something else comes
+// of it.
+fn restart_calls(alloc: Global, disk: u8, before: u32) -> Result<Option<u32>, Fail> {
+    for call in 1..=20 {
+        let mut disks = failing_pairs(alloc, disk, before + call)?;
+        if replay_ends(alloc, &mut disks, NOT_RESTARTED)? {
+            continue;
+        }
+        let mut disks = failing_pairs(alloc, disk, before + call)?;
+        let is_done = replay_ends(alloc, &mut disks, RESTARTED)?;
+        return Ok(if is_done { Some(call - 1) } else { None });
+    }
+    Ok(None)
+}
+
+#[test]
+fn each_call_of_a_restart_may_fail(rt: HostRuntime) -> Result<(), Fail> {
+    for disk in 0..2u8 {
+        let calls = restart_calls(rt.alloc(), disk, CALLS[usize::from(disk)])?;
+        assert!(rt; calls.is_some_and(|calls| calls > 2), "{disk} {calls:?}");
+    }
+    Ok(())
+}

@@ -28,3 +28,6 @@ pub mod Openings
 pub mod OpenedWorlds
 pub mod Unarmed
 pub mod Bad
+pub mod Kills
+pub mod Others
+pub mod Passing

@@ -1,15 +1,17 @@
 -- What is found of the disks before a volume is made, and what is made of them.
-use Rattle.std.proofs.Common.{◌≡◌, ◌≢◌, ℕ, ◌+◌, ◌<◌, ◌≤◌, Bool, true, false, List, [], ◌∷◌, Option, Some, None, refl, sym, ap, subst, ◌∙◌, inl, inr, ◌⊎◌, arith}
+use Rattle.std.proofs.Common.{◌≡◌, ◌≢◌, ℕ, ◌+◌, ◌<◌, ◌≤◌, Bool, true, false, List, [], ◌∷◌, Option, Some, None, refl, sym, ap, ap₂, subst, ◌∙◌, inl, inr, ◌⊎◌, arith}
 use Rattle.std.specs.Prelude.{◌↔◌, slice_set, IsTrue, Result, Err}
 use Rattle.std.proofs.lemmas.Bool.{cases_lt}
+use Rattle.ficus_disk.specs.declared.disk.Disk.{Ghosts as Disk}
 use Rattle.ficus_disk.specs.declared.pair.Pair.{Pair}
 use Rattle.ficus_ids.specs.Members.{IsMember}
 use Rattle.ficus_keep.specs.Kept.{Kept, found_in}
 use Rattle.ficus_model.specs.Lawful.{Volume}
 use Rattle.ficus_replica.specs.SavedOf.{fresh_saved}
-use Rattle.ficus_stable.specs.Holds.{Holds}
+use Rattle.ficus_stable.specs.Holds.{Holds, HoldsOneOf}
 use Rattle.ficus_runs.specs.Numbered.{IsNumbered}
-use Rattle.ficus_world.specs.Opening.{AreEmpty, AreMade, IsEmptyPair, IsFirstOccupied, IsFoundFault, Steady}
+use Rattle.ficus_world.specs.Kills.{AllRest}
+use Rattle.ficus_world.specs.Opening.{AreEmpty, AreMade, AreMadeInPart, AreSynced, IsEmptyPair, IsFirstOccupied, IsFoundFault, Steady}
 use Rattle.ficus_world.specs.declared.opening.WorldFault.{WorldFault}
 use Rattle.ficus_world.specs.declared.opening.WorldFault.TheVariants.{Image, Memory, Occupied, Store}
 use Rattle.ficus_run_laws.proofs.Numbers.{number_exists}
@@ -169,3 +171,67 @@ module _ {D : Type 0} (kept : List ℕ → List ℕ → Option Kept) (seen : D �
   made_all new before so all = record {
     each = λ r pair at member. so.made r pair at (omega (arith, member.at_most, all));
   }
+
+  -- one more is made in part
+  pub made_in_part : (may_leave : D → List ℕ → Type 0) (new : List (Pair D)) (before : ℕ) (after : Pair D)
+      → MadeSo kept seen volume old new before → AreEmpty seen old volume.members
+      → AreSynced seen may_leave old volume.members → AreSynced seen may_leave new volume.members
+      → HoldsOneOf kept may_leave after None (Some (fresh_saved volume (before + 1)))
+      → AreMadeInPart kept may_leave volume (slice_set new before after)
+  made_in_part may_leave new before after so empty synced all holds = record {
+    at = before + 1;
+    before = λ r pair at member below a b left_a left_b. elim (set_at new before r after pair at) [
+      | inl (number, is) ↦ absurd (omega (arith, number, below))
+      | inr (differs, here) ↦
+          let only = all.each r pair here member.at_most in
+          let made = so.made r pair here (omega (arith, below)) in
+          record { is = ap₂ kept (only.a a left_a) (only.b b left_b) ∙ made.is }
+    ];
+    there = λ pair at member. elim (set_at new before (before + 1) after pair at) [
+      | inl (number, is) ↦
+          subst (λ (p : Pair D). HoldsOneOf kept may_leave p None (Some (fresh_saved volume (before + 1)))) (sym is)
+          holds
+      | inr (differs, here) ↦ absurd (differs refl)
+    ];
+    behind = λ r pair at member above a b left_a left_b. elim (set_at new before r after pair at) [
+      | inl (number, is) ↦ absurd (omega (arith, number, above))
+      | inr (differs, here) ↦
+          let was = so.rest r pair here (omega (arith, above)) in
+          let only = synced.each r pair was member.at_most in
+          let nothing = empty.each r pair was member.at_most in
+          (only.a a left_a ∙ nothing.0, only.b b left_b ∙ nothing.1)
+    ];
+  }
+
+-- where nothing is written on empty disks, nothing is made
+pub none_in_part : {D : Type 0} (kept : List ℕ → List ℕ → Option Kept) (disk : Disk D) (volume : Volume)
+    (old new : List (Pair D)) → AllRest disk old new → AreEmpty disk.seen old volume.members
+    → AreSynced disk.seen disk.may_leave old volume.members → AreMadeInPart kept disk.may_leave volume new
+none_in_part kept disk volume old new rests empty synced = record {
+  at = 0;
+  before = λ r pair at member below a b left_a left_b. absurd (omega (arith, below));
+  there = λ pair at member. absurd (omega (arith, member.at_least));
+  behind = λ r pair at member above a b left_a left_b.
+      let was = number_exists old r (subst (λ n. IsMember n r) rests.count at.member) in
+      let within = (rests.each r was.0 pair was.1 at).within in
+      let only = synced.each r was.0 was.1 member.at_most in
+      let nothing = empty.each r was.0 was.1 member.at_most in
+      (only.a a (within.a a left_a) ∙ nothing.0, only.b b (within.b b left_b) ∙ nothing.1);
+}
+
+-- where nothing is written on disks on which all is made, all is made
+pub made_rests : {D : Type 0} (kept : List ℕ → List ℕ → Option Kept) (disk : Disk D) (volume : Volume)
+    (mid new : List (Pair D)) → AreMade kept disk.seen volume mid
+    → AreSynced disk.seen disk.may_leave mid volume.members → AllRest disk mid new
+    → AreMadeInPart kept disk.may_leave volume new
+made_rests kept disk volume mid new made synced rests = record {
+  at = volume.members + 1;
+  before = λ r pair at member below a b left_a left_b.
+      let was = number_exists mid r (subst (λ n. IsMember n r) rests.count at.member) in
+      let within = (rests.each r was.0 pair was.1 at).within in
+      let only = synced.each r was.0 was.1 member.at_most in
+      let holds = made.each r was.0 was.1 member in
+      record { is = ap₂ kept (only.a a (within.a a left_a)) (only.b b (within.b b left_b)) ∙ holds.is };
+  there = λ pair at member. absurd (omega (arith, member.at_most));
+  behind = λ r pair at member above a b left_a left_b. absurd (omega (arith, above, member.at_most));
+}

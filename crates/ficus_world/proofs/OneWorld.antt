@@ -64,7 +64,7 @@ stored_once H one other part part_too same =
     stored_from one H part ∙ ap (λ n. map (lowered n) (drop n H)) before ∙ sym (stored_from other H part_too)
 
 -- lists of one length with the same at each number are one
-same_list : {A : Type 0} (one other : List A) → length one ≡ length other →
+pub same_list : {A : Type 0} (one other : List A) → length one ≡ length other →
     ((r : ℕ) (a b : A) → IsNumbered one r a → IsNumbered other r b → a ≡ b) → one ≡ other
 same_list [] [] same each = refl
 same_list [] (x ∷ xs) same each = absurd (omega (arith, same))

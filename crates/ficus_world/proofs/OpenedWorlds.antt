@@ -128,6 +128,14 @@ module _ {D : Type 0} (kept : List ℕ → List ℕ → Option Kept) (seen : D �
         };
       }
 
+  -- with the first member's disks a world may be opened, of as many members
+  pub first_opens : 8 ≤ length disks
+      → (first : Saved) × Opens kept seen disks first first 1 × (first.members ≡ volume.members)
+  first_opens enough =
+      let one = first_keeps enough in
+      let first = one.2 in
+      (first.saved, opens_kept 1 one.0 one.0 one.1 first first, first.is.members)
+
   pub never_bad : 8 ≤ length disks → (r : ℕ) → IsFirstBad kept seen disks r → ⊥
   never_bad enough r bad =
       let one = first_keeps enough in

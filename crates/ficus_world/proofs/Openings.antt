@@ -261,3 +261,41 @@ module _ {D : Type 0} (kept : List ℕ → List ℕ → Option Kept) (seen : D �
                   (opens_of members now opened held q one.0 at.0 one.1 at.1 (omega (arith, q_below, within))),
             );
       }
+
+  -- the first is a member
+  pub one_named : (disks : List (Pair D)) (first : Saved) → Opens kept seen disks first first 1 → 1 ≤ first.members
+  one_named disks first opens = omega (arith, opens.fits.members.at_least)
+
+  -- the next one behind those that were opened is a member, and none of them is bad
+  module _ (old now : List (Pair D)) (members : List Member) (before count : ℕ) (steady : Steady seen old now)
+      (opened : AreOpened members)
+      (held : (r : ℕ) (member : Member) (pair : Pair D) → IsNumbered members r member → IsNumbered now r pair
+      → Holds (found_in kept seen pair) member.replica.saved)
+      (counted : length members ≡ before) (some : 1 ≤ before) (below : before < count) (within : before ≤ length now)
+      (says : (first : Member) → IsNumbered members 1 first → first.replica.saved.members ≡ count) where
+    pub next_named : (first : Saved) → Opens kept seen old first first 1 → before + 1 ≤ first.members
+    next_named first opens =
+        let one =
+        number_exists members 1 (record { at_least = omega arith; at_most = omega (arith, some, counted) }) in
+        let says_one = says one.0 one.1 in
+        let is =
+        first_is members now opened held first one.0 one.1 (opens_same old now first first 1 steady opens) in
+        let as_many = ap (λ (s : Saved). s.members) is in
+        omega (arith, as_many, says_one, below)
+
+    pub next_earlier : (r : ℕ) → IsFirstBad kept seen old r → before + 1 ≤ r
+    next_earlier r bad = elim (cases_lt before r) [
+      | inl past ↦ omega (arith, past)
+      | inr most ↦
+          let one =
+          number_exists members 1 (record { at_least = omega arith; at_most = omega (arith, some, counted) }) in
+          let at =
+          number_exists members r (record { at_least = bad.some; at_most = omega (arith, most, counted) }) in
+          let back = steady_back seen old now steady in
+          absurd
+          (bad.bad one.0.replica.saved at.0.replica.saved
+          (opens_same now old one.0.replica.saved one.0.replica.saved 1 back
+          (opens_of members now opened held 1 one.0 one.0 one.1 one.1 (omega (arith, some, within))))
+          (opens_same now old one.0.replica.saved at.0.replica.saved r back
+          (opens_of members now opened held r one.0 at.0 one.1 at.1 (omega (arith, most, within)))))
+    ]

@@ -13,13 +13,14 @@ use Rattle.ficus_stable.specs.Holds.{Holds}
 use Rattle.ficus_stable.specs.Stable.{IsReady}
 use Rattle.ficus_runs.specs.ModelWorld.{ModelWorld, Standing}
 use Rattle.ficus_runs.specs.ModelWorld as model
+use Rattle.ficus_runs.specs.Numbered.{IsNumbered}
 use Rattle.ficus_world.specs.declared.member.MemberState.{MemberState}
 use Rattle.ficus_world.specs.declared.member.MemberState.TheVariants as state
 use Rattle.ficus_world.specs.Disks.{AreDisksOf, HoldsFor}
-use Rattle.ficus_world.specs.Stand.{DisksOutlast, DisksStand, KeepsFor, KeepsOf}
-use Rattle.ficus_world.specs.World.{Whole, IsPendingSound, IsWorld, StateStandsFor, WorldStandsFor}
+use Rattle.ficus_world.specs.Stand.{ArePending, DisksOutlast, DisksStand, KeepsFor, KeepsOf}
+use Rattle.ficus_world.specs.declared.member.Pending.{Pending}
+use Rattle.ficus_world.specs.World.{Whole, IsPendingFor, IsPendingSound, IsWorld, StateStandsFor, WorldStandsFor}
 use Rattle.ficus_run_laws.proofs.Numbers.{number_exists}
-use Rattle.ficus_world.proofs.Pending.{comes_now}
 use Rattle.ficus_world.proofs.Standing.{member_from, member_stands, raise, replica_stands}
 
 module _ {K D : Type 0} (kept : List ℕ → List ℕ → Option Kept) (fits : K → List ℕ → List ℕ → Type 0)
@@ -51,9 +52,11 @@ module _ {K D : Type 0} (kept : List ℕ → List ℕ → Option Kept) (fits : K
           | inl here ↦ inl (keeps here)
           | inr there ↦ inr (record {
             saved = pending.replica.saved;
-            is = (comes_now volume H raise r pending event lawful is).stands.saved;
             fits = sound.0.fits;
             holds = there;
+            own = is.own;
+            follows = λ later others along.
+                let after = is.follows later others along in (after.lawful, after.stands.saved);
           })
         ]
     keeps_for count events stood modelled is sound holds = absurd is
@@ -83,3 +86,29 @@ module _ {K D : Type 0} (kept : List ℕ → List ℕ → Option Kept) (fits : K
     each = λ r pair standing at stood.
         outlast.each r pair standing at stood (seen pair.a) (seen pair.b) (seen_left pair.a) (seen_left pair.b);
   }
+
+-- what is pending in the model is pending in the code
+module _ (volume : Volume) (H : List Event) (raise r : ℕ) (event : Event) where
+  pending_is : (stood : MemberState) → StateStandsFor volume H raise r stood (model.Down (Some event))
+      → (pending : Pending) × IsPendingFor volume H raise r pending event
+  pending_is state.Up is = absurd is
+  pending_is (state.Down None) is = absurd is
+  pending_is (state.Down (Some pending)) is = (pending, is)
+
+pub pending_may_come : (volume : Volume) (W : ModelWorld) (world : Whole) → WorldStandsFor volume W world
+    → ArePending volume W
+pending_may_come volume W world stands = record {
+  own = λ r event stood. (of_model r event stood).1.own;
+  comes = λ r event stood later others along.
+      let after = (of_model r event stood).1.follows later others along in
+      after.lawful;
+}
+  where
+    of_model : (r : ℕ) (event : Event) → IsNumbered W.standings r (model.Down (Some event))
+        → (pending : Pending) × IsPendingFor volume W.events (raise volume W world stands) r pending event
+    of_model r event stood =
+        let member =
+        number_exists world.members r
+        (member_from volume W world stands r (subst (λ n. IsMember n r) stands.standings stood.member)) in
+        pending_is volume W.events (raise volume W world stands) r event member.0.state
+        (member_stands volume W world stands r member.0 member.1 (model.Down (Some event)) stood)

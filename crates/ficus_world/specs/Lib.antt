@@ -8,3 +8,4 @@ pub mod Stepped
 pub mod Follows
 pub mod Stand
 pub mod Opening
+pub mod Kills

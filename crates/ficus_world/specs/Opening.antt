@@ -1,5 +1,5 @@
 -- What it means that a volume is made on disks, and that a world is opened on them.
-use Rattle.std.specs.Prelude.{◌≡◌, ◌≢◌, ◌⊎◌, ℕ, ◌^◌, ◌<◌, ◌≤◌, ◌+◌, ◌==◌, Bool, if◌then◌else◌, List, [], length, map, Option, None, Result, IsErrOf}
+use Rattle.std.specs.Prelude.{◌≡◌, ◌≢◌, ◌⊎◌, ℕ, ◌^◌, ◌<◌, ◌≤◌, ◌+◌, ◌==◌, Bool, if◌then◌else◌, List, [], length, map, Option, None, Some, Result, IsErrOf}
 use Rattle.ficus_disk.specs.Crash.{Only}
 use Rattle.ficus_disk.specs.Pair.{PairRose}
 use Rattle.ficus_disk.specs.declared.fuse.Fuse.{Fuse}
@@ -13,7 +13,7 @@ use Rattle.ficus_model.specs.Lawful.{Volume, IsLawful}
 use Rattle.ficus_replica.specs.SavedOf.{fresh_saved}
 use Rattle.ficus_saved.specs.Saved.{FitsImage}
 use Rattle.ficus_saved.specs.declared.saved.Saved.{Saved}
-use Rattle.ficus_stable.specs.Holds.{Holds}
+use Rattle.ficus_stable.specs.Holds.{Holds, HoldsOneOf}
 use Rattle.ficus_runs.specs.Numbered.{IsNumbered}
 use Rattle.ficus_world.specs.declared.member.Member.{Member}
 use Rattle.ficus_world.specs.declared.member.MemberState.TheVariants.{Up}
@@ -43,6 +43,19 @@ pub record AreMade {D : Type 0} (kept : List ℕ → List ℕ → Option Kept) (
     (disks : List (Pair D)) : Type 0 where
   pub each : (r : ℕ) (pair : Pair D) → IsNumbered disks r pair → IsMember volume.members r
       → Holds (found_in kept seen pair) (fresh_saved volume r)
+
+-- Whatever a crash leaves of the disks, some first members are made, the one behind them is made in part, and of no
+-- other there is anything: of each before it what it saves before anything has happened is held, of it that or nothing,
+-- and the disks of those behind it are empty.
+pub record AreMadeInPart {D : Type 0} (kept : List ℕ → List ℕ → Option Kept) (may_leave : D → List ℕ → Type 0)
+    (volume : Volume) (disks : List (Pair D)) : Type 0 where
+  pub at : ℕ
+  pub before : (r : ℕ) (pair : Pair D) → IsNumbered disks r pair → IsMember volume.members r → r < at → (a b : List ℕ)
+      → may_leave pair.a a → may_leave pair.b b → Holds (kept a b) (fresh_saved volume r)
+  pub there : (pair : Pair D) → IsNumbered disks at pair → IsMember volume.members at
+      → HoldsOneOf kept may_leave pair None (Some (fresh_saved volume at))
+  pub behind : (r : ℕ) (pair : Pair D) → IsNumbered disks r pair → IsMember volume.members r → at < r → (a b : List ℕ)
+      → may_leave pair.a a → may_leave pair.b b → (a ≡ []) × (b ≡ [])
 
 -- a world is opened from what is of this member and of the same volume as the first member's, and of a generation below
 -- 2^62

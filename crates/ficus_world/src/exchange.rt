@@ -15,6 +15,7 @@ ghost use Rattle.ficus_world.specs.Moves.{FetchesMail, GivesMessage, GivesNextMe
 ghost use Rattle.ficus_world.specs.Moves.{IsServing, KeepsAsk, ServesAsk, TakesAnswer, answer_of, ask_of, bytes_in};
 ghost use Rattle.ficus_world.specs.World.{IsSoundNext, IsUpIn, event_limit, most_events};
 ghost use Rattle.ficus_world.specs.declared.member.Member.{Member as MemberValue};
+ghost use Rattle.ficus_world.specs.Kills.{IsSettled, OthersStay, Passes, RestsAt, Touches};
 
 use crate::World;
 use crate::group::Group;
@@ -73,6 +74,7 @@ impl<K: Keep + Drop, L: Link + Drop> World<K, L> {
         ensures members { length self.new.whole.members ≡ length self.old.whole.members }
         ensures memory { IsErrOf result OutOfMemory → StaysOn D.faults D.armings self.old.whole self.new.whole
             disks.old.items disks.new.items }
+        ensures touches { Touches K.Keep D.Disk self.old.whole self.new.whole disks.old.items disks.new.items }
         ensures disks { AreDisksOf D.tells K.kept K.fits D.seen D.may_leave D.armings self.new.whole.members
             self.new.stables disks.new.items }
     {
@@ -99,6 +101,7 @@ impl<K: Keep + Drop, L: Link + Drop> World<K, L> {
         ensures members { length self.new.whole.members ≡ length self.old.whole.members }
         ensures memory { IsErrOf result OutOfMemory → StaysOn D.faults D.armings self.old.whole self.new.whole
             disks.old.items disks.new.items }
+        ensures touches { Touches K.Keep D.Disk self.old.whole self.new.whole disks.old.items disks.new.items }
         ensures disks { AreDisksOf D.tells K.kept K.fits D.seen D.may_leave D.armings self.new.whole.members
             self.new.stables disks.new.items }
     {
@@ -147,6 +150,10 @@ impl<K: Keep + Drop, L: Link + Drop> World<K, L> {
         ensures members { length self.new.whole.members ≡ length self.old.whole.members }
         ensures memory { IsErrOf result OutOfMemory → StaysOn D.faults D.armings self.old.whole self.new.whole
             disks.old.items disks.new.items }
+        ensures passes { IsSettled K.Keep D.Disk self.old.whole disks.old.items
+            → IsSettled K.Keep D.Disk self.new.whole disks.new.items
+            → Passes L.tells K.Keep D.Disk self.old.whole self.new.whole disks.old.items disks.new.items }
+        ensures others { OthersStay (length self.old.whole.members) disks.old.items disks.new.items }
         ensures disks { AreDisksOf D.tells K.kept K.fits D.seen D.may_leave D.armings self.new.whole.members
             self.new.stables disks.new.items }
     {
@@ -181,6 +188,7 @@ impl<K: Keep + Drop, L: Link + Drop> World<K, L> {
         ensures members { length self.new.whole.members ≡ length self.old.whole.members }
         ensures memory { IsErrOf result OutOfMemory → StaysOn D.faults D.armings self.old.whole self.new.whole
             disks.old.items disks.new.items }
+        ensures touches { Touches K.Keep D.Disk self.old.whole self.new.whole disks.old.items disks.new.items }
         ensures disks { AreDisksOf D.tells K.kept K.fits D.seen D.may_leave D.armings self.new.whole.members
             self.new.stables disks.new.items }
     {
@@ -249,6 +257,7 @@ impl<L: Link + Drop> Group<L> {
         ensures stables { length stables.new.items ≡ length stables.old.items }
         ensures memory { IsErrOf result OutOfMemory → StaysOn D.faults D.armings self.old self.new disks.old.items
             disks.new.items }
+        ensures touches { Touches K.Keep D.Disk self.old self.new disks.old.items disks.new.items }
         ensures disks { AreDisksOf D.tells K.kept K.fits D.seen D.may_leave D.armings self.new.members
             stables.new.items disks.new.items }
     {
@@ -367,6 +376,7 @@ fn make_ready<K: Keep + Drop, L: Link + Drop, D: Disk>(
         → AreDisksOf D.tells K.kept K.fits D.seen D.may_leave D.armings members stables.new.items disks.new.items }
     ensures follows { (members : List MemberValue) → DisksComeTo K.Keep D.Disk [] members members disks.old.items
         disks.new.items }
+    ensures rests { RestsAt D.Disk by disks.old.items disks.new.items }
     ensures count { length stables.new.items ≡ length stables.old.items }
 {
     if !post.has_room_for(&asking.message) {

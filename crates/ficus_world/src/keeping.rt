@@ -5,9 +5,11 @@ ghost use Rattle.ficus_runs.specs.Numbered.{IsNumbered};
 ghost use Rattle.ficus_runs.specs.Outcome.{IsSaved, SaveFails};
 ghost use Rattle.ficus_world.specs.Disks.{AreDisksOf, DisksComeTo, IsPreparedAt, StaysOn};
 ghost use Rattle.ficus_world.specs.Moves.{advanced, downed};
-ghost use Rattle.ficus_world.specs.World.{IsSoundNext, IsUpIn, event_limit, most_events};
+ghost use Rattle.ficus_world.specs.World.{IsSoundNext, IsUpIn, event_limit, most_events, whole_of};
 ghost use Rattle.ficus_world.specs.declared.member.Member.{Member as MemberValue};
 ghost use Rattle.ficus_world.specs.declared.member.MemberState.TheVariants.{Down as IsDown, Up as IsUp};
+ghost use Rattle.ficus_world.specs.Kills.{Touches, WritesAt};
+ghost use Rattle.ficus_world.specs.Post.{Outbox};
 
 use crate::World;
 use crate::group::Group;
@@ -48,6 +50,7 @@ impl<K: Keep + Drop, L: Link + Drop> World<K, L> {
         ensures memory { IsErrOf result OutOfMemory → StaysOn D.faults D.armings self.old.whole self.new.whole
             disks.old.items disks.new.items }
         ensures refused { IfErr result (λ refusal. (refusal ≡ StoreFailed) ⊎ (refusal ≡ OutOfMemory)) }
+        ensures touches { Touches K.Keep D.Disk self.old.whole self.new.whole disks.old.items disks.new.items }
         ensures disks { AreDisksOf D.tells K.kept K.fits D.seen D.may_leave D.armings self.new.whole.members
             self.new.stables disks.new.items }
     {
@@ -85,6 +88,7 @@ impl<L: Link + Drop> Group<L> {
         ensures refused { IfErr result (λ refusal. (refusal ≡ StoreFailed) ⊎ (refusal ≡ OutOfMemory)) }
         ensures members { length self.new.members ≡ length self.old.members }
         ensures stables { length stables.new.items ≡ length stables.old.items }
+        ensures touches { Touches K.Keep D.Disk self.old self.new disks.old.items disks.new.items }
         ensures disks { AreDisksOf D.tells K.kept K.fits D.seen D.may_leave D.armings self.new.members
             stables.new.items disks.new.items }
     {
@@ -133,6 +137,9 @@ pub(crate) fn keep<K: Keep + Drop, D: Disk>(
     ensures counted { OnErr result (DisksComeTo K.Keep D.Disk (SaveFails by ∷ []) members.old.items members.new.items
         disks.old.items disks.new.items) }
     ensures refused { OnErr result (result ≡ Err StoreFailed) }
+    ensures writes { (post after : Outbox) → WritesAt K.Keep D.Disk by
+        (whole_of members.old.items history.old.events post) (whole_of members.new.items history.new.events after)
+        disks.old.items disks.new.items }
     ensures disks { AreDisksOf D.tells K.kept K.fits D.seen D.may_leave D.armings members.new.items stables.new.items
         disks.new.items }
     ensures count { length stables.new.items ≡ length stables.old.items }

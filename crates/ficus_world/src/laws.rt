@@ -8,7 +8,7 @@ ghost use Rattle.ficus_removal_laws.specs.Marks.{IsMarked};
 ghost use Rattle.ficus_runs.specs.ModelWorld.{ModelWorld};
 ghost use Rattle.ficus_runs.specs.Numbered.{IsNumbered};
 ghost use Rattle.ficus_world.specs.Disks.{AreDisksOf};
-ghost use Rattle.ficus_world.specs.Stand.{DisksOutlast, DisksStand};
+ghost use Rattle.ficus_world.specs.Stand.{ArePending, DisksOutlast, DisksStand};
 ghost use Rattle.ficus_world.specs.World.{Whole, WorldStandsFor};
 ghost use Rattle.ficus_world.specs.declared.member.Member.{Member as MemberValue};
 
@@ -35,6 +35,12 @@ pub fn knowledge_is_held()
         → Contains member.replica.saved.entries (held_dead entry knowing knowing_all_know)
         ↔ (IsHeldEntry volume.members W.events number entry
         × IsMarked volume.members W.events number entry.id knowing knowing_all_know) }
+{}
+
+/// Where a world stands for one of the model, what is pending there may still come. It does nothing when it runs.
+pub fn pending_events_may_come()
+    ensures { (volume : Volume) (W : ModelWorld) (world : Whole) → WorldStandsFor volume W world
+        → ArePending volume W }
 {}
 
 /// The disks of a world stand for what it stands for.

@@ -11,9 +11,10 @@ mod opening;
 mod post;
 mod restart;
 mod saving;
+mod settled;
 mod step;
 mod world;
 
-pub use laws::{disks_stand, knowledge_is_held, one_world};
+pub use laws::{disks_stand, knowledge_is_held, one_world, pending_events_may_come};
 pub use opening::{WorldFault, what_is_made_stands};
 pub use world::{DEFAULT_BYTES, DEFAULT_IDS, World};

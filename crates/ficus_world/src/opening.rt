@@ -10,17 +10,19 @@ ghost use Rattle.ficus_model.specs.declared.event.Event.{Event as EventValue};
 ghost use Rattle.ficus_replica.specs.SavedOf.{fresh_saved};
 ghost use Rattle.ficus_saved.specs.Limits.{byte_limit, update_limit};
 ghost use Rattle.ficus_saved.specs.Saved.{FitsImage};
-ghost use Rattle.ficus_stable.specs.Holds.{Holds};
+ghost use Rattle.ficus_saved.specs.declared.saved.Saved.{Saved as SavedValue};
+ghost use Rattle.ficus_stable.specs.Holds.{Holds, HoldsOneOf};
 ghost use Rattle.ficus_stable.specs.Stable.{IsReady};
 ghost use Rattle.ficus_runs.specs.Numbered.{IsNumbered};
 ghost use Rattle.ficus_runs.specs.Start.{restarts, start};
 ghost use Rattle.ficus_runs.specs.Fuses.{FuseState};
 ghost use Rattle.ficus_world.specs.Disks.{AreDisksOf, are_fused};
 ghost use Rattle.ficus_world.specs.Fuses.{AreAtRest, AreRegular, AreUnarmed, FusesStand};
-ghost use Rattle.ficus_world.specs.Opening.{AreEmpty, AreMade, AreOpened, AreRead, AreSynced, HoldsNoImage, IsAtFault, IsBad, IsEmptyPair, IsFirstBad, IsFirstOccupied, IsFoundFault, IsOneMore, IsStoreFault, IsSynced, IsUnfailed, MayOpen, PairUnfailing, SeenSame, StandsOn, Steady, Unfailing, fuses_in, opened_member};
+ghost use Rattle.ficus_world.specs.Opening.{AreEmpty, AreMade, AreMadeInPart, AreOpened, AreRead, AreSynced, HoldsNoImage, IsAtFault, IsBad, IsEmptyPair, IsFirstBad, IsFirstOccupied, IsFoundFault, IsOneMore, IsStoreFault, IsSynced, IsUnfailed, MayOpen, Opens, PairUnfailing, SeenSame, StandsOn, Steady, Unfailing, fuses_in, opened_member};
 ghost use Rattle.ficus_world.specs.World.{WorldStandsFor};
 ghost use Rattle.ficus_world.specs.declared.member.Member.{Member as MemberValue};
 ghost use Rattle.ficus_world.specs.declared.opening.WorldFault.{WorldFault as WorldFaultValue};
+ghost use Rattle.ficus_world.specs.Kills.{AllRest, OthersStay, PairRests};
 
 use crate::World;
 use crate::group::Group;
@@ -76,7 +78,8 @@ impl<K: Keep + Drop, L: Link + Drop> World<K, L> {
     /// Makes a fresh volume on the disks: for each member what it saves before anything has happened.
     ///
     /// `Store` comes only where a disk of that replica failed; `Occupied` exactly where none failed when asked for its
-    /// size and a disk of a member holds something. After `Store` and `Memory` some members may be made.
+    /// size and a disk of a member holds something. After `Store` and `Memory` some first members may be made, and the
+    /// one at fault in part.
     pub fn make<D: Disk>(
         alloc: Global,
         disks: &mut Vec<Pair<D>>,
@@ -93,9 +96,17 @@ impl<K: Keep + Drop, L: Link + Drop> World<K, L> {
         ensures empty { D.tells → OnOk result (AreEmpty D.seen disks.old.items members) }
         ensures occupied { D.tells → (r : ℕ) → IsErrOf result (WorldFault.Occupied r)
             → IsFirstOccupied D.seen disks.old.items r × (r ≤ members) }
-        // What the disks hold stays where a member's hold something.
+        // Where a member's disks hold something, nothing is written, and what they hold stays.
         ensures held { D.tells → (r : ℕ) → r ≤ members → IsFirstOccupied D.seen disks.old.items r
             → SeenSame D.seen disks.old.items disks.new.items }
+        ensures rests { D.tells → (r : ℕ) → r ≤ members → IsFirstOccupied D.seen disks.old.items r
+            → AllRest D.Disk disks.old.items disks.new.items }
+        // Where nothing was there and nothing unsynced, nothing else is there after a fault than what is made: some
+        // first members, and one in part. The pairs of no member stay.
+        ensures partly { D.tells → AreEmpty D.seen disks.old.items members
+            → AreSynced D.seen D.may_leave disks.old.items members → OnErr result (AreMadeInPart K.kept D.may_leave
+            (record { members = members; ids = ids; bytes = bytes }) disks.new.items) }
+        ensures others { OthersStay members disks.old.items disks.new.items }
         // No disk has failed where no such fault is told.
         ensures spared { (fault : WorldFaultValue) → IsUnfailed fault → IsErrOf result fault
             → Steady D.faults disks.old.items disks.new.items }
@@ -122,8 +133,8 @@ impl<K: Keep + Drop, L: Link + Drop> World<K, L> {
     /// Opens the world that the disks hold, over a link without messages. The history is one restart of each member. It
     /// writes no byte to a disk. After a fault the link is dropped.
     ///
-    /// `Store` comes only where a disk of that replica failed; `Image` exactly where its disks hold no image with which
-    /// a world may be opened.
+    /// `Store` comes only where a disk of that replica, a member, failed; `Image` exactly where its disks hold no image
+    /// with which a world may be opened.
     pub fn open<D: Disk>(
         alloc: Global,
         disks: &mut Vec<Pair<D>>,
@@ -146,6 +157,9 @@ impl<K: Keep + Drop, L: Link + Drop> World<K, L> {
             → IsFirstBad K.kept D.seen disks.old.items r }
         ensures image_comes { D.tells → (r : ℕ) → IsFirstBad K.kept D.seen disks.old.items r
             → IsErrAnd result (λ fault. (fault ≡ WorldFault.Image r) ⊎ IsStoreFault fault) }
+        // No disk behind the first bad one's was asked for anything.
+        ensures earlier { D.tells → (q r : ℕ) → IsErrOf result (WorldFault.Store q)
+            → IsFirstBad K.kept D.seen disks.old.items r → q ≤ r }
         ensures never_image { D.tells → (volume : Volume) (H : List EventValue)
             → StandsOn K.kept D.seen volume H disks.old.items → (r : ℕ) → IsErrOf result (WorldFault.Image r) → ⊥ }
         ensures failed { (r : ℕ) → IsErrOf result (WorldFault.Store r) → IsAtFault D.faults disks.old.items
@@ -155,6 +169,12 @@ impl<K: Keep + Drop, L: Link + Drop> World<K, L> {
             → Steady D.faults disks.old.items disks.new.items }
         ensures never { (r : ℕ) → IsErrOf result (WorldFault.Occupied r) → ⊥ }
         ensures same { D.tells → SeenSame D.seen disks.old.items disks.new.items }
+        // It writes no byte: at no moment of it a crash leaves more than before. The pairs of no member stay.
+        ensures rests { AllRest D.Disk disks.old.items disks.new.items }
+        ensures others { IfOk result (λ world. OthersStay (length world.whole.members) disks.old.items
+            disks.new.items) }
+        ensures member { D.tells → (r : ℕ) → IsErrOf result (WorldFault.Store r) → (first : SavedValue)
+            → Opens K.kept D.seen disks.old.items first first 1 → r ≤ first.members }
         ensures steady { OnOk result (Steady D.faults disks.old.items disks.new.items) }
         ensures armings { Steady D.armings disks.old.items disks.new.items }
         ensures pairs { length disks.new.items ≡ length disks.old.items }
@@ -189,6 +209,8 @@ fn look_for_empty<D: Disk>(disks: &mut Vec<Pair<D>>, members: Members) -> Result
     ensures member { (r : ℕ) → IsErrOf result (WorldFault.Store r) → r ≤ members }
     ensures refused { IfErr result IsFoundFault }
     ensures same { D.tells → SeenSame D.seen disks.old.items disks.new.items }
+    ensures rests { AllRest D.Disk disks.old.items disks.new.items }
+    ensures others { OthersStay members disks.old.items disks.new.items }
     ensures synced { D.tells → AreSynced D.seen D.may_leave disks.old.items members
         → OnOk result (AreSynced D.seen D.may_leave disks.new.items members) }
     ensures steady { OnOk result (Steady D.faults disks.old.items disks.new.items) }
@@ -224,6 +246,7 @@ fn look_at<D: Disk>(pair: &mut Pair<D>, number: u8) -> Result<bool, WorldFault>
     ensures empty { D.tells → IfOk result (λ is. IsTrue is ↔ IsEmptyPair D.seen pair.old) }
     ensures same { D.tells → PairSame D.seen pair.old pair.new }
     ensures synced { D.tells → IsSynced D.seen D.may_leave pair.old → IsSynced D.seen D.may_leave pair.new }
+    ensures rests { PairRests D.Disk pair.old pair.new }
     ensures failed { IfErr result (λ fault. fault ≡ WorldFault.Store number) }
     ensures risen { OnErr result (PairRose D.faults 1 pair.old pair.new) }
     ensures steady { OnOk result (PairSame D.faults pair.old pair.new) }
@@ -241,6 +264,7 @@ fn is_empty<D: Disk>(pair: &mut Pair<D>) -> Result<bool, Failed>
     ensures empty { D.tells → IfOk result (λ is. IsTrue is ↔ IsEmptyPair D.seen pair.old) }
     ensures same { D.tells → PairSame D.seen pair.old pair.new }
     ensures synced { D.tells → IsSynced D.seen D.may_leave pair.old → IsSynced D.seen D.may_leave pair.new }
+    ensures rests { PairRests D.Disk pair.old pair.new }
     ensures risen { OnErr result (PairRose D.faults 1 pair.old pair.new) }
     ensures steady { OnOk result (PairSame D.faults pair.old pair.new) }
     ensures armings { PairSame D.armings pair.old pair.new }
@@ -271,6 +295,10 @@ fn make_all<K: Keep + Drop, D: Disk>(
         disks.new.items r }
     ensures member { (r : ℕ) → IsErrOf result (WorldFault.Store r) → r ≤ members }
     ensures refused { IfErr result IsStoreFault }
+    ensures partly { D.tells → AreSynced D.seen D.may_leave disks.old.items members
+        → OnErr result (AreMadeInPart K.kept D.may_leave
+        (record { members = members; ids = ids; bytes = bytes }) disks.new.items) }
+    ensures others { OthersStay members disks.old.items disks.new.items }
     ensures synced { D.tells → AreSynced D.seen D.may_leave disks.old.items members
         → OnOk result (AreSynced D.seen D.may_leave disks.new.items members) }
     ensures spared { (fault : WorldFaultValue) → IsUnfailed fault → IsErrOf result fault
@@ -306,6 +334,8 @@ fn make_one<K: Keep + Drop, D: Disk>(
     ensures failed { (r : ℕ) → IsErrOf result (WorldFault.Store r)
         → (r ≡ me) × PairRose D.faults 1 pair.old pair.new }
     ensures refused { IfErr result IsStoreFault }
+    ensures partly { D.tells → IsSynced D.seen D.may_leave pair.old → HoldsOneOf K.kept D.may_leave pair.new None
+        (Some (fresh_saved (record { members = members; ids = ids; bytes = bytes }) me)) }
     ensures synced { D.tells → IsSynced D.seen D.may_leave pair.old
         → OnOk result (IsSynced D.seen D.may_leave pair.new) }
     ensures spared { (fault : WorldFaultValue) → IsUnfailed fault → IsErrOf result fault
@@ -344,6 +374,13 @@ fn open_all<K: Keep + Drop, D: Disk>(
     ensures same { D.tells → SeenSame D.seen disks.old.items disks.new.items }
     ensures spared { (fault : WorldFaultValue) → IsUnfailed fault → IsErrOf result fault
         → Steady D.faults disks.old.items disks.new.items }
+    ensures rests { AllRest D.Disk disks.old.items disks.new.items }
+    ensures others { IfOk result (λ opened. OthersStay (length opened.members.items) disks.old.items
+        disks.new.items) }
+    ensures member { D.tells → (r : ℕ) → IsErrOf result (WorldFault.Store r) → (first : SavedValue)
+        → Opens K.kept D.seen disks.old.items first first 1 → r ≤ first.members }
+    ensures earlier { D.tells → (q r : ℕ) → IsErrOf result (WorldFault.Store q)
+        → IsFirstBad K.kept D.seen disks.old.items r → q ≤ r }
     ensures steady { OnOk result (Steady D.faults disks.old.items disks.new.items) }
     ensures armings { Steady D.armings disks.old.items disks.new.items }
     ensures unfailing { D.tells_fuse → Unfailing D.fuse result disks.old.items disks.new.items }
@@ -394,6 +431,9 @@ fn open_next<K: Keep + Drop, D: Disk>(
     ensures same { D.tells → SeenSame D.seen disks.old.items disks.new.items }
     ensures spared { (fault : WorldFaultValue) → IsUnfailed fault → IsErrOf result fault
         → Steady D.faults disks.old.items disks.new.items }
+    ensures rests { AllRest D.Disk disks.old.items disks.new.items }
+    ensures others { OthersStay number disks.old.items disks.new.items }
+    ensures named { (r : ℕ) → IsErrOf result (WorldFault.Store r) → r ≡ number }
     ensures steady { OnOk result (Steady D.faults disks.old.items disks.new.items) }
     ensures armings { Steady D.armings disks.old.items disks.new.items }
     ensures unfailing { D.tells_fuse → Unfailing D.fuse result disks.old.items disks.new.items }
@@ -437,6 +477,7 @@ fn open_one<K: Keep + Drop, D: Disk>(
     ensures same { D.tells → PairSame D.seen pair.old pair.new }
     ensures spared { (fault : WorldFaultValue) → IsUnfailed fault → IsErrOf result fault
         → PairSame D.faults pair.old pair.new }
+    ensures rests { PairRests D.Disk pair.old pair.new }
     ensures steady { OnOk result (PairSame D.faults pair.old pair.new) }
     ensures armings { PairSame D.armings pair.old pair.new }
     ensures unfailing { D.tells_fuse → PairUnfailing D.fuse result pair.old pair.new }

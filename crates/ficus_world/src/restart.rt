@@ -8,6 +8,7 @@ ghost use Rattle.ficus_script.specs.declared.command.Command.TheVariants.{Restar
 ghost use Rattle.ficus_world.specs.Disks.{AreDisksOf, ComesBack, StaysOn};
 ghost use Rattle.ficus_world.specs.Stepped.{ComesTo};
 ghost use Rattle.ficus_world.specs.World.{event_limit};
+ghost use Rattle.ficus_world.specs.Kills.{AreLeft, Touches};
 
 use crate::World;
 use crate::member::{Member, Rising, keep_down, rise};
@@ -40,6 +41,8 @@ impl<K: Keep + Drop, L: Link + Drop> World<K, L> {
         ensures members { length self.new.whole.members ≡ length self.old.whole.members }
         ensures memory { IsErrOf result OutOfMemory → StaysOn D.faults D.armings self.old.whole self.new.whole
             disks.old.items disks.new.items }
+        ensures touches { Touches K.Keep D.Disk self.old.whole self.new.whole disks.old.items disks.new.items }
+        ensures left { D.tells → AreLeft D.seen D.may_leave disks.old.items disks.new.items }
         ensures disks { AreDisksOf D.tells K.kept K.fits D.seen D.may_leave D.armings self.new.whole.members
             self.new.stables disks.new.items }
     {

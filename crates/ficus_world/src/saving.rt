@@ -15,6 +15,7 @@ ghost use Rattle.ficus_world.specs.Moves.{restarted};
 ghost use Rattle.ficus_world.specs.World.{IsSoundMember};
 ghost use Rattle.ficus_world.specs.declared.member.Member.{Member as MemberValue};
 ghost use Rattle.ficus_world.specs.declared.member.MemberState.TheVariants.{Up as IsUp};
+ghost use Rattle.ficus_world.specs.Kills.{AreLeft, RestsAt, SavesOn};
 
 use ficus_disk::{Disk, Pair};
 use ficus_faults::Failed;
@@ -41,6 +42,7 @@ pub(crate) fn prepare_at<K: Keep + Drop, D: Disk>(
         → AreDisksOf D.tells K.kept K.fits D.seen D.may_leave D.armings members stables.new.items disks.new.items }
     ensures follows { (members : List MemberValue) → DisksComeTo K.Keep D.Disk [] members members disks.old.items
         disks.new.items }
+    ensures rests { RestsAt D.Disk by disks.old.items disks.new.items }
     ensures count { length stables.new.items ≡ length stables.old.items }
 {
     let index = by as usize - 1;
@@ -67,6 +69,7 @@ pub(crate) fn commit_at<K: Keep + Drop, D: Disk>(
     ensures fuses { (old new : List MemberValue) → SavesAt by next.now result old new
         → AreDisksOf D.tells K.kept K.fits D.seen D.may_leave D.armings old stables.old.items disks.old.items
         → FusesFollow K.Keep D.Disk (save_outcome by result ∷ []) old new disks.old.items disks.new.items }
+    ensures saves { SavesOn K.Keep D.Disk by next.now disks.old.items disks.new.items }
     ensures count { length stables.new.items ≡ length stables.old.items }
 {
     let index = by as usize - 1;
@@ -102,6 +105,9 @@ pub(crate) fn reopen_at<K: Keep + Drop, D: Disk>(
     ensures opened { IsErrOf result StoreFailed → DisksFollow D.faults D.armings (OpeningFails by ∷ []) disks.old.items
         disks.new.items }
     ensures follows { DisksFollow D.faults D.armings (IsOpened by ∷ []) disks.old.items disks.new.items }
+    ensures rests { RestsAt D.Disk by disks.old.items disks.new.items }
+    // What a read then gives, a crash might have left.
+    ensures left { D.tells → AreLeft D.seen D.may_leave disks.old.items disks.new.items }
     ensures count { length stables.new.items ≡ length stables.old.items }
 {
     one_saved();
@@ -127,6 +133,7 @@ pub(crate) fn arm_at<K: Keep + Drop, D: Disk>(
     ensures follows { (members : List MemberValue)
         → ((was : MemberValue) → IsNumbered members by was → was.state ≡ IsUp)
         → DisksComeTo K.Keep D.Disk (IsArmed by calls pick ∷ []) members members disks.old.items disks.new.items }
+    ensures rests { RestsAt D.Disk by disks.old.items disks.new.items }
     ensures disks { (members : List MemberValue) (stables : List (StableValue K))
         → AreDisksOf D.tells K.kept K.fits D.seen D.may_leave D.armings members stables disks.old.items
         → AreDisksOf D.tells K.kept K.fits D.seen D.may_leave D.armings members stables disks.new.items }

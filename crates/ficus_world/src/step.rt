@@ -1,8 +1,9 @@
-ghost use Rattle.std.specs.Prelude.{◌≡◌, ◌≢◌, ◌+◌, ◌<◌, ◌≤◌, Err, length, IfOk, OnErr, IsErrOf};
+ghost use Rattle.std.specs.Prelude.{◌≡◌, ◌≢◌, ◌+◌, ◌<◌, ◌≤◌, Err, ℕ, length, IfOk, OnErr, IsErrOf};
 ghost use Rattle.ficus_ids.specs.declared.refusal.Refusal.TheVariants.{Memory as OutOfMemory};
 ghost use Rattle.ficus_runs.specs.Answers.{answer_as, answer_to};
 ghost use Rattle.ficus_world.specs.Disks.{AreDisksOf, DisksFollow, StaysOn};
 ghost use Rattle.ficus_world.specs.World.{event_limit, most_events};
+ghost use Rattle.ficus_world.specs.Kills.{AreLeft, IsSettled, OthersStay, Passes, Touches};
 
 use crate::World;
 use crate::member::Pending;
@@ -20,7 +21,7 @@ impl<K: Keep + Drop, L: Link + Drop> World<K, L> {
     ghost use Rattle.ficus_model.specs.Lawful.{Volume};
     ghost use Rattle.ficus_commands.specs.Change.{HasFitPaths};
     ghost use Rattle.ficus_script.specs.Command.{IsCommand};
-    ghost use Rattle.ficus_script.specs.declared.command.Command.TheVariants.{Alike as Compares, Change as Changes, Collect as Collects, Look as Looks, Pull as Pulls, Stop as StopsDisks};
+    ghost use Rattle.ficus_script.specs.declared.command.Command.TheVariants.{Alike as Compares, Change as Changes, Collect as Collects, Look as Looks, Pull as Pulls, Restart as Restarts, Stop as StopsDisks};
     ghost use Rattle.ficus_runs.specs.ModelWorld.{ModelWorld};
     ghost use Rattle.ficus_runs.specs.Run.{CommandMayWantMemory};
     ghost use Rattle.ficus_world.specs.Follows.{FollowsOn, StopsOn, TellsFor};
@@ -55,6 +56,13 @@ impl<K: Keep + Drop, L: Link + Drop> World<K, L> {
         // down that, or what is pending.
         ensures disks { AreDisksOf D.tells K.kept K.fits D.seen D.may_leave D.armings self.new.whole.members
             self.new.stables disks.new.items }
+        // At each moment of it the disks are as before, or one member saves: link by link, a link for each message of a
+        // pull.
+        ensures passes { Passes L.tells K.Keep D.Disk self.old.whole self.new.whole disks.old.items disks.new.items }
+        // What a read gives after a restart, a crash might have left before. The pairs of no member stay.
+        ensures left { D.tells → (by : ℕ) → command.now ≡ Restarts by
+            → AreLeft D.seen D.may_leave disks.old.items disks.new.items }
+        ensures others { OthersStay (length self.old.whole.members) disks.old.items disks.new.items }
         // A replica that has collected holds no removed entry of which everybody is known to know that all know, and no
         // file or directory that nothing which it holds names or lies in, unless it is an orphan.
         ensures collected { IfOk result (λ answer. HasCollected command.now answer self.new.whole) }
@@ -73,7 +81,10 @@ impl<K: Keep + Drop, L: Link + Drop> World<K, L> {
         ensures wants { (volume : Volume) (W : ModelWorld) → WorldStandsFor volume W self.old.whole
             → OnErr result (CommandMayWantMemory volume W command.now) }
     {
-        answered(self.carry_out(alloc, disks, command))
+        self.settled(disks);
+        let came_to = self.carry_out(alloc, disks, command);
+        self.settled(disks);
+        answered(came_to)
     }
 
     fn carry_out<D: Disk>(
@@ -94,6 +105,12 @@ impl<K: Keep + Drop, L: Link + Drop> World<K, L> {
         ensures memory { IsErrOf result OutOfMemory → CutOn L.tells K.Keep D.Disk command.now self.old.whole
             self.new.whole disks.old.items disks.new.items }
         ensures unsaved { OnlyLooks command.now → (self.new ≡ self.old) × (disks.new ≡ disks.old) }
+        ensures passes { IsSettled K.Keep D.Disk self.old.whole disks.old.items
+            → IsSettled K.Keep D.Disk self.new.whole disks.new.items
+            → Passes L.tells K.Keep D.Disk self.old.whole self.new.whole disks.old.items disks.new.items }
+        ensures left { D.tells → (by : ℕ) → command.now ≡ Restarts by
+            → AreLeft D.seen D.may_leave disks.old.items disks.new.items }
+        ensures others { OthersStay (length self.old.whole.members) disks.old.items disks.new.items }
         ensures disks { AreDisksOf D.tells K.kept K.fits D.seen D.may_leave D.armings self.new.whole.members
             self.new.stables disks.new.items }
     {
@@ -128,6 +145,7 @@ impl<K: Keep + Drop, L: Link + Drop> World<K, L> {
         ensures members { length self.new.whole.members ≡ length self.old.whole.members }
         ensures memory { IsErrOf result OutOfMemory → StaysOn D.faults D.armings self.old.whole self.new.whole
             disks.old.items disks.new.items }
+        ensures touches { Touches K.Keep D.Disk self.old.whole self.new.whole disks.old.items disks.new.items }
         ensures disks { AreDisksOf D.tells K.kept K.fits D.seen D.may_leave D.armings self.new.whole.members
             self.new.stables disks.new.items }
     {
@@ -166,6 +184,7 @@ impl<K: Keep + Drop, L: Link + Drop> World<K, L> {
         ensures members { length self.new.whole.members ≡ length self.old.whole.members }
         ensures memory { IsErrOf result OutOfMemory → StaysOn D.faults D.armings self.old.whole self.new.whole
             disks.old.items disks.new.items }
+        ensures touches { Touches K.Keep D.Disk self.old.whole self.new.whole disks.old.items disks.new.items }
         ensures disks { AreDisksOf D.tells K.kept K.fits D.seen D.may_leave D.armings self.new.whole.members
             self.new.stables disks.new.items }
     {
@@ -200,12 +219,18 @@ impl<K: Keep + Drop, L: Link + Drop> World<K, L> {
         ensures members { length self.new.whole.members ≡ length self.old.whole.members }
         ensures memory { IsErrOf result OutOfMemory → CutOn L.tells K.Keep D.Disk (Pulls by to) self.old.whole
             self.new.whole disks.old.items disks.new.items }
+        ensures passes { IsSettled K.Keep D.Disk self.old.whole disks.old.items
+            → IsSettled K.Keep D.Disk self.new.whole disks.new.items
+            → Passes L.tells K.Keep D.Disk self.old.whole self.new.whole disks.old.items disks.new.items }
+        ensures others { OthersStay (length self.old.whole.members) disks.old.items disks.new.items }
         ensures disks { AreDisksOf D.tells K.kept K.fits D.seen D.may_leave D.armings self.new.whole.members
             self.new.stables disks.new.items }
     {
         self.group.up_peers(by, to)?;
         let asked = self.ask(alloc, disks, by, to)?;
+        self.settled(disks);
         let given = self.give(alloc, disks, asked)?;
+        self.settled(disks);
         self.give_next(alloc, disks, &given)
     }
 
@@ -234,6 +259,7 @@ impl<K: Keep + Drop, L: Link + Drop> World<K, L> {
             disks.old.items disks.new.items }
         ensures never { result ≢ Err OutOfMemory }
         ensures same { self.new ≡ self.old }
+        ensures touches { Touches K.Keep D.Disk self.old.whole self.new.whole disks.old.items disks.new.items }
         ensures disks { AreDisksOf D.tells K.kept K.fits D.seen D.may_leave D.armings self.new.whole.members
             self.new.stables disks.new.items }
     {

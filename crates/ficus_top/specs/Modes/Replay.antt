@@ -1,8 +1,10 @@
 -- The mode `replay`: a fresh volume is made, and the script is run on it.
-use Rattle.std.specs.Prelude.{◌≡◌, ◌⊎◌, ℕ, []}
+use Rattle.std.specs.Prelude.{◌≡◌, ◌≢◌, ◌⊎◌, ◌≤◌, ℕ, []}
+use Rattle.ficus_store.specs.Slots.{kept_in}
 use Rattle.ficus_words.specs.declared.mode.Size.{Size}
 use Rattle.ficus_world.specs.Fuses.{AreUnarmed}
-use Rattle.ficus_world.specs.Opening.{AreEmpty, Steady}
+use Rattle.ficus_world.specs.Kills.{OthersRest}
+use Rattle.ficus_world.specs.Opening.{AreEmpty, AreMadeInPart, AreSynced, Steady}
 use Rattle.ficus_top.specs.Ends.{NoneFailed}
 use Rattle.ficus_top.specs.Making.{MakesVolume, volume_of}
 use Rattle.ficus_top.specs.Script.{AnswersScript, HasScript, ReadsScript}
@@ -13,10 +15,19 @@ abbrev pub IsReplayCode : ℕ → Type 0
 IsReplayCode code = (code ≡ 0) ⊎ (code ≡ 2) ⊎ (code ≡ 3) ⊎ (code ≡ 4) ⊎ (code ≡ 5) ⊎ (code ≡ 6) ⊎ (code ≡ 7)
     ⊎ (code ≡ 8) ⊎ (code ≡ 9)
 
+-- No command was carried out: where nothing was there and nothing unsynced, nothing else is there than what is made of a
+-- volume of this size. No disk has failed, unless the code says so.
+pub record StaysUnmade {S K D : Type 0} (size : Size) (seen : Seen S K D) (status : Status) : Type 0 where
+  pub partly : seen.disk.tells → AreEmpty seen.disk.seen (disks_before seen) size.members
+      → AreSynced seen.disk.seen seen.disk.may_leave (disks_before seen) size.members
+      → AreMadeInPart kept_in seen.disk.may_leave (volume_of size) (disks_after seen)
+  pub unfailed : status.code ≢ 6 → Steady seen.disk.faults (disks_before seen) (disks_after seen)
+
 -- The script is answered on a volume of this size to which nothing has happened. What was made can be opened, so that
 -- code 7 comes only over disks that don't tell what they hold. A script is answered over empty disks, unless the
 -- outside fails or memory is wanted; over empty disks that tell their fuses, of which none is armed, whatever becomes
--- of the disks. With codes 7 and 9 no disk has failed.
+-- of the disks. With codes 7 and 9 no disk has failed, and code 6 names a member. On the pairs of no member nothing is
+-- written.
 pub record DoesReplay {S K D : Type 0} (size : Size) (seen : Seen S K D) (status : Status) : Type 0 where
   pub codes : IsReplayCode status.code
   pub reads : seen.source.tells → ReadsScript seen status
@@ -24,7 +35,11 @@ pub record DoesReplay {S K D : Type 0} (size : Size) (seen : Seen S K D) (status
   pub opens : seen.disk.tells → status.code ≡ 7 → ⊥
   pub unfailed : (status.code ≡ 7) ⊎ (status.code ≡ 9)
       → Steady seen.disk.faults (disks_before seen) (disks_after seen)
-  pub answers : seen.source.tells → seen.disk.tells → AnswersScript seen status (Unit {0}) (volume_of size) []
+  pub unmade : status.code ≡ 6 → StaysUnmade size seen status
+  pub member : seen.disk.tells → status.code ≡ 6 → status.replica ≤ size.members
+  pub others : seen.disk.tells → OthersRest seen.disk size.members (disks_before seen) (disks_after seen)
+  pub answers : seen.source.tells → seen.disk.tells
+      → AnswersScript seen status (StaysUnmade size seen status) (volume_of size) []
   pub complete : seen.source.tells → seen.disk.tells → AreEmpty seen.disk.seen (disks_before seen) size.members
       → HasScript seen → NoneFailed seen.disk.faults (disks_before seen) (disks_after seen)
       → (status.code ≡ 0) ⊎ (status.code ≡ 3)

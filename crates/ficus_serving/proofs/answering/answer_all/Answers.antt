@@ -1,9 +1,11 @@
-use Rattle.std.proofs.Common.{◌≡◌, List, take, refl, ◌∙◌, subst, arith}
+use Rattle.std.proofs.Common.{◌≡◌, List, length, take, refl, ◌∙◌, subst, arith}
 use Rattle.std.proofs.lemmas.List.{take_all}
 use Rattle.std.proofs.lemmas.Result.{err_from_is_err_and}
 use Rattle.ficus_script.specs.declared.command.Command.{Command}
 use Rattle.ficus_serving.specs.Serving.{ServesWorld}
 use Rattle.ficus_world.specs.Follows.{TellsFor}
+use Rattle.ficus_world.specs.Kills.{OthersStay}
+use Rattle.ficus_world.proofs.Others.{others_none, others_then}
 use Rattle.ficus_serving.proofs.Faults.{untold}
 use Rattle.ficus_serving.proofs.Serves.{command_at, world_none, world_more, front_next}
 use Rattle.ficus_serving.proofs.answering.answer_all.Goals as goal
@@ -13,6 +15,7 @@ loop-command-init g c = record {
   served = λ told tell volume W stands. world_none W _ _ _ stands;
   disks = c.requires.disks;
   members = refl;
+  others = others_none (length c.args.world.now.whole.members) c.args.disks.now.items;
   pairs = refl;
   grows = omega arith;
   steady = refl;
@@ -28,6 +31,11 @@ loop-command-preserved g c = record {
       (command_at (TellsFor g.D.Disk.tells) _ _ _ c.loop-command-test.true c.command-item.is tell) volume);
   disks = c.answer_one.ensures.disks;
   members = c.answer_one.ensures.members ∙ c.loop-command.invariant.members;
+  others =
+      others_then (length c.args.world.now.whole.members) c.args.disks.now.items c.loop-command.disks.items
+      c.answer_one.new.disks.items c.loop-command.invariant.others
+      (subst (λ n. OthersStay n c.loop-command.disks.items c.answer_one.new.disks.items)
+      c.loop-command.invariant.members c.answer_one.ensures.others);
   pairs = c.answer_one.ensures.pairs ∙ c.loop-command.invariant.pairs;
   grows = omega arith;
   steady = untold _ _ _ _ _ c.answer_one.ensures.told c.answer_one.ensures.counted c.in_ok-answer_one.was
@@ -53,3 +61,13 @@ returns-clause-answers g c = λ told tell volume W stands.
     subst (λ (some : List Command). ServesWorld g.K.Sink.tells g.P.Keep g.D.Disk volume W
     c.args.world.now.whole some c.loop-command.world.whole (g.K.Sink.written c.args.output.now)
     (g.K.Sink.written c.loop-command.output) c.args.disks.now.items c.loop-command.disks.items) all served
+
+pub returns-in_err-answer_one-clause-others : goal.returns-in_err-answer_one-clause-others
+returns-in_err-answer_one-clause-others g c =
+    others_then (length c.args.world.now.whole.members) c.args.disks.now.items c.loop-command.disks.items
+    c.answer_one.new.disks.items c.loop-command.invariant.others
+    (subst (λ n. OthersStay n c.loop-command.disks.items c.answer_one.new.disks.items)
+    c.loop-command.invariant.members c.answer_one.ensures.others)
+
+pub returns-clause-others : goal.returns-clause-others
+returns-clause-others g c = c.loop-command.invariant.others

@@ -5,6 +5,7 @@ use Rattle.ficus_runs.specs.ModelWorld.{ModelWorld}
 use Rattle.ficus_serving.specs.Serving.{ServesWorld}
 use Rattle.ficus_world.specs.Disks.{AreDisksOf}
 use Rattle.ficus_world.specs.Follows.{TellsFor}
+use Rattle.ficus_world.specs.Kills.{OthersStay}
 use Rattle.ficus_world.specs.World.{WorldStandsFor, most_events}
 use Rattle.ficus_serving.proofs.answering.answer_all.Given as goal
 
@@ -20,6 +21,7 @@ invariant-loop-command g l = record {
   disks : AreDisksOf g.D.Disk.tells g.P.Keep.kept g.P.Keep.fits g.D.Disk.seen g.D.Disk.may_leave g.D.Disk.armings
       l.world.whole.members l.world.stables l.disks.items;
   members : length l.world.whole.members ≡ length l.fn.world.whole.members;
+  others : OthersStay (length l.fn.world.whole.members) l.fn.disks.items l.disks.items;
   pairs : length l.disks.items ≡ length l.fn.disks.items;
   grows : length l.world.whole.events ≤ length l.fn.world.whole.events + most_events * l.command-index;
   steady : g.K.Sink.faults l.output ≡ g.K.Sink.faults l.fn.output;

@@ -1,3 +1,6 @@
+use Rattle.ficus_kills.proofs.KilledDisks.{left_disks}
+use Rattle.ficus_store.specs.Slots.{kept_in}
+use Rattle.ficus_top.proofs.KilledRuns.{kept_stands}
 use Rattle.ficus_top.proofs.NextRuns.{stands_left, stands_next}
 use Rattle.ficus_top.proofs.laws.next_run_goes_on.Goals as goal
 
@@ -9,3 +12,9 @@ pub returns-clause-outlasts : goal.returns-clause-outlasts
 returns-clause-outlasts g c = λ volume after disks left count lawful few standings up outlast same leaves.
     stands_left g.D.Disk.seen g.D.Disk.may_leave volume after disks left count lawful few standings up outlast same
     leaves
+
+pub returns-clause-down : goal.returns-clause-down
+returns-clause-down g c = λ volume after disks left count lawful few standings pairs outlast same leaves.
+    kept_stands kept_in g.D.Disk.seen volume after.events left count few
+    (left_disks kept_in g.D.Disk.seen g.D.Disk.may_leave volume after disks left lawful standings pairs same outlast
+    leaves)

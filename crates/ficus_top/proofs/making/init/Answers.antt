@@ -29,3 +29,8 @@ returns-in_err-make-clause-member g c = λ r is.
 
 pub returns-clause-occupied_comes : goal.returns-clause-occupied_comes
 returns-clause-occupied_comes g c = λ tells r within first. c.in_ok-make.ensures.comes tells r first within
+
+pub returns-in_err-make-clause-partly : goal.returns-in_err-make-clause-partly
+returns-in_err-make-clause-partly g c = λ tells empty synced.
+    let given = err_from_is_err_and c.from_residual.result c.from_residual.ensures.1 in
+    rw given.1 (c.in_err-make.ensures.partly tells empty synced)

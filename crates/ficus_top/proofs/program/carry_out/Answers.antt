@@ -21,7 +21,7 @@ returns-in-Init g c =
       does = init_of seen c.init.result c.in-Init.size c.init.ensures.kinds refl refl c.init.ensures.unarmed
           c.init.ensures.failed c.init.ensures.occupied c.init.ensures.occupied_comes c.init.ensures.made
           c.init.ensures.member c.init.ensures.held c.init.ensures.steady c.init.ensures.spared
-          c.init.ensures.synced;
+          c.init.ensures.synced c.init.ensures.rests c.init.ensures.partly c.init.ensures.others;
       ends = init_ends seen c.init.result c.init.ensures.kinds refl refl c.init.ensures.unarmed c.init.ensures.failed;
     })
 
@@ -46,7 +46,8 @@ returns-in-Run g c =
     in_mode seen (status_of c.run.result) c.in-Run.is c.of-in-Run.ensures (record {
       does = run_of seen c.run.result any c.run.ensures.takes c.run.ensures.answers c.run.ensures.prefix
           c.run.ensures.idle c.run.ensures.image c.run.ensures.image_comes c.run.ensures.never_image
-          c.run.ensures.never_occupied c.run.ensures.spared;
+          c.run.ensures.never_occupied c.run.ensures.spared c.run.ensures.rests c.run.ensures.killed
+          c.run.ensures.front_killed c.run.ensures.earlier c.run.ensures.member c.run.ensures.others;
       ends = any_of seen c.run.result any;
     })
 
@@ -72,6 +73,7 @@ returns-in-Replay g c =
     in_mode seen (status_of c.replay.result) c.in-Replay.is c.of-in-Replay.ensures (record {
       does = replay_of seen c.replay.result c.in-Replay.size any c.replay.ensures.takes c.replay.ensures.answers
           c.replay.ensures.prefix c.replay.ensures.idle c.replay.ensures.unfailing c.replay.ensures.never_image
-          c.replay.ensures.occupied c.replay.ensures.occupied_comes c.replay.ensures.held c.replay.ensures.spared;
+          c.replay.ensures.occupied c.replay.ensures.occupied_comes c.replay.ensures.held c.replay.ensures.spared
+          c.replay.ensures.rests c.replay.ensures.partly c.replay.ensures.member c.replay.ensures.others;
       ends = any_of seen c.replay.result any;
     })

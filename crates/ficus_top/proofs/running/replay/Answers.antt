@@ -1,7 +1,12 @@
-use Rattle.std.proofs.Common.{[], ◌∙◌}
+use Rattle.std.proofs.Common.{[], ◌∙◌, arith}
 use Rattle.std.proofs.lemmas.Result.{IfErr-weaker, err_from_is_err_and, on_ok_weaker}
 use Rattle.ficus_world.specs.declared.opening.WorldFault.TheVariants.{Occupied, Store}
+use Rattle.ficus_world.proofs.Kills.{all_rest_none}
+use Rattle.ficus_world.proofs.Making.{made_rests, none_in_part}
+use Rattle.ficus_world.proofs.OpenedWorlds.{first_opens}
+use Rattle.ficus_world.proofs.Others.{all_others_rest, others_rest_then, stay_rests}
 use Rattle.ficus_world.proofs.Steadies.{fault_behind, steady_none, steady_trans}
+use Rattle.ficus_store.specs.Slots.{kept_in}
 use Rattle.ficus_top.specs.Making.{volume_of}
 use Rattle.ficus_top.proofs.Answering.{answers_of, front_of}
 use Rattle.ficus_top.proofs.Earlier.{ends_since, front_since}
@@ -90,3 +95,60 @@ returns-in_err-make-clause-spared g c = λ fault unfailed is.
 pub returns-clause-spared : goal.returns-clause-spared
 returns-clause-spared g c = λ fault unfailed is.
     steady_trans g.D.Disk.faults _ _ _ c.in_ok-make.ensures.steady (c.run_on.ensures.spared fault unfailed is)
+
+pub returns-in_err-commands-clause-rests : goal.returns-in_err-commands-clause-rests
+returns-in_err-commands-clause-rests g c = λ tells r within first. all_rest_none g.D.Disk c.args.disks.now.items
+
+pub returns-in_err-make-clause-rests : goal.returns-in_err-make-clause-rests
+returns-in_err-make-clause-rests g c = λ tells r within first. c.make.ensures.rests tells r within first
+
+pub returns-clause-rests : goal.returns-clause-rests
+returns-clause-rests g c = λ tells r within first. absurd (c.in_ok-make.ensures.comes tells r first within)
+
+pub returns-in_err-commands-clause-partly : goal.returns-in_err-commands-clause-partly
+returns-in_err-commands-clause-partly g c = λ tells empty synced.
+    let given = err_from_is_err_and c.from_residual.result c.from_residual.ensures.1 in
+    rw given.1 (λ idle.
+    none_in_part kept_in g.D.Disk (volume_of c.args.size) c.args.disks.now.items c.args.disks.now.items
+    (all_rest_none g.D.Disk c.args.disks.now.items) empty synced)
+
+pub returns-in_err-make-clause-partly : goal.returns-in_err-make-clause-partly
+returns-in_err-make-clause-partly g c = λ tells empty synced.
+    let given = err_from_is_err_and c.from_residual-in_err-make.result c.from_residual-in_err-make.ensures.1 in
+    rw given.1 (λ idle. c.in_err-make.ensures.partly tells empty synced)
+
+pub returns-clause-partly : goal.returns-clause-partly
+returns-clause-partly g c = λ tells empty synced.
+    IfErr-weaker c.run_on.result _ _ (λ fault rests idle.
+    made_rests kept_in g.D.Disk (volume_of c.args.size) c.make.new.disks.items c.run_on.new.disks.items
+    (c.in_ok-make.ensures.all tells) (c.in_ok-make.ensures.synced tells synced) (rests idle)) c.run_on.ensures.rests
+
+pub returns-in_err-make-clause-member : goal.returns-in_err-make-clause-member
+returns-in_err-make-clause-member g c = λ tells r is.
+    let given = err_from_is_err_and c.from_residual-in_err-make.result c.from_residual-in_err-make.ensures.1 in
+    c.make.ensures.member r
+    (handed_on c.make.result c.from_residual-in_err-make.result _ _ c.in_err-make.was given.1 given.2 (Store r) is)
+
+pub returns-clause-member : goal.returns-clause-member
+returns-clause-member g c = λ tells r is.
+    let first =
+    first_opens kept_in g.D.Disk.seen (volume_of c.args.size) [] c.make.new.disks.items (c.in_ok-make.ensures.made tells)
+    (omega (arith, c.requires.pairs, c.make.ensures.unarmed.count)) in
+    let within = c.run_on.ensures.member tells r is first.0 first.1 in
+    omega (arith, within, first.2)
+
+pub returns-in_err-commands-clause-others : goal.returns-in_err-commands-clause-others
+returns-in_err-commands-clause-others g c = λ tells.
+    all_others_rest g.D.Disk c.args.size.members c.args.disks.now.items c.args.disks.now.items
+    (all_rest_none g.D.Disk c.args.disks.now.items)
+
+pub returns-in_err-make-clause-others : goal.returns-in_err-make-clause-others
+returns-in_err-make-clause-others g c = λ tells.
+    stay_rests g.D.Disk c.args.size.members c.args.disks.now.items c.make.new.disks.items c.make.ensures.others
+
+pub returns-clause-others : goal.returns-clause-others
+returns-clause-others g c = λ tells.
+    others_rest_then g.D.Disk c.args.size.members g.met.D.Disk.left_earlier c.args.disks.now.items
+    c.make.new.disks.items c.run_on.new.disks.items
+    (stay_rests g.D.Disk c.args.size.members c.args.disks.now.items c.make.new.disks.items c.make.ensures.others)
+    (c.run_on.ensures.others tells (volume_of c.args.size) [] (c.in_ok-make.ensures.made tells))

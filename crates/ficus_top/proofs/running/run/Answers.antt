@@ -1,5 +1,8 @@
-use Rattle.std.proofs.lemmas.Result.{IfErr-weaker, on_ok_weaker}
+use Rattle.std.proofs.lemmas.Result.{IfErr-weaker, err_from_is_err_and, on_ok_weaker}
+use Rattle.ficus_world.proofs.Kills.{all_rest_none}
+use Rattle.ficus_world.proofs.Others.{all_others_rest}
 use Rattle.ficus_top.proofs.Answering.{answers_of, front_of}
+use Rattle.ficus_top.proofs.Kills.{killed_answers, killed_front}
 use Rattle.ficus_top.proofs.running.run.Goals as goal
 
 pub returns-clause-answers : goal.returns-clause-answers
@@ -13,3 +16,25 @@ returns-clause-prefix g c = λ source_tells tells.
     IfErr-weaker c.run_on.result _ _ (λ fault front answering volume H stands.
     front_of {new = c.run_on.new.disks.items} stands.lawful (c.in_ok-commands.ensures.script source_tells).1
     c.deref.ensures.value (front answering volume H stands)) (c.run_on.ensures.prefix tells)
+
+pub returns-clause-killed : goal.returns-clause-killed
+returns-clause-killed g c = λ source_tells tells.
+    on_ok_weaker c.run_on.result (λ killed volume H stands synced.
+    killed_answers {new = c.run_on.new.disks.items} (c.in_ok-commands.ensures.script source_tells).1
+    c.deref.ensures.value (killed volume H stands synced)) (c.run_on.ensures.killed tells)
+
+pub returns-clause-front_killed : goal.returns-clause-front_killed
+returns-clause-front_killed g c = λ source_tells tells.
+    IfErr-weaker c.run_on.result _ _ (λ fault front answering volume H stands synced.
+    killed_front {new = c.run_on.new.disks.items} (c.in_ok-commands.ensures.script source_tells).1
+    c.deref.ensures.value (front answering volume H stands synced)) (c.run_on.ensures.front_killed tells)
+
+pub returns-in_err-commands-clause-rests : goal.returns-in_err-commands-clause-rests
+returns-in_err-commands-clause-rests g c =
+    let given = err_from_is_err_and c.from_residual.result c.from_residual.ensures.1 in
+    rw given.1 (λ idle. all_rest_none g.D.Disk c.args.disks.now.items)
+
+pub returns-in_err-commands-clause-others : goal.returns-in_err-commands-clause-others
+returns-in_err-commands-clause-others g c = λ told volume H on.
+    all_others_rest g.D.Disk volume.members c.args.disks.now.items c.args.disks.now.items
+    (all_rest_none g.D.Disk c.args.disks.now.items)

@@ -1,4 +1,4 @@
-use Rattle.std.proofs.Common.{length, ap, ◌∙◌, arith}
+use Rattle.std.proofs.Common.{◌≡◌, length, ap, subst, ◌∙◌, arith}
 use Rattle.std.specs.List.{range_with_len}
 use Rattle.std.proofs.lemmas.List.{length-map}
 use Rattle.std.proofs.lemmas.List.FromFn.{length-range_with_len}
@@ -7,10 +7,16 @@ use Rattle.ficus_model.specs.declared.event.Event.TheVariants.{Restart}
 use Rattle.ficus_run_laws.proofs.Up.{up_first}
 use Rattle.ficus_serving.specs.declared.fault.AnsweringFault.{AnsweringFault}
 use Rattle.ficus_top.specs.declared.fault.Fault.TheVariants.{Answering}
-use Rattle.ficus_world.specs.declared.opening.WorldFault.TheVariants.{Image}
+use Rattle.ficus_world.specs.Kills.{OthersStay}
+use Rattle.ficus_world.specs.declared.opening.WorldFault.TheVariants.{Image, Store}
+use Rattle.ficus_world.proofs.Others.{all_others_rest, others_then, stay_rests}
 use Rattle.ficus_top.proofs.Ends.{ends_behind, front_ends_behind, front_ends_where, opened_stands}
 use Rattle.ficus_top.proofs.Resting.{rests_open}
 use Rattle.ficus_top.proofs.Stored.{handed_on, told_on}
+use Rattle.ficus_kills.proofs.Opening.{opened_neighbours}
+use Rattle.ficus_store.specs.Slots.{kept_in}
+use Rattle.ficus_top.specs.Headline.{fuses_of}
+use Rattle.ficus_top.proofs.Kills.{front_killed_from, killed_from}
 use Rattle.ficus_top.proofs.running.run_on.Goals as goal
 
 pub answer_on-requires-clause-room : goal.answer_on-requires-clause-room
@@ -34,7 +40,7 @@ returns-in_err-answer_on-clause-prefix g c = λ told.
     front_ends_where (λ memory. p.2 ∙ ap (λ (fault : AnsweringFault). Answering fault) memory)
     (front_ends_behind g.D.Disk {mid_disks = c.open.new.disks.items} c.in_ok-world.ensures.steady
     c.open.ensures.armings rests
-    (c.in_err-answer_on.ensures.prefix told volume _ stands)))
+    (c.in_err-answer_on.ensures.prefix told volume _ stands (up_first volume.members).each)))
 
 pub returns-clause-answers : goal.returns-clause-answers
 returns-clause-answers g c = λ told volume H on.
@@ -64,3 +70,73 @@ returns-in_err-world-clause-spared g c = λ fault unfailed is.
     let given = err_from_is_err_and c.from_residual.result c.from_residual.ensures.1 in
     c.open.ensures.spared fault unfailed
     (handed_on c.open.result c.from_residual.result _ _ c.in_err-world.was given.1 given.2 fault is)
+
+pub returns-clause-killed : goal.returns-clause-killed
+returns-clause-killed g c = λ told volume H on synced.
+    let stands = opened_stands H _ c.new.ensures.total (c.in_ok-world.ensures.stands told volume H on) in
+    let rests = rests_open _ g.D.Disk H stands c.args.disks.now.items c.open.new.disks.items
+    (λ fused. c.in_ok-world.ensures.fuses fused told) in
+    let ran = c.in_ok-answer_on.ensures.runs told volume _ stands (up_first volume.members).each in
+    record {
+      ends = ends_behind g.D.Disk {mid_disks = c.open.new.disks.items} c.in_ok-world.ensures.steady
+          c.open.ensures.armings rests ran.ends;
+      killed = killed_from kept_in g.D.Disk volume g.met.D.Disk.left_earlier
+          (opened_neighbours kept_in g.D.Disk g.met.D.Disk.only_now volume H 0
+          (fuses_of g.D.Disk.armings volume.members c.args.disks.now.items) c.args.disks.now.items
+          c.open.new.disks.items on synced c.open.ensures.rests) ran.runs;
+    }
+
+pub returns-in_err-answer_on-clause-front_killed : goal.returns-in_err-answer_on-clause-front_killed
+returns-in_err-answer_on-clause-front_killed g c = λ told.
+    let p = err_from_is_err_and c.from_residual-in_err-answer_on.result c.from_residual-in_err-answer_on.ensures.1 in
+    rw p.1 (λ answering volume H on synced.
+    let stands = opened_stands H _ c.new.ensures.total (c.in_ok-world.ensures.stands told volume H on) in
+    let rests = rests_open _ g.D.Disk H stands c.args.disks.now.items c.open.new.disks.items
+    (λ fused. c.in_ok-world.ensures.fuses fused told) in
+    let ran = c.in_err-answer_on.ensures.front_runs told volume _ stands (up_first volume.members).each in
+    record {
+      ends = front_ends_where (λ memory. p.2 ∙ ap (λ (fault : AnsweringFault). Answering fault) memory)
+          (front_ends_behind g.D.Disk {mid_disks = c.open.new.disks.items} c.in_ok-world.ensures.steady
+          c.open.ensures.armings rests ran.ends);
+      killed = front_killed_from kept_in g.D.Disk volume g.met.D.Disk.left_earlier
+          (opened_neighbours kept_in g.D.Disk g.met.D.Disk.only_now volume H 0
+          (fuses_of g.D.Disk.armings volume.members c.args.disks.now.items) c.args.disks.now.items
+          c.open.new.disks.items on synced c.open.ensures.rests) ran.runs;
+    })
+
+pub returns-in_err-world-clause-rests : goal.returns-in_err-world-clause-rests
+returns-in_err-world-clause-rests g c =
+    let given = err_from_is_err_and c.from_residual.result c.from_residual.ensures.1 in
+    rw given.1 (λ idle. c.open.ensures.rests)
+
+pub returns-in_err-world-clause-earlier : goal.returns-in_err-world-clause-earlier
+returns-in_err-world-clause-earlier g c = λ tells q r is.
+    let given = err_from_is_err_and c.from_residual.result c.from_residual.ensures.1 in
+    c.open.ensures.earlier tells q r
+    (handed_on c.open.result c.from_residual.result _ _ c.in_err-world.was given.1 given.2 (Store q) is)
+
+pub returns-in_err-world-clause-member : goal.returns-in_err-world-clause-member
+returns-in_err-world-clause-member g c = λ tells r is.
+    let given = err_from_is_err_and c.from_residual.result c.from_residual.ensures.1 in
+    c.open.ensures.member tells r
+    (handed_on c.open.result c.from_residual.result _ _ c.in_err-world.was given.1 given.2 (Store r) is)
+
+pub returns-in_err-world-clause-others : goal.returns-in_err-world-clause-others
+returns-in_err-world-clause-others g c = λ told volume H on.
+    all_others_rest g.D.Disk volume.members c.args.disks.now.items c.open.new.disks.items c.open.ensures.rests
+
+pub returns-in_err-answer_on-clause-others : goal.returns-in_err-answer_on-clause-others
+returns-in_err-answer_on-clause-others g c = λ told volume H on.
+    let stands = opened_stands H _ c.new.ensures.total (c.in_ok-world.ensures.stands told volume H on) in
+    stay_rests g.D.Disk volume.members c.args.disks.now.items c.answer_on.new.disks.items
+    (subst (λ n. OthersStay n c.args.disks.now.items c.answer_on.new.disks.items) stands.members
+    (others_then (length c.in_ok-world.world.whole.members) c.args.disks.now.items c.open.new.disks.items
+    c.answer_on.new.disks.items c.in_ok-world.ensures.others c.answer_on.ensures.others))
+
+pub returns-clause-others : goal.returns-clause-others
+returns-clause-others g c = λ told volume H on.
+    let stands = opened_stands H _ c.new.ensures.total (c.in_ok-world.ensures.stands told volume H on) in
+    stay_rests g.D.Disk volume.members c.args.disks.now.items c.answer_on.new.disks.items
+    (subst (λ n. OthersStay n c.args.disks.now.items c.answer_on.new.disks.items) stands.members
+    (others_then (length c.in_ok-world.world.whole.members) c.args.disks.now.items c.open.new.disks.items
+    c.answer_on.new.disks.items c.in_ok-world.ensures.others c.answer_on.ensures.others))

@@ -1,5 +1,8 @@
+use Rattle.std.proofs.Common.{Err, Ok, refl}
 use Rattle.ficus_run_laws.proofs.Numbers.{number_exists}
+use Rattle.ficus_world.specs.World.{whole_of}
 use Rattle.ficus_world.proofs.Saves.{saves_held, saves_pending, up_ready}
+use Rattle.ficus_world.proofs.Kills.{writes_at}
 use Rattle.ficus_world.proofs.keeping.keep.Goals as goal
 
 pub commit_at-requires-clause-follows : goal.commit_at-requires-clause-follows
@@ -48,3 +51,23 @@ returns-in-Err-clause-counted g c =
           (saves_pending c.args.by c.args.next was.0 was.1 (c.requires.up was.0 was.1) _ (c.put_down.ensures was.0 was.1))
           c.requires.disks;
     }
+
+pub returns-in-Ok-clause-writes : goal.returns-in-Ok-clause-writes
+returns-in-Ok-clause-writes g c = λ post after.
+    let was = number_exists c.args.members.now.items c.args.by c.requires.member in
+    writes_at g.K.Keep g.D.Disk c.args.by {T = Unit {0}} {E = Unit {0}} {result = Ok tt}
+    (whole_of c.args.members.now.items c.args.history.now.events post)
+    (whole_of c.hold.new.members.items c.push.new.self.events after) c.args.next.event
+    (saves_held c.args.by c.args.next was.0 was.1 (c.requires.up was.0 was.1) tt (c.hold.ensures was.0 was.1))
+    c.push.ensures.events tt
+    c.requires.disks c.requires.stable c.requires.above c.commit_at.ensures.saves
+
+pub returns-in-Err-clause-writes : goal.returns-in-Err-clause-writes
+returns-in-Err-clause-writes g c = λ post after.
+    let was = number_exists c.args.members.now.items c.args.by c.requires.member in
+    writes_at g.K.Keep g.D.Disk c.args.by {T = Unit {0}} {E = Unit {0}} {result = Err tt}
+    (whole_of c.args.members.now.items c.args.history.now.events post)
+    (whole_of c.put_down.new.members.items c.args.history.now.events after) c.args.next.event
+    (saves_pending c.args.by c.args.next was.0 was.1 (c.requires.up was.0 was.1) tt
+    (c.put_down.ensures was.0 was.1)) tt refl
+    c.requires.disks c.requires.stable c.requires.above c.commit_at.ensures.saves

@@ -7,6 +7,8 @@ use Rattle.ficus_world.proofs.Making.{FoundSo, empty_none, found_more}
 use Rattle.ficus_world.proofs.Steadies.{fault_set, number_at, steady_none, steady_set, synced_set}
 use Rattle.ficus_world.proofs.Unarmed.{unarmed_set, unfailing_none, unfailing_set}
 use Rattle.ficus_world.specs.declared.opening.WorldFault.TheVariants.{Store}
+use Rattle.ficus_world.proofs.Kills.{all_rest_none, all_rest_one, all_rest_then}
+use Rattle.ficus_world.proofs.Others.{others_none, others_set}
 use Rattle.ficus_world.proofs.opening.look_for_empty.Goals as goal
 
 pub loop-before-init : goal.loop-before-init
@@ -15,6 +17,8 @@ loop-before-init g c = record {
   seen = λ tells. steady_none g.D.Disk.seen c.args.disks.now.items;
   faults = steady_none g.D.Disk.faults c.args.disks.now.items;
   armings = steady_none g.D.Disk.armings c.args.disks.now.items;
+  rests = all_rest_none g.D.Disk c.args.disks.now.items;
+  others = others_none c.args.members c.args.disks.now.items;
   synced = λ tells at_first. at_first;
   unarmed = λ fused none. none;
 }
@@ -69,6 +73,15 @@ loop-before-preserved g c =
           c.index_mut.result.now c.look_at.new.pair c.loop-before.invariant.faults at c.in_ok-is_empty.ensures.steady;
       armings = steady_set g.D.Disk.armings c.args.disks.now.items c.loop-before.disks.items c.from.result
           c.index_mut.result.now c.look_at.new.pair c.loop-before.invariant.armings at c.look_at.ensures.armings;
+      rests =
+          all_rest_then g.D.Disk g.met.D.Disk.left_earlier c.args.disks.now.items c.loop-before.disks.items _
+          c.loop-before.invariant.rests
+          (all_rest_one g.D.Disk c.loop-before.disks.items c.from.result c.index_mut.result.now c.look_at.new.pair
+          (omega (arith, at.member.at_most)) c.index_mut.ensures.value c.look_at.ensures.rests);
+      others =
+          others_set c.args.members c.args.disks.now.items c.loop-before.disks.items c.from.result
+          c.look_at.new.pair c.loop-before.invariant.others
+          (omega (arith, c.from.ensures, c.loop-before-test.true, c.count-before-end.ensures.value));
       synced = λ tells at_first.
           synced_set g.D.Disk.seen g.D.Disk.may_leave c.loop-before.disks.items c.from.result c.args.members
           c.index_mut.result.now c.look_at.new.pair (c.loop-before.invariant.synced tells at_first) at
@@ -155,3 +168,31 @@ returns-in_err-is_empty-clause-member g c = λ r is.
 
 pub returns-in-None-clause-synced : goal.returns-in-None-clause-synced
 returns-in-None-clause-synced g c = c.loop-before.invariant.synced
+
+pub returns-in_err-is_empty-clause-rests : goal.returns-in_err-is_empty-clause-rests
+returns-in_err-is_empty-clause-rests g c =
+    let at = number_at c.loop-before.disks.items c.from.result c.index_mut.result.now
+    (omega (arith, c.from.ensures, c.loop-before.invariant.faults.count, c.requires.pairs, c.loop-before-test.true, c.count-before-end.ensures.value, c.count-before-end.ensures.valid.at_most))
+    c.index_mut.ensures.value in
+    all_rest_then g.D.Disk g.met.D.Disk.left_earlier c.args.disks.now.items c.loop-before.disks.items _
+    c.loop-before.invariant.rests
+    (all_rest_one g.D.Disk c.loop-before.disks.items c.from.result c.index_mut.result.now c.look_at.new.pair
+    (omega (arith, at.member.at_most)) c.index_mut.ensures.value c.look_at.ensures.rests)
+
+pub returns-in_err-is_empty-clause-others : goal.returns-in_err-is_empty-clause-others
+returns-in_err-is_empty-clause-others g c =
+    others_set c.args.members c.args.disks.now.items c.loop-before.disks.items c.from.result c.look_at.new.pair
+    c.loop-before.invariant.others
+    (omega (arith, c.from.ensures, c.loop-before-test.true, c.count-before-end.ensures.value))
+
+pub returns-in-Some-clause-rests : goal.returns-in-Some-clause-rests
+returns-in-Some-clause-rests g c = c.loop-before.invariant.rests
+
+pub returns-in-Some-clause-others : goal.returns-in-Some-clause-others
+returns-in-Some-clause-others g c = c.loop-before.invariant.others
+
+pub returns-in-None-clause-rests : goal.returns-in-None-clause-rests
+returns-in-None-clause-rests g c = c.loop-before.invariant.rests
+
+pub returns-in-None-clause-others : goal.returns-in-None-clause-others
+returns-in-None-clause-others g c = c.loop-before.invariant.others

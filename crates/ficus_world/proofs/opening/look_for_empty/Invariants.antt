@@ -1,4 +1,5 @@
 use Rattle.ficus_world.specs.Fuses.{AreUnarmed}
+use Rattle.ficus_world.specs.Kills.{AllRest, OthersStay}
 use Rattle.ficus_world.specs.Opening.{AreSynced, Steady}
 use Rattle.ficus_world.proofs.Making.{FoundSo}
 use Rattle.ficus_world.proofs.opening.look_for_empty.Given as goal
@@ -9,6 +10,8 @@ invariant-loop-before g l = record {
   seen : g.D.Disk.tells → Steady g.D.Disk.seen l.fn.disks.items l.disks.items;
   faults : Steady g.D.Disk.faults l.fn.disks.items l.disks.items;
   armings : Steady g.D.Disk.armings l.fn.disks.items l.disks.items;
+  rests : AllRest g.D.Disk l.fn.disks.items l.disks.items;
+  others : OthersStay l.fn.members l.fn.disks.items l.disks.items;
   synced : g.D.Disk.tells → AreSynced g.D.Disk.seen g.D.Disk.may_leave l.fn.disks.items l.fn.members
       → AreSynced g.D.Disk.seen g.D.Disk.may_leave l.disks.items l.fn.members;
   unarmed : g.D.Disk.tells_fuse → AreUnarmed g.D.Disk.fuse l.fn.disks.items → AreUnarmed g.D.Disk.fuse l.disks.items;

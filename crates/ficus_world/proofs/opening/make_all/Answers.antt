@@ -2,7 +2,8 @@ use Rattle.std.proofs.Common.{◌≡◌, ◌+◌, subst, arith}
 use Rattle.std.proofs.lemmas.Result.{err_from_is_err_and}
 use Rattle.ficus_world.specs.Opening.{IsAtFault}
 use Rattle.ficus_world.proofs.Faults.{handed_on}
-use Rattle.ficus_world.proofs.Making.{made_all, made_more, made_none}
+use Rattle.ficus_world.proofs.Making.{made_all, made_in_part, made_more, made_none}
+use Rattle.ficus_world.proofs.Others.{others_none, others_set}
 use Rattle.ficus_world.proofs.Steadies.{fault_set, number_at, steady_none, steady_set, synced_set}
 use Rattle.ficus_world.proofs.Unarmed.{regular_more, regular_none, unarmed_set, unfailing_none, unfailing_set}
 use Rattle.ficus_world.specs.declared.opening.WorldFault.TheVariants.{Store}
@@ -13,6 +14,7 @@ loop-before-init g c = record {
   made = λ tells. made_none g.K.Keep.kept g.D.Disk.seen _ c.args.disks.now.items;
   faults = steady_none g.D.Disk.faults c.args.disks.now.items;
   armings = steady_none g.D.Disk.armings c.args.disks.now.items;
+  others = others_none c.args.members c.args.disks.now.items;
   synced = λ tells at_first. at_first;
   unarmed = λ fused none. none;
   regular = λ tells. regular_none g.K.Keep.Regular g.D.Disk.seen c.args.disks.now.items;
@@ -69,6 +71,10 @@ loop-before-preserved g c =
       armings = steady_set g.D.Disk.armings c.args.disks.now.items c.loop-before.disks.items c.from.result
           c.index_mut-pair.result.now c.make_one.new.pair c.loop-before.invariant.armings at
           c.make_one.ensures.armings;
+      others =
+          others_set c.args.members c.args.disks.now.items c.loop-before.disks.items c.from.result
+          c.make_one.new.pair c.loop-before.invariant.others
+          (omega (arith, c.from.ensures, c.loop-before-test.true, c.count-before-end.ensures.value));
       synced = λ tells at_first.
           synced_set g.D.Disk.seen g.D.Disk.may_leave c.loop-before.disks.items c.from.result c.args.members
           c.index_mut-pair.result.now c.make_one.new.pair (c.loop-before.invariant.synced tells at_first) at
@@ -144,3 +150,26 @@ returns-in_err-make_one-clause-spared g c = λ fault unfailed is.
     (c.make_one.ensures.spared fault unfailed
     (handed_on c.make_one.result c.from_residual.result given.0 c.in_err-make_one.field-0.0 fault c.in_err-make_one.was
     given.1 given.2 is))
+
+pub returns-in_err-make_one-clause-others : goal.returns-in_err-make_one-clause-others
+returns-in_err-make_one-clause-others g c =
+    others_set c.args.members c.args.disks.now.items c.loop-before.disks.items c.from.result c.make_one.new.pair
+    c.loop-before.invariant.others
+    (omega (arith, c.from.ensures, c.loop-before-test.true, c.count-before-end.ensures.value))
+
+pub returns-clause-others : goal.returns-clause-others
+returns-clause-others g c = c.loop-before.invariant.others
+
+pub returns-in_err-make_one-clause-partly : goal.returns-in_err-make_one-clause-partly
+returns-in_err-make_one-clause-partly g c = λ tells at_first.
+    let given = err_from_is_err_and c.from_residual.result c.from_residual.ensures.1 in
+    let at = number_at c.loop-before.disks.items c.from.result c.index_mut-pair.result.now
+    (omega (arith, c.from.ensures, c.loop-before.invariant.faults.count, c.requires.pairs, c.loop-before-test.true, c.count-before-end.ensures.value, c.count-before-end.ensures.valid.at_most))
+    c.index_mut-pair.ensures.value in
+    let all = c.loop-before.invariant.synced tells at_first in
+    let only = all.each (c.from.result + 1) c.index_mut-pair.result.now at
+    (omega (arith, c.from.ensures, c.loop-before-test.true, c.count-before-end.ensures.value)) in
+    rw (given.1, c.from.ensures)
+    (made_in_part g.K.Keep.kept g.D.Disk.seen _ c.args.disks.now.items g.D.Disk.may_leave c.loop-before.disks.items
+    c.loop-before.before c.make_one.new.pair (c.loop-before.invariant.made tells) (c.requires.empty tells) at_first
+    all (c.make_one.ensures.partly tells only))

@@ -1,4 +1,5 @@
 use Rattle.ficus_world.specs.Fuses.{AreRegular, AreUnarmed}
+use Rattle.ficus_world.specs.Kills.{OthersStay}
 use Rattle.ficus_world.specs.Opening.{AreSynced, Steady}
 use Rattle.ficus_world.proofs.Making.{MadeSo}
 use Rattle.ficus_world.proofs.opening.make_all.Given as goal
@@ -9,6 +10,7 @@ invariant-loop-before g l = record {
       (record { members = l.members; ids = l.ids; bytes = l.bytes }) l.fn.disks.items l.disks.items l.before;
   faults : Steady g.D.Disk.faults l.fn.disks.items l.disks.items;
   armings : Steady g.D.Disk.armings l.fn.disks.items l.disks.items;
+  others : OthersStay l.members l.fn.disks.items l.disks.items;
   synced : g.D.Disk.tells → AreSynced g.D.Disk.seen g.D.Disk.may_leave l.fn.disks.items l.members
       → AreSynced g.D.Disk.seen g.D.Disk.may_leave l.disks.items l.members;
   unarmed : g.D.Disk.tells_fuse → AreUnarmed g.D.Disk.fuse l.fn.disks.items → AreUnarmed g.D.Disk.fuse l.disks.items;

@@ -1,4 +1,4 @@
-use Rattle.std.proofs.Common.{◌≡◌, ◌+◌, length, subst, sym, ap, ◌∙◌, arith}
+use Rattle.std.proofs.Common.{◌≡◌, ◌+◌, ◌≤◌, length, subst, sym, ap, ◌∙◌, arith}
 use Rattle.std.proofs.lemmas.Result.{err_from_is_err_and}
 use Rattle.std.specs.Prelude.{List}
 use Rattle.ficus_ids.specs.Members.{IsCount}
@@ -7,9 +7,11 @@ use Rattle.ficus_world.specs.declared.member.Member.{Member as MemberValue}
 use Rattle.ficus_world.specs.declared.opening.WorldFault.TheVariants.{Image, Store}
 use Rattle.ficus_world.proofs.Faults.{handed_on}
 use Rattle.ficus_run_laws.proofs.Numbers.{number_exists, number_once}
-use Rattle.ficus_world.proofs.Openings.{first_bad_more, first_bad_one, held_of}
+use Rattle.ficus_world.proofs.Openings.{first_bad_more, first_bad_one, held_of, next_earlier, next_named, one_named}
+use Rattle.ficus_world.proofs.Others.{others_then, others_within}
 use Rattle.ficus_world.proofs.Steadies.{fault_behind, number_at, steady_none, steady_trans}
 use Rattle.ficus_world.proofs.Unarmed.{unfailing_behind, unfailing_none}
+use Rattle.ficus_world.proofs.Kills.{all_rest_none, all_rest_then}
 use Rattle.ficus_world.proofs.opening.open_all.Goals as goal
 
 pub returns-in_err-open_next-clause-image : goal.returns-in_err-open_next-clause-image
@@ -42,6 +44,8 @@ loop-before-init g c = record {
   faults = c.in_ok-open_next.ensures.steady;
   armings = c.open_next.ensures.armings;
   unarmed = λ fused. (c.open_next.ensures.unfailing fused).unarmed;
+  rests = c.open_next.ensures.rests;
+  others = c.open_next.ensures.others;
 }
 
 pub open_next-requires-in-loop-before-clause-next :
@@ -135,6 +139,16 @@ loop-before-preserved g c = record {
       c.open_next-in-loop-before.ensures.armings;
   unarmed = λ fused none.
       (c.open_next-in-loop-before.ensures.unfailing fused).unarmed (c.loop-before.invariant.unarmed fused none);
+  rests =
+      all_rest_then g.D.Disk g.met.D.Disk.left_earlier c.args.disks.now.items c.loop-before.disks.items
+      c.open_next-in-loop-before.new.disks.items c.loop-before.invariant.rests
+      c.open_next-in-loop-before.ensures.rests;
+  others =
+      others_then (c.loop-before.before + 1) c.args.disks.now.items c.loop-before.disks.items
+      c.open_next-in-loop-before.new.disks.items
+      (others_within c.loop-before.before (c.loop-before.before + 1) c.args.disks.now.items
+      c.loop-before.disks.items (omega arith) c.loop-before.invariant.others)
+      c.open_next-in-loop-before.ensures.others;
 }
 
 pub returns-clause-opened : goal.returns-clause-opened
@@ -225,3 +239,83 @@ returns-in_err-open_next-2-clause-spared g c = λ fault unfailed is.
     (c.open_next-in-loop-before.ensures.spared fault unfailed
     (handed_on c.open_next-in-loop-before.result c.from_residual-in_err-open_next-2.result given.0
     c.in_err-open_next-2.field-0.0 fault c.in_err-open_next-2.was given.1 given.2 is))
+
+pub returns-in_err-opened-clause-rests : goal.returns-in_err-opened-clause-rests
+returns-in_err-opened-clause-rests g c = all_rest_none g.D.Disk c.args.disks.now.items
+
+pub returns-in_err-open_next-2-clause-rests : goal.returns-in_err-open_next-2-clause-rests
+returns-in_err-open_next-2-clause-rests g c =
+    all_rest_then g.D.Disk g.met.D.Disk.left_earlier c.args.disks.now.items c.loop-before.disks.items
+    c.open_next-in-loop-before.new.disks.items c.loop-before.invariant.rests c.open_next-in-loop-before.ensures.rests
+
+pub returns-clause-rests : goal.returns-clause-rests
+returns-clause-rests g c = c.loop-before.invariant.rests
+
+pub returns-clause-others : goal.returns-clause-others
+returns-clause-others g c =
+    others_within c.loop-before.before (length c.loop-before.opened.members.items) c.args.disks.now.items
+    c.loop-before.disks.items (omega (arith, c.loop-before.invariant.counted)) c.loop-before.invariant.others
+
+pub returns-in_err-open_next-clause-member : goal.returns-in_err-open_next-clause-member
+returns-in_err-open_next-clause-member g c = λ tells r is first opens.
+    let given =
+    err_from_is_err_and c.from_residual-in_err-open_next.result c.from_residual-in_err-open_next.ensures.1 in
+    let named =
+    c.open_next.ensures.named r
+    (handed_on c.open_next.result c.from_residual-in_err-open_next.result given.0 c.in_err-open_next.field-0.0 (Store r)
+    c.in_err-open_next.was given.1 given.2 is) in
+    omega (arith, named, one_named g.K.Keep.kept g.D.Disk.seen c.args.disks.now.items first opens)
+
+pub returns-in_err-open_next-clause-earlier : goal.returns-in_err-open_next-clause-earlier
+returns-in_err-open_next-clause-earlier g c = λ tells q r is bad.
+    let given =
+    err_from_is_err_and c.from_residual-in_err-open_next.result c.from_residual-in_err-open_next.ensures.1 in
+    let named =
+    c.open_next.ensures.named q
+    (handed_on c.open_next.result c.from_residual-in_err-open_next.result given.0 c.in_err-open_next.field-0.0 (Store q)
+    c.in_err-open_next.was given.1 given.2 is) in
+    omega (arith, named, bad.some)
+
+pub returns-in_err-open_next-2-clause-member : goal.returns-in_err-open_next-2-clause-member
+returns-in_err-open_next-2-clause-member g c = λ tells r is first opens.
+    let given =
+    err_from_is_err_and c.from_residual-in_err-open_next-2.result c.from_residual-in_err-open_next-2.ensures.1 in
+    let named =
+    c.open_next-in-loop-before.ensures.named r
+    (handed_on c.open_next-in-loop-before.result c.from_residual-in_err-open_next-2.result given.0
+    c.in_err-open_next-2.field-0.0 (Store r) c.in_err-open_next-2.was given.1 given.2 is) in
+    let held =
+    held_of g.D.Disk.tells g.K.Keep.kept g.K.Keep.fits g.D.Disk.seen g.D.Disk.may_leave g.D.Disk.armings
+    c.loop-before.opened.members.items c.loop-before.opened.stables.items c.loop-before.disks.items
+    (c.loop-before.invariant.stables ∙ sym c.loop-before.invariant.counted) c.loop-before.invariant.opened
+    c.loop-before.invariant.disks tells in
+    let within : c.loop-before.before + 1 ≤ first.members =
+    next_named g.K.Keep.kept g.D.Disk.seen c.args.disks.now.items c.loop-before.disks.items
+    c.loop-before.opened.members.items c.loop-before.before c.count-count.result
+    (c.loop-before.invariant.same tells) c.loop-before.invariant.opened held c.loop-before.invariant.counted
+    c.loop-before.auto.before c.loop-before-test.true
+    (omega (arith, c.loop-before-test.true, c.loop-before.invariant.faults.count, c.requires.pairs, c.count-count.ensures.value, c.count-count.ensures.valid.at_most))
+    c.loop-before.invariant.says first opens in
+    omega (arith, named, within)
+
+pub returns-in_err-open_next-2-clause-earlier : goal.returns-in_err-open_next-2-clause-earlier
+returns-in_err-open_next-2-clause-earlier g c = λ tells q r is bad.
+    let given =
+    err_from_is_err_and c.from_residual-in_err-open_next-2.result c.from_residual-in_err-open_next-2.ensures.1 in
+    let named =
+    c.open_next-in-loop-before.ensures.named q
+    (handed_on c.open_next-in-loop-before.result c.from_residual-in_err-open_next-2.result given.0
+    c.in_err-open_next-2.field-0.0 (Store q) c.in_err-open_next-2.was given.1 given.2 is) in
+    let held =
+    held_of g.D.Disk.tells g.K.Keep.kept g.K.Keep.fits g.D.Disk.seen g.D.Disk.may_leave g.D.Disk.armings
+    c.loop-before.opened.members.items c.loop-before.opened.stables.items c.loop-before.disks.items
+    (c.loop-before.invariant.stables ∙ sym c.loop-before.invariant.counted) c.loop-before.invariant.opened
+    c.loop-before.invariant.disks tells in
+    let behind : c.loop-before.before + 1 ≤ r =
+    next_earlier g.K.Keep.kept g.D.Disk.seen c.args.disks.now.items c.loop-before.disks.items
+    c.loop-before.opened.members.items c.loop-before.before c.count-count.result
+    (c.loop-before.invariant.same tells) c.loop-before.invariant.opened held c.loop-before.invariant.counted
+    c.loop-before.auto.before c.loop-before-test.true
+    (omega (arith, c.loop-before-test.true, c.loop-before.invariant.faults.count, c.requires.pairs, c.count-count.ensures.value, c.count-count.ensures.valid.at_most))
+    c.loop-before.invariant.says r bad in
+    omega (arith, named, behind)

@@ -2,6 +2,7 @@ use Rattle.std.proofs.Common.{◌≡◌, length}
 use Rattle.ficus_runs.specs.Numbered.{IsNumbered}
 use Rattle.ficus_world.specs.Disks.{AreDisksOf}
 use Rattle.ficus_world.specs.Fuses.{AreUnarmed}
+use Rattle.ficus_world.specs.Kills.{AllRest, OthersStay}
 use Rattle.ficus_world.specs.Opening.{AreOpened, Steady}
 use Rattle.ficus_world.specs.declared.member.Member.{Member as MemberValue}
 use Rattle.ficus_world.proofs.opening.open_all.Given as goal
@@ -17,5 +18,7 @@ invariant-loop-before g l = record {
   same : g.D.Disk.tells → Steady g.D.Disk.seen l.fn.disks.items l.disks.items;
   faults : Steady g.D.Disk.faults l.fn.disks.items l.disks.items;
   armings : Steady g.D.Disk.armings l.fn.disks.items l.disks.items;
+  rests : AllRest g.D.Disk l.fn.disks.items l.disks.items;
+  others : OthersStay l.before l.fn.disks.items l.disks.items;
   unarmed : g.D.Disk.tells_fuse → AreUnarmed g.D.Disk.fuse l.fn.disks.items → AreUnarmed g.D.Disk.fuse l.disks.items;
 }

@@ -7,10 +7,13 @@ use Rattle.ficus_runs.specs.Numbered.{IsNumbered}
 use Rattle.ficus_world.specs.Disks.{are_fused}
 use Rattle.ficus_world.specs.Opening.{IsBad}
 use Rattle.ficus_world.specs.declared.member.Member.{Member as MemberValue}
+use Rattle.ficus_world.specs.declared.opening.WorldFault.TheVariants.{Store}
 use Rattle.ficus_world.proofs.Faults.{handed_on, same_err, same_image}
 use Rattle.ficus_world.proofs.Openings.{disks_more, held_of, holds_same, none_may, one_more, opened_more}
 use Rattle.ficus_world.proofs.Steadies.{number_at, steady_one}
 use Rattle.ficus_world.proofs.Unarmed.{unfailing_set}
+use Rattle.ficus_world.proofs.Kills.{all_rest_one}
+use Rattle.ficus_world.proofs.Others.{others_one}
 use Rattle.ficus_world.proofs.opening.open_next.Goals as goal
 
 pub returns-then-not-may_open_behind-clause-image :
@@ -160,3 +163,54 @@ returns-in_err-enter-clause-spared g c = λ fault unfailed is.
     steady_one g.D.Disk.faults c.args.disks.now.items (c.from-index.result - 1) c.index_mut.result.now
     c.open_one.new.pair (omega (arith, c.from-index.ensures, c.requires.pair.at_least, c.requires.pair.at_most))
     c.index_mut.ensures.value c.in_ok-stable.ensures.steady
+
+pub returns-in_err-stable-clause-rests : goal.returns-in_err-stable-clause-rests
+returns-in_err-stable-clause-rests g c =
+    all_rest_one g.D.Disk c.args.disks.now.items (c.from-index.result - 1) c.index_mut.result.now c.open_one.new.pair
+    (omega (arith, c.from-index.ensures, c.requires.pair.at_least, c.requires.pair.at_most)) c.index_mut.ensures.value
+    c.open_one.ensures.rests
+
+pub returns-then-not-may_open_behind-clause-rests : goal.returns-then-not-may_open_behind-clause-rests
+returns-then-not-may_open_behind-clause-rests g c =
+    all_rest_one g.D.Disk c.args.disks.now.items (c.from-index.result - 1) c.index_mut.result.now c.open_one.new.pair
+    (omega (arith, c.from-index.ensures, c.requires.pair.at_least, c.requires.pair.at_most)) c.index_mut.ensures.value
+    c.open_one.ensures.rests
+
+pub returns-in_err-enter-clause-rests : goal.returns-in_err-enter-clause-rests
+returns-in_err-enter-clause-rests g c =
+    all_rest_one g.D.Disk c.args.disks.now.items (c.from-index.result - 1) c.index_mut.result.now c.open_one.new.pair
+    (omega (arith, c.from-index.ensures, c.requires.pair.at_least, c.requires.pair.at_most)) c.index_mut.ensures.value
+    c.open_one.ensures.rests
+
+pub returns-clause-rests : goal.returns-clause-rests
+returns-clause-rests g c =
+    all_rest_one g.D.Disk c.args.disks.now.items (c.from-index.result - 1) c.index_mut.result.now c.open_one.new.pair
+    (omega (arith, c.from-index.ensures, c.requires.pair.at_least, c.requires.pair.at_most)) c.index_mut.ensures.value
+    c.open_one.ensures.rests
+
+pub returns-in_err-stable-clause-others : goal.returns-in_err-stable-clause-others
+returns-in_err-stable-clause-others g c =
+    others_one c.args.number c.args.disks.now.items (c.from-index.result - 1) c.open_one.new.pair
+    (omega (arith, c.from-index.ensures, c.requires.pair.at_least))
+
+pub returns-then-not-may_open_behind-clause-others : goal.returns-then-not-may_open_behind-clause-others
+returns-then-not-may_open_behind-clause-others g c =
+    others_one c.args.number c.args.disks.now.items (c.from-index.result - 1) c.open_one.new.pair
+    (omega (arith, c.from-index.ensures, c.requires.pair.at_least))
+
+pub returns-in_err-enter-clause-others : goal.returns-in_err-enter-clause-others
+returns-in_err-enter-clause-others g c =
+    others_one c.args.number c.args.disks.now.items (c.from-index.result - 1) c.open_one.new.pair
+    (omega (arith, c.from-index.ensures, c.requires.pair.at_least))
+
+pub returns-clause-others : goal.returns-clause-others
+returns-clause-others g c =
+    others_one c.args.number c.args.disks.now.items (c.from-index.result - 1) c.open_one.new.pair
+    (omega (arith, c.from-index.ensures, c.requires.pair.at_least))
+
+pub returns-in_err-stable-clause-named : goal.returns-in_err-stable-clause-named
+returns-in_err-stable-clause-named g c = λ r is.
+    let given = err_from_is_err_and c.from_residual.result c.from_residual.ensures.1 in
+    (c.open_one.ensures.failed r
+    (handed_on c.open_one.result c.from_residual.result given.0 c.in_err-stable.field-0.0 (Store r) c.in_err-stable.was
+    given.1 given.2 is)).0

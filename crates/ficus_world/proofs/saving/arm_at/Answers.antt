@@ -3,6 +3,8 @@ use Rattle.ficus_run_laws.proofs.Numbers.{number_read}
 use Rattle.ficus_world.proofs.Disks.{rose_none}
 use Rattle.ficus_world.proofs.Fuses.{fuses_armed}
 use Rattle.ficus_world.proofs.Saves.{disks_armed, pair_armed}
+use Rattle.std.proofs.Common.{refl}
+use Rattle.ficus_world.proofs.Kills.{rests_calls}
 use Rattle.ficus_world.proofs.saving.arm_at.Goals as goal
 
 pub returns-clause-disks : goal.returns-clause-disks
@@ -27,4 +29,18 @@ returns-clause-follows g c members up =
           fuses_armed g.K.Keep g.D.Disk c.args.by c.args.calls c.args.pick members c.args.disks.now.items
           c.index_mut-pair.result.now _ is_pair up (record { a = c.arm.ensures.crash; b = c.arm-2.ensures.crash })
           c.arm.ensures.fuse c.arm-2.ensures.fuse;
+    }
+
+pub returns-clause-rests : goal.returns-clause-rests
+returns-clause-rests g c =
+    let is_pair = number_read c.args.disks.now.items c.args.by c.index_mut-pair.result.now _ c.requires.pair
+    (sym c.index_mut-pair.ensures.value) in
+    record {
+      was = c.index_mut-pair.result.now;
+      is = is_pair;
+      now = record { a = c.arm.new.self; b = c.arm-2.new.self };
+      set = refl;
+      rests = rests_calls g.D.Disk g.met.D.Disk.left_now c.index_mut-pair.result.now
+          (record { a = c.arm.new.self; b = c.arm-2.new.self }) c.arm.ensures.crash c.arm-2.ensures.crash
+          c.arm.ensures.moments c.arm-2.ensures.moments;
     }

@@ -65,3 +65,16 @@ returns-clause-fuses g c old new saves are =
     follows.above ∙ ap (λ n. n + 1) (same_generation _ follows.saved saves.was.replica.saved follows.ready.holds
     (holds told)))
     (λ fused told regular. c.commit.ensures.by_fuse fused told regular saves.was.replica.saved (holds told))
+
+pub returns-clause-saves : goal.returns-clause-saves
+returns-clause-saves g c =
+    let is_pair = number_read c.args.disks.now.items c.args.by c.index_mut-2.result.now _ c.requires.pair
+    (sym c.index_mut-2.ensures.value) in
+    record {
+      was = c.index_mut-2.result.now;
+      is = is_pair;
+      now = c.commit.new.disks;
+      set = refl;
+      between = c.commit.ensures.between;
+      spans = c.commit.ensures.spans;
+    }

@@ -2,6 +2,7 @@ use Rattle.std.proofs.Common.{sym, ◌∙◌, refl}
 use Rattle.ficus_world.proofs.Disks.{disks_set, follows_at, fused_same, holds_still, pair_follows_none}
 use Rattle.ficus_run_laws.proofs.Numbers.{number_read}
 use Rattle.ficus_world.proofs.Fuses.{fuses_prepared}
+use Rattle.ficus_world.proofs.Kills.{rests_pair}
 use Rattle.ficus_world.proofs.saving.prepare_at.Goals as goal
 
 pub returns-clause-disks : goal.returns-clause-disks
@@ -32,3 +33,10 @@ returns-clause-follows g c members =
           fuses_prepared g.K.Keep g.D.Disk c.args.by members c.args.disks.now.items c.index_mut-2.result.now
           c.prepare.new.disks is_pair c.prepare.ensures.crash c.prepare.ensures.fuses;
     }
+
+pub returns-clause-rests : goal.returns-clause-rests
+returns-clause-rests g c =
+    let is_pair = number_read c.args.disks.now.items c.args.by c.index_mut-2.result.now _ c.requires.pair
+    (sym c.index_mut-2.ensures.value) in
+    rests_pair g.D.Disk c.args.by c.args.disks.now.items c.index_mut-2.result.now c.prepare.new.disks is_pair
+    c.prepare.ensures.crash c.prepare.ensures.moments c.prepare.ensures.spans

@@ -1,9 +1,12 @@
-use Rattle.std.proofs.Common.{◌≡◌, Err, ap, sym, refl}
+use Rattle.std.proofs.Common.{◌≡◌, ◌+◌, ◌-◌, Err, ap, sym, refl, subst, arith}
+use Rattle.ficus_runs.specs.Numbered.{IsNumbered}
 use Rattle.ficus_keep.specs.declared.fault.StoreFault.TheVariants.{Failed}
 use Rattle.ficus_world.proofs.Disks.{follows_at}
 use Rattle.ficus_run_laws.proofs.Numbers.{number_exists, number_read}
 use Rattle.ficus_world.proofs.Fuses.{fuses_read}
 use Rattle.ficus_world.proofs.Saves.{disks_not_read, disks_read, opening_failed, read_is, some_image}
+use Rattle.ficus_world.proofs.Others.{left_one}
+use Rattle.ficus_world.proofs.Kills.{rests_pair}
 use Rattle.ficus_world.proofs.saving.reopen_at.Goals as goal
 
 pub returns-in-Ok-clause-read : goal.returns-in-Ok-clause-read
@@ -80,3 +83,37 @@ returns-in-Ok-clause-by_fuse g c fused told count events members was F is sound 
     c.one_saved.ensures count events c.args.by was sound stable.0 c.index_mut.result.now c.reopen.new.disks
     (c.reopen.ensures.left told) (of.holds told) c.in-Ok.found.saved c.in-Ok.ensures.fits held)
     c.reopen.ensures.crash (c.reopen.ensures.by_fuse fused told) stand
+
+pub returns-in-Ok-clause-rests : goal.returns-in-Ok-clause-rests
+returns-in-Ok-clause-rests g c =
+    let is_pair = number_read c.args.disks.now.items c.args.by c.index_mut.result.now _ c.requires.pair
+    (sym c.index_mut.ensures.value) in
+    rests_pair g.D.Disk c.args.by c.args.disks.now.items c.index_mut.result.now c.reopen.new.disks is_pair
+    c.reopen.ensures.crash c.reopen.ensures.moments c.reopen.ensures.spans
+
+pub returns-in-Err-clause-rests : goal.returns-in-Err-clause-rests
+returns-in-Err-clause-rests g c =
+    let is_pair = number_read c.args.disks.now.items c.args.by c.index_mut.result.now _ c.requires.pair
+    (sym c.index_mut.ensures.value) in
+    rests_pair g.D.Disk c.args.by c.args.disks.now.items c.index_mut.result.now c.reopen.new.disks is_pair
+    c.reopen.ensures.crash c.reopen.ensures.moments c.reopen.ensures.spans
+
+pub returns-in-Ok-clause-left : goal.returns-in-Ok-clause-left
+returns-in-Ok-clause-left g c told =
+    let is_pair = number_read c.args.disks.now.items c.args.by c.index_mut.result.now _ c.requires.pair
+    (sym c.index_mut.ensures.value) in
+    let place : c.args.by - 1 + 1 ≡ c.args.by = omega (arith, c.requires.pair.at_least) in
+    left_one g.D.Disk.seen g.D.Disk.may_leave (g.met.D.Disk.seen_may_be_left told) c.args.disks.now.items
+    (c.args.by - 1) c.index_mut.result.now c.reopen.new.disks
+    (subst (λ n. IsNumbered c.args.disks.now.items n c.index_mut.result.now) (sym place) is_pair)
+    (c.reopen.ensures.left told)
+
+pub returns-in-Err-clause-left : goal.returns-in-Err-clause-left
+returns-in-Err-clause-left g c told =
+    let is_pair = number_read c.args.disks.now.items c.args.by c.index_mut.result.now _ c.requires.pair
+    (sym c.index_mut.ensures.value) in
+    let place : c.args.by - 1 + 1 ≡ c.args.by = omega (arith, c.requires.pair.at_least) in
+    left_one g.D.Disk.seen g.D.Disk.may_leave (g.met.D.Disk.seen_may_be_left told) c.args.disks.now.items
+    (c.args.by - 1) c.index_mut.result.now c.reopen.new.disks
+    (subst (λ n. IsNumbered c.args.disks.now.items n c.index_mut.result.now) (sym place) is_pair)
+    (c.reopen.ensures.left told)

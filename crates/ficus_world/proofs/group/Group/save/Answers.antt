@@ -4,6 +4,13 @@ use Rattle.ficus_world.specs.World.{whole_of}
 use Rattle.ficus_world.proofs.Fuses.{comes_then}
 use Rattle.ficus_world.proofs.Sending.{as_reserved}
 use Rattle.ficus_world.proofs.Keeps.{kept_advanced, kept_count, kept_downed, kept_world}
+use Rattle.std.proofs.Common.{List, length, subst}
+use Rattle.ficus_model.specs.declared.event.Event.{Event}
+use Rattle.ficus_world.specs.Kills.{WritesAt}
+use Rattle.ficus_ids.specs.Members.{IsMember}
+use Rattle.ficus_world.specs.Kills.Touches.{TouchesOne, WritesOne}
+use Rattle.ficus_world.proofs.Kills.{rests_then_writes}
+use Rattle.ficus_world.specs.Kills.Touches.{TouchesNone}
 use Rattle.ficus_world.proofs.group.Group.save.Goals as goal
 
 pub prepare_at-requires-clause-fits : goal.prepare_at-requires-clause-fits
@@ -65,3 +72,24 @@ keep-requires-clause-pair g c =
     let member = c.requires.up.is.member in
     let count = (c.prepare_at.ensures.follows c.self.inside.members.items).disks.count in
     record { at_least = member.at_least; at_most = omega (arith, member.at_most, c.requires.pairs, count) }
+
+pub returns-in_err-prepare_at-clause-touches : goal.returns-in_err-prepare_at-clause-touches
+returns-in_err-prepare_at-clause-touches g c = TouchesOne c.requires.up.is.member c.prepare_at.ensures.rests
+
+pub returns-clause-touches : goal.returns-clause-touches
+returns-clause-touches g c =
+    let old = c.requires.up.is.member in
+    let stable : IsMember (length c.args.stables.now.items) c.args.by =
+    record { at_least = old.at_least; at_most = omega (arith, old.at_most, c.requires.stables) } in
+    let before = rw (← c.self.view_is) at c.requires.disks in
+    let writes = subst (λ (events : List Event). WritesAt g.K.Keep g.D.Disk c.args.by
+    (whole_of c.self.inside.members.items events c.self.inside.post.now)
+    (whole_of c.keep.new.members.items c.keep.new.history.events c.self.inside.post.now) c.prepare_at.new.disks.items
+    c.keep.new.disks.items) c.reserve.ensures.events
+    (c.keep.ensures.writes c.self.inside.post.now c.self.inside.post.now) in
+    rw (← c.self.view_is)
+    (WritesOne (rests_then_writes g.K.Keep g.D.Disk c.args.by g.met.D.Disk.only_now g.met.D.Disk.seen_may_be_left
+    g.met.D.Disk.left_now g.met.D.Disk.left_earlier before stable c.prepare_at.ensures.rests writes))
+
+pub returns-in_err-reserve-clause-touches : goal.returns-in_err-reserve-clause-touches
+returns-in_err-reserve-clause-touches g c = TouchesNone

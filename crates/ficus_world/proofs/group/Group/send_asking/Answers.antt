@@ -10,6 +10,11 @@ use Rattle.ficus_world.specs.World.{Whole, IsSoundNext, IsWorld, whole_of}
 use Rattle.ficus_world.proofs.Fuses.{comes_then}
 use Rattle.ficus_world.proofs.Sending.{as_reserved, ask_sent, some_bytes, unready, unsaved}
 use Rattle.ficus_world.proofs.SoundWorlds.{held_sound, put_down_sound, sent_counts, world_after, world_posted}
+use Rattle.ficus_ids.specs.Members.{IsMember}
+use Rattle.ficus_model.specs.declared.event.Event.{Event}
+use Rattle.ficus_world.specs.Kills.{WritesAt}
+use Rattle.ficus_world.specs.Kills.Touches.{TouchesOne, WritesOne}
+use Rattle.ficus_world.proofs.Kills.{rests_then_writes}
 use Rattle.ficus_world.proofs.group.Group.send_asking.Goals as goal
 
 pub make_ready-requires-clause-stable : goal.make_ready-requires-clause-stable
@@ -174,3 +179,36 @@ keep-requires-clause-pair g c =
     let member = c.requires.asking.1.is.member in
     let count = (c.make_ready.ensures.follows c.self.inside.members.items).disks.count in
     record { at_least = member.at_least; at_most = omega (arith, member.at_most, c.requires.pairs, count) }
+
+pub returns-in_err-make_ready-clause-touches : goal.returns-in_err-make_ready-clause-touches
+returns-in_err-make_ready-clause-touches g c = TouchesOne c.requires.asking.1.is.member c.make_ready.ensures.rests
+
+pub returns-in_err-keep-clause-touches : goal.returns-in_err-keep-clause-touches
+returns-in_err-keep-clause-touches g c =
+    let member = c.requires.asking.1.is.member in
+    let stable : IsMember (length c.args.stables.now.items) c.args.by =
+    record { at_least = member.at_least; at_most = omega (arith, member.at_most, c.requires.stables) } in
+    let before = rw (← c.self.view_is) at c.requires.disks in
+    let writes = subst (λ (events : List Event). WritesAt g.K.Keep g.D.Disk c.args.by
+    (whole_of c.self.inside.members.items events c.self.inside.post.now)
+    (whole_of c.keep.new.members.items c.keep.new.history.events c.make_ready.new.post.now)
+    c.make_ready.new.disks.items c.keep.new.disks.items) c.in_ok-make_ready.ensures.events
+    (c.keep.ensures.writes c.self.inside.post.now c.make_ready.new.post.now) in
+    rw (← c.self.view_is)
+    (WritesOne (rests_then_writes g.K.Keep g.D.Disk c.args.by g.met.D.Disk.only_now g.met.D.Disk.seen_may_be_left
+    g.met.D.Disk.left_now g.met.D.Disk.left_earlier before stable c.make_ready.ensures.rests writes))
+
+pub returns-clause-touches : goal.returns-clause-touches
+returns-clause-touches g c =
+    let member = c.requires.asking.1.is.member in
+    let stable : IsMember (length c.args.stables.now.items) c.args.by =
+    record { at_least = member.at_least; at_most = omega (arith, member.at_most, c.requires.stables) } in
+    let before = rw (← c.self.view_is) at c.requires.disks in
+    let writes = subst (λ (events : List Event). WritesAt g.K.Keep g.D.Disk c.args.by
+    (whole_of c.self.inside.members.items events c.self.inside.post.now)
+    (whole_of c.keep.new.members.items c.keep.new.history.events c.send.new.self.now)
+    c.make_ready.new.disks.items c.keep.new.disks.items) c.in_ok-make_ready.ensures.events
+    (c.keep.ensures.writes c.self.inside.post.now c.send.new.self.now) in
+    rw (← c.self.view_is)
+    (WritesOne (rests_then_writes g.K.Keep g.D.Disk c.args.by g.met.D.Disk.only_now g.met.D.Disk.seen_may_be_left
+    g.met.D.Disk.left_now g.met.D.Disk.left_earlier before stable c.make_ready.ensures.rests writes))

@@ -5,6 +5,7 @@ use Rattle.ficus_runs.specs.Sequence.{unchanged}
 use Rattle.ficus_world.specs.Moves.{KeepsAsk}
 use Rattle.ficus_world.specs.World.{Whole}
 use Rattle.ficus_world.proofs.Carrying.{carried_none, or_refused, whole_is}
+use Rattle.ficus_world.specs.Kills.Touches.{TouchesNone}
 use Rattle.ficus_world.proofs.world.World.ask.Goals as goal
 
 pub returns-in_err-asking-clause-asks : goal.returns-in_err-asking-clause-asks
@@ -17,3 +18,6 @@ returns-in_err-asking-clause-asks g c =
     rw (residual.1, residual.2)
     (carried_none (KeepsAsk g.L.Link.tells c.args.by c.args.to) (Err r) old c.args.disks.now.items
     (or_refused (λ given. KeepsAsk g.L.Link.tells c.args.by c.args.to old given (unchanged old)) r refused))
+
+pub returns-in_err-asking-clause-touches : goal.returns-in_err-asking-clause-touches
+returns-in_err-asking-clause-touches g c = TouchesNone

@@ -8,6 +8,7 @@ use Rattle.ficus_world.specs.Moves.{CarriesOut, FindsUp, TablesMayWantMemory, pe
 use Rattle.ficus_world.specs.World.{Whole}
 use Rattle.ficus_world.proofs.Carrying.{advanced_events, advanced_members, comes_to, refused_events, refused_members, save_refused, saved_done, whole_is}
 use Rattle.ficus_world.proofs.Moved.{collect_moves, collect_pends, comes_to_none, up_ends}
+use Rattle.ficus_world.specs.Kills.Touches.{TouchesNone}
 use Rattle.ficus_world.proofs.world.World.collect.Goals as goal
 
 pub returns-in_err-up-clause-moves : goal.returns-in_err-up-clause-moves
@@ -95,3 +96,15 @@ returns-clause-members g c =
     let is = subst (λ (w : Whole). IsNumbered w.members c.args.by was) (whole_is c.self.view_is) c.in_ok-up.ensures.is in
     advanced_members c.args.self.now.whole c.save.new.self.whole c.args.by was c.in_ok-collected.collected.replica
     (Gathers c.args.by) (c.in_ok-save.ensures.saved was is)
+
+pub returns-in_err-up-clause-touches : goal.returns-in_err-up-clause-touches
+returns-in_err-up-clause-touches g c = TouchesNone
+
+pub returns-in_err-collected-clause-touches : goal.returns-in_err-collected-clause-touches
+returns-in_err-collected-clause-touches g c = TouchesNone
+
+pub returns-in_err-save-clause-touches : goal.returns-in_err-save-clause-touches
+returns-in_err-save-clause-touches g c = c.save.ensures.touches
+
+pub returns-clause-touches : goal.returns-clause-touches
+returns-clause-touches g c = c.save.ensures.touches

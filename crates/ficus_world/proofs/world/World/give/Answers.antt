@@ -11,6 +11,8 @@ use Rattle.ficus_world.specs.World.{Whole}
 use Rattle.ficus_world.proofs.Carrying.{whole_is}
 use Rattle.ficus_world.proofs.Moved.{same_refusal}
 use Rattle.ficus_world.proofs.Sending.{give_handled, give_unfetched, serves_carried}
+use Rattle.ficus_world.specs.Kills.Touches.{TouchesNone}
+use Rattle.ficus_world.specs.Kills.{Touches}
 use Rattle.ficus_world.proofs.world.World.give.Goals as goal
 
 pub returns-in_err-from-clause-gives : goal.returns-in_err-from-clause-gives
@@ -67,3 +69,16 @@ returns-in-Ask-clause-wants g c = λ is.
 pub returns-in-Answer-clause-wants : goal.returns-in-Answer-clause-wants
 returns-in-Answer-clause-wants g c = λ is.
     subst (λ (w : Whole). IsMember (length w.post.posts) c.args.mail) (whole_is c.self.view_is) c.in_ok-from.ensures.there
+
+pub returns-in_err-from-clause-touches : goal.returns-in_err-from-clause-touches
+returns-in_err-from-clause-touches g c = TouchesNone
+
+pub returns-in-Ask-clause-touches : goal.returns-in-Ask-clause-touches
+returns-in-Ask-clause-touches g c = TouchesNone
+
+pub returns-in-Answer-clause-touches : goal.returns-in-Answer-clause-touches
+returns-in-Answer-clause-touches g c =
+    let same : c.fetch.new.self ≡ c.args.self.now.whole =
+    subst (λ (w : Whole). c.fetch.new.self ≡ w) (whole_is c.self.view_is) c.in_ok-from.ensures.same in
+    subst (λ (w : Whole). Touches g.K.Keep g.D.Disk w c.take.new.self.whole c.args.disks.now.items
+    c.take.new.disks.items) same c.take.ensures.touches

@@ -3,7 +3,8 @@ use Rattle.std.proofs.lemmas.Result.{err_from_is_err_and}
 use Rattle.ficus_world.specs.Opening.{IsFoundFault}
 use Rattle.ficus_world.specs.declared.opening.WorldFault.TheVariants.{Occupied, Store}
 use Rattle.ficus_world.proofs.Faults.{handed_on, where_ok}
-use Rattle.ficus_world.proofs.Making.{empty_same, found_comes, none_occupied}
+use Rattle.ficus_world.proofs.Making.{empty_same, found_comes, none_in_part, none_occupied}
+use Rattle.ficus_world.proofs.Others.{others_then}
 use Rattle.ficus_world.proofs.Steadies.{fault_behind, steady_trans}
 use Rattle.ficus_world.proofs.Unarmed.{unfailing_behind}
 use Rattle.ficus_world.proofs.world.World.make.Goals as goal
@@ -104,3 +105,30 @@ returns-in_err-look_for_empty-clause-member g c = λ r is.
 pub returns-clause-synced : goal.returns-clause-synced
 returns-clause-synced g c = λ tells at_first.
     c.make_all.ensures.synced tells (c.in_ok-look_for_empty.ensures.synced tells at_first)
+
+pub returns-clause-rests : goal.returns-clause-rests
+returns-clause-rests g c = λ tells r within first.
+    absurd (none_occupied g.D.Disk.seen c.args.disks.now.items c.args.members r
+    (c.in_ok-look_for_empty.ensures.empty tells) first within)
+
+pub returns-in_err-look_for_empty-clause-rests : goal.returns-in_err-look_for_empty-clause-rests
+returns-in_err-look_for_empty-clause-rests g c = λ tells r within first. c.look_for_empty.ensures.rests
+
+pub returns-in_err-look_for_empty-clause-partly : goal.returns-in_err-look_for_empty-clause-partly
+returns-in_err-look_for_empty-clause-partly g c = λ tells empty at_first.
+    let given = err_from_is_err_and c.from_residual.result c.from_residual.ensures.1 in
+    rw given.1
+    (none_in_part g.K.Keep.kept g.D.Disk _ c.args.disks.now.items c.look_for_empty.new.disks.items
+    c.look_for_empty.ensures.rests empty at_first)
+
+pub returns-clause-partly : goal.returns-clause-partly
+returns-clause-partly g c = λ tells empty at_first.
+    c.make_all.ensures.partly tells (c.in_ok-look_for_empty.ensures.synced tells at_first)
+
+pub returns-in_err-look_for_empty-clause-others : goal.returns-in_err-look_for_empty-clause-others
+returns-in_err-look_for_empty-clause-others g c = c.look_for_empty.ensures.others
+
+pub returns-clause-others : goal.returns-clause-others
+returns-clause-others g c =
+    others_then c.args.members c.args.disks.now.items c.look_for_empty.new.disks.items c.make_all.new.disks.items
+    c.look_for_empty.ensures.others c.make_all.ensures.others

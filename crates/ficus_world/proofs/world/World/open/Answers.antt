@@ -124,3 +124,29 @@ returns-in_err-members-clause-spared g c = λ fault unfailed is.
 
 pub returns-in_err-restart_all-clause-spared : goal.returns-in_err-restart_all-clause-spared
 returns-in_err-restart_all-clause-spared g c = λ fault unfailed is. c.in_ok-members.ensures.steady
+
+pub returns-in_err-members-clause-rests : goal.returns-in_err-members-clause-rests
+returns-in_err-members-clause-rests g c = c.open_all.ensures.rests
+
+pub returns-in_err-restart_all-clause-rests : goal.returns-in_err-restart_all-clause-rests
+returns-in_err-restart_all-clause-rests g c = c.open_all.ensures.rests
+
+pub returns-clause-rests : goal.returns-clause-rests
+returns-clause-rests g c = c.open_all.ensures.rests
+
+pub returns-clause-others : goal.returns-clause-others
+returns-clause-others g c = c.in_ok-members.ensures.others
+
+pub returns-in_err-members-clause-member : goal.returns-in_err-members-clause-member
+returns-in_err-members-clause-member g c = λ tells r is.
+    let given = err_from_is_err_and c.from_residual.result c.from_residual.ensures.1 in
+    c.open_all.ensures.member tells r
+    (handed_on c.open_all.result c.from_residual.result given.0 c.in_err-members.field-0.0 (Store r)
+    c.in_err-members.was given.1 given.2 is)
+
+pub returns-in_err-members-clause-earlier : goal.returns-in_err-members-clause-earlier
+returns-in_err-members-clause-earlier g c = λ tells q r is.
+    let given = err_from_is_err_and c.from_residual.result c.from_residual.ensures.1 in
+    c.open_all.ensures.earlier tells q r
+    (handed_on c.open_all.result c.from_residual.result given.0 c.in_err-members.field-0.0 (Store q)
+    c.in_err-members.was given.1 given.2 is)

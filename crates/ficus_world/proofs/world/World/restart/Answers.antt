@@ -19,6 +19,8 @@ use Rattle.ficus_world.proofs.Moved.{comes_to_none, not_so}
 use Rattle.ficus_run_laws.proofs.Numbers.{number_exists}
 use Rattle.ficus_world.proofs.Restarting.{back_after, back_same, back_sound, back_stores, restart_carried, set_own}
 use Rattle.ficus_world.proofs.SoundWorlds.{world_after}
+use Rattle.ficus_world.specs.Kills.Touches.{TouchesNone, TouchesOne}
+use Rattle.ficus_world.proofs.Others.{left_none}
 use Rattle.ficus_world.proofs.world.World.restart.Goals as goal
 
 pub returns-then-not-has-clause-moves : goal.returns-then-not-has-clause-moves
@@ -174,3 +176,26 @@ returns-clause-disks g c =
     g.D.Disk.armings i.group.members i.stables.items x) (sym c.self-inside.view_is) before in
     c.reopen_at-read.ensures.disks old.members c.come_back.new.members.items
     (record { was = found.0; is = found.1; now = back.0; after = back_after c.args.by found.0 c.reopen_at-read.result c.come_back.result back.0 back.1 back.2; set = back.3 }) disks
+
+pub returns-then-not-has-clause-touches : goal.returns-then-not-has-clause-touches
+returns-then-not-has-clause-touches g c = TouchesNone
+
+pub returns-in_err-reserve-clause-touches : goal.returns-in_err-reserve-clause-touches
+returns-in_err-reserve-clause-touches g c = TouchesNone
+
+pub returns-clause-touches : goal.returns-clause-touches
+returns-clause-touches g c =
+    let member = subst (λ (w : Whole). IsMember (length w.members) c.args.by) (whole_is c.self.view_is)
+    (c.has.ensures.0 c.if-not-has.false) in
+    TouchesOne member c.reopen_at-read.ensures.rests
+
+pub returns-then-not-has-clause-left : goal.returns-then-not-has-clause-left
+returns-then-not-has-clause-left g c told =
+    left_none g.D.Disk.seen g.D.Disk.may_leave (g.met.D.Disk.seen_may_be_left told) c.args.disks.now.items
+
+pub returns-in_err-reserve-clause-left : goal.returns-in_err-reserve-clause-left
+returns-in_err-reserve-clause-left g c told =
+    left_none g.D.Disk.seen g.D.Disk.may_leave (g.met.D.Disk.seen_may_be_left told) c.args.disks.now.items
+
+pub returns-clause-left : goal.returns-clause-left
+returns-clause-left g c = c.reopen_at-read.ensures.left

@@ -14,6 +14,7 @@ use Rattle.ficus_world.specs.World.{Whole}
 use Rattle.ficus_run_laws.proofs.Numbers.{number_once}
 use Rattle.ficus_world.proofs.Carrying.{whole_is}
 use Rattle.ficus_world.proofs.Moved.{comes_to_none, up_ends}
+use Rattle.ficus_world.specs.Kills.Touches.{TouchesNone, TouchesOne}
 use Rattle.ficus_world.proofs.world.World.stop.Goals as goal
 
 pub returns-in_err-up-clause-moves : goal.returns-in_err-up-clause-moves
@@ -46,3 +47,15 @@ returns-clause-moves g c =
       disks = armed.disks;
       fuses = armed.fuses;
     }
+
+pub returns-in_err-up-clause-touches : goal.returns-in_err-up-clause-touches
+returns-in_err-up-clause-touches g c = TouchesNone
+
+pub returns-then-not-branch-clause-touches : goal.returns-then-not-branch-clause-touches
+returns-then-not-branch-clause-touches g c = TouchesNone
+
+pub returns-clause-touches : goal.returns-clause-touches
+returns-clause-touches g c =
+    let was = c.in_ok-up.field-0.now in
+    let is = subst (λ (w : Whole). IsNumbered w.members c.args.by was) (whole_is c.self.view_is) c.in_ok-up.ensures.is in
+    TouchesOne is.member c.arm_at.ensures.rests

@@ -9,6 +9,7 @@ use Rattle.ficus_world.specs.Moves.TakesAnswer.{Takes, TakesNot}
 use Rattle.ficus_world.specs.World.{Whole}
 use Rattle.ficus_world.proofs.Carrying.{advanced_events, advanced_members, carried_none, carried_saved, refused_events, refused_members, save_refused, whole_is}
 use Rattle.ficus_world.proofs.Sending.{take_refused, taker_down}
+use Rattle.ficus_world.specs.Kills.Touches.{TouchesNone}
 use Rattle.ficus_world.proofs.world.World.take.Goals as goal
 
 pub returns-in_err-replica-clause-takes : goal.returns-in_err-replica-clause-takes
@@ -108,3 +109,15 @@ returns-clause-members g c =
     let is = subst (λ (w : Whole). IsNumbered w.members to was) (whole_is c.self.view_is) c.in_ok-replica.ensures.is in
     advanced_members c.args.self.now.whole c.save.new.self.whole to was c.in_ok-taken.taken
     (Accept to c.place-serve.result) (c.in_ok-save.ensures.saved was is)
+
+pub returns-in_err-replica-clause-touches : goal.returns-in_err-replica-clause-touches
+returns-in_err-replica-clause-touches g c = TouchesNone
+
+pub returns-in_err-taken-clause-touches : goal.returns-in_err-taken-clause-touches
+returns-in_err-taken-clause-touches g c = TouchesNone
+
+pub returns-in_err-save-clause-touches : goal.returns-in_err-save-clause-touches
+returns-in_err-save-clause-touches g c = c.save.ensures.touches
+
+pub returns-clause-touches : goal.returns-clause-touches
+returns-clause-touches g c = c.save.ensures.touches

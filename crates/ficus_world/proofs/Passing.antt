@@ -1,0 +1,75 @@
+-- What a command does is a link, and a pull is a link for each of its messages.
+use Rattle.std.proofs.Common.{◌≡◌, ℕ, List, Result, Ok, Err, refl, sym, subst}
+use Rattle.std.specs.Prelude.{IsErrOf}
+use Rattle.ficus_disk.specs.declared.disk.Disk.{Ghosts as Disk}
+use Rattle.ficus_disk.specs.declared.pair.Pair.{Pair}
+use Rattle.ficus_ids.specs.declared.refusal.Refusal.{Refusal}
+use Rattle.ficus_ids.specs.declared.refusal.Refusal.TheVariants.{Memory}
+use Rattle.ficus_keep.specs.declared.keep.Keep.{Ghosts as Keep}
+use Rattle.ficus_script.specs.declared.answer.Answer.{Answer}
+use Rattle.ficus_script.specs.declared.answer.Answer.TheVariants.{Mail}
+use Rattle.ficus_script.specs.declared.command.Command.{Command}
+use Rattle.ficus_script.specs.declared.command.Command.TheVariants.{Ask as Asks, Give as Gives}
+use Rattle.ficus_runs.specs.Outcome.{Outcome}
+use Rattle.ficus_world.specs.Disks.{CarriedOn, StaysOn}
+use Rattle.ficus_world.specs.Kills.{IsSettled, Passes, Touches}
+use Rattle.ficus_world.specs.Kills.Passes.{Idles, Links}
+use Rattle.ficus_world.specs.Moves.{CarriesOut, GivesMessage, KeepsAsk, TablesMayWantMemory}
+use Rattle.ficus_world.specs.Stepped.{ComesTo}
+use Rattle.ficus_world.specs.World.{Whole}
+use Rattle.ficus_rules.specs.Rule.{UnlessMemoryWhere}
+use Rattle.ficus_world.proofs.Carrying.{wanted_where}
+use Rattle.ficus_world.proofs.Pulling.{ask_carried, ask_uncarried}
+
+module _ {K D : Type 0} {tells : Type 0} {keep : Keep K} {disk : Disk D} {old new : Whole} {x y : List (Pair D)}
+    (settled : IsSettled keep disk old x) (after : IsSettled keep disk new y)
+    (touches : Touches keep disk old new x y) where
+  -- the world stays
+  pub idle : new ≡ old → Passes tells keep disk old new x y
+  idle same =
+      subst (λ (w : Whole). Passes tells keep disk old w x y) (sym same)
+      (Idles settled (subst (λ (w : Whole). Touches keep disk old w x y) same touches))
+
+  -- what a command comes to, unless memory was refused
+  pub linked : (may : Type 0) (command : Command) (outcomes : List Outcome) (result : Result Answer Refusal)
+      → UnlessMemoryWhere may (λ answer. CarriesOut tells disk.tells command old answer
+      (record { outcomes = outcomes; after = new })) result
+      → (IsErrOf result Memory → new ≡ old) → Passes tells keep disk old new x y
+  linked may command outcomes (Ok a) does memory =
+      Links {command = command} {outcomes = outcomes} settled after
+      (record { result = Ok a; does = does; answer_is = refl }) touches
+  linked may command outcomes (Err Memory) does memory = idle (memory refl)
+  linked may command outcomes (Err r) does memory =
+      Links {command = command} {outcomes = outcomes} settled after
+      (record { result = Err r; does = does; answer_is = refl }) touches
+
+  pub comes : (command : Command) (result : Result Answer Refusal) → ComesTo tells keep disk old command result new x y
+      → (IsErrOf result Memory → StaysOn disk.faults disk.armings old new x y) → Passes tells keep disk old new x y
+  comes command result is memory =
+      linked (TablesMayWantMemory old command) command is.outcomes result is.does (λ e. (memory e).same)
+
+  pub carried : (command : Command) (result : Result Answer Refusal)
+      → CarriedOn keep disk (CarriesOut tells disk.tells command) result old new x y
+      → (IsErrOf result Memory → StaysOn disk.faults disk.armings old new x y) → Passes tells keep disk old new x y
+  carried command result is memory =
+      linked (Unit {0}) command is.outcomes result
+      (wanted_where (Unit {0}) (λ answer. CarriesOut tells disk.tells command old answer
+      (record { outcomes = is.outcomes; after = new })) result is.does (λ e. tt)) (λ e. (memory e).same)
+
+  -- an ask
+  pub asked : (by to number : ℕ) → CarriedOn keep disk (KeepsAsk tells by to) (Ok number) old new x y
+      → Passes tells keep disk old new x y
+  asked by to number asks =
+      carried (Asks by to) (Ok (Mail number)) (ask_carried tells keep disk by to number old new x y asks)
+      (λ e. absurd (cc))
+
+  pub unasked : (by to : ℕ) (r : Refusal) → CarriedOn keep disk (KeepsAsk tells by to) (Err r) old new x y
+      → (r ≡ Memory → StaysOn disk.faults disk.armings old new x y) → Passes tells keep disk old new x y
+  unasked by to r asks memory =
+      carried (Asks by to) (Err r) (ask_uncarried tells keep disk by to r old new x y asks) (λ e. memory (cc))
+
+  -- a message that is given
+  pub given : (number : ℕ) (result : Result Answer Refusal)
+      → CarriedOn keep disk (GivesMessage tells number) result old new x y
+      → (IsErrOf result Memory → StaysOn disk.faults disk.armings old new x y) → Passes tells keep disk old new x y
+  given number result gives memory = carried (Gives number) result gives memory

@@ -1,0 +1,136 @@
+-- What a command does to the disks of a world at each of its moments, so that a kill at any of them is known.
+use Rattle.std.specs.Prelude.{◌≡◌, ◌⊎◌, ℕ, ◌+◌, ◌-◌, ◌<◌, List, [], ◌∷◌, ◌++◌, length, Some, None, slice_set}
+use Rattle.ficus_disk.specs.declared.disk.Disk.{Ghosts as Disk}
+use Rattle.ficus_disk.specs.declared.pair.Pair.{Pair}
+use Rattle.ficus_ids.specs.Members.{IsMember}
+use Rattle.ficus_model.specs.declared.event.Event.{Event}
+use Rattle.ficus_keep.specs.Kept.{found_in}
+use Rattle.ficus_keep.specs.Moments.{PairLeavesOld, PairSpans}
+use Rattle.ficus_keep.specs.Pairs.{PairLeft, PairWithin}
+use Rattle.ficus_keep.specs.declared.keep.Keep.{Ghosts as Keep}
+use Rattle.ficus_saved.specs.declared.saved.Saved.{Saved}
+use Rattle.ficus_script.specs.declared.answer.Answer.{Answer}
+use Rattle.ficus_script.specs.declared.command.Command.{Command}
+use Rattle.ficus_stable.specs.Holds.{Holds, HoldsOneBetween, HoldsOneOf}
+use Rattle.ficus_runs.specs.Numbered.{IsNumbered}
+use Rattle.ficus_runs.specs.Outcome.{Outcome}
+use Rattle.ficus_world.specs.declared.member.Member.{Member}
+use Rattle.ficus_world.specs.declared.member.MemberState.{MemberState}
+use Rattle.ficus_world.specs.declared.member.MemberState.TheVariants.{Up, Down}
+use Rattle.ficus_world.specs.declared.member.Pending.{Pending}
+use Rattle.ficus_world.specs.Moves.{Moves}
+use Rattle.ficus_world.specs.World.{IsWorld, Whole}
+
+-- Nothing is written on a pair: at no moment between these two states a crash leaves more than at the first of them.
+pub record PairRests {D : Type 0} (disk : Disk D) (old new : Pair D) : Type 0 where
+  pub within : PairWithin disk.may_leave old new
+  pub leaves : PairLeavesOld disk.moment disk.left_since disk.may_leave old new
+  pub spans : disk.tells_moments → PairSpans disk.moment disk.left_since old new
+
+-- of all pairs that of this number is touched alone, and nothing is written on it
+pub record RestsAt {D : Type 0} (disk : Disk D) (by : ℕ) (old new : List (Pair D)) : Type 0 where
+  pub was : Pair D
+  pub is : IsNumbered old by was
+  pub now : Pair D
+  pub set : new ≡ slice_set old (by - 1) now
+  pub rests : PairRests disk was now
+
+-- of all pairs that of this number is written alone: whatever a crash since then leaves of it holds what it held, or
+-- this
+pub record SavesOn {K D : Type 0} (keep : Keep K) (disk : Disk D) (by : ℕ) (next : Saved) (old new : List (Pair D)) :
+    Type 0 where
+  pub was : Pair D
+  pub is : IsNumbered old by was
+  pub now : Pair D
+  pub set : new ≡ slice_set old (by - 1) now
+  pub between : disk.tells → (saved : Saved) → Holds (found_in keep.kept disk.seen was) saved
+      → HoldsOneBetween keep.kept disk.moment disk.left_since was now (Some saved) (Some next)
+  pub spans : disk.tells_moments → PairSpans disk.moment disk.left_since was now
+
+-- a member that was up has saved this, and an event was stored; or it is down, with this pending, and none was
+abbrev pub IsSavedOr : Saved → Member → Member → List Event → List Event → Type 0
+IsSavedOr next was now old new =
+    ((now.replica.saved ≡ next) × (now.state ≡ Up) × (event : Event) × (new ≡ old ++ event ∷ []))
+    ⊎ ((now.replica.saved ≡ was.replica.saved) × (pending : Pending) × (now.state ≡ Down (Some pending))
+    × (pending.replica.saved ≡ next) × (new ≡ old))
+
+-- One member saves, or fails to: of all pairs its own is written alone, and at each moment a crash leaves what holds what
+-- it had saved, or what it saves.
+pub record WritesAt {K D : Type 0} (keep : Keep K) (disk : Disk D) (by : ℕ) (old new : Whole)
+    (old_disks new_disks : List (Pair D)) : Type 0 where
+  pub was : Member
+  pub is : IsNumbered old.members by was
+  pub up : was.state ≡ Up
+  pub next : Saved
+  pub now : Member
+  pub after : IsSavedOr next was now old.events new.events
+  pub above : next.generation ≡ was.replica.saved.generation + 1
+  pub set : new.members ≡ slice_set old.members (by - 1) now
+  pub pair : Pair D
+  pub is_pair : IsNumbered old_disks by pair
+  pub now_pair : Pair D
+  pub set_pair : new_disks ≡ slice_set old_disks (by - 1) now_pair
+  pub between : disk.tells → disk.tells_moments
+      → HoldsOneBetween keep.kept disk.moment disk.left_since pair now_pair (Some was.replica.saved) (Some next)
+  pub spans : disk.tells_moments → PairSpans disk.moment disk.left_since pair now_pair
+
+-- What a command that is no pull does to the disks: nothing; or room is taken on the disks of one member, or they are
+-- opened again or armed; or one member saves.
+pub data Touches {K D : Type 0} (keep : Keep K) (disk : Disk D) (old new : Whole) :
+    List (Pair D) → List (Pair D) → Type 0 where
+  TouchesNone : {disks : List (Pair D)} → Touches keep disk old new disks disks
+  TouchesOne : {by : ℕ} {disks now : List (Pair D)} → IsMember (length old.members) by → RestsAt disk by disks now
+      → Touches keep disk old new disks now
+  WritesOne : {by : ℕ} {disks now : List (Pair D)} → WritesAt keep disk by old new disks now
+      → Touches keep disk old new disks now
+
+-- what a member has saved, or what is pending
+abbrev pub latest : Saved → MemberState → Saved
+latest saved Up = saved
+latest saved (Down None) = saved
+latest saved (Down (Some pending)) = pending.replica.saved
+
+-- whatever a crash leaves of the disks holds what each member has saved, or what is pending
+pub record IsSettled {K D : Type 0} (keep : Keep K) (disk : Disk D) (world : Whole) (disks : List (Pair D)) :
+    Type 0 where
+  pub sound : IsWorld world
+  pub holds : disk.tells → (r : ℕ) (member : Member) (pair : Pair D) → IsNumbered world.members r member
+      → IsNumbered disks r pair
+      → HoldsOneOf keep.kept disk.may_leave pair (Some member.replica.saved)
+      (Some (latest member.replica.saved member.state))
+
+-- A world with its disks, from one moment to a later one, link by link. A link is what one command that is no pull, or
+-- one message of a pull, does; or the world stays as it is meanwhile.
+pub data Passes {K D : Type 0} (tells : Type 0) (keep : Keep K) (disk : Disk D) :
+    Whole → Whole → List (Pair D) → List (Pair D) → Type 0 where
+  Idles : {world : Whole} {old new : List (Pair D)} → IsSettled keep disk world old
+      → Touches keep disk world world old new → Passes tells keep disk world world old new
+  Links : {before after : Whole} {command : Command} {outcomes : List Outcome} {answer : Answer}
+      {old new : List (Pair D)} → IsSettled keep disk before old → IsSettled keep disk after new
+      → Moves tells disk.tells before command outcomes answer after
+      → Touches keep disk before after old new → Passes tells keep disk before after old new
+  Joins : {before middle after : Whole} {old mid new : List (Pair D)} → Passes tells keep disk before middle old mid
+      → Passes tells keep disk middle after mid new → Passes tells keep disk before after old new
+
+-- nothing is written on any pair
+pub record AllRest {D : Type 0} (disk : Disk D) (old new : List (Pair D)) : Type 0 where
+  pub count : length new ≡ length old
+  pub each : (r : ℕ) (was now : Pair D) → IsNumbered old r was → IsNumbered new r now → PairRests disk was now
+
+-- the pairs of no member stay as they are
+pub record OthersStay {D : Type 0} (count : ℕ) (old new : List (Pair D)) : Type 0 where
+  pub pairs : length new ≡ length old
+  pub each : (r : ℕ) (was now : Pair D) → count < r → IsNumbered old r was → IsNumbered new r now → now ≡ was
+
+-- nothing is written on the pairs of no member
+pub record OthersRest {D : Type 0} (disk : Disk D) (count : ℕ) (old new : List (Pair D)) : Type 0 where
+  pub pairs : length new ≡ length old
+  pub each : (r : ℕ) (was now : Pair D) → count < r → IsNumbered old r was → IsNumbered new r now
+      → PairRests disk was now
+
+-- what a read of each disk gives now, a crash might have left of it before
+pub record AreLeft {D : Type 0} (seen : D → List ℕ) (may_leave : D → List ℕ → Type 0) (old new : List (Pair D)) :
+    Type 0 where
+  pub count : length new ≡ length old
+  pub each : (r : ℕ) (was now : Pair D) → IsNumbered old r was → IsNumbered new r now
+      → PairLeft seen may_leave was now
