@@ -37,7 +37,8 @@ fn fits_entry(entry: &Entry, members: Members) -> bool
         && !(entry.dir == ATTIC && entry.is_live())
 }
 
-fn read_name(reader: &mut Reader<'_>) -> Result<Name, ReadFault>
+/// Reads a name: its length in one byte, and its bytes.
+pub fn read_name(reader: &mut Reader<'_>) -> Result<Name, ReadFault>
     ensures { Reads name reader.old result reader.new }
 {
     let bytes = reader.short_string()?;

@@ -19,7 +19,8 @@ use ficus_vv::{Standing, Vector};
 use std::alloc::Global;
 use std::cmp::Ordering;
 
-fn read_kind(reader: &mut Reader<'_>) -> Result<Kind, ReadFault>
+/// Reads a kind: its number in one byte.
+pub fn read_kind(reader: &mut Reader<'_>) -> Result<Kind, ReadFault>
     ensures { Reads kind reader.old result reader.new }
 {
     match reader.byte()? {

@@ -33,7 +33,7 @@ pub(crate) fn mark_over(to: &mut Vec<Mark>, at: usize, count: usize)
 }
 
 /// Writes one mark over so many places, and past the end.
-fn fill_over(to: &mut Vec<Mark>, at: usize, count: usize, mark: Mark)
+pub(crate) fn fill_over(to: &mut Vec<Mark>, at: usize, count: usize, mark: Mark)
     requires place { at ≤ vec_len to.old }
     requires room { at + count ≤ vec_capacity to.old }
     ensures items { to.new.items ≡ patch to.old.items at (replicate count mark) }
@@ -54,7 +54,7 @@ fn fill(marks: &mut [Mark], mark: Mark)
 }
 
 /// Puts the bytes in place of what is there.
-pub(crate) fn copy_over(to: &mut Vec<u8>, bytes: &[u8])
+fn copy_over(to: &mut Vec<u8>, bytes: &[u8])
     requires { length bytes.now ≤ vec_capacity to.old }
     ensures items { to.new.items ≡ bytes.now }
     ensures room { vec_capacity to.old ≤ vec_capacity to.new }

@@ -15,14 +15,14 @@ ghost use Rattle.ficus_world.specs.World.{WorldStandsFor, event_limit, most_even
 use crate::fault::AnsweringFault;
 use crate::put::put_all;
 use ficus_disk::{Disk, Pair};
-use ficus_keep::Keep;
+use ficus_keep::{Keep, KeepImages};
 use ficus_outside::{Link, Sink};
 use ficus_script::{Answer, Command, answer_text};
 use ficus_world::World;
 use std::alloc::Global;
 
 /// Carries out each command and puts its answer.
-pub fn answer_all<K: Sink, D: Disk, P: Keep + Drop, L: Link + Drop>(
+pub fn answer_all<K: Sink, D: Disk, P: Keep + KeepImages + Drop, L: Link + Drop>(
     alloc: Global,
     world: &mut World<P, L>,
     disks: &mut Vec<Pair<D>>,
@@ -60,7 +60,7 @@ pub fn answer_all<K: Sink, D: Disk, P: Keep + Drop, L: Link + Drop>(
 }
 
 // Carries out one command and puts its answer.
-fn answer_one<K: Sink, D: Disk, P: Keep + Drop, L: Link + Drop>(
+fn answer_one<K: Sink, D: Disk, P: Keep + KeepImages + Drop, L: Link + Drop>(
     alloc: Global,
     world: &mut World<P, L>,
     disks: &mut Vec<Pair<D>>,

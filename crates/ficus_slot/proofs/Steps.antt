@@ -1,5 +1,5 @@
 -- The three steps of a save: what each leaves where it is cut short, and where it is done.
-use Rattle.std.proofs.Common.{◌≡◌, ◌≢◌, inl, inr, ℕ, suc, ◌+◌, ◌^◌, ◌<◌, ◌≤◌, Bool, true, false, ◌&&◌, Option, Some, None, Result, Ok, Err, OnOk, OnErr, if◌then◌else◌, List, [], ◌∷◌, ◌++◌, length, drop, refl, sym, ◌∙◌, ap, subst, arith}
+use Rattle.std.proofs.Common.{◌≡◌, ◌≢◌, inl, inr, ℕ, suc, ◌+◌, ◌^◌, ◌<◌, ◌≤◌, Bool, true, false, ◌&&◌, None, if◌then◌else◌, List, [], ◌∷◌, ◌++◌, length, drop, refl, sym, ◌∙◌, ap, subst, arith}
 use Rattle.std.proofs.lemmas.Bool.{cases_eq}
 use Rattle.std.proofs.lemmas.Bool.Decides.{nat_tests}
 use Rattle.ficus_disk.specs.Bytes.{patch, Torn}
@@ -10,21 +10,8 @@ use Rattle.ficus_disk.specs.declared.fuse.Pick.TheVariants.{Synced, Written, One
 use Rattle.ficus_keep.specs.Fuses.{is_found}
 use Rattle.ficus_slot.specs.Gate.{GateIs, IsShut}
 use Rattle.ficus_slot.specs.Slot.{Saved, range_of, slot_in}
-use Rattle.ficus_slot.specs.Stays.{IsFound, IsOld, Stays}
-use Rattle.ficus_slot.proofs.Written.{slot_in-written}
-
--- facts of a result, by its variant
-pub on_err : {T E P : Type 0} (r : Result T E) → P → OnErr r P
-on_err (Ok x) p = tt
-on_err (Err e) p = p
-
-pub on_ok : {T E P Q : Type 0} (r : Result T E) → (P → Q) → OnOk r P → OnOk r Q
-on_ok (Ok x) f p = f p
-on_ok (Err e) f p = tt
-
-pub in_err : {T E P Q : Type 0} (r : Result T E) → (P → Q) → OnErr r P → OnErr r Q
-in_err (Ok x) f p = tt
-in_err (Err e) f p = f p
+use Rattle.ficus_slot.specs.Stays.{IsFound, IsNew, IsOld, Stays}
+use Rattle.ficus_slot.proofs.Written.{written_is_new}
 
 -- a shut gate, or none, is no slot
 shut_is_none : (c : List ℕ) → IsShut c → slot_in c ≡ None
@@ -50,13 +37,13 @@ torn_gate gate rest (h ∷ c) torn = let same : c ≡ rest = torn.after in (h, a
 
 -- the first step: the gate is shut, or stays so
 first_torn : (shut : Bool) (old c : List ℕ) → GateIs shut old → Torn (if shut then 1 else 0) 1 old c
-    → IsOld (slot_in old) c
+    → IsOld old c
 first_torn true old c gate torn = inl (shut_is_none c (torn_behind 1 old c gate torn))
 first_torn false [] c gate torn = inl (short_is_none c (omega (arith, torn.no_longer)))
 first_torn false (g ∷ old) c gate torn =
     let is = torn_gate g old c torn in
     elim (cases_eq is.0 1) [
-      | inl open_gate ↦ inr (let same : c ≡ g ∷ old = is.1 ∙ ap (λ (h : ℕ). h ∷ old) (open_gate ∙ sym gate) in ap slot_in same)
+      | inl open_gate ↦ inr (is.1 ∙ ap (λ (h : ℕ). h ∷ old) (open_gate ∙ sym gate))
       | inr shut ↦ inl (ap slot_in is.1 ∙ shut_is_none (is.0 ∷ old) shut)
     ]
 
@@ -81,7 +68,7 @@ abbrev pub Begun : ℕ → ℕ → (List ℕ → Type 0) → List ℕ → Type 0
 Begun at n may c = (d : List ℕ) × may d × Torn at n d c
 
 pub first_step : (shut : Bool) (first : ℕ) (old : List ℕ) (may : List ℕ → Type 0) → first ≡ (if shut then 1 else 0)
-    → Only old may → GateIs shut old → (c : List ℕ) → Begun first 1 may c → IsOld (slot_in old) c
+    → Only old may → GateIs shut old → (c : List ℕ) → Begun first 1 may c → IsOld old c
 first_step shut first old may is only gate c left =
     let torn = subst (λ (l : List ℕ). Torn first 1 l c) (only left.0 left.1) left.2 in
     first_torn shut old c gate (subst (λ (n : ℕ). Torn n 1 old c) is torn)
@@ -91,7 +78,7 @@ pub first_done : (shut : Bool) (first : ℕ) (old mid : List ℕ) → first ≡ 
 first_done shut first old mid is written gate =
     subst IsShut (ap (λ (n : ℕ). patch old n (0 ∷ [])) (sym is) ∙ sym written) (first_written shut old gate)
 
-pub second_step : (n : ℕ) (old : Option Saved) (mid : List ℕ) (may : List ℕ → Type 0) → Only mid may → IsShut mid
+pub second_step : (n : ℕ) (old mid : List ℕ) (may : List ℕ → Type 0) → Only mid may → IsShut mid
     → (c : List ℕ) → Begun 1 n may c → IsOld old c
 second_step n old mid may only shut c left =
     inl (shut_is_none c (torn_behind n mid c shut (subst (λ (l : List ℕ). Torn 1 n l c) (only left.0 left.1) left.2)))
@@ -119,34 +106,34 @@ module _ (saved : Saved) (small : saved.generation < 2 ^ 64) (fits : length save
   abbrev range : List ℕ
   range = range_of saved.generation saved.body
 
-  third_torn : (old : Option Saved) (rest c : List ℕ) (g : ℕ) → Torn 0 1 (g ∷ (range ++ rest)) c → Stays old saved c
+  third_torn : (old rest c : List ℕ) (g : ℕ) → Torn 0 1 (g ∷ (range ++ rest)) c → Stays old saved c
   third_torn old rest c g torn =
       let is = torn_gate g (range ++ rest) c torn in
       elim (cases_eq is.0 1) [
-        | inl open_gate ↦ inr (ap slot_in (is.1 ∙ ap (λ (h : ℕ). h ∷ (range ++ rest)) open_gate)
-            ∙ slot_in-written saved.generation saved.body rest small fits)
+        | inl open_gate ↦ inr (written_is_new saved.generation saved.body rest small fits c
+            (is.1 ∙ ap (λ (h : ℕ). h ∷ (range ++ rest)) open_gate))
         | inr shut ↦ inl (inl (ap slot_in is.1 ∙ shut_is_none (is.0 ∷ (range ++ rest)) shut))
       ]
 
   -- what a pick leaves where it has begun
-  third_picked : (old : Option Saved) (rest : List ℕ) (g : ℕ) (pick : Pick) → g ≢ 1
+  third_picked : (old rest : List ℕ) (g : ℕ) (pick : Pick) → g ≢ 1
       → IsFound (is_found pick) old saved (picked pick (g ∷ (range ++ rest)) 0 (1 ∷ []))
   third_picked old rest g Synced shut = inl (shut_is_none (g ∷ (range ++ rest)) shut)
-  third_picked old rest g Written shut = slot_in-written saved.generation saved.body rest small fits
-  third_picked old rest g Ones shut = slot_in-written saved.generation saved.body rest small fits
+  third_picked old rest g Written shut = written_is_new saved.generation saved.body rest small fits _ refl
+  third_picked old rest g Ones shut = written_is_new saved.generation saved.body rest small fits _ refl
   third_picked old rest g Halves shut = inl (shut_is_none (255 ∷ (range ++ rest)) (λ is. absurd (omega arith)))
 
-  pub third_step : (old : Option Saved) (last : List ℕ) (may : List ℕ → Type 0) → Only last may → IsReady saved last
+  pub third_step : (old last : List ℕ) (may : List ℕ → Type 0) → Only last may → IsReady saved last
       → (c : List ℕ) → Begun 0 1 may c → Stays old saved c
   third_step old last may only ready c left =
       third_torn old ready.rest c ready.gate (subst (λ (l : List ℕ). Torn 0 1 l c) (only left.0 left.1 ∙ ready.is) left.2)
 
-  pub third_done : (last new : List ℕ) → IsReady saved last → new ≡ patch last 0 (1 ∷ []) → slot_in new ≡ Some saved
+  pub third_done : (last new : List ℕ) → IsReady saved last → new ≡ patch last 0 (1 ∷ []) → IsNew saved new
   third_done last new ready written =
-      ap slot_in (written ∙ ap (λ (l : List ℕ). patch l 0 (1 ∷ [])) ready.is)
-      ∙ slot_in-written saved.generation saved.body ready.rest small fits
+      written_is_new saved.generation saved.body ready.rest small fits new
+      (written ∙ ap (λ (l : List ℕ). patch l 0 (1 ∷ [])) ready.is)
 
-  pub third_pick : (old : Option Saved) (pick : Pick) (last image new : List ℕ) (may : List ℕ → Type 0)
+  pub third_pick : (old : List ℕ) (pick : Pick) (last image new : List ℕ) (may : List ℕ → Type 0)
       → IsReady saved last → Only last may → may image → new ≡ picked pick image 0 (1 ∷ [])
       → IsFound (is_found pick) old saved new
   third_pick old pick last image new may ready only leaves is =
@@ -155,12 +142,12 @@ module _ (saved : Saved) (small : saved.generation < 2 ^ 64) (fits : length save
       (third_picked old ready.rest ready.gate pick ready.shut)
 
 -- what is found is decided by the calls that passed, and by the pick
-pub early : (b found : Bool) (old : Option Saved) (saved : Saved) (c : List ℕ) → b ≡ false → IsOld old c
+pub early : (b found : Bool) (old : List ℕ) (saved : Saved) (c : List ℕ) → b ≡ false → IsOld old c
     → IsFound (b && found) old saved c
 early false found old saved c is p = p
 early true found old saved c is p = absurd (cc)
 
-pub late : (b found : Bool) (old : Option Saved) (saved : Saved) (c : List ℕ) → b ≡ true → IsFound found old saved c
+pub late : (b found : Bool) (old : List ℕ) (saved : Saved) (c : List ℕ) → b ≡ true → IsFound found old saved c
     → IsFound (b && found) old saved c
 late false found old saved c is p = absurd (cc)
 late true found old saved c is p = p

@@ -1,10 +1,13 @@
 -- A slot as it is written.
-use Rattle.std.proofs.Common.{◌≡◌, ℕ, ◌+◌, ◌^◌, ◌<◌, ◌≤◌, true, Some, List, ◌∷◌, ◌++◌, length, take, drop, refl, sym, ◌∙◌, ap, arith, append_assoc, length-append}
+use Rattle.std.proofs.Common.{◌≡◌, ℕ, ◌+◌, ◌^◌, ◌<◌, ◌≤◌, inl, inr, true, Some, None, List, [], ◌∷◌, ◌++◌, length, take, drop, refl, sym, ◌∙◌, ap, arith, append_assoc, length-append}
 use Rattle.std.proofs.lemmas.List.{take_at, drop_at}
 use Rattle.std.proofs.lemmas.Nat.{from_be_bytes-to_be_bytes_8}
+use Rattle.std.proofs.lemmas.Bool.{cases_eq}
 use Rattle.std.proofs.lemmas.Bool.Decides.{nat_tests}
 use Rattle.std.specs.Int.{w64, to_be_bytes, from_be_bytes}
-use Rattle.ficus_slot.specs.Slot.{is_whole, number_of, range_of, slot_in, spelled}
+use Rattle.ficus_slot.specs.Gate.{IsOpenOrNone}
+use Rattle.ficus_slot.specs.Slot.{Saved, is_whole, number_of, range_of, slot_in, spelled}
+use Rattle.ficus_slot.specs.Stays.{IsNew}
 
 length-spelled : (n : ℕ) → length (spelled n) ≡ 8
 unfolding spelled
@@ -57,3 +60,36 @@ module _ (generation : ℕ) (body rest : List ℕ) (small : generation < 2 ^ 64)
       ap (λ (n : ℕ). take n (drop 16 (range_of generation body ++ rest))) counts
       ∙ ap (λ (l : List ℕ). take (length body) l) drops_16 ∙ take_at body (0 ∷ rest) (length body) refl in
       rw (whole, names, picked) refl
+
+  -- and its tail is closed
+  pub tail-written : drop (17 + length body) (1 ∷ (range_of generation body ++ rest)) ≡ 0 ∷ rest
+  tail-written =
+      let front : List ℕ = spelled generation ++ spelled (length body) ++ body in
+      let whole : List ℕ = 1 ∷ front in
+      let counts : length whole ≡ 17 + length body =
+      omega (
+        arith,
+        length-append (spelled generation ++ spelled (length body)) body,
+        length-append (spelled generation) (spelled (length body)),
+        length-spelled generation,
+        length-spelled (length body),
+      ) in
+      ap (λ (l : List ℕ). drop (17 + length body) (1 ∷ l)) (append_assoc front (0 ∷ []) rest)
+      ∙ drop_at whole (0 ∷ rest) (17 + length body) counts
+
+  -- so the bytes are the slot
+  pub written_is_new : (c : List ℕ) → c ≡ 1 ∷ (range_of generation body ++ rest)
+      → IsNew (record { generation = generation; body = body }) c
+  written_is_new c is = record {
+    is = ap slot_in is ∙ slot_in-written;
+    more = rest;
+    tail = ap (λ (l : List ℕ). drop (17 + length body) l) is ∙ tail-written;
+  }
+
+-- a slot has an open gate
+pub open_of : (bytes : List ℕ) (saved : Saved) → slot_in bytes ≡ Some saved → IsOpenOrNone bytes
+open_of [] saved is = tt
+open_of (gate ∷ rest) saved is = elim (cases_eq gate 1) [
+  | inl one ↦ one
+  | inr other ↦ absurd (let none : slot_in (gate ∷ rest) ≡ None = grind (arith, nat_tests) in cc)
+]

@@ -1,16 +1,22 @@
 -- What a save leaves of a slot where it is cut short.
-use Rattle.std.specs.Prelude.{◌≡◌, ◌⊎◌, ℕ, Bool, true, false, List, Option, Some, None}
+use Rattle.std.specs.Prelude.{◌≡◌, ◌⊎◌, ◌+◌, ℕ, Bool, true, false, List, ◌∷◌, length, drop, Some, None}
 use Rattle.ficus_slot.specs.Slot.{Saved, slot_in}
 
--- no slot, or the one from before
-abbrev pub IsOld : Option Saved → List ℕ → Type 0
-IsOld old c = (slot_in c ≡ None) ⊎ (slot_in c ≡ old)
+-- the bytes are this slot, and its tail is closed
+pub record IsNew (saved : Saved) (c : List ℕ) : Type 0 where
+  pub is : slot_in c ≡ Some saved
+  pub more : List ℕ
+  pub tail : drop (17 + length saved.body) c ≡ 0 ∷ more
 
--- no slot, the one from before, or the new one
-abbrev pub Stays : Option Saved → Saved → List ℕ → Type 0
-Stays old saved c = IsOld old c ⊎ (slot_in c ≡ Some saved)
+-- no slot, or the bytes from before
+abbrev pub IsOld : List ℕ → List ℕ → Type 0
+IsOld old c = (slot_in c ≡ None) ⊎ (c ≡ old)
 
--- the new one where it is found, and else no slot or the one from before
-abbrev pub IsFound : Bool → Option Saved → Saved → List ℕ → Type 0
-IsFound true old saved c = slot_in c ≡ Some saved
+-- no slot, the bytes from before, or the new slot
+abbrev pub Stays : List ℕ → Saved → List ℕ → Type 0
+Stays old saved c = IsOld old c ⊎ IsNew saved c
+
+-- the new slot where it is found, and else no slot or the bytes from before
+abbrev pub IsFound : Bool → List ℕ → Saved → List ℕ → Type 0
+IsFound true old saved c = IsNew saved c
 IsFound false old saved c = IsOld old c

@@ -3,8 +3,10 @@
 
 mod range;
 mod reading;
+mod room;
 mod saving;
 
 pub use range::save_range;
-pub use reading::{Slot, is_shut, read_all, read_slot};
+pub use reading::{Slot, is_shut, read_all, read_number, read_slot};
+pub use room::reserve_range;
 pub use saving::save_slot;

@@ -23,9 +23,9 @@ pub record MayFollow {K D : Type 0} (kept : List ℕ → List ℕ → Option Kep
   pub above : next.generation ≡ saved.generation + 1
 
 -- the image of this is built, and the keeper and both disks have room for it
-pub record IsPrepared {K D : Type 0} (buffered : K → ℕ → ℕ) (room : K → ℕ) (size_of : K → ℕ → ℕ) (disk_room : D → ℕ)
+pub record IsPrepared {K D : Type 0} (Takes : K → ℕ → Type 0) (size_of : K → ℕ → ℕ) (disk_room : D → ℕ)
     (stable : Stable K) (pair : Pair D) (next : Saved) : Type 0 where
   pub image : stable.image.items ≡ image_bytes next
-  pub buffer : buffered stable.keeper (length (image_bytes next)) ≤ room stable.keeper
+  pub takes : Takes stable.keeper (length (image_bytes next))
   pub room_a : size_of stable.keeper (length (image_bytes next)) ≤ disk_room pair.a
   pub room_b : size_of stable.keeper (length (image_bytes next)) ≤ disk_room pair.b

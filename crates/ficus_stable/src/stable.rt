@@ -17,7 +17,7 @@ use ficus_disk::{Disk, Pair};
 use ficus_faults::Failed;
 use ficus_ids::Memory;
 use ficus_image::{encode_image, put_image};
-use ficus_keep::{Keep, MakeFault, Opened, StoreFault, reopen};
+use ficus_keep::{Keep, KeepImages, MakeFault, Opened, StoreFault, reopen};
 use std::alloc::Global;
 
 /// A keeper, with the image that it saves next. Whatever stops a save, the disks hold what was saved before it, or what
@@ -36,7 +36,7 @@ pub struct Recovered<K> {
     pub saved: Saved,
 }
 
-impl<K: Keep + Drop> Stable<K> {
+impl<K: Keep + KeepImages + Drop> Stable<K> {
     /// Saves what a replica begins with on two empty disks.
     pub fn make<D: Disk>(alloc: Global, disks: &mut Pair<D>, saved: &Saved) -> Result<(), MakeFault>
         requires fits { FitsImage saved.now }
@@ -130,7 +130,7 @@ impl<K: Keep + Drop> Stable<K> {
     /// where memory is refused.
     pub fn prepare<D: Disk>(&mut self, disks: &mut Pair<D>, next: &Saved) -> Result<(), Memory>
         requires fits { FitsImage next.now }
-        ensures prepared { OnOk result (IsPrepared K.buffered K.room K.size_of D.room self.new disks.new next.now) }
+        ensures prepared { OnOk result (IsPrepared K.Takes K.size_of D.room self.new disks.new next.now) }
         ensures ready { D.tells → (saved : SavedValue)
             → IsReady K.kept K.fits D.seen D.may_leave self.old disks.old saved
             → IsReady K.kept K.fits D.seen D.may_leave self.new disks.new saved }
@@ -150,7 +150,7 @@ impl<K: Keep + Drop> Stable<K> {
     /// Saves what was prepared, in place of what the disks hold. Takes no memory. After one that fails nothing is
     /// promised of the keeper, and one of the two is held.
     pub fn commit<D: Disk>(&mut self, disks: &mut Pair<D>, next: &Saved) -> Result<(), Failed>
-        requires prepared { IsPrepared K.buffered K.room K.size_of D.room self.old disks.old next.now }
+        requires prepared { IsPrepared K.Takes K.size_of D.room self.old disks.old next.now }
         requires follows { D.tells → MayFollow K.kept K.fits D.seen D.may_leave self.old disks.old next.now }
         ensures ready { D.tells → OnOk result (
             IsReady K.kept K.fits D.seen D.may_leave self.new disks.new next.now) }
@@ -182,7 +182,7 @@ impl<K: Keep + Drop> Stable<K> {
 }
 
 // What was opened, and its keeper.
-fn recover<K: Keep + Drop>(
+fn recover<K: Keep + KeepImages + Drop>(
     alloc: Global,
     keeper: K,
     opened: &Opened,

@@ -7,7 +7,7 @@ ghost use Rattle.ficus_stable.specs.Stable.{MayFollow};
 use crate::images::{FIRST, FRESH, SECOND, THIRD, spelled};
 use ficus_disk::{Disk, MemDisk, Pair, TraceDisk};
 use ficus_image::encode_image;
-use ficus_keep::{Keep, MakeFault, StoreFault};
+use ficus_keep::{Keep, KeepImages, MakeFault, StoreFault};
 use ficus_saved::Saved;
 use ficus_stable::Stable;
 use ficus_store::TwoSlot;
@@ -15,7 +15,7 @@ use std::alloc::Global;
 use std::test::Fail;
 
 // Makes it on two empty disks, where it is of generation 0.
-fn makes_first<K: Keep + Drop, D: Disk>(
+fn makes_first<K: Keep + KeepImages + Drop, D: Disk>(
     alloc: Global,
     disks: &mut Pair<D>,
     saved: &Saved,
@@ -32,7 +32,7 @@ fn makes_first<K: Keep + Drop, D: Disk>(
 }
 
 /// Makes what the bytes spell on two empty disks; whether that was done.
-pub(crate) fn makes<K: Keep + Drop, D: Disk>(
+pub(crate) fn makes<K: Keep + KeepImages + Drop, D: Disk>(
     alloc: Global,
     disks: &mut Pair<D>,
     bytes: &[u8],
@@ -68,7 +68,7 @@ fn arm<D: Disk>(disks: &mut Pair<D>, stop: Option<Stop>)
 }
 
 // Saves what follows what the disks hold, with both armed once it is prepared; whether that was done.
-fn commits<K: Keep + Drop, D: Disk>(
+fn commits<K: Keep + KeepImages + Drop, D: Disk>(
     stable: &mut Stable<K>,
     disks: &mut Pair<D>,
     next: &Saved,
@@ -84,7 +84,7 @@ fn commits<K: Keep + Drop, D: Disk>(
 }
 
 // Opens the disks and saves what follows what they hold; whether that was done.
-fn saves_next<K: Keep + Drop, D: Disk>(
+fn saves_next<K: Keep + KeepImages + Drop, D: Disk>(
     alloc: Global,
     disks: &mut Pair<D>,
     next: &Saved,
@@ -101,7 +101,7 @@ fn saves_next<K: Keep + Drop, D: Disk>(
 }
 
 /// Opens the disks and saves what the bytes spell, behind what they hold; whether that was done.
-pub(crate) fn saves<K: Keep + Drop, D: Disk>(
+pub(crate) fn saves<K: Keep + KeepImages + Drop, D: Disk>(
     alloc: Global,
     disks: &mut Pair<D>,
     bytes: &[u8],
@@ -121,7 +121,7 @@ fn is_spelled(alloc: Global, saved: &Saved, bytes: &[u8]) -> Result<bool, StoreF
 }
 
 /// Whether the disks, opened anew, hold what the bytes spell.
-pub(crate) fn holds<K: Keep + Drop, D: Disk>(
+pub(crate) fn holds<K: Keep + KeepImages + Drop, D: Disk>(
     alloc: Global,
     disks: &mut Pair<D>,
     bytes: &[u8],

@@ -1,37 +1,11 @@
 -- What is in force after a commit on one of the disks.
-use Rattle.std.proofs.Common.{◌≡◌, ◌⊎◌, inl, inr, ℕ, ◌+◌, ◌%◌, ◌==◌, ◌<◌, Bool, true, false, Option, Some, None, Result, Ok, Err, OnOk, OnErr, is_ok, if◌then◌else◌, List, [], ◌∷◌, refl, sym, ◌∙◌, ap, arith}
-use Rattle.std.proofs.lemmas.Bool.{cases_eq}
+use Rattle.std.proofs.Common.{◌≡◌, ◌⊎◌, inl, inr, ℕ, ◌+◌, ◌%◌, ◌==◌, ◌<◌, Bool, true, false, Option, Some, None, if◌then◌else◌, List, refl, sym, ◌∙◌, ap, arith}
 use Rattle.std.proofs.lemmas.Bool.Decides.{nat_tests}
 use Rattle.ficus_keep.specs.Kept.{image_alone}
-use Rattle.ficus_slot.specs.Gate.{IsOpenOrNone}
 use Rattle.ficus_slot.specs.Slot.{Saved, slot_in}
-use Rattle.ficus_slot.specs.Stays.{IsFound, Stays}
+use Rattle.ficus_slot.specs.Stays.{IsFound, IsOld, Stays}
+use Rattle.ficus_slot.proofs.Written.{open_of}
 use Rattle.ficus_store.specs.Slots.{IsRegular, Stands, greater, kept_in, kept_slot}
-
--- facts of a result, by its variant
-pub on_ok : {T E P Q R : Type 0} (r : Result T E) → (P → Q → R) → OnOk r P → OnOk r Q → OnOk r R
-on_ok (Ok x) f p q = f p q
-on_ok (Err e) f p q = tt
-
-pub on_ok_alone : {T E P Q : Type 0} (r : Result T E) → (P → Q) → OnOk r P → OnOk r Q
-on_ok_alone (Ok x) f p = f p
-on_ok_alone (Err e) f p = tt
-
-pub of_ok : {T E P : Type 0} (r : Result T E) → OnOk r P → is_ok r ≡ true → P
-of_ok (Ok x) p is = p
-of_ok (Err e) p is = absurd (cc)
-
-pub of_err : {T E P : Type 0} (r : Result T E) → OnErr r P → is_ok r ≡ false → P
-of_err (Ok x) p is = absurd (cc)
-of_err (Err e) p is = p
-
--- a slot has an open gate
-open_of : (bytes : List ℕ) (saved : Saved) → slot_in bytes ≡ Some saved → IsOpenOrNone bytes
-open_of [] saved is = tt
-open_of (gate ∷ rest) saved is = elim (cases_eq gate 1) [
-  | inl one ↦ one
-  | inr other ↦ absurd (let none : slot_in (gate ∷ rest) ≡ None = grind (arith, nat_tests) in cc)
-]
 
 -- the greater generation is in force
 second_wins : (x y : Option Saved) (old new : Saved) → x ≡ Some old → y ≡ Some new → old.generation < new.generation
@@ -64,6 +38,11 @@ still_loses : (x y : Option Saved) (bound : ℕ) → (y ≡ None) ⊎ (y ≡ x) 
     → (z : Saved) → y ≡ Some z → z.generation < bound
 still_loses x y bound (inl none) loses z is = absurd (cc)
 still_loses x y bound (inr same) loses z is = loses z (sym same ∙ is)
+
+-- the old slot, or none
+as_slots : (old c : List ℕ) → IsOld old c → (slot_in c ≡ None) ⊎ (slot_in c ≡ slot_in old)
+as_slots old c (inl none) = inl none
+as_slots old c (inr same) = inr (ap slot_in same)
 
 abbrev generation_in : Option Saved → ℕ
 generation_in None = 0
@@ -109,22 +88,22 @@ module _ (generation new : ℕ) (shut : Bool) (a b body : List ℕ) (next : new 
       gate = open_of a (saved_as generation stands.body) stands.in_force;
     }
 
-    pub found_on_b : (found : Bool) (x y : List ℕ) → x ≡ a → IsFound found (slot_in b) (saved_as new body) y
+    pub found_on_b : (found : Bool) (x y : List ℕ) → x ≡ a → IsFound found b (saved_as new body) y
         → kept_in x y ≡ (if found then Some (image_alone new body) else kept_in a b)
     found_on_b true x y same is = ap kept_slot (second_wins (slot_in x) (slot_in y) (saved_as generation stands.body)
-        (saved_as new body) (ap slot_in same ∙ stands.in_force) is (omega arith))
+        (saved_as new body) (ap slot_in same ∙ stands.in_force) is.is (omega arith))
     found_on_b false x y same is =
         ap kept_slot (stays_first (saved_as generation stands.body) (slot_in x) (slot_in y) (ap slot_in same ∙ stands.in_force)
-        (still_loses (slot_in b) (slot_in y) (generation + 1) is stands.loses))
+        (still_loses (slot_in b) (slot_in y) (generation + 1) (as_slots b y is) stands.loses))
         ∙ sym (kept_before_b generation shut a b stands)
 
-    pub regular_on_b : IsRegular a b → (x y : List ℕ) → x ≡ a → Stays (slot_in b) (saved_as new body) y → IsRegular x y
+    pub regular_on_b : IsRegular a b → (x y : List ℕ) → x ≡ a → Stays b (saved_as new body) y → IsRegular x y
     regular_on_b regular x y same stays = record {
       even = λ saved is. regular.even saved (ap slot_in (sym same) ∙ is);
       odd = λ saved is. elim stays [
-        | inl old ↦ elim old [ inl none ↦ absurd (cc) | inr before ↦ regular.odd saved (sym before ∙ is) ]
+        | inl old ↦ elim old [ inl none ↦ absurd (cc) | inr before ↦ regular.odd saved (sym (ap slot_in before) ∙ is) ]
         | inr now ↦
-            let number : new ≡ saved.generation = ap generation_in (sym now ∙ is) in
+            let number : new ≡ saved.generation = ap generation_in (sym now.is ∙ is) in
             let even : generation % 2 ≡ 0 = regular.even _ stands.in_force in
             omega arith
       ];
@@ -144,21 +123,21 @@ module _ (generation new : ℕ) (shut : Bool) (a b body : List ℕ) (next : new 
       gate = open_of b (saved_as generation stands.body) stands.in_force;
     }
 
-    pub found_on_a : (found : Bool) (x y : List ℕ) → y ≡ b → IsFound found (slot_in a) (saved_as new body) x
+    pub found_on_a : (found : Bool) (x y : List ℕ) → y ≡ b → IsFound found a (saved_as new body) x
         → kept_in x y ≡ (if found then Some (image_alone new body) else kept_in a b)
     found_on_a true x y same is = ap kept_slot (first_wins (slot_in x) (slot_in y) (saved_as generation stands.body)
-        (saved_as new body) is (ap slot_in same ∙ stands.in_force) (omega arith))
+        (saved_as new body) is.is (ap slot_in same ∙ stands.in_force) (omega arith))
     found_on_a false x y same is =
         ap kept_slot (stays_second (saved_as generation stands.body) (slot_in x) (slot_in y) (ap slot_in same ∙ stands.in_force)
-        (still_loses (slot_in a) (slot_in x) generation is stands.loses))
+        (still_loses (slot_in a) (slot_in x) generation (as_slots a x is) stands.loses))
         ∙ sym (kept_before_a generation shut a b stands)
 
-    pub regular_on_a : IsRegular a b → (x y : List ℕ) → y ≡ b → Stays (slot_in a) (saved_as new body) x → IsRegular x y
+    pub regular_on_a : IsRegular a b → (x y : List ℕ) → y ≡ b → Stays a (saved_as new body) x → IsRegular x y
     regular_on_a regular x y same stays = record {
       even = λ saved is. elim stays [
-        | inl old ↦ elim old [ inl none ↦ absurd (cc) | inr before ↦ regular.even saved (sym before ∙ is) ]
+        | inl old ↦ elim old [ inl none ↦ absurd (cc) | inr before ↦ regular.even saved (sym (ap slot_in before) ∙ is) ]
         | inr now ↦
-            let number : new ≡ saved.generation = ap generation_in (sym now ∙ is) in
+            let number : new ≡ saved.generation = ap generation_in (sym now.is ∙ is) in
             let odd : generation % 2 ≡ 1 = regular.odd _ stands.in_force in
             omega arith
       ];

@@ -6,10 +6,10 @@ use Rattle.ficus_disk.specs.declared.fuse.Pick.{Pick}
 use Rattle.ficus_disk.specs.declared.pair.Pair.{Pair}
 use Rattle.ficus_keep.specs.Fuses.{Fuses, FusedSave, after_calls, after_save, finds, fuses_of, lasts, on_side}
 use Rattle.ficus_keep.specs.Kept.{image_alone}
-use Rattle.ficus_slot.specs.Slot.{slot_in}
+use Rattle.ficus_keep.proofs.Results.{of_err, of_ok}
 use Rattle.ficus_slot.specs.Stays.{IsFound}
 use Rattle.ficus_store.specs.Slots.{IsRegular, Stands, kept_in}
-use Rattle.ficus_store.proofs.Commits.{after_even, after_odd, found_on_a, found_on_b, of_err, of_ok}
+use Rattle.ficus_store.proofs.Commits.{after_even, after_odd, found_on_a, found_on_b}
 
 module _ {D T E : Type 0} (seen : D → List ℕ) (image : D → Pick → List ℕ) (fuse : D → Fuse) (generation new : ℕ)
     (shut : Bool) (body : List ℕ) (old : Pair D) (d : D) (r : Result T E) (next : new ≡ generation + 1)
@@ -18,7 +18,7 @@ module _ {D T E : Type 0} (seen : D → List ℕ) (image : D → Pick → List �
   pub fused_on_b : Stands generation (generation + 1) shut (seen old.a) (seen old.b)
       → image old.a (pick_of (fuse old.a)) ≡ seen old.a → is_ok r ≡ lasts 6 (fuse old.b)
       → OnOk r (fuse d ≡ after_calls 6 (fuse old.b)) → OnErr r (pick_of (fuse d) ≡ pick_of (fuse old.b))
-      → OnErr r (IsFound (finds 6 (fuse old.b)) (slot_in (seen old.b)) (record { generation = new; body = body })
+      → OnErr r (IsFound (finds 6 (fuse old.b)) (seen old.b) (record { generation = new; body = body })
       (image d (pick_of (fuse old.b))))
       → FusedSave kept_in seen image fuse 6 (new % 2 == 0) old (record { a = old.a; b = d }) (is_ok r)
       (Some (image_alone new body))
@@ -41,7 +41,7 @@ module _ {D T E : Type 0} (seen : D → List ℕ) (image : D → Pick → List �
   pub fused_on_a : Stands generation generation shut (seen old.b) (seen old.a)
       → image old.b (pick_of (fuse old.b)) ≡ seen old.b → is_ok r ≡ lasts 6 (fuse old.a)
       → OnOk r (fuse d ≡ after_calls 6 (fuse old.a)) → OnErr r (pick_of (fuse d) ≡ pick_of (fuse old.a))
-      → OnErr r (IsFound (finds 6 (fuse old.a)) (slot_in (seen old.a)) (record { generation = new; body = body })
+      → OnErr r (IsFound (finds 6 (fuse old.a)) (seen old.a) (record { generation = new; body = body })
       (image d (pick_of (fuse old.a))))
       → FusedSave kept_in seen image fuse 6 (new % 2 == 0) old (record { a = d; b = old.b }) (is_ok r)
       (Some (image_alone new body))

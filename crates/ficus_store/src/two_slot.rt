@@ -7,8 +7,8 @@ use crate::choosing::{Choice, choose};
 use ficus_disk::{Disk, Pair};
 use ficus_faults::Failed;
 use ficus_ids::{Listed, Memory};
-use ficus_keep::{Keep, MakeFault, Opened, StoreFault, Wants};
-use ficus_slot::{read_all, save_slot};
+use ficus_keep::{Keep, KeepImages, MakeFault, Opened, StoreFault, Wants};
+use ficus_slot::{read_all, reserve_range, save_slot};
 use std::alloc::Global;
 
 /// A keeper with one slot on each disk of a pair. It always wants an image, and keeps no records.
@@ -24,7 +24,7 @@ pub struct TwoSlot {
 }
 
 impl Keep for TwoSlot {
-    ghost use Rattle.std.specs.Prelude.{◌+◌, true, refl};
+    ghost use Rattle.std.specs.Prelude.{◌+◌, ◌≤◌, true, refl};
     ghost use Rattle.ficus_slot.specs.Slot.{range_size};
     ghost use Rattle.ficus_store.specs.Slots.{IsRegular, calls_of_slots, kept_in, lies_on_a};
     ghost use Rattle.ficus_store.specs.TwoSlot.{Fits, room_in};
@@ -35,9 +35,7 @@ impl Keep for TwoSlot {
 
     ghost wants_image = { λ _. true };
 
-    ghost room = { room_in };
-
-    ghost buffered = { λ _ length. range_size + length };
+    ghost Takes = { λ keeper length. range_size + length ≤ room_in keeper };
 
     ghost size_of = { λ _ length. 1 + range_size + length };
 
@@ -49,11 +47,9 @@ impl Keep for TwoSlot {
 
     ghost none_at_first = { refl };
 
-    ghost only_images = { λ _. refl };
-
     fn make<D: Disk>(alloc: Global, disks: &mut Pair<D>, image: &[u8]) -> Result<(), MakeFault> {
         let mut buffer = Vec::new(alloc);
-        reserve(&mut buffer, image.len() as u64)?;
+        reserve_range(&mut buffer, image.len() as u64)?;
         disks.a.reserve(image.len() as u64 + 18)?;
         save_slot(&mut disks.a, &mut buffer, false, 0, image)?;
         Ok(())
@@ -75,7 +71,7 @@ impl Keep for TwoSlot {
     }
 
     fn prepare<D: Disk>(&mut self, disks: &mut Pair<D>, length: u64) -> Result<(), Memory> {
-        reserve(&mut self.buffer, length)?;
+        reserve_range(&mut self.buffer, length)?;
         disks.a.reserve(length + 18)?;
         disks.b.reserve(length + 18)
     }
@@ -100,17 +96,10 @@ impl Keep for TwoSlot {
     }
 }
 
-// Room for what goes to a disk behind the gate, with a body of so many bytes, in place of what the buffer holds.
-fn reserve(buffer: &mut Vec<u8>, length: u64) -> Result<(), Memory>
-    ensures room { OnOk result (17 + length ≤ vec_capacity buffer.new) }
-    ensures small { OnOk result (length ≤ 2 ^ 60) }
-{
-    if length > 1 << 60 {
-        return Err(Memory);
-    }
-    buffer.clear();
-    buffer.reserve(length as usize + 17)?;
-    Ok(())
+impl KeepImages for TwoSlot {
+    ghost use Rattle.std.specs.Prelude.{refl};
+
+    ghost only_images = { λ _. refl };
 }
 
 // The keeper of the slot in force, and what it keeps.

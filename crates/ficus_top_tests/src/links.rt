@@ -6,7 +6,7 @@ ghost use Rattle.ficus_world.specs.Disks.{AreDisksOf};
 use crate::disks::pairs;
 use ficus_disk::{Disk, FailDisk, Pair};
 use ficus_ids::Members;
-use ficus_keep::Keep;
+use ficus_keep::{Keep, KeepImages};
 use ficus_outside::{FailLink, Link, MemLink, MemSink};
 use ficus_script::read_script;
 use ficus_store::TwoSlot;
@@ -16,7 +16,7 @@ use std::alloc::Global;
 use std::test::Fail;
 
 // Whether the world answers the script so.
-fn serves_so<P: Keep + Drop, L: Link + Drop, D: Disk>(
+fn serves_so<P: Keep + KeepImages + Drop, L: Link + Drop, D: Disk>(
     alloc: Global,
     world: &mut World<P, L>,
     disks: &mut Vec<Pair<D>>,

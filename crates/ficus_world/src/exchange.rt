@@ -27,7 +27,7 @@ use ficus_disk::{Disk, Pair};
 use ficus_entry::Entry;
 use ficus_file::FileReplica;
 use ficus_ids::{Members, Memory, Refusal};
-use ficus_keep::Keep;
+use ficus_keep::{Keep, KeepImages};
 use ficus_model::{Event, History};
 use ficus_outside::Link;
 use ficus_replica::Replica;
@@ -52,7 +52,7 @@ struct Asking {
     message: Vec<u8>,
 }
 
-impl<K: Keep + Drop, L: Link + Drop> World<K, L> {
+impl<K: Keep + KeepImages + Drop, L: Link + Drop> World<K, L> {
     /// Asks for the state of another member. Gives the number of the message. All memory is taken before anything
     /// changes.
     pub(crate) fn ask<D: Disk>(
@@ -234,7 +234,7 @@ impl<L: Link + Drop> Group<L> {
     }
 
     // Saves a member that has asked, and posts its message. All memory is taken before anything changes.
-    fn send_asking<K: Keep + Drop, D: Disk>(
+    fn send_asking<K: Keep + KeepImages + Drop, D: Disk>(
         &mut self,
         stables: &mut Vec<Stable<K>>,
         disks: &mut Vec<Pair<D>>,
@@ -351,7 +351,7 @@ impl<L: Link + Drop> Group<L> {
 }
 
 // Looks whether what was asked may be posted, and takes all memory for that, and for what the asker saves.
-fn make_ready<K: Keep + Drop, L: Link + Drop, D: Disk>(
+fn make_ready<K: Keep + KeepImages + Drop, L: Link + Drop, D: Disk>(
     history: &mut History,
     post: &mut Post<L>,
     stables: &mut Vec<Stable<K>>,
@@ -364,7 +364,7 @@ fn make_ready<K: Keep + Drop, L: Link + Drop, D: Disk>(
     requires fits { FitsImage asking.now.replica.saved }
     ensures room { OnOk result (1 ≤ history.new.room) }
     ensures post_room { OnOk result (HasRoom post.new) }
-    ensures prepared { OnOk result (IsPreparedAt K.buffered K.room K.size_of D.room stables.new.items disks.new.items by
+    ensures prepared { OnOk result (IsPreparedAt K.Takes K.size_of D.room stables.new.items disks.new.items by
         asking.now.replica.saved) }
     ensures small { OnOk result (post.old.now.total + length asking.now.message.items ≤ total_limit) }
     ensures full { OnErr result (result ≢ Err OutOfMemory → (result ≡ Err IsFull)

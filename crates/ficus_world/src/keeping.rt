@@ -18,12 +18,12 @@ use crate::saving::{commit_at, prepare_at};
 use ficus_disk::{Disk, Pair};
 use ficus_faults::Failed;
 use ficus_ids::Refusal;
-use ficus_keep::Keep;
+use ficus_keep::{Keep, KeepImages};
 use ficus_model::History;
 use ficus_outside::Link;
 use ficus_stable::Stable;
 
-impl<K: Keep + Drop, L: Link + Drop> World<K, L> {
+impl<K: Keep + KeepImages + Drop, L: Link + Drop> World<K, L> {
     /// Saves what a member that is up is after an event of its own, and stores the event. All memory is taken before
     /// anything changes. Where the disks fail, the member is down, and the event is pending.
     pub(crate) fn save<D: Disk>(
@@ -60,7 +60,7 @@ impl<K: Keep + Drop, L: Link + Drop> World<K, L> {
 
 impl<L: Link + Drop> Group<L> {
     // The same, over the stables of the members.
-    fn save<K: Keep + Drop, D: Disk>(
+    fn save<K: Keep + KeepImages + Drop, D: Disk>(
         &mut self,
         stables: &mut Vec<Stable<K>>,
         disks: &mut Vec<Pair<D>>,
@@ -106,7 +106,7 @@ impl<L: Link + Drop> Group<L> {
 }
 
 /// Saves what was prepared, and stores its event; or the member is down, and it is pending. Takes no memory.
-pub(crate) fn keep<K: Keep + Drop, D: Disk>(
+pub(crate) fn keep<K: Keep + KeepImages + Drop, D: Disk>(
     members: &mut Vec<Member>,
     history: &mut History,
     stables: &mut Vec<Stable<K>>,
@@ -120,7 +120,7 @@ pub(crate) fn keep<K: Keep + Drop, D: Disk>(
     requires up { (was : MemberValue) → IsNumbered members.old.items by was → was.state ≡ IsUp }
     requires above { (was : MemberValue) → IsNumbered members.old.items by was
         → next.replica.saved.generation ≡ was.replica.saved.generation + 1 }
-    requires prepared { IsPreparedAt K.buffered K.room K.size_of D.room stables.old.items disks.old.items by
+    requires prepared { IsPreparedAt K.Takes K.size_of D.room stables.old.items disks.old.items by
         next.replica.saved }
     requires room { 1 ≤ history.old.room }
     requires few { length history.old.events < event_limit + most_events }

@@ -31,7 +31,7 @@ use crate::post::Post;
 use ficus_disk::{Disk, Pair};
 use ficus_faults::Failed;
 use ficus_ids::{Members, Memory};
-use ficus_keep::{Keep, MakeFault, StoreFault};
+use ficus_keep::{Keep, KeepImages, MakeFault, StoreFault};
 use ficus_model::{Event, History};
 use ficus_outside::Link;
 use ficus_replica::Replica;
@@ -69,12 +69,12 @@ impl From<Memory> for WorldFault {
 
 // The members that were opened, and the keepers of what they save.
 #[derive(Drop)]
-struct Opened<K: Keep + Drop> {
+struct Opened<K: Keep + KeepImages + Drop> {
     members: Vec<Member>,
     stables: Vec<Stable<K>>,
 }
 
-impl<K: Keep + Drop, L: Link + Drop> World<K, L> {
+impl<K: Keep + KeepImages + Drop, L: Link + Drop> World<K, L> {
     /// Makes a fresh volume on the disks: for each member what it saves before anything has happened.
     ///
     /// `Store` comes only where a disk of that replica failed; `Occupied` exactly where none failed when asked for its
@@ -277,7 +277,7 @@ fn is_empty<D: Disk>(pair: &mut Pair<D>) -> Result<bool, Failed>
 }
 
 // Makes each member.
-fn make_all<K: Keep + Drop, D: Disk>(
+fn make_all<K: Keep + KeepImages + Drop, D: Disk>(
     alloc: Global,
     disks: &mut Vec<Pair<D>>,
     members: Members,
@@ -316,7 +316,7 @@ fn make_all<K: Keep + Drop, D: Disk>(
 }
 
 // Makes one member.
-fn make_one<K: Keep + Drop, D: Disk>(
+fn make_one<K: Keep + KeepImages + Drop, D: Disk>(
     alloc: Global,
     pair: &mut Pair<D>,
     me: u8,
@@ -354,7 +354,7 @@ fn make_one<K: Keep + Drop, D: Disk>(
 }
 
 // Opens the disks of each member, as many as the first one says.
-fn open_all<K: Keep + Drop, D: Disk>(
+fn open_all<K: Keep + KeepImages + Drop, D: Disk>(
     alloc: Global,
     disks: &mut Vec<Pair<D>>,
 ) -> Result<Opened<K>, WorldFault>
@@ -395,7 +395,7 @@ fn open_all<K: Keep + Drop, D: Disk>(
 }
 
 // Room for all members.
-fn none_opened<K: Keep + Drop>(alloc: Global) -> Result<Opened<K>, Memory>
+fn none_opened<K: Keep + KeepImages + Drop>(alloc: Global) -> Result<Opened<K>, Memory>
     ensures members { IfOk result (λ opened. opened.members.items ≡ []) }
     ensures stables { IfOk result (λ opened. opened.stables.items ≡ []) }
 {
@@ -406,7 +406,7 @@ fn none_opened<K: Keep + Drop>(alloc: Global) -> Result<Opened<K>, Memory>
 }
 
 // Opens the disks of the next member.
-fn open_next<K: Keep + Drop, D: Disk>(
+fn open_next<K: Keep + KeepImages + Drop, D: Disk>(
     alloc: Global,
     opened: &mut Opened<K>,
     disks: &mut Vec<Pair<D>>,
@@ -461,7 +461,7 @@ fn may_open_behind(members: &[Member], saved: &Saved, number: u8) -> bool
 }
 
 // What the disks of one member hold.
-fn open_one<K: Keep + Drop, D: Disk>(
+fn open_one<K: Keep + KeepImages + Drop, D: Disk>(
     alloc: Global,
     pair: &mut Pair<D>,
     number: u8,
@@ -513,7 +513,7 @@ fn is_fused<D: Disk>(pair: &Pair<D>) -> bool
 }
 
 // Enters a member that is up.
-fn enter<K: Keep + Drop>(
+fn enter<K: Keep + KeepImages + Drop>(
     opened: &mut Opened<K>,
     stable: Stable<K>,
     saved: Saved,
@@ -546,7 +546,7 @@ fn restart_all(alloc: Global, members: Members) -> Result<History, Memory>
 }
 
 /// The law that what was made stands for the history without events. It does nothing when it runs.
-pub fn what_is_made_stands<K: Keep + Drop, D: Disk>()
+pub fn what_is_made_stands<K: Keep + KeepImages + Drop, D: Disk>()
     ensures { (volume : Volume) (disks : List (PairValue D)) → IsCount volume.members → 1 ≤ volume.ids
         → volume.ids ≤ update_limit → volume.bytes ≤ byte_limit → AreMade K.kept D.seen volume disks
         → StandsOn K.kept D.seen volume [] disks }

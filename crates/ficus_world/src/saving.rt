@@ -20,13 +20,13 @@ ghost use Rattle.ficus_world.specs.Kills.{AreLeft, RestsAt, SavesOn};
 use ficus_disk::{Disk, Pair};
 use ficus_faults::Failed;
 use ficus_ids::Memory;
-use ficus_keep::{Keep, StoreFault};
+use ficus_keep::{Keep, KeepImages, StoreFault};
 use ficus_saved::Saved;
 use ficus_stable::{Stable, one_saved};
 use std::alloc::Global;
 
 /// Takes all memory for what a member saves next. What the disks hold is as before, also where memory is refused.
-pub(crate) fn prepare_at<K: Keep + Drop, D: Disk>(
+pub(crate) fn prepare_at<K: Keep + KeepImages + Drop, D: Disk>(
     stables: &mut Vec<Stable<K>>,
     disks: &mut Vec<Pair<D>>,
     by: u8,
@@ -35,7 +35,7 @@ pub(crate) fn prepare_at<K: Keep + Drop, D: Disk>(
     requires member { IsMember (length stables.old.items) by }
     requires pair { IsMember (length disks.old.items) by }
     requires fits { FitsImage next.now }
-    ensures prepared { OnOk result (IsPreparedAt K.buffered K.room K.size_of D.room stables.new.items disks.new.items by
+    ensures prepared { OnOk result (IsPreparedAt K.Takes K.size_of D.room stables.new.items disks.new.items by
         next.now) }
     ensures disks { (members : List MemberValue)
         → AreDisksOf D.tells K.kept K.fits D.seen D.may_leave D.armings members stables.old.items disks.old.items
@@ -50,7 +50,7 @@ pub(crate) fn prepare_at<K: Keep + Drop, D: Disk>(
 }
 
 /// Saves what was prepared. Takes no memory.
-pub(crate) fn commit_at<K: Keep + Drop, D: Disk>(
+pub(crate) fn commit_at<K: Keep + KeepImages + Drop, D: Disk>(
     stables: &mut Vec<Stable<K>>,
     disks: &mut Vec<Pair<D>>,
     by: u8,
@@ -58,7 +58,7 @@ pub(crate) fn commit_at<K: Keep + Drop, D: Disk>(
 ) -> Result<(), Failed>
     requires member { IsMember (length stables.old.items) by }
     requires pair { IsMember (length disks.old.items) by }
-    requires prepared { IsPreparedAt K.buffered K.room K.size_of D.room stables.old.items disks.old.items by next.now }
+    requires prepared { IsPreparedAt K.Takes K.size_of D.room stables.old.items disks.old.items by next.now }
     requires follows { D.tells → (stable : StableValue K) (pair : PairValue D) → IsNumbered stables.old.items by stable
         → IsNumbered disks.old.items by pair → MayFollow K.kept K.fits D.seen D.may_leave stable pair next.now }
     ensures disks { (old new : List MemberValue) → SavesAt by next.now result old new
@@ -77,7 +77,7 @@ pub(crate) fn commit_at<K: Keep + Drop, D: Disk>(
 }
 
 /// Opens the disks of a member again, and reads what they then hold.
-pub(crate) fn reopen_at<K: Keep + Drop, D: Disk>(
+pub(crate) fn reopen_at<K: Keep + KeepImages + Drop, D: Disk>(
     alloc: Global,
     stables: &mut Vec<Stable<K>>,
     disks: &mut Vec<Pair<D>>,
@@ -122,7 +122,7 @@ pub(crate) fn reopen_at<K: Keep + Drop, D: Disk>(
 }
 
 /// Arms both disks of a member that has a fuse on both. What they hold is as before.
-pub(crate) fn arm_at<K: Keep + Drop, D: Disk>(
+pub(crate) fn arm_at<K: Keep + KeepImages + Drop, D: Disk>(
     disks: &mut Vec<Pair<D>>,
     by: u8,
     calls: u32,

@@ -11,13 +11,13 @@ use crate::saving::arm_at;
 use ficus_commands::{Change, Look};
 use ficus_disk::{Disk, Pair};
 use ficus_ids::{Id, Memory, Refusal};
-use ficus_keep::Keep;
+use ficus_keep::{Keep, KeepImages};
 use ficus_model::{Event, Op};
 use ficus_outside::Link;
 use ficus_script::{Answer, Command};
 use std::alloc::Global;
 
-impl<K: Keep + Drop, L: Link + Drop> World<K, L> {
+impl<K: Keep + KeepImages + Drop, L: Link + Drop> World<K, L> {
     ghost use Rattle.ficus_model.specs.Lawful.{Volume};
     ghost use Rattle.ficus_commands.specs.Change.{HasFitPaths};
     ghost use Rattle.ficus_script.specs.Command.{IsCommand};

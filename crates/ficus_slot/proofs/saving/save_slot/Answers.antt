@@ -2,11 +2,12 @@ use Rattle.std.proofs.Common.{◌≡◌, inl, sym, ◌∙◌, ap, ◌^◌, ◌<�
 use Rattle.ficus_disk.specs.Fuse.{pick_of}
 use Rattle.ficus_keep.specs.Fuses.{after_calls, is_found, lasts}
 use Rattle.ficus_keep.proofs.Moments.{joined, spans_join}
-use Rattle.ficus_slot.specs.Slot.{Saved, slot_in}
+use Rattle.ficus_keep.proofs.Results.{in_err, in_ok, on_err}
+use Rattle.ficus_slot.specs.Slot.{Saved}
 use Rattle.ficus_slot.specs.Stays.{Stays}
 use Rattle.ficus_slot.proofs.Burning.{six_calls}
 use Rattle.ficus_slot.proofs.Written.{length-range_of}
-use Rattle.ficus_slot.proofs.Steps.{early, first_done, first_step, in_err, late, on_err, on_ok, second_done, second_step, third_done, third_pick, third_step}
+use Rattle.ficus_slot.proofs.Steps.{early, first_done, first_step, late, second_done, second_step, third_done, third_pick, third_step}
 use Rattle.ficus_slot.proofs.saving.save_slot.Goals as goal
 
 abbrev saved_as : ℕ → List ℕ → Saved
@@ -32,7 +33,7 @@ returns-in_err-save_range-clause-found g c fused told held =
 
 pub returns-in_err-save_range-2-clause-moments : goal.returns-in_err-save_range-2-clause-moments
 returns-in_err-save_range-2-clause-moments g c told held =
-    let R = Stays (slot_in (g.D.Disk.seen c.args.disk.now)) (saved_as c.args.generation c.args.body.now) in
+    let R = Stays (g.D.Disk.seen c.args.disk.now) (saved_as c.args.generation c.args.body.now) in
     let shut = first_done c.args.shut _ _ _ c.first_place-first.ensures (c.in_ok-save_range.ensures.saved told) (c.requires.gate told) in
     joined R c.save_range.ensures.moments c.save_range-2.ensures.moments
     (λ f left. inl (first_step c.args.shut _ _ _ c.first_place-first.ensures held (c.requires.gate told) f left))
@@ -49,7 +50,7 @@ returns-in_err-save_range-2-clause-found g c fused told held =
     let after = c.in_ok-save_range.ensures.falls fused in
     let blown : lasts 2 (after_calls 2 f) ≡ false = sym (c.in_err-save_range-2.ensures.by_fuse fused ∙ ap (lasts 2) after) in
     let few : lasts 4 f ≡ false = sym ((six_calls f).second (sym (c.in_ok-save_range.ensures.by_fuse fused))) ∙ blown in
-    let old = second_step _ (slot_in (g.D.Disk.seen c.args.disk.now)) _ _ (c.in_ok-save_range.ensures.durable told) shut _
+    let old = second_step _ (g.D.Disk.seen c.args.disk.now) _ _ (c.in_ok-save_range.ensures.durable told) shut _
     (c.save_range-2.ensures.crash _ (g.met.D.Disk.image_may_be_left fused c.save_range-2.new.disk (pick_of f))) in
     on_err c.from_residual-in_err-save_range-2.result
     (early _ (is_found (pick_of f)) _ (saved_as c.args.generation c.args.body.now) _ few old)
@@ -63,7 +64,7 @@ returns-clause-saved g c told =
     let fits : length c.args.body.now < 2 ^ 64 =
     omega (arith, ap length range, length-range_of c.args.generation c.args.body.now, c.deref.type_inv.0) in
     let small : c.args.generation < 2 ^ 64 = omega arith in
-    on_ok c.save_range-3.result (third_done saved small fits _ _ ready) (c.save_range-3.ensures.saved told)
+    in_ok c.save_range-3.result (third_done saved small fits _ _ ready) (c.save_range-3.ensures.saved told)
 
 pub returns-clause-crash : goal.returns-clause-crash
 returns-clause-crash g c told held f left =
@@ -85,7 +86,7 @@ returns-clause-moments g c told held =
     let fits : length c.args.body.now < 2 ^ 64 =
     omega (arith, ap length range, length-range_of c.args.generation c.args.body.now, c.deref.type_inv.0) in
     let small : c.args.generation < 2 ^ 64 = omega arith in
-    let R = Stays (slot_in (g.D.Disk.seen c.args.disk.now)) saved in
+    let R = Stays (g.D.Disk.seen c.args.disk.now) saved in
     let until = joined R c.save_range.ensures.moments c.save_range-2.ensures.moments
     (λ f left. inl (first_step c.args.shut _ _ _ c.first_place-first.ensures held (c.requires.gate told) f left))
     (λ f left. inl (second_step _ _ _ _ (c.in_ok-save_range.ensures.durable told) shut f left)) in

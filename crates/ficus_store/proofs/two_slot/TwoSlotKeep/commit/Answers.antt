@@ -1,8 +1,9 @@
 use Rattle.std.proofs.Common.{◌≡◌, subst, ◌+◌}
 use Rattle.ficus_disk.specs.Fuse.{pick_of}
 use Rattle.ficus_keep.specs.Kept.{image_alone}
+use Rattle.ficus_keep.proofs.Results.{both_ok, in_ok}
 use Rattle.ficus_store.specs.Slots.{StandsOn}
-use Rattle.ficus_store.proofs.Commits.{kept_after_a, kept_after_b, kept_before_a, kept_before_b, next_of, on_ok, on_ok_alone, regular_on_a, regular_on_b, stands_after_a, stands_after_b}
+use Rattle.ficus_store.proofs.Commits.{kept_after_a, kept_after_b, kept_before_a, kept_before_b, next_of, regular_on_a, regular_on_b, stands_after_a, stands_after_b}
 use Rattle.ficus_store.proofs.Fused.{fused_on_a, fused_on_b}
 use Rattle.ficus_store.proofs.two_slot.TwoSlotKeep.commit.Goals as goal
 
@@ -16,8 +17,8 @@ returns-then-self-clause-kept g c told =
     let stands = subst (λ v. StandsOn v k.generation k.shut a b) c.if-self.true settled.holds in
     let next : c.args.generation ≡ k.generation + 1 = next_of k.generation c.args.generation
     (c.requires.next told (image_alone k.generation stands.body) (kept_before_b k.generation k.shut a b stands)) in
-    on_ok_alone c.save_slot.result (kept_after_b k.generation c.args.generation k.shut a b c.args.bytes.now next stands
-    (g.D.Disk.seen c.save_slot.new.disk))
+    in_ok c.save_slot.result (λ new. kept_after_b k.generation c.args.generation k.shut a b c.args.bytes.now next
+    stands (g.D.Disk.seen c.save_slot.new.disk) new.is)
     (c.save_slot.ensures.saved told)
 
 pub returns-then-self-clause-settled : goal.returns-then-self-clause-settled
@@ -30,9 +31,9 @@ returns-then-self-clause-settled g c told =
     let stands = subst (λ v. StandsOn v k.generation k.shut a b) c.if-self.true settled.holds in
     let next : c.args.generation ≡ k.generation + 1 = next_of k.generation c.args.generation
     (c.requires.next told (image_alone k.generation stands.body) (kept_before_b k.generation k.shut a b stands)) in
-    on_ok c.save_slot.result
+    both_ok c.save_slot.result
     (λ saved durable. record {
-      holds = stands_after_b k.generation c.args.generation k.shut a b c.args.bytes.now next stands _ saved;
+      holds = stands_after_b k.generation c.args.generation k.shut a b c.args.bytes.now next stands _ saved.is;
       synced_a = settled.synced_a;
       synced_b = durable;
     })
@@ -80,8 +81,8 @@ returns-else-self-clause-kept g c told =
     let stands = subst (λ v. StandsOn v k.generation k.shut a b) c.if-self.false settled.holds in
     let next : c.args.generation ≡ k.generation + 1 = next_of k.generation c.args.generation
     (c.requires.next told (image_alone k.generation stands.body) (kept_before_a k.generation k.shut a b stands)) in
-    on_ok_alone c.save_slot-else-self.result (kept_after_a k.generation c.args.generation k.shut a b c.args.bytes.now next stands
-    (g.D.Disk.seen c.save_slot-else-self.new.disk))
+    in_ok c.save_slot-else-self.result (λ new. kept_after_a k.generation c.args.generation k.shut a b
+    c.args.bytes.now next stands (g.D.Disk.seen c.save_slot-else-self.new.disk) new.is)
     (c.save_slot-else-self.ensures.saved told)
 
 pub returns-else-self-clause-settled : goal.returns-else-self-clause-settled
@@ -94,9 +95,9 @@ returns-else-self-clause-settled g c told =
     let stands = subst (λ v. StandsOn v k.generation k.shut a b) c.if-self.false settled.holds in
     let next : c.args.generation ≡ k.generation + 1 = next_of k.generation c.args.generation
     (c.requires.next told (image_alone k.generation stands.body) (kept_before_a k.generation k.shut a b stands)) in
-    on_ok c.save_slot-else-self.result
+    both_ok c.save_slot-else-self.result
     (λ saved durable. record {
-      holds = stands_after_a k.generation c.args.generation k.shut a b c.args.bytes.now next stands _ saved;
+      holds = stands_after_a k.generation c.args.generation k.shut a b c.args.bytes.now next stands _ saved.is;
       synced_b = settled.synced_b;
       synced_a = durable;
     })

@@ -1,0 +1,155 @@
+-- What lies outside the range that was written, and what a sync of that range makes.
+use Rattle.std.proofs.Common.{◌≡◌, ◌⊎◌, inl, inr, ℕ, ◌+◌, ◌-◌, ◌<◌, ◌≤◌, max, true, List, length, get_or, take, drop, refl, sym, ◌∙◌, ap, subst, arith, length-take, length-drop, replicate}
+use Rattle.std.proofs.lemmas.List.{get_or-take, get_or-drop, get_or-replicate, length-replicate, get_or_past, ext_get_or}
+use Rattle.std.proofs.lemmas.Bool.{cases_lt}
+use Rattle.ficus_disk.specs.Bytes.{patch}
+use Rattle.ficus_disk.specs.Crash.{Within}
+use Rattle.ficus_disk.specs.Platter.{Held, IsCleanBut, IsMarked, Leaves, is_clean, marks_of, settled}
+use Rattle.ficus_disk.proofs.Crashes.{only-settled}
+use Rattle.ficus_disk.specs.declared.mark.Mark.{Mark}
+use Rattle.ficus_disk.specs.declared.mark.Mark.TheVariants.{Clean, Front, Rest}
+use Rattle.ficus_disk.proofs.Patches.{length-marks_of, length-patch, get_or-patch_before, get_or-patch_inside, get_or-patch_after}
+
+clean_of : (mark : Mark) → is_clean mark ≡ true → mark ≡ Clean
+clean_of Clean is = refl
+clean_of Front is = absurd (cc)
+clean_of Rest is = absurd (cc)
+
+-- nothing was written yet, or all is synced
+pub all_clean : (n : ℕ) (marks : List Mark) → marks ≡ replicate n Clean → IsCleanBut 0 0 marks
+all_clean n marks is = record {
+  before = λ k less. absurd (omega arith);
+  behind = λ k from. ap (λ (l : List Mark). is_clean (get_or l k Clean)) is ∙ of_place k (cases_lt k n);
+}
+  where
+    of_place : (k : ℕ) → (k < n) ⊎ (n ≤ k) → is_clean (get_or (replicate n Clean) k Clean) ≡ true
+    of_place k (inl less) = ap is_clean (get_or-replicate n k Clean Clean less)
+    of_place k (inr past) = ap is_clean (get_or_past (replicate n Clean) k Clean (omega (arith, length-replicate n Clean)))
+
+-- one more range is written
+module _ (from upto at n : ℕ) (marks new : List Mark) (clean : IsCleanBut from upto marks) (rises : from ≤ upto)
+    (le : at ≤ length marks) (is : new ≡ patch marks at (marks_of n)) where
+  still : (k : ℕ) → (k < at) ⊎ (at + n ≤ k) → is_clean (get_or marks k Clean) ≡ true
+      → is_clean (get_or new k Clean) ≡ true
+  still k (inl less) was =
+      ap (λ (l : List Mark). is_clean (get_or l k Clean)) is
+      ∙ ap is_clean (get_or-patch_before marks (marks_of n) at k Clean le less) ∙ was
+  still k (inr far) was =
+      ap (λ (l : List Mark). is_clean (get_or l k Clean)) is
+      ∙ ap is_clean (get_or-patch_after marks (marks_of n) at k Clean le (omega (arith, length-marks_of n))) ∙ was
+
+  was_clean : (k : ℕ) → (k < from) ⊎ (upto ≤ k) → is_clean (get_or marks k Clean) ≡ true
+  was_clean k (inl less) = clean.before k less
+  was_clean k (inr far) = clean.behind k far
+
+  pub clean_with : (low high : ℕ) → low ≤ at → at + n ≤ high → (from < upto → low ≤ from) → (from < upto → upto ≤ high)
+      → IsCleanBut low high new
+  clean_with low high lower upper keeps_low keeps_high = record {
+    before = λ k less. still k (inl (omega arith)) (elim (cases_lt from upto) [
+      | inl some ↦ was_clean k (inl (omega (arith, keeps_low some)))
+      | inr none ↦ elim (cases_lt k from) [ inl b ↦ was_clean k (inl b) | inr a ↦ was_clean k (inr (omega arith)) ]
+    ]);
+    behind = λ k far. still k (inr (omega arith)) (elim (cases_lt from upto) [
+      | inl some ↦ was_clean k (inr (omega (arith, keeps_high some)))
+      | inr none ↦ elim (cases_lt k from) [ inl b ↦ was_clean k (inl b) | inr a ↦ was_clean k (inr (omega arith)) ]
+    ]);
+  }
+
+-- the range is synced
+module _ (held : Held) (from upto : ℕ) (marked : IsMarked held) (clean : IsCleanBut from upto held.marks)
+    (rises : from ≤ upto) (within : upto ≤ length held.bytes) where
+  clean_at : (k : ℕ) → (k < from) ⊎ (upto ≤ k) → get_or held.marks k Clean ≡ Clean
+  clean_at k (inl less) = clean_of (get_or held.marks k Clean) (clean.before k less)
+  clean_at k (inr far) = clean_of (get_or held.marks k Clean) (clean.behind k far)
+
+  pub starts_within : from ≤ length held.synced
+  starts_within = elim (cases_lt (length held.synced) from) [
+    | inl less ↦
+        let at = marked.clean (length held.synced) (omega arith) (clean_at (length held.synced) (inl less)) in
+        absurd (omega (arith, at.0))
+    | inr far ↦ far
+  ]
+
+  ends_within : max (length held.synced) upto ≡ length held.bytes
+  ends_within = elim (cases_lt upto (length held.bytes)) [
+    | inl less ↦
+        let last = marked.clean (length held.bytes - 1) (omega arith) (clean_at (length held.bytes - 1) (inr (omega arith))) in
+        omega (arith, last.0, marked.no_shorter)
+    | inr far ↦ omega (arith, marked.no_shorter)
+  ]
+
+  abbrev slice : List ℕ
+  slice = take (upto - from) (drop from held.bytes)
+
+  length-slice : length slice ≡ upto - from
+  length-slice = omega (arith, length-take (upto - from) (drop from held.bytes), length-drop from held.bytes)
+
+  pub synced_is : patch held.synced from (take (upto - from) (drop from held.bytes)) ≡ held.bytes
+  synced_is =
+      let long = length-patch held.synced slice from starts_within in
+      let same : length (patch held.synced from slice) ≡ length held.bytes = omega (arith, long, length-slice, ends_within) in
+      ext_get_or 0 (patch held.synced from slice) held.bytes same (λ k less. at_place k (omega arith) (cases_lt k from))
+    where
+      behind : (k : ℕ) → k < length held.bytes → from ≤ k → (k < upto) ⊎ (upto ≤ k)
+          → get_or (patch held.synced from slice) k 0 ≡ get_or held.bytes k 0
+      behind k here far (inl inside) =
+          get_or-patch_inside held.synced slice from k 0 starts_within far (omega (arith, length-slice))
+          ∙ get_or-take (upto - from) (drop from held.bytes) (k - from) 0 (omega arith)
+          ∙ get_or-drop from held.bytes (k - from) 0
+          ∙ ap (λ (i : ℕ). get_or held.bytes i 0) (let e : from + (k - from) ≡ k = omega arith in e)
+      behind k here far (inr past) =
+          get_or-patch_after held.synced slice from k 0 starts_within (omega (arith, length-slice))
+          ∙ sym (marked.clean k here (clean_at k (inr past))).1
+
+      at_place : (k : ℕ) → k < length held.bytes → (k < from) ⊎ (from ≤ k)
+          → get_or (patch held.synced from slice) k 0 ≡ get_or held.bytes k 0
+      at_place k here (inl less) =
+          get_or-patch_before held.synced slice from k 0 starts_within less
+          ∙ sym (marked.clean k here (clean_at k (inl less))).1
+      at_place k here (inr far) = behind k here far (cases_lt k upto)
+
+  pub marks_is : patch held.marks from (replicate (upto - from) Clean) ≡ replicate (length held.bytes) Clean
+  marks_is =
+      let le : from ≤ length held.marks = omega (arith, marked.each) in
+      let reps = length-replicate (upto - from) Clean in
+      let long = length-patch held.marks (replicate (upto - from) Clean) from le in
+      let all = length-replicate (length held.bytes) Clean in
+      ext_get_or Clean (patch held.marks from (replicate (upto - from) Clean)) (replicate (length held.bytes) Clean)
+      (omega (arith, long, reps, all, marked.each))
+      (λ k less. clean_place k le (omega (arith, long, reps, marked.each)) (cases_lt k from))
+    where
+      clean_behind : (k : ℕ) → from ≤ length held.marks → from ≤ k → (k < upto) ⊎ (upto ≤ k)
+          → get_or (patch held.marks from (replicate (upto - from) Clean)) k Clean ≡ Clean
+      clean_behind k le far (inl inside) =
+          get_or-patch_inside held.marks (replicate (upto - from) Clean) from k Clean le far
+          (omega (arith, length-replicate (upto - from) Clean))
+          ∙ get_or-replicate (upto - from) (k - from) Clean Clean (omega arith)
+      clean_behind k le far (inr past) =
+          get_or-patch_after held.marks (replicate (upto - from) Clean) from k Clean le
+          (omega (arith, length-replicate (upto - from) Clean))
+          ∙ clean_at k (inr past)
+
+      clean_place : (k : ℕ) → from ≤ length held.marks → k < length held.bytes → (k < from) ⊎ (from ≤ k)
+          → get_or (patch held.marks from (replicate (upto - from) Clean)) k Clean
+          ≡ get_or (replicate (length held.bytes) Clean) k Clean
+      clean_place k le here (inl less) =
+          get_or-patch_before held.marks (replicate (upto - from) Clean) from k Clean le less ∙ clean_at k (inl less)
+          ∙ sym (get_or-replicate (length held.bytes) k Clean Clean here)
+      clean_place k le here (inr far) =
+          clean_behind k le far (cases_lt k upto) ∙ sym (get_or-replicate (length held.bytes) k Clean Clean here)
+
+  -- so all is synced
+  pub syncs : (synced : List ℕ) (marks : List Mark) → synced ≡ patch held.synced from slice
+      → marks ≡ patch held.marks from (replicate (upto - from) Clean)
+      → (let new : Held = record { synced = synced; marks = marks; bytes = held.bytes } in new ≡ settled held.bytes)
+  syncs synced marks copied cleared =
+      λ i. record { synced = (copied ∙ synced_is) i; marks = (cleared ∙ marks_is) i; bytes = held.bytes }
+
+-- what stands there might have been left before
+pub within_settled : (held : Held) → IsMarked held → Within (Leaves held) (Leaves (settled held.bytes))
+within_settled held marked c left =
+    subst (λ (l : List ℕ). Leaves held l) (sym (only-settled held.bytes c left)) (record {
+      no_shorter = marked.no_shorter;
+      no_longer = omega arith;
+      same = λ k less is. refl;
+    })

@@ -1,0 +1,20 @@
+use Rattle.std.proofs.Common.{refl}
+use Rattle.ficus_journal.proofs.Still.{settled_still}
+use Rattle.ficus_journal.proofs.journal.JournalKeep.prepare.Goals as goal
+
+pub returns-in_err-reserve_range-clause-settled : goal.returns-in_err-reserve_range-clause-settled
+returns-in_err-reserve_range-clause-settled g c told settled =
+    settled_still g.D.Disk.seen g.D.Disk.may_leave c.args.self.now (record c.args.self.now { buffer = c.reserve_range.new.buffer })
+    c.args.disks.now c.args.disks.now refl refl (λ x left. left) (λ x left. left) settled
+
+pub returns-in_err-reserve-clause-settled : goal.returns-in_err-reserve-clause-settled
+returns-in_err-reserve-clause-settled g c told settled =
+    settled_still g.D.Disk.seen g.D.Disk.may_leave c.args.self.now (record c.args.self.now { buffer = c.reserve_range.new.buffer })
+    c.args.disks.now (record { a = c.reserve.new.self; b = c.args.disks.now.b }) (c.reserve.ensures.seen told) refl
+    c.reserve.ensures.crash (λ x left. left) settled
+
+pub returns-clause-settled : goal.returns-clause-settled
+returns-clause-settled g c told settled =
+    settled_still g.D.Disk.seen g.D.Disk.may_leave c.args.self.now (record c.args.self.now { buffer = c.reserve_range.new.buffer })
+    c.args.disks.now (record { a = c.reserve.new.self; b = c.reserve-2.new.self }) (c.reserve.ensures.seen told)
+    (c.reserve-2.ensures.seen told) c.reserve.ensures.crash c.reserve-2.ensures.crash settled

@@ -1,0 +1,132 @@
+ghost use Rattle.std.specs.Prelude.{◌≡◌, ◌+◌, ◌^◌, ◌≤◌, IfOk, OnOk, vec_capacity};
+
+use crate::opening::opened;
+use ficus_disk::{Disk, Pair};
+use ficus_faults::Failed;
+use ficus_ids::Memory;
+use ficus_keep::{Keep, MakeFault, Opened, StoreFault, Wants};
+use ficus_slot::{read_all, reserve_range, save_slot};
+use ficus_store::choose;
+use std::alloc::Global;
+
+/// How many records stand behind an image at most.
+const RECORD_LIMIT: u64 = 64;
+
+/// A keeper of records behind an image: it wants a record until 64 of them stand behind the image, and then a new
+/// image, which it saves on the other disk.
+#[derive(Drop)]
+pub struct Journal {
+    // The slot in force, and on which disk it lies.
+    pub(crate) generation: u64,
+    pub(crate) on_a: bool,
+    // Whether the gate of the other disk is closed.
+    pub(crate) shut: bool,
+    // The place of the gate behind the last record.
+    pub(crate) end: u64,
+    // How many records there are.
+    pub(crate) count: u64,
+    // Whether that gate is open, so that no record may be written behind it.
+    pub(crate) stuck: bool,
+    // What goes to a disk as one range is joined here.
+    pub(crate) buffer: Vec<u8>,
+}
+
+impl Journal {
+    ghost use Rattle.ficus_journal.specs.Journal.{IsShort, saves_image, size_after};
+
+    // Whether an image is saved next.
+    pub(crate) fn saves_image(&self) -> bool
+        ensures { result ≡ saves_image self.now }
+    {
+        self.stuck || self.count >= RECORD_LIMIT
+    }
+
+    // How many bytes a disk has after a commit of so many, at most, where they aren't too many.
+    fn upto(&self, length: u64) -> Result<u64, Memory>
+        ensures value { IfOk result (λ upto. upto ≡ size_after self.now length) }
+        ensures limits { OnOk result (IsShort self.now length) }
+        ensures small { OnOk result (length ≤ 2 ^ 60) }
+    {
+        if length > 1 << 60 {
+            return Err(Memory);
+        }
+        if self.saves_image() {
+            return Ok(length + 18);
+        }
+        if length > 0xffff_ffff || self.end >= 1 << 62 {
+            return Err(Memory);
+        }
+        Ok(self.end + length + 14)
+    }
+}
+
+impl Keep for Journal {
+    ghost use Rattle.std.specs.Prelude.{refl};
+    ghost use Rattle.ficus_journal.specs.Journal.{Fits, Takes, saves_image, size_after};
+    ghost use Rattle.ficus_journal.specs.Logs.{IsRegular, calls_of_journal, kept_in, lies_on_a};
+
+    ghost kept = { kept_in };
+
+    ghost fits = { Fits };
+
+    ghost wants_image = { saves_image };
+
+    ghost Takes = { Takes };
+
+    ghost size_of = { size_after };
+
+    ghost calls = { calls_of_journal };
+
+    ghost is_on_a = { lies_on_a };
+
+    ghost Regular = { IsRegular };
+
+    ghost none_at_first = { refl };
+
+    fn make<D: Disk>(alloc: Global, disks: &mut Pair<D>, image: &[u8]) -> Result<(), MakeFault> {
+        let mut buffer = Vec::new(alloc);
+        reserve_range(&mut buffer, image.len() as u64)?;
+        disks.a.reserve(image.len() as u64 + 18)?;
+        save_slot(&mut disks.a, &mut buffer, false, 0, image)?;
+        Ok(())
+    }
+
+    fn open<D: Disk>(alloc: Global, disks: &mut Pair<D>) -> Result<(Journal, Opened), StoreFault> {
+        disks.a.sync()?;
+        disks.b.sync()?;
+        let a = read_all(alloc, &mut disks.a)?;
+        let b = read_all(alloc, &mut disks.b)?;
+        match choose(&a, &b) {
+            Some(choice) => Ok(opened(alloc, choice, &a, &b)?),
+            None => Err(StoreFault::NoImage),
+        }
+    }
+
+    fn wants(&self) -> Wants {
+        if self.saves_image() {
+            Wants::Image
+        } else {
+            Wants::Record
+        }
+    }
+
+    fn prepare<D: Disk>(&mut self, disks: &mut Pair<D>, length: u64) -> Result<(), Memory> {
+        let upto = self.upto(length)?;
+        reserve_range(&mut self.buffer, length)?;
+        disks.a.reserve(upto)?;
+        disks.b.reserve(upto)
+    }
+
+    fn commit<D: Disk>(
+        &mut self,
+        disks: &mut Pair<D>,
+        generation: u64,
+        bytes: &[u8],
+    ) -> Result<(), Failed> {
+        if self.saves_image() {
+            self.commit_image(disks, generation, bytes)
+        } else {
+            self.commit_record(disks, generation, bytes)
+        }
+    }
+}
