@@ -1,0 +1,3 @@
+pub mod Shapes
+pub mod Unique
+pub mod Reading

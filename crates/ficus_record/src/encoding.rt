@@ -1,0 +1,195 @@
+ghost use Rattle.std.specs.Prelude.{◌≡◌, ◌++◌, ◌∷◌, ℕ, List, IfOk, OnOk};
+ghost use Rattle.ficus_codec.specs.Formats.{tables_bytes};
+ghost use Rattle.ficus_entry.specs.declared.entry.Entry.{Entry as EntryValue};
+ghost use Rattle.ficus_file.specs.declared.file.FileReplica.{FileReplica as FileValue};
+ghost use Rattle.ficus_record.specs.Record.{FitsOp, FitsRecord, adopting, ids, linking, making, moving, op_body, op_tag, placing, record_bytes, removing, writing};
+ghost use Rattle.ficus_record.specs.declared.record.Record.TheVariants.{Change as Changes, Accept as Accepts};
+
+use crate::Record;
+use crate::fields::IdSpelling;
+use ficus_codec::put_tables;
+use ficus_formats::{
+    put_bytes, put_id, put_long_string, put_run, put_short_string, put_u8, put_u32,
+};
+use ficus_ids::{Id, Kind, Members, Memory, Name};
+use ficus_model::Op;
+use std::alloc::Global;
+
+// Appends the count of the identifiers, of which there are fewer than four bytes can count, and these.
+fn put_ids(out: &mut Vec<u8>, entries: &[Id]) -> Result<(), Memory>
+    requires { ids.fits entries.now }
+    ensures { OnOk result (out.new.items ≡ out.old.items ++ ids.spell entries.now) }
+{
+    put_u32(out, entries.len() as u32)?;
+    put_run(&IdSpelling {}, out, entries)
+}
+
+// Appends the directory, the name and the kind of a new object.
+fn put_making(out: &mut Vec<u8>, dir: Id, name: &Name, kind: Kind) -> Result<(), Memory>
+    requires { making.fits (dir, (name.now, kind)) }
+    ensures { OnOk result (out.new.items ≡ out.old.items ++ making.spell (dir, (name.now, kind))) }
+{
+    put_id(out, dir)?;
+    put_short_string(out, name.bytes())?;
+    put_u8(out, kind as u8)
+}
+
+// Appends the directory and the name of a new entry, and what it leads to.
+fn put_linking(out: &mut Vec<u8>, dir: Id, name: &Name, target: Id) -> Result<(), Memory>
+    requires { linking.fits (dir, (name.now, target)) }
+    ensures { OnOk result (out.new.items ≡ out.old.items ++ linking.spell (dir, (name.now, target))) }
+{
+    put_id(out, dir)?;
+    put_short_string(out, name.bytes())?;
+    put_id(out, target)
+}
+
+// Appends what is removed, and its entries.
+fn put_removing(out: &mut Vec<u8>, target: Id, entries: &[Id]) -> Result<(), Memory>
+    requires { removing.fits (target, entries.now) }
+    ensures { OnOk result (out.new.items ≡ out.old.items ++ removing.spell (target, entries.now)) }
+{
+    put_id(out, target)?;
+    put_ids(out, entries)
+}
+
+// Appends what is moved, where it is placed, and the entries that it loses.
+fn put_moving(
+    out: &mut Vec<u8>,
+    target: Id,
+    dir: Id,
+    name: &Name,
+    entries: &[Id],
+) -> Result<(), Memory>
+    requires { moving.fits (target, (dir, (name.now, entries.now))) }
+    ensures { OnOk result (out.new.items ≡ out.old.items ++ moving.spell (target, (dir, (name.now, entries.now)))) }
+{
+    put_id(out, target)?;
+    put_placing(out, dir, name, entries)
+}
+
+// Appends the directory and the name of a new entry, and the entries that are lost for it.
+fn put_placing(out: &mut Vec<u8>, dir: Id, name: &Name, entries: &[Id]) -> Result<(), Memory>
+    requires { placing.fits (dir, (name.now, entries.now)) }
+    ensures { OnOk result (out.new.items ≡ out.old.items ++ placing.spell (dir, (name.now, entries.now))) }
+{
+    put_id(out, dir)?;
+    put_short_string(out, name.bytes())?;
+    put_ids(out, entries)
+}
+
+// Appends the file, and its bytes behind their length.
+fn put_writing(out: &mut Vec<u8>, file: Id, bytes: &[u8]) -> Result<(), Memory>
+    requires { writing.fits (file, bytes.now) }
+    ensures { OnOk result (out.new.items ≡ out.old.items ++ writing.spell (file, bytes.now)) }
+{
+    put_id(out, file)?;
+    put_long_string(out, bytes)
+}
+
+// Appends the object, and the directory and the name that it gets.
+fn put_adopting(out: &mut Vec<u8>, file: Id, dir: Id, name: &Name) -> Result<(), Memory>
+    requires { adopting.fits (file, (dir, name.now)) }
+    ensures { OnOk result (out.new.items ≡ out.old.items ++ adopting.spell (file, (dir, name.now))) }
+{
+    put_id(out, file)?;
+    put_id(out, dir)?;
+    put_short_string(out, name.bytes())
+}
+
+// The number of the operation.
+fn tag_of(op: &Op) -> u8
+    ensures { result ≡ op_tag op.now }
+{
+    match op {
+        Op::Make { .. } => 1,
+        Op::Link { .. } => 2,
+        Op::Remove { .. } => 3,
+        Op::Move { .. } => 4,
+        Op::Write { .. } => 5,
+        Op::Settle { .. } => 6,
+        Op::Resolve { .. } => 7,
+        Op::Adopt { .. } => 8,
+        Op::Discard { .. } => 9,
+    }
+}
+
+// Appends the fields of an operation.
+fn put_fields(out: &mut Vec<u8>, op: &Op) -> Result<(), Memory>
+    requires { FitsOp op.now }
+    ensures { OnOk result (out.new.items ≡ out.old.items ++ op_body op.now) }
+{
+    match op {
+        Op::Make { dir, name, kind } => put_making(out, *dir, name, *kind),
+        Op::Link { dir, name, target } => put_linking(out, *dir, name, *target),
+        Op::Remove { entries, target } => put_removing(out, *target, entries.items()),
+        Op::Move {
+            entries,
+            dir,
+            name,
+            target,
+        } => put_moving(out, *target, *dir, name, entries.items()),
+        Op::Write { file, bytes } => put_writing(out, *file, bytes.items()),
+        Op::Settle { file, bytes } => put_writing(out, *file, bytes.items()),
+        Op::Resolve { file, bytes } => put_writing(out, *file, bytes.items()),
+        Op::Adopt { file, dir, name } => put_adopting(out, *file, *dir, name),
+        Op::Discard { file } => put_id(out, *file),
+    }
+}
+
+// Appends the number of the operation and its fields.
+fn put_op(out: &mut Vec<u8>, op: &Op) -> Result<(), Memory>
+    requires { FitsOp op.now }
+    ensures { OnOk result (out.new.items ≡ out.old.items ++ op_tag op.now ∷ op_body op.now) }
+{
+    put_u8(out, tag_of(op))?;
+    put_fields(out, op)
+}
+
+/// Appends the one spelling of the record in a volume of so many members. After `Memory` part of it may stand there.
+pub fn put_record(out: &mut Vec<u8>, noted: &Record, members: Members) -> Result<(), Memory>
+    requires { FitsRecord members noted.now }
+    ensures { OnOk result (out.new.items ≡ out.old.items ++ record_bytes members noted.now) }
+{
+    match noted {
+        Record::Change(op) => put_op(out, op),
+        Record::Ask => put_u8(out, 10),
+        Record::Accept { entries, files } => {
+            put_u8(out, 11)?;
+            put_tables(out, entries, files, members)
+        }
+        Record::Collect => put_u8(out, 12),
+    }
+}
+
+/// The one spelling of the record in a volume of so many members.
+pub fn encode_record(alloc: Global, noted: &Record, members: Members) -> Result<Vec<u8>, Memory>
+    requires { FitsRecord members noted.now }
+    ensures { IfOk result (λ bytes. bytes.items ≡ record_bytes members noted.now) }
+{
+    let mut out = Vec::new(alloc);
+    put_record(&mut out, noted, members)?;
+    Ok(out)
+}
+
+/// The spelling of the record of an update, from the operation alone.
+pub fn encode_change(alloc: Global, op: &Op) -> Result<Vec<u8>, Memory>
+    requires { FitsOp op.now }
+    ensures { (members : ℕ) → IfOk result (λ bytes. bytes.items ≡ record_bytes members (Changes op.now)) }
+{
+    let mut out = Vec::new(alloc);
+    put_op(&mut out, op)?;
+    Ok(out)
+}
+
+/// The spelling of the record of the taking of tables, from the spelling in which they came.
+pub fn encode_accept(alloc: Global, tables: &[u8]) -> Result<Vec<u8>, Memory>
+    ensures { (members : ℕ) (entries : List EntryValue) (files : List FileValue)
+        → tables.now ≡ tables_bytes members entries files
+        → IfOk result (λ bytes. bytes.items ≡ record_bytes members (Accepts entries files)) }
+{
+    let mut out = Vec::new(alloc);
+    put_u8(&mut out, 11)?;
+    put_bytes(&mut out, tables)?;
+    Ok(out)
+}

@@ -1,0 +1,17 @@
+use ficus_entry::Entries;
+use ficus_file::Files;
+use ficus_model::Op;
+
+/// An event after which a replica saves, as it is noted behind an image: what has to be known of it to make what is saved
+/// next from what was saved before.
+#[derive(Drop)]
+pub enum Record {
+    /// An update, and what it does.
+    Change(Op),
+    /// An ask.
+    Ask,
+    /// The taking of the tables that a peer served.
+    Accept { entries: Entries, files: Files },
+    /// A collection.
+    Collect,
+}
