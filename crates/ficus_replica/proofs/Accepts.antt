@@ -19,6 +19,9 @@ use Rattle.ficus_entry.specs.declared.entry.Entry.{Entry}
 use Rattle.ficus_file.specs.declared.file.FileReplica.{FileReplica}
 use Rattle.ficus_saved.specs.Saved.{FitsImage, IsOfPast, IsEntryOfPast, IsFileOfPast, HasOwnPast}
 use Rattle.ficus_saved.specs.Tables.{FitsTables}
+use Rattle.ficus_saved.specs.declared.saved.Saved.{Saved}
+use Rattle.ficus_record.specs.declared.record.Record.{Record}
+use Rattle.ficus_record.specs.declared.record.Record.TheVariants as noted
 use Rattle.ficus_touched.specs.Touched.{touched_by}
 use Rattle.ficus_saved.proofs.MergedTables.{merged_tables_fit}
 use Rattle.ficus_saved.proofs.Touched.{touched_is}
@@ -40,7 +43,8 @@ use Rattle.ficus_held_file_laws.proofs.Files.{file_of_history}
 use Rattle.ficus_held_file_laws.proofs.Merging.{files_fit, files_merged}
 use Rattle.ficus_replica.specs.declared.replica.Asked.{Asked}
 use Rattle.ficus_replica.specs.declared.replica.Replica.{Replica}
-use Rattle.ficus_replica.specs.Accept.{IsOpen, MayTake, AreTablesMerged, Accepted, AcceptGives, IsServed, AcceptStands}
+use Rattle.ficus_replica.specs.Accept.{IsOpen, MayTake, AreTablesMerged, MakesMerged, Accepted, AcceptGives, IsServed, AcceptStands, TakeGives}
+use Rattle.ficus_replica.specs.Makes.{IsNoted}
 use Rattle.ficus_replica.specs.SavedOf.{is_saved, generation_of, IsOpenAskOf, StandsFor}
 use Rattle.ficus_replica.proofs.OpenAsks.{open_none}
 use Rattle.ficus_replica.proofs.Saves.{accept_is_saved, ask_is_saved, generation_saved, saved_then, written_kept}
@@ -140,7 +144,7 @@ module _ (volume : Volume) (H : List Event) (r from number : ℕ) (entries : Lis
   answer : IsAnswer volume H r serve from
   answer = answer_to volume H r from number entries files serve lawful served may
 
-  merged_held : {merged : List Entry} {both : List FileReplica} → AreTablesMerged old entries merged files both →
+  merged_held : {merged : List Entry} {both : List FileReplica} → AreTablesMerged old.saved entries merged files both →
       AreHeldEntries volume.members after r merged
   merged_held {merged} tables = record {
     rising = tables.rising;
@@ -151,7 +155,7 @@ module _ (volume : Volume) (H : List Event) (r from number : ℕ) (entries : Lis
         tables.merges));
   }
 
-  both_held : {merged : List Entry} {both : List FileReplica} → AreTablesMerged old entries merged files both →
+  both_held : {merged : List Entry} {both : List FileReplica} → AreTablesMerged old.saved entries merged files both →
       AreHeldFiles volume.members after r both
   both_held {merged} {both} tables =
       files_merged volume H r serve from answer stands.saved.files served.held_files merged (touched_by merged) both
@@ -250,7 +254,7 @@ served_past volume H r from number entries files serve old lawful stands served 
 pub served_fits : (volume : Volume) (H : List Event) (r from number : ℕ) (entries : List Entry)
     (files : List FileReplica) (serve : ℕ) (old : Replica) → volume.members ≤ 8 →
     IsLawful volume H → StandsFor volume H r old → IsServed volume H r from number entries files serve →
-    MayAccept volume H r serve → MayTake old entries files
+    MayAccept volume H r serve → MayTake old.saved entries files
 served_fits volume H r from number entries files serve old few lawful stands served may = record {
   past = served_past volume H r from number entries files serve old lawful stands served;
   fit = files_fit volume H r serve from (answer_to volume H r from number entries files serve lawful served may)
@@ -285,22 +289,47 @@ accept_gives_stands volume H r from number entries files serve old (Err other) f
     absurd gives
 
 -- what is saved then fits an image
-pub accepted_fits : (from number : ℕ) (entries : List Entry) (files : List FileReplica) (old new : Replica) →
-    FitsImage old.saved → FitsTables old.saved.members entries files → old.saved.generation < 2 ^ 63 - 1 →
-    Accepted old from number entries files new → FitsImage new.saved
-accepted_fits from number entries files old new fits tables generation accepted =
-    let merged = accepted.tables in
-    subst (λ (replica : Replica). FitsImage replica.saved) (sym accepted.replica)
+pub merged_fits : (entries : List Entry) (files : List FileReplica) (old new : Saved) → FitsImage old →
+    FitsTables old.members entries files → old.generation < 2 ^ 63 - 1 → MayTake old entries files →
+    MakesMerged old entries files new → FitsImage new
+merged_fits entries files old new fits tables generation may makes =
+    let merged = makes.tables in
+    subst FitsImage (sym makes.saved)
     (image_then fits fits.next_at_least fits.next_at_most fits.used (omega arith)
-    (merged_tables_fit old.saved.members old.saved.me old.saved.next old.saved.entries entries accepted.merged
-    old.saved.files
-    files accepted.both fits.me (tables_of fits) (record { tables = tables; past = accepted.fits.past }) merged.rising
-    merged.merges merged.held merged.merges_files))
+    (merged_tables_fit old.members old.me old.next old.entries entries makes.merged old.files files makes.both fits.me
+    (tables_of fits) (record { tables = tables; past = may.past }) merged.rising merged.merges merged.held
+    merged.merges_files))
 
-pub gives_fits : (from number : ℕ) (entries : List Entry) (files : List FileReplica) (old : Replica)
-    (result : Result Replica Refusal) → FitsImage old.saved → FitsTables old.saved.members entries files →
-    old.saved.generation < 2 ^ 63 - 1 → AcceptGives old from number entries files result →
-    IfOk result (λ replica. FitsImage replica.saved)
-gives_fits from number entries files old (Ok new) fits tables generation gives =
-    accepted_fits from number entries files old new fits tables generation gives
-gives_fits from number entries files old (Err refusal) fits tables generation gives = tt
+-- and the record of it makes the same
+pub taken_noted : (entries : List Entry) (files : List FileReplica) (old : Saved) (result : Result Replica Refusal) →
+    FitsImage old → FitsTables old.members entries files → old.generation < 2 ^ 63 - 1 →
+    TakeGives old entries files result → IfOk result (λ replica. IsNoted old (noted.Accept entries files) replica.saved)
+taken_noted entries files old (Ok new) fits tables generation gives = record {
+  spelled = tables;
+  fit = record { generation = generation; fits = gives.fits };
+  makes = gives.makes;
+  fits = merged_fits entries files old new.saved fits tables generation gives.fits gives.makes;
+}
+taken_noted entries files old (Err refusal) fits tables generation gives = tt
+
+-- tables that were asked for are taken as any are
+pub taken_accepts : (from number : ℕ) (entries : List Entry) (files : List FileReplica) (old : Replica)
+    (result : Result Replica Refusal) → IsOpen old from number → TakeGives old.saved entries files result →
+    AcceptGives old from number entries files result
+taken_accepts from number entries files old (Ok new) open_ask gives = record {
+  open_ask = open_ask;
+  fits = gives.fits;
+  merged = gives.makes.merged;
+  both = gives.makes.both;
+  tables = gives.makes.tables;
+  replica = λ i. record { saved = gives.makes.saved i; ask = gives.ask i };
+}
+taken_accepts from number entries files old (Err BadMessage) open_ask gives = (open_ask, gives)
+taken_accepts from number entries files old (Err Memory) open_ask gives = open_ask
+taken_accepts from number entries files old (Err other) open_ask gives = absurd gives
+
+-- so what is saved fits an image
+pub noted_fits : (old : Saved) (event : Record) (result : Result Replica Refusal) →
+    IfOk result (λ replica. IsNoted old event replica.saved) → IfOk result (λ replica. FitsImage replica.saved)
+noted_fits old event (Ok new) made = made.fits
+noted_fits old event (Err refusal) made = tt

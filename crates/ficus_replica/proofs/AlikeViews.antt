@@ -1,6 +1,6 @@
 -- The views of two replicas are alike exactly where what both know shows the same.
-use Rattle.std.proofs.Common.{◌≡◌, ◌≢◌, ◌↔◌, ℕ, Bool, true, false, List, [], ◌∷◌, refl, sym, ap, subst, ◌∙◌, inl, inr}
-use Rattle.std.specs.Prelude.{Contains, IsTrue}
+use Rattle.std.proofs.Common.{◌≡◌, ◌↔◌, ℕ, Bool, true, false, List, [], ◌∷◌, refl, sym, subst, ◌∙◌, inl, inr}
+use Rattle.std.specs.Prelude.{Contains}
 use Rattle.std.specs.Str.{bytes_eq}
 use Rattle.std.proofs.lemmas.Bool.{false≢true}
 use Rattle.std.proofs.lemmas.Slice.Eq.{bytes_eq-Decides}
@@ -17,15 +17,14 @@ use Rattle.ficus_model.specs.Known.{Knows}
 use Rattle.ficus_model.specs.Lawful.{Volume, IsLawful}
 use Rattle.ficus_model.specs.Live.{IsBound, IsMade, HasName}
 use Rattle.ficus_model.specs.Reached.{Leads}
-use Rattle.ficus_model.specs.ShownNames.{HasOther, IsShownAs}
+use Rattle.ficus_model.specs.ShownNames.{HasOther}
 use Rattle.ficus_model.specs.Versions.{IsShown}
 use Rattle.ficus_model.specs.View.{IsDetached, IsInReach, IsOrphan, IsShared, IsTop, IsVisible, ShowsConflict, ShowsName, ShowsVersion, ViewSame}
 use Rattle.ficus_laws.proofs.Deciding.{Decided, both_decided}
 use Rattle.ficus_laws.proofs.Issued.{made_once}
 use Rattle.ficus_laws.proofs.Shown.{reached_from_more, reached_within}
-use Rattle.ficus_version_laws.specs.Listed.{AreShown, IsItemOf}
 use Rattle.ficus_version_laws.proofs.Comparing.{compare_as_pasts}
-use Rattle.ficus_file_laws.specs.Items.{AreVersionsOf, items_of}
+use Rattle.ficus_file_laws.specs.Items.{AreVersionsOf}
 use Rattle.ficus_file_laws.proofs.Listing.{conflict_of_list}
 use Rattle.ficus_names.specs.Binds.{BindsIn}
 use Rattle.ficus_names.specs.ListingLaws.{HasOther-along, IsShownAs-along}
@@ -34,7 +33,6 @@ use Rattle.ficus_rules.specs.Alike.{AreAlike}
 use Rattle.ficus_rules.specs.View.{IsBoundIn, history_view}
 use Rattle.ficus_rules.proofs.Alikes.{alike_back}
 use Rattle.ficus_rules.proofs.Views.{bound_same, turned}
-use Rattle.ficus_answers.specs.View.{tables_view}
 use Rattle.ficus_answers.proofs.Tables.{tables_bound}
 use Rattle.ficus_replica.specs.SavedOf.{IsSavedOf}
 use Rattle.ficus_replica.proofs.Views.{named_made, orphan_made, stands_same, visible_versions}

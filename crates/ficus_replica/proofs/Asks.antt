@@ -1,17 +1,21 @@
 -- `ask`: a replica that stands for a history asks, and stands for it with the ask.
-use Rattle.std.proofs.Common.{◌≡◌, ◌≢◌, ℕ, ◌+◌, List, [], ◌∷◌, ◌++◌, length, refl, sym, ap, subst, ◌∙◌, inr}
+use Rattle.std.proofs.Common.{◌≡◌, ◌≢◌, ℕ, ◌+◌, ◌-◌, ◌^◌, ◌<◌, arith, List, [], ◌∷◌, ◌++◌, length, refl, sym, ap, subst, ◌∙◌, inr}
 use Rattle.ficus_ids.specs.Members.{IsMember}
 use Rattle.ficus_model.specs.declared.event.Event.{Event}
 use Rattle.ficus_model.specs.declared.event.Event.TheVariants.{Ask}
 use Rattle.ficus_model.specs.Events.{through}
 use Rattle.ficus_model.specs.Lawful.{Volume}
+use Rattle.ficus_record.specs.declared.record.Record.TheVariants as noted
 use Rattle.ficus_saved.specs.Saved.{FitsImage}
+use Rattle.ficus_saved.specs.declared.saved.Saved.{Saved}
 use Rattle.ficus_laws.proofs.OpenAsk.{open_end}
 use Rattle.ficus_replica.specs.declared.replica.Replica.{Replica}
 use Rattle.ficus_replica.specs.Ask.{AskGives}
+use Rattle.ficus_replica.specs.Makes.{IsNoted, once_more}
 use Rattle.ficus_replica.specs.SavedOf.{generation_of, StandsFor, StandsAfter}
 use Rattle.ficus_replica.proofs.OpenAsks.{through_end}
 use Rattle.ficus_replica.proofs.Saves.{ask_is_saved, generation_saved, saved_again}
+use Rattle.ficus_replica.proofs.Tables.{image_then, tables_of}
 
 -- once it has asked, a replica stands for the history with the ask
 pub asks_stands : (volume : Volume) (H : List Event) (r to : ℕ) (old new : Replica) → StandsFor volume H r old →
@@ -39,3 +43,14 @@ ask_gives_stands volume to old new H fits peer differs gives stands = record {
   where
     member_of : (r : ℕ) → IsMember old.saved.members r → IsMember volume.members r
     member_of r member = subst (λ members. IsMember members r) stands.saved.members member
+
+-- what is saved once more is what the record of an ask makes
+pub ask_noted : (old new : Saved) → FitsImage old → old.generation < 2 ^ 63 - 1 → new ≡ once_more old →
+    IsNoted old noted.Ask new
+ask_noted old new fits generation is = record {
+  spelled = tt;
+  fit = record { generation = generation; fits = tt };
+  makes = is;
+  fits = subst FitsImage (sym is)
+      (image_then fits fits.next_at_least fits.next_at_most fits.used (omega arith) (tables_of fits));
+}

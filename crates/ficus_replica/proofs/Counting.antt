@@ -1,5 +1,5 @@
 -- How many identifiers are such, and how many of a rising list are not in another.
-use Rattle.std.proofs.Common.{◌≡◌, ◌↔◌, ℕ, ◌+◌, Bool, true, false, List, [], ◌∷◌, length, map, refl, sym, ap, subst, ◌∙◌, inl, inr, arith}
+use Rattle.std.proofs.Common.{◌≡◌, ◌↔◌, ℕ, ◌+◌, ◌≤◌, Bool, true, false, List, [], ◌∷◌, length, map, refl, sym, ap, subst, ◌∙◌, inl, inr, arith}
 use Rattle.std.specs.Prelude.{Contains}
 use Rattle.std.specs.List.{filter}
 use Rattle.std.specs.declared.cmp.Ordering.TheVariants.{Less}
@@ -106,6 +106,10 @@ module _ (xs ys : List Id) (rising : IsRisingBy (λ (id : Id). id) xs) (rising_t
     counted = omega (arith, length-filter_both in_both left_out (λ id. refl) xs, ap length both_is, counted);
   }
 
+  -- and the other is no longer
+  pub no_more : length ys ≤ length xs
+  no_more = omega (arith, length-filter_both in_both left_out (λ id. refl) xs, ap length both_is)
+
 -- the same of items with identifiers
 module _ {X : Type 0} (id_of : X → Id) where
   ids_rise : (xs : List X) → IsRisingBy id_of xs → IsRisingBy (λ (id : Id). id) (map id_of xs)
@@ -143,3 +147,14 @@ module _ {X : Type 0} (id_of : X → Id) where
       let held = ids_held ys id inside in
       held_in_ids xs id (record { item = held.item; inside = within held.item held.inside; has_id = held.has_id }))
       count (omega (arith, length-map xs id_of, length-map ys id_of, counted)))
+
+  -- rising identifiers of items that are held are no more than these
+  pub no_more_ids : (xs : List X) (ids : List Id) → IsRisingBy id_of xs → IsRisingBy (λ (id : Id). id) ids →
+      ((id : Id) → Contains ids id → HoldsBy id_of xs id) → length ids ≤ length xs
+  no_more_ids xs ids rising rising_too held =
+      omega (
+        arith,
+        length-map xs id_of,
+        no_more (map id_of xs) ids (ids_rise xs rising) rising_too
+            (λ id inside. held_in_ids xs id (held id inside)),
+      )

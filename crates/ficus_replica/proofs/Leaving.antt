@@ -18,6 +18,8 @@ use Rattle.ficus_saved.specs.declared.saved.Saved.{Saved}
 use Rattle.ficus_saved.proofs.ReclaimedTables.{entry_was, reclaimed_tables_fit}
 use Rattle.ficus_answers.proofs.Orphanages.{orphan_ids}
 use Rattle.ficus_replica.specs.declared.collect.Collected.{Collected}
+use Rattle.ficus_replica.specs.Makes.{IsNoted}
+use Rattle.ficus_record.specs.declared.record.Record.TheVariants as noted
 use Rattle.ficus_replica.specs.declared.replica.Replica.{Replica}
 use Rattle.ficus_replica.specs.Collect.{CollectGives, HoldsNoGarbage}
 use Rattle.ficus_replica.proofs.Counting.{held_in_ids, ids_held}
@@ -157,3 +159,19 @@ collected_once {old} gives gives_too =
     let same : gives.reclaimed ≡ gives_too.reclaimed =
     reclaimed_once old.saved gives.are gives_too.are gives.left gives_too.left in
     cc
+
+-- the record of a collection makes what it leaves
+pub collect_noted : (old : Replica) (collected : Collected) → FitsImage old.saved →
+    old.saved.generation < 2 ^ 63 - 1 → CollectGives old collected → IsNoted old.saved noted.Collect collected.replica.saved
+collect_noted old collected fits generation gives = record {
+  spelled = tt;
+  fit = record { generation = generation; fits = tt };
+  makes = record {
+    orphans = gives.orphans;
+    are = gives.are;
+    reclaimed = gives.reclaimed;
+    left = gives.left;
+    saved = ap (λ (given : Collected). given.replica.saved) gives.is;
+  };
+  fits = collect_fits old collected fits generation gives;
+}

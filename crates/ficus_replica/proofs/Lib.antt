@@ -9,12 +9,13 @@ pub mod Allowed
 pub mod Tables
 pub mod Effects
 pub mod Stepping
+pub mod Counting
+pub mod Fitting
 pub mod Ready
 pub mod Changing
 pub mod Events
 pub mod Asks
 pub mod Accepts
 pub mod Pulls
-pub mod Counting
 pub mod Leaving
 pub mod Collects

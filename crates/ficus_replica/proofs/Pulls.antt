@@ -88,7 +88,7 @@ module _ (volume : Volume) (H : List Event) (r s : ℕ) (puller peer now : Repli
         longer waiting_stands peer_serves open_ask
 
     -- so what the peer holds is never refused
-    pub peer_fits : volume.members ≤ 8 → MayTake now peer.saved.entries peer.saved.files
+    pub peer_fits : volume.members ≤ 8 → MayTake now.saved peer.saved.entries peer.saved.files
     peer_fits few =
         served_fits volume (answered H r s) r s now.saved.generation peer.saved.entries peer.saved.files (length H + 1) now
         few longer waiting_stands peer_serves may_take

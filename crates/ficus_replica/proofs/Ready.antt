@@ -1,19 +1,15 @@
--- What a rule gives over the tables is ready to be done there.
-use Rattle.std.proofs.Common.{◌≡◌, ◌≢◌, ◌<◌, ℕ, List, length, Ok, refl, sym, ap, subst, inl, inr, arith}
+-- What a rule gives over the tables fits them, so that it is ready to be done there.
+use Rattle.std.proofs.Common.{◌≡◌, ◌<◌, ◌-◌, ◌^◌, ℕ, List, length, Ok, refl, sym, subst, inl, inr, arith}
 use Rattle.std.specs.Prelude.{Contains}
-use Rattle.std.proofs.lemmas.List.Elements.{All-contains}
+use Rattle.ficus_ids.specs.ListLaws.{not_inside_none}
 use Rattle.ficus_ids.specs.declared.id.Id.{Id}
-use Rattle.ficus_ids.specs.declared.id.TheConstants.{ROOT, ATTIC}
 use Rattle.ficus_ids.specs.declared.kind.Kind.{Kind}
 use Rattle.ficus_ids.specs.declared.kind.Kind.TheVariants.{Dir}
-use Rattle.ficus_entry.specs.declared.entry.Entry.{Entry}
-use Rattle.ficus_file.specs.Files.{Holds, HoldsFile}
 use Rattle.ficus_model.specs.declared.event.Op.{Op}
 use Rattle.ficus_model.specs.Lawful.{most_file_bytes}
-use Rattle.ficus_model.specs.Reached.IsReached.{Base, Through}
 use Rattle.ficus_path.specs.declared.path.Path.{Path}
+use Rattle.ficus_record.specs.declared.record.Record.TheVariants as noted
 use Rattle.ficus_saved.specs.Saved.{FitsImage}
-use Rattle.ficus_saved.specs.Tables.{FitsFile, HasObjectsIn}
 use Rattle.ficus_saved.specs.declared.saved.Saved.{Saved}
 use Rattle.ficus_commands.specs.declared.change.Change.{Change}
 use Rattle.ficus_commands.specs.declared.change.Change.TheVariants.{MkDir, Create, Write, Settle, Resolve, Rm, Ln, Mv, Adopt, Discard}
@@ -27,51 +23,42 @@ use Rattle.ficus_rules.specs.Named.{AreNamedIn}
 use Rattle.ficus_rules.specs.Remove.{RemoveRule}
 use Rattle.ficus_rules.specs.Rename.{RenameRule}
 use Rattle.ficus_rules.specs.Rule.{Gives}
-use Rattle.ficus_rules.specs.View.{IsInReachIn, IsVisibleIn}
+use Rattle.ficus_rules.specs.View.{IsDirectoryIn, IsVisibleIn}
 use Rattle.ficus_rules.specs.Walk.{FileRule, Found, last_name}
-use Rattle.ficus_rules.proofs.Walks.{IsFileAt, IsEntryAt, entry_walked, file_walked, parent_walked, places_walked}
+use Rattle.ficus_rules.proofs.Walks.{IsFileAt, IsEntryAt, IsWalkedTo, entry_walked, file_walked, parent_walked, places_walked}
 use Rattle.ficus_answers.specs.View.{IsVisibleBy, held_live, tables_view}
-use Rattle.ficus_answers.proofs.Tables.{tables_named, visible_held}
-use Rattle.ficus_replica.specs.Effect.{IsPossible, IsReady, MayMake, MayRemove, MayWrite}
+use Rattle.ficus_answers.proofs.Tables.{bound_named, tables_named, visible_held}
+use Rattle.ficus_replica.specs.Effect.{Applied, HasName, IsReady, MayWrite}
+use Rattle.ficus_replica.specs.Makes.{AreNames, FitsOpIn, FitsUpdate, IsFile, IsNoted, IsPlace}
+use Rattle.ficus_replica.proofs.Fitting.{Rises, op_spelled, update_ready}
+
+-- the operation fits the tables, and what it lists rises
+pub record IsGiven (saved : Saved) (op : Op) : Type 0 where
+  pub update : FitsUpdate saved op
+  pub rises : Rises op
 
 module _ {saved : Saved} (fits : FitsImage saved) where
-  held_target : (entry : Entry) → Contains saved.entries entry → Holds saved.files entry.target
-  held_target entry inside = (All-contains (HasObjectsIn saved.files) saved.entries entry fits.tables.objects inside).target
-
-  no_attic : {id : Id} → Holds saved.files id → id ≢ ATTIC
-  no_attic {id} held is =
-      let file = All-contains (FitsFile saved.members) saved.files held.item fits.tables.each_file held.inside in
-      let zero : held.item.id.replica ≡ 0 = ap (λ (i : Id). i.replica) (subst (λ i. held.item.id ≡ i) is held.has_id) in
-      omega (arith, file.id.replica.at_least, zero)
-
-  -- where an entry may be made
-  reached_place : {dir : Id} → IsInReachIn (tables_view saved) dir → MayMake saved dir
-  reached_place (Base (inr orphan)) =
-      let held = visible_held fits (inr orphan) in
-      record { place = inl held; no_attic = no_attic held }
-  reached_place (Base (inl root)) = record {
-    place = inr (inl root);
-    no_attic = λ attic. let number : ROOT ≡ ATTIC = subst (λ id. id ≡ ATTIC) root attic in
-        let zero : 0 ≡ 1 = ap (λ (id : Id). id.number) number in omega arith;
-  }
-  reached_place (Through reached (name, bound)) =
-      let held = subst (Holds saved.files) bound.leads (held_target (held_live bound.entry) bound.live) in
-      record { place = inl held; no_attic = no_attic held }
+  -- a directory to which a walk leads is a place for entries
+  walked_place : {dir : Id} → IsWalkedTo (tables_view saved) dir → IsPlace saved dir
+  walked_place walked = elim walked.directory [
+    | inl root ↦ inl root
+    | inr has ↦ inr (record { file = has.file; inside = has.inside; has_id = has.has_id; fit = has.so })
+  ]
 
   visible_by : {object : Id} → IsVisibleIn (tables_view saved) object → IsVisibleBy saved object
   visible_by {object} (inl named) = inl ((tables_named saved object).1 named)
   visible_by (inr orphan) = inr orphan
 
-  -- the file that a walk leads to
-  file_held : {file : Id} → IsFileAt (tables_view saved) file → HoldsFile saved.files file (λ held. held.kind ≢ Dir)
-  file_held {file} found =
-      let visible = visible_by found.visible in
+  -- what is visible and no directory is a file that is held
+  visible_file : {object : Id} → IsVisibleBy saved object → (IsDirectoryIn (tables_view saved) object → ⊥) →
+      IsFile saved object
+  visible_file {object} visible no_directory =
       let held = visible_held fits visible in
       record {
         file = held.item;
         inside = held.inside;
         has_id = held.has_id;
-        fit = λ dir. found.no_directory (inr (record {
+        fit = λ dir. no_directory (inr (record {
           visible = visible;
           file = held.item;
           inside = held.inside;
@@ -83,93 +70,134 @@ module _ {saved : Saved} (fits : FitsImage saved) where
   may_write : {file : Id} (bytes : List ℕ) → IsFileAt (tables_view saved) file →
       (most_file_bytes < length bytes → ⊥) → ((tables_view saved).over_quota (length bytes) → ⊥) →
       MayWrite saved file bytes
-  may_write bytes found short within =
-      record { held = file_held found; one_file = omega arith; left = omega arith }
-
-  -- the file at a path is written within the limits
-  within_ready : (path : Path) {file : Id} {bytes : List ℕ} {op given : Op} →
-      (MayWrite saved file bytes → IsPossible saved op) → FileRule (tables_view saved) path (Ok file) →
-      LimitsRule (tables_view saved) (length bytes) (Gives op) (Ok given) → IsReady saved given
-  within_ready path {file} {bytes} writes walk (short, (left, (within, is))) = subst (IsReady saved) (sym is) (record {
+  may_write bytes found short within = record {
+    held = visible_file (visible_by found.visible) found.no_directory;
+    one_file = omega arith;
     left = omega arith;
-    possible = writes (may_write bytes (file_walked (tables_view saved) path file walk) short within);
-  })
-
-  make_ready : (path : Path) (kind : Kind) (op : Op) → MakeRule (tables_view saved) path kind (Ok op) → IsReady saved op
-  make_ready path kind op (dir, walk, (free, (left, is))) = subst (IsReady saved) (sym is) (record {
-    left = omega arith;
-    possible = reached_place (parent_walked (tables_view saved) path dir walk).reached;
-  })
-
-  -- the object of an entry that a walk leads to is held
-  entry_held : {path : Path} {found : Found} → IsEntryAt (tables_view saved) path found →
-      Holds saved.files found.object
-  entry_held at = subst (Holds saved.files) at.bound.leads (held_target (held_live at.bound.entry) at.bound.live)
-
-  -- all entries of the name at a path may be removed
-  names_ready : {path : Path} {found : Found} {entries : List Id} → IsEntryAt (tables_view saved) path found →
-      AreNamedIn (tables_view saved) found.dir (last_name path) found.object entries →
-      MayRemove saved entries found.object
-  names_ready at named = record {
-    live = λ id inside.
-        let by = (named.all id).0 inside in
-        record { entry = held_live by.bound.entry; inside = by.bound.live; has_id = by.by; live = refl };
-    rising = named.rising;
-    held = entry_held at;
   }
 
-  remove_ready : (path : Path) (op : Op) → RemoveRule (tables_view saved) path (Ok op) → IsReady saved op
-  remove_ready path op (found, walk, (keeps, (left, (entries, named, is)))) = subst (IsReady saved) (sym is) (record {
-    left = omega arith;
-    possible = names_ready (entry_walked (tables_view saved) path found walk) named;
+  -- the file at a path is written within the limits
+  within_given : (path : Path) {file : Id} {bytes : List ℕ} {op given : Op} →
+      (MayWrite saved file bytes → FitsOpIn saved op) → Rises op → FileRule (tables_view saved) path (Ok file) →
+      LimitsRule (tables_view saved) (length bytes) (Gives op) (Ok given) → IsGiven saved given
+  within_given path {file} {bytes} writes rises walk (short, (left, (within, is))) =
+      subst (IsGiven saved) (sym is) (record {
+        update = record {
+          left = omega arith;
+          fits = writes (may_write bytes (file_walked (tables_view saved) path file walk) short within);
+        };
+        rises = rises;
+      })
+
+  make_given : (path : Path) (kind : Kind) (op : Op) → MakeRule (tables_view saved) path kind (Ok op) → IsGiven saved op
+  make_given path kind op (dir, walk, (free, (left, is))) = subst (IsGiven saved) (sym is) (record {
+    update = record { left = omega arith; fits = walked_place (parent_walked (tables_view saved) path dir walk) };
+    rises = tt;
   })
 
-  link_ready : (from path : Path) (op : Op) → LinkRule (tables_view saved) from path (Ok op) → IsReady saved op
-  link_ready from path op (places, walks, (no_directory, (free, (left, is)))) =
+  -- all entries of the name at a path are names of what it leads to
+  entries_named : {path : Path} {found : Found} {entries : List Id} → IsEntryAt (tables_view saved) path found →
+      AreNamedIn (tables_view saved) found.dir (last_name path) found.object entries →
+      AreNames saved entries found.object
+  entries_named {entries = entries} at named = record {
+    some = λ none. not_inside_none at.bound.entry.id (subst (λ (ids : List Id). Contains ids at.bound.entry.id) none
+        ((named.all at.bound.entry.id).1 (record { bound = at.bound; by = refl })));
+    each = λ id inside.
+        let by = (named.all id).0 inside in
+        record {
+          entry = held_live by.bound.entry;
+          inside = by.bound.live;
+          has_id = by.by;
+          live = refl;
+          leads = by.bound.leads;
+        };
+  }
+
+  remove_given : (path : Path) (op : Op) → RemoveRule (tables_view saved) path (Ok op) → IsGiven saved op
+  remove_given path op (found, walk, (keeps, (left, (entries, named, is)))) = subst (IsGiven saved) (sym is) (record {
+    update = record {
+      left = omega arith;
+      fits = entries_named (entry_walked (tables_view saved) path found walk) named;
+    };
+    rises = named.rising;
+  })
+
+  link_given : (from path : Path) (op : Op) → LinkRule (tables_view saved) from path (Ok op) → IsGiven saved op
+  link_given from path op (places, walks, (no_directory, (free, (left, is)))) =
       let walked = places_walked (tables_view saved) from path places walks in
-      subst (IsReady saved) (sym is) (record {
-        left = omega arith;
-        possible = record {
-          lies = reached_place (parent_walked (tables_view saved) path places.dir walked.dir).reached;
-          held = entry_held (entry_walked (tables_view saved) from places.found walked.found);
+      let at = entry_walked (tables_view saved) from places.found walked.found in
+      subst (IsGiven saved) (sym is) (record {
+        update = record {
+          left = omega arith;
+          fits = (
+            walked_place (parent_walked (tables_view saved) path places.dir walked.dir),
+            visible_file (inl (bound_named saved at.bound)) no_directory,
+          );
         };
+        rises = tt;
       })
 
-  rename_ready : (from path : Path) (op : Op) → RenameRule (tables_view saved) from path (Ok op) → IsReady saved op
-  rename_ready from path op (places, walks, (outside, (free, (left, (entries, named, is))))) =
+  rename_given : (from path : Path) (op : Op) → RenameRule (tables_view saved) from path (Ok op) → IsGiven saved op
+  rename_given from path op (places, walks, (outside, (free, (left, (entries, named, is))))) =
       let walked = places_walked (tables_view saved) from path places walks in
-      subst (IsReady saved) (sym is) (record {
-        left = omega arith;
-        possible = record {
-          removes = names_ready (entry_walked (tables_view saved) from places.found walked.found) named;
-          lies = reached_place (parent_walked (tables_view saved) path places.dir walked.dir).reached;
+      subst (IsGiven saved) (sym is) (record {
+        update = record {
+          left = omega arith;
+          fits = (
+            entries_named (entry_walked (tables_view saved) from places.found walked.found) named,
+            walked_place (parent_walked (tables_view saved) path places.dir walked.dir),
+          );
         };
+        rises = named.rising;
       })
 
-  adopt_ready : (orphan : Id) (path : Path) (op : Op) → AdoptRule (tables_view saved) orphan path (Ok op) →
-      IsReady saved op
-  adopt_ready orphan path op (is_orphan, (dir, parent, (outside, (free, (left, is))))) =
-      subst (IsReady saved) (sym is) (record {
-        left = omega arith;
-        possible = record {
-          lies = reached_place (parent_walked (tables_view saved) path dir parent).reached;
-          held = visible_held fits (inr is_orphan);
+  adopt_given : (orphan : Id) (path : Path) (op : Op) → AdoptRule (tables_view saved) orphan path (Ok op) →
+      IsGiven saved op
+  adopt_given orphan path op (is_orphan, (dir, parent, (outside, (free, (left, is))))) =
+      subst (IsGiven saved) (sym is) (record {
+        update = record {
+          left = omega arith;
+          fits = (
+            walked_place (parent_walked (tables_view saved) path dir parent),
+            visible_held fits (inr is_orphan),
+          );
         };
+        rises = tt;
       })
 
-  discard_ready : (orphan : Id) (op : Op) → DiscardRule (tables_view saved) orphan (Ok op) → IsReady saved op
-  discard_ready orphan op (is_orphan, (no_directory, (left, is))) =
-      subst (IsReady saved) (sym is) (record { left = omega arith; possible = visible_held fits (inr is_orphan) })
+  discard_given : (orphan : Id) (op : Op) → DiscardRule (tables_view saved) orphan (Ok op) → IsGiven saved op
+  discard_given orphan op (is_orphan, (no_directory, (left, is))) = subst (IsGiven saved) (sym is) (record {
+    update = record { left = omega arith; fits = visible_file (inr is_orphan) no_directory };
+    rises = tt;
+  })
+
+  pub change_given : (change : Change) (op : Op) → ChangeRule (tables_view saved) change (Ok op) → IsGiven saved op
+  change_given (MkDir path) op rule = make_given path Dir op rule
+  change_given (Create path kind) op rule = make_given path kind op rule
+  change_given (Write path text) op (file, walk, (settled, limits)) = within_given path (λ may. may) tt walk limits
+  change_given (Settle path text) op (file, walk, (conflict, limits)) = within_given path (λ may. may) tt walk limits
+  change_given (Resolve path) op (file, walk, (conflict, (text, resolved, limits))) =
+      within_given path (λ may. may) tt walk limits
+  change_given (Rm path) op rule = remove_given path op rule
+  change_given (Ln from path) op rule = link_given from path op rule
+  change_given (Mv from path) op rule = rename_given from path op rule
+  change_given (Adopt orphan path) op rule = adopt_given orphan path op rule
+  change_given (Discard orphan) op rule = discard_given orphan op rule
 
   pub change_ready : (change : Change) (op : Op) → ChangeRule (tables_view saved) change (Ok op) → IsReady saved op
-  change_ready (MkDir path) op rule = make_ready path Dir op rule
-  change_ready (Create path kind) op rule = make_ready path kind op rule
-  change_ready (Write path text) op (file, walk, (settled, limits)) = within_ready path (λ may. may) walk limits
-  change_ready (Settle path text) op (file, walk, (conflict, limits)) = within_ready path (λ may. may) walk limits
-  change_ready (Resolve path) op (file, walk, (conflict, (text, resolved, limits))) =
-      within_ready path (λ may. may) walk limits
-  change_ready (Rm path) op rule = remove_ready path op rule
-  change_ready (Ln from path) op rule = link_ready from path op rule
-  change_ready (Mv from path) op rule = rename_ready from path op rule
-  change_ready (Adopt orphan path) op rule = adopt_ready orphan path op rule
-  change_ready (Discard orphan) op rule = discard_ready orphan op rule
+  change_ready change op rule =
+      let given = change_given change op rule in
+      update_ready fits op given.rises given.update
+
+  -- and its record makes what it makes
+  pub change_noted : (change : Change) (op given : Op) (new : Saved) → saved.generation < 2 ^ 63 - 1 → HasName op →
+      ChangeRule (tables_view saved) change (Ok op) → given ≡ op → Applied saved op new → FitsImage new →
+      IsNoted saved (noted.Change given) new
+  change_noted change op given new generation name rule is applied fits_then =
+      let by_rule = change_given change op rule in
+      subst (λ (o : Op). IsNoted saved (noted.Change o) new) (sym is) (record {
+        spelled = op_spelled fits op name by_rule.rises by_rule.update.fits;
+        fit = record { generation = generation; fits = by_rule.update };
+        makes = applied;
+        fits = fits_then;
+      })

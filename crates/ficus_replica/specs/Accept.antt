@@ -13,6 +13,7 @@ use Rattle.ficus_file.specs.declared.file.FileReplica.{FileReplica}
 use Rattle.ficus_recon_dir.specs.Merge.{MergesEntries}
 use Rattle.ficus_recon_file.specs.Merge.{Fit, AreMergedFiles}
 use Rattle.ficus_saved.specs.Saved.{HasOwnPast}
+use Rattle.ficus_saved.specs.declared.saved.Saved.{Saved}
 use Rattle.ficus_touched.specs.Touched.{touched_by}
 use Rattle.ficus_held_file_laws.specs.Tables.{AreHeldEntries, AreHeldFiles}
 use Rattle.ficus_replica.specs.declared.replica.Replica.{Replica}
@@ -24,25 +25,32 @@ IsOpen replica from number = replica.ask ≡ Some (record { to = from; number = 
 
 -- the tables hold no identifier and no count of the replica's own that it hasn't issued, and their files and the
 -- replica's can be merged
-pub record MayTake (replica : Replica) (entries : List Entry) (files : List FileReplica) : Type 0 where
-  pub past : HasOwnPast replica.saved.me replica.saved.next entries files
-  pub fit : Fit replica.saved.files files
+pub record MayTake (old : Saved) (entries : List Entry) (files : List FileReplica) : Type 0 where
+  pub past : HasOwnPast old.me old.next entries files
+  pub fit : Fit old.files files
 
 -- the entries merged, and the files of both by what the merged entries name or lie in
-pub record AreTablesMerged (old : Replica) (entries merged : List Entry) (files both : List FileReplica) : Type 0 where
+pub record AreTablesMerged (old : Saved) (entries merged : List Entry) (files both : List FileReplica) : Type 0 where
   pub rising : IsRising merged
-  pub merges : MergesEntries old.saved.me old.saved.members old.saved.entries entries merged
+  pub merges : MergesEntries old.me old.members old.entries entries merged
   pub held : AreFiles both
-  pub merges_files : AreMergedFiles (touched_by merged) old.saved.files files both
+  pub merges_files : AreMergedFiles (touched_by merged) old.files files both
+
+-- what is saved once these tables are taken: the merged ones, once more
+pub record MakesMerged (old : Saved) (entries : List Entry) (files : List FileReplica) (new : Saved) : Type 0 where
+  pub merged : List Entry
+  pub both : List FileReplica
+  pub tables : AreTablesMerged old entries merged files both
+  pub saved : new ≡ record old { generation = old.generation + 1; entries = merged; files = both }
 
 -- saved once more, with the merged tables and no open ask, and else as before
 pub record Accepted (old : Replica) (from number : ℕ) (entries : List Entry) (files : List FileReplica)
     (new : Replica) : Type 0 where
   pub open_ask : IsOpen old from number
-  pub fits : MayTake old entries files
+  pub fits : MayTake old.saved entries files
   pub merged : List Entry
   pub both : List FileReplica
-  pub tables : AreTablesMerged old entries merged files both
+  pub tables : AreTablesMerged old.saved entries merged files both
   pub replica : new ≡ record {
     saved = record old.saved { generation = old.saved.generation + 1; entries = merged; files = both };
     ask = None;
@@ -54,14 +62,22 @@ abbrev pub AcceptGives : Replica → ℕ → ℕ → List Entry → List FileRep
 AcceptGives old from number entries files (Ok new) = Accepted old from number entries files new
 AcceptGives old from number entries files (Err Stale) = IsOpen old from number → ⊥
 AcceptGives old from number entries files (Err BadMessage) =
-    IsOpen old from number × (MayTake old entries files → ⊥)
+    IsOpen old from number × (MayTake old.saved entries files → ⊥)
 AcceptGives old from number entries files (Err Memory) = IsOpen old from number
 AcceptGives old from number entries files (Err other) = ⊥
 
--- the same where whose tables they are was found to be the one that was asked
-abbrev pub TakeGives : Replica → List Entry → List FileReplica → Result Replica Refusal → Type 0
-TakeGives old entries files result =
-    (from number : ℕ) → IsOpen old from number → AcceptGives old from number entries files result
+-- the tables fit and are taken, and no ask is open
+pub record Taken (old : Saved) (entries : List Entry) (files : List FileReplica) (new : Replica) : Type 0 where
+  pub fits : MayTake old entries files
+  pub makes : MakesMerged old entries files new.saved
+  pub ask : new.ask ≡ None
+
+-- the same whether or not the tables were asked for
+abbrev pub TakeGives : Saved → List Entry → List FileReplica → Result Replica Refusal → Type 0
+TakeGives old entries files (Ok new) = Taken old entries files new
+TakeGives old entries files (Err BadMessage) = MayTake old entries files → ⊥
+TakeGives old entries files (Err Memory) = Unit {0}
+TakeGives old entries files (Err other) = ⊥
 
 -- the tables are those that replica s served at a position, in answer to the ask of replica r with this number
 pub record IsServed (volume : Volume) (H : List Event) (r s number : ℕ) (entries : List Entry)

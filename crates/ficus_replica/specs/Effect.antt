@@ -1,5 +1,6 @@
 -- What an operation makes of what a replica saves.
 use Rattle.std.specs.Prelude.{◌≡◌, ◌≢◌, ℕ, ◌+◌, ◌≤◌, List, length, Contains, codes}
+use Rattle.ficus_ids.specs.Name.{IsName}
 use Rattle.ficus_ids.specs.Rising.{IsRisingBy}
 use Rattle.ficus_ids.specs.declared.id.Id.{Id}
 use Rattle.ficus_ids.specs.declared.id.TheConstants.{ATTIC}
@@ -102,3 +103,15 @@ IsPossible old (Discard file) = Holds old.files file
 pub record IsReady (old : Saved) (op : Op) : Type 0 where
   pub left : old.next ≤ old.ids
   pub possible : IsPossible old op
+
+-- the name that the operation gives is one, where it gives any
+abbrev pub HasName : Op → Type 0
+HasName (Make dir called kind) = IsName called
+HasName (Link dir called target) = IsName called
+HasName (Remove entries target) = Unit {0}
+HasName (Move entries dir called target) = IsName called
+HasName (Write file bytes) = Unit {0}
+HasName (Settle file bytes) = Unit {0}
+HasName (Resolve file bytes) = Unit {0}
+HasName (Adopt file dir called) = IsName called
+HasName (Discard file) = Unit {0}

@@ -5,3 +5,4 @@ pub mod Change
 pub mod Ask
 pub mod Accept
 pub mod Collect
+pub mod Makes

@@ -17,7 +17,9 @@ impl Replica {
     ghost use Rattle.ficus_recon_file.specs.Merge.{Fit};
     ghost use Rattle.ficus_replica.specs.Accept.{AcceptGives, AcceptStands, AreTablesMerged, IsOpen, IsServed, MayTake};
     ghost use Rattle.ficus_replica.specs.Accept.{TakeGives};
+    ghost use Rattle.ficus_replica.specs.Makes.{IsNoted};
     ghost use Rattle.ficus_replica.specs.SavedOf.{StandsFor};
+    ghost use Rattle.ficus_record.specs.declared.record.Record.TheVariants.{Accept as Noted};
 
     /// Takes the tables that a peer served in answer to an ask. Refused, in this order: `Stale` exactly where
     /// the open ask isn't of this peer and number; `BadMessage` exactly where the tables hold an identifier or a count
@@ -35,6 +37,8 @@ impl Replica {
         requires generation { self.now.saved.generation < 2 ^ 63 - 1 }
         ensures gives { AcceptGives self.now from number entries.now files.now result }
         ensures fits { IfOk result (λ replica. FitsImage replica.saved) }
+        ensures noted { IfOk result (λ replica.
+            IsNoted self.now.saved (Noted entries.now files.now) replica.saved) }
         ensures stands { (volume : Volume) (H : List Event) (serve : ℕ) → IsLawful volume H
             → StandsFor volume H self.now.saved.me self.now
             → IsServed volume H self.now.saved.me from number entries.now files.now serve
@@ -60,6 +64,8 @@ impl Replica {
         requires generation { self.now.saved.generation < 2 ^ 63 - 1 }
         ensures gives { AcceptGives self.now from number entries.now files.now result }
         ensures fits { IfOk result (λ replica. FitsImage replica.saved) }
+        ensures noted { IfOk result (λ replica.
+            IsNoted self.now.saved (Noted entries.now files.now) replica.saved) }
         ensures stands { (volume : Volume) (H : List Event) (serve : ℕ) → IsLawful volume H
             → StandsFor volume H self.now.saved.me self.now
             → IsServed volume H self.now.saved.me from number entries.now files.now serve
@@ -71,8 +77,8 @@ impl Replica {
         self.take_rows(alloc, entries, files)
     }
 
-    // Takes tables in answer to the open ask, or refuses them.
-    fn take_tables(
+    /// Takes tables, or refuses them, whether or not they were asked for.
+    pub(crate) fn take_tables(
         &self,
         alloc: Global,
         entries: &Entries,
@@ -81,12 +87,12 @@ impl Replica {
         requires fits { FitsImage self.now.saved }
         requires tables { FitsTables self.now.saved.members entries.now files.now }
         requires generation { self.now.saved.generation < 2 ^ 63 - 1 }
-        ensures { TakeGives self.now entries.now files.now result }
+        ensures { TakeGives self.now.saved entries.now files.now result }
     {
         self.take(alloc, &entries.in_order()?, files.in_order()?)
     }
 
-    // Takes tables whose rows stand in lists in answer to the open ask, or refuses them.
+    // Takes tables whose rows stand in lists, or refuses them.
     fn take_rows(
         &self,
         alloc: Global,
@@ -96,7 +102,7 @@ impl Replica {
         requires fits { FitsImage self.now.saved }
         requires tables { FitsTables self.now.saved.members entries.now files.now }
         requires generation { self.now.saved.generation < 2 ^ 63 - 1 }
-        ensures { TakeGives self.now entries.now files.now result }
+        ensures { TakeGives self.now.saved entries.now files.now result }
     {
         let entries = InOrder::over(alloc, entries)?;
         let files = FilesInOrder::over(alloc, files)?;
@@ -110,7 +116,7 @@ impl Replica {
         self.ask == Some(Asked { to: from, number })
     }
 
-    // Takes rows in answer to the open ask, or refuses them.
+    // Takes rows, or refuses them.
     fn take(
         &self,
         alloc: Global,
@@ -120,7 +126,7 @@ impl Replica {
         requires fits { FitsImage self.now.saved }
         requires tables { FitsTables self.now.saved.members entries.now files }
         requires generation { self.now.saved.generation < 2 ^ 63 - 1 }
-        ensures { TakeGives self.now entries.now files.entry result }
+        ensures { TakeGives self.now.saved entries.now files.entry result }
     {
         let news = News::of(alloc, &self.saved.files, files)?;
         if !self.fits(entries, &news) {
@@ -143,7 +149,7 @@ impl Replica {
         requires fits { FitsImage self.now.saved }
         requires mine { news.now.mine ≡ self.now.saved.files }
         requires fit { Fit self.now.saved.files news.now.theirs }
-        ensures { IfOk result (λ tables. AreTablesMerged self.now entries.now tables.0 news.now.theirs tables.1) }
+        ensures { IfOk result (λ tables. AreTablesMerged self.now.saved entries.now tables.0 news.now.theirs tables.1) }
     {
         let saved = &self.saved;
         let merged = merge_in_order(alloc, &saved.entries, entries, saved.me, saved.members)?;
@@ -155,7 +161,7 @@ impl Replica {
     fn fits(&self, entries: &InOrder<'_>, news: &News<'_>) -> bool
         requires fits { FitsImage self.now.saved }
         requires mine { news.now.mine ≡ self.now.saved.files }
-        ensures { IsTrue result ↔ MayTake self.now entries.now news.now.theirs }
+        ensures { IsTrue result ↔ MayTake self.now.saved entries.now news.now.theirs }
     {
         self.saved.has_issued_entries(entries) && self.has_issued_files(news) && news_fit(news)
     }

@@ -20,7 +20,9 @@ impl Replica {
     ghost use Rattle.ficus_model.specs.Lawful.{Volume, IsLawful};
     ghost use Rattle.ficus_model.specs.declared.event.Event.{Event};
     ghost use Rattle.ficus_replica.specs.Collect.{CollectGives, CollectStands, HoldsNoGarbage};
+    ghost use Rattle.ficus_replica.specs.Makes.{IsNoted};
     ghost use Rattle.ficus_replica.specs.SavedOf.{StandsFor};
+    ghost use Rattle.ficus_record.specs.declared.record.Record.TheVariants.{Collect as Noted};
 
     /// Gives up the removed entries of which everybody is known to know that all know, and then the files and directories
     /// that no entry which is left names or lies in and that are no orphans. The open ask stays. It takes one walk over
@@ -32,6 +34,7 @@ impl Replica {
         ensures fits { IfOk result (λ collected. FitsImage collected.replica.saved) }
         ensures no_garbage { IfOk result (λ collected. HoldsNoGarbage collected.replica.saved.members
             collected.replica.saved.entries collected.replica.saved.files) }
+        ensures noted { IfOk result (λ collected. IsNoted self.now.saved Noted collected.replica.saved) }
         ensures stands { (volume : Volume) (H : List Event) → IsLawful volume H
             → StandsFor volume H self.now.saved.me self.now
             → IfOk result (CollectStands volume H self.now.saved.me) }

@@ -1,3 +1,4 @@
+use crate::effect::tell_name;
 use crate::{Next, Replica};
 use ficus_commands::{Change, Look, Told};
 use ficus_ids::Refusal;
@@ -13,14 +14,18 @@ impl Replica {
     ghost use Rattle.ficus_rules.specs.Change.{ChangeAnswer};
     ghost use Rattle.ficus_replica.specs.Change.{ChangeGives};
     ghost use Rattle.ficus_replica.specs.Look.{LookGives};
+    ghost use Rattle.ficus_replica.specs.Makes.{IsNoted};
+    ghost use Rattle.ficus_record.specs.declared.record.Record.TheVariants.{Change as Noted};
 
-    /// The replica after the change, and which operation it is, or why it is refused.
+    /// The replica after the change, and which operation it is, or why it is refused. The record of the operation makes the
+    /// same of what was saved.
     pub fn change(&self, alloc: Global, change: &Change) -> Result<Next, Refusal>
         requires new { HasFitPaths change.now }
         requires fits { FitsImage self.now.saved }
         requires generation { self.now.saved.generation < 2 ^ 63 - 1 }
         ensures gives { ChangeGives self.now change.now result }
         ensures fits { IfOk result (λ next. FitsImage next.replica.saved) }
+        ensures noted { IfOk result (λ next. IsNoted self.now.saved (Noted next.op) next.replica.saved) }
     {
         self.done(alloc, ficus_answers::change(alloc, &self.saved, change))
     }
@@ -33,8 +38,11 @@ impl Replica {
         ensures gives { (change : ChangeValue) → ChangeAnswer (tables_view self.now.saved) change answer
             → ChangeGives self.now change result }
         ensures fits { IfOk result (λ next. FitsImage next.replica.saved) }
+        ensures noted { IfOk result (λ next. IsNoted self.now.saved (Noted next.op) next.replica.saved) }
     {
-        Ok(self.applied(alloc, answer?)?)
+        let op = answer?;
+        tell_name(&op);
+        Ok(self.applied(alloc, op)?)
     }
 
     /// What the look tells, or why it is refused.

@@ -34,23 +34,35 @@ impl Replica {
         ensures op { IfOk result (λ next. next.op ≡ op) }
         ensures ask { IfOk result (λ next. next.replica.ask ≡ self.now.ask) }
     {
-        let (entries, files) = self.stepped(alloc, &op)?;
+        let saved = self.saved_after(alloc, &op)?;
         Ok(Next {
             replica: Replica {
-                saved: Saved {
-                    me: self.saved.me,
-                    members: self.saved.members,
-                    ids: self.saved.ids,
-                    bytes: self.saved.bytes,
-                    next: self.saved.next + 1,
-                    used: self.saved.used + written_by(&op) as u32,
-                    generation: self.saved.generation + 1,
-                    entries,
-                    files,
-                },
+                saved,
                 ask: self.ask,
             },
             op,
+        })
+    }
+
+    /// What is saved once the operation is done.
+    pub(crate) fn saved_after(&self, alloc: Global, op: &Op) -> Result<Saved, Memory>
+        requires ready { IsReady self.now.saved op.now }
+        requires fits { FitsImage self.now.saved }
+        requires generation { self.now.saved.generation < 2 ^ 63 - 1 }
+        ensures applied { IfOk result (Applied self.now.saved op.now) }
+        ensures fits { IfOk result FitsImage }
+    {
+        let (entries, files) = self.stepped(alloc, op)?;
+        Ok(Saved {
+            me: self.saved.me,
+            members: self.saved.members,
+            ids: self.saved.ids,
+            bytes: self.saved.bytes,
+            next: self.saved.next + 1,
+            used: self.saved.used + written_by(op) as u32,
+            generation: self.saved.generation + 1,
+            entries,
+            files,
         })
     }
 
@@ -232,6 +244,7 @@ impl Replica {
 
 ghost use Rattle.std.specs.Prelude.{length as long};
 ghost use Rattle.ficus_model.specs.Versions.{bytes_of as bytes_written};
+ghost use Rattle.ficus_replica.specs.Effect.{HasName};
 
 // How many bytes the operation writes.
 fn written_by(op: &Op) -> usize
@@ -247,6 +260,25 @@ fn written_by(op: &Op) -> usize
         | Op::Move { .. }
         | Op::Adopt { .. }
         | Op::Discard { .. } => 0,
+    }
+}
+
+/// Tells that the name that the operation gives is one.
+pub(crate) fn tell_name(op: &Op)
+    ensures { HasName op.now }
+{
+    match op {
+        Op::Make { name, .. }
+        | Op::Link { name, .. }
+        | Op::Move { name, .. }
+        | Op::Adopt { name, .. } => {
+            let _bytes = name.bytes();
+        }
+        Op::Remove { .. }
+        | Op::Write { .. }
+        | Op::Settle { .. }
+        | Op::Resolve { .. }
+        | Op::Discard { .. } => {}
     }
 }
 

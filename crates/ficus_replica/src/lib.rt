@@ -1,12 +1,14 @@
-//! Each command as a pure function of one replica's state.
+//! Each command as a pure function of one replica's state, and what the record of an event makes of it.
 #![tactic(auto)]
 
 mod accept;
+mod apply;
 mod ask;
 mod calls;
 mod collect;
 mod commands;
 mod effect;
+mod fits;
 mod laws;
 mod replica;
 

@@ -4,7 +4,7 @@ use Rattle.ficus_saved.specs.Saved.{FitsImage}
 use Rattle.ficus_saved.specs.declared.saved.Saved.{Saved}
 use Rattle.ficus_saved.proofs.Countable.{tables_countable}
 use Rattle.ficus_replica.proofs.Collects.{collect_gives_stands}
-use Rattle.ficus_replica.proofs.Leaving.{collect_fits, collect_leaves}
+use Rattle.ficus_replica.proofs.Leaving.{collect_fits, collect_leaves, collect_noted}
 use Rattle.ficus_replica.proofs.replica.Replica.collect.Goals as goal
 
 countable : {saved : Saved} → FitsImage saved → AreCountable saved.entries saved.files
@@ -22,6 +22,10 @@ returns-clause-gives c = search rules
 pub returns-clause-fits : goal.returns-clause-fits
 returns-clause-fits c =
     collect_fits c.args.self.now _ c.requires.fits c.requires.generation (returns-clause-gives c)
+
+pub returns-clause-noted : goal.returns-clause-noted
+returns-clause-noted c =
+    collect_noted c.args.self.now _ c.requires.fits c.requires.generation (returns-clause-gives c)
 
 pub returns-clause-no_garbage : goal.returns-clause-no_garbage
 returns-clause-no_garbage c = collect_leaves c.args.self.now _ (returns-clause-gives c)

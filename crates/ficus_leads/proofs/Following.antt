@@ -1,0 +1,49 @@
+-- How far records have been applied, one after the other.
+use Rattle.std.proofs.Common.{◌≡◌, ℕ, List, [], ◌∷◌, ◌++◌, refl, sym, ◌∙◌, subst, append_assoc}
+use Rattle.std.proofs.lemmas.List.{append-nil}
+use Rattle.ficus_leads.specs.Chain.{LeadAll}
+use Rattle.ficus_leads.specs.Holds.{Leads}
+use Rattle.ficus_leads.proofs.Led.{OneLed, all_led_once, led_on}
+use Rattle.ficus_saved.specs.Saved.{FitsImage}
+use Rattle.ficus_saved.specs.declared.saved.Saved.{Saved}
+
+-- the records but for those that are left lead to this
+pub record IsLedTo (records : List (List ℕ)) (base now : Saved) (left : List (List ℕ)) : Type 0 where
+  pub done : List (List ℕ)
+  pub is : records ≡ done ++ left
+  pub leads : LeadAll Leads done base now
+  pub fits : FitsImage now
+
+pub none_led : (records : List (List ℕ)) (base : Saved) → FitsImage base → IsLedTo records base base records
+none_led records base fits = record { done = []; is = refl; leads = refl; fits = fits }
+
+pub one_more_led : (records : List (List ℕ)) (base now next : Saved) (body : List ℕ) (left : List (List ℕ))
+    → IsLedTo records base now (body ∷ left) → Leads body now next → IsLedTo records base next left
+one_more_led records base now next body left so_far leads = record {
+  done = so_far.done ++ body ∷ [];
+  is = so_far.is ∙ sym (append_assoc so_far.done (body ∷ []) left);
+  leads = led_on so_far.done body base now next so_far.leads leads;
+  fits = leads.step.fits;
+}
+
+pub all_led : (records : List (List ℕ)) (base now : Saved) → IsLedTo records base now [] → LeadAll Leads records base now
+all_led records base now so_far =
+    subst (λ (l : List (List ℕ)). LeadAll Leads l base now) (sym (so_far.is ∙ append-nil so_far.done)) so_far.leads
+
+-- between some and those behind them something is saved
+split : (done left : List (List ℕ)) (base end : Saved) → LeadAll Leads (done ++ left) base end
+    → (mid : Saved) × LeadAll Leads done base mid × LeadAll Leads left mid end
+split [] left base end leads = (base, refl, leads)
+split (body ∷ done) left base end (next, step, on) =
+    let rest = split done left next end on in
+    (rest.0, (next, step, rest.1), rest.2)
+
+-- whatever all of them lead to, the next one leads on from where they have come
+pub next_leads : OneLed → (records : List (List ℕ)) (base now end : Saved) (body : List ℕ) (left : List (List ℕ))
+    → FitsImage base → IsLedTo records base now (body ∷ left) → LeadAll Leads records base end
+    → (next : Saved) × Leads body now next
+next_leads led records base now end body left fits so_far leads =
+    let parts = split so_far.done (body ∷ left) base end
+    (subst (λ (l : List (List ℕ)). LeadAll Leads l base end) so_far.is leads) in
+    let same : parts.0 ≡ now = all_led_once led so_far.done base parts.0 now fits parts.1 so_far.leads in
+    (parts.2.0, subst (λ (s : Saved). Leads body s parts.2.0) same parts.2.1)

@@ -1,0 +1,25 @@
+-- What a pair of disks holds of what a replica saves: an image, and records behind it.
+use Rattle.std.specs.Prelude.{◌≡◌, ℕ, List, Option, Some}
+use Rattle.ficus_image.specs.Image.{image_bytes}
+use Rattle.ficus_keep.specs.Kept.{Kept}
+use Rattle.ficus_leads.specs.Chain.{LeadAll}
+use Rattle.ficus_record.specs.Record.{record_bytes}
+use Rattle.ficus_record.specs.declared.record.Record.{Record}
+use Rattle.ficus_replica.specs.Makes.{IsNoted}
+use Rattle.ficus_saved.specs.Saved.{FitsImage}
+use Rattle.ficus_saved.specs.declared.saved.Saved.{Saved}
+
+-- the bytes spell a record that fits what was saved, and this is what it makes of it
+pub record Leads (bytes : List ℕ) (old new : Saved) : Type 0 where
+  pub noted : Record
+  pub is : bytes ≡ record_bytes old.members noted
+  pub step : IsNoted old noted new
+
+-- what a keeper found holds this: its image spells something of its own generation, from which its records lead to it,
+-- one after the other
+pub record Holds (found : Option Kept) (saved : Saved) : Type 0 where
+  pub base : Saved
+  pub fits : FitsImage base
+  pub records : List (List ℕ)
+  pub is : found ≡ Some (record { generation = base.generation; image = image_bytes base; records = records })
+  pub leads : LeadAll Leads records base saved

@@ -1,0 +1,6 @@
+//! What a pair of disks holds of what a replica saves where records stand behind an image: what these lead to.
+#![tactic(auto)]
+
+mod laws;
+
+pub use laws::one_led;

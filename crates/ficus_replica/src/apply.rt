@@ -1,0 +1,92 @@
+use crate::Replica;
+use ficus_entry::Entries;
+use ficus_file::Files;
+use ficus_ids::Refusal;
+use ficus_model::Op;
+use ficus_record::{Record, RecordFault};
+use ficus_saved::Saved;
+use std::alloc::Global;
+
+/// The generation from which on nothing more is saved.
+const LAST_GENERATION: u64 = (1 << 63) - 1;
+
+impl Replica {
+    ghost use Rattle.std.specs.Prelude.{◌≡◌, ◌-◌, ◌^◌, ◌<◌, None, IfOk, IsErrOf};
+    ghost use Rattle.ficus_record.specs.Record.{FitsOp, FitsRecord};
+    ghost use Rattle.ficus_record.specs.declared.record.Record.TheVariants.{Accept as NotedAccept, Change as NotedChange};
+    ghost use Rattle.ficus_saved.specs.Saved.{FitsImage};
+    ghost use Rattle.ficus_saved.specs.Tables.{FitsTables};
+    ghost use Rattle.ficus_replica.specs.Accept.{MayTake};
+    ghost use Rattle.ficus_replica.specs.Makes.{FitsUpdate, IsFit, IsNoted};
+
+    /// The replica that the record of an event makes of this one, which waits for no answer, as after a restart: it saves
+    /// what it would save after the event. `Unfit` comes exactly where the record doesn't fit what is held, `NotRecord`
+    /// never.
+    pub fn apply(&self, alloc: Global, noted: &Record) -> Result<Replica, RecordFault>
+        requires fits { FitsImage self.now.saved }
+        requires spelled { FitsRecord self.now.saved.members noted.now }
+        ensures noted { IfOk result (λ replica. IsNoted self.now.saved noted.now replica.saved) }
+        ensures ask { IfOk result (λ replica. replica.ask ≡ None) }
+        ensures unfit { IsErrOf result RecordFault.Unfit → IsFit self.now.saved noted.now → ⊥ }
+        ensures never { IsErrOf result RecordFault.NotRecord → ⊥ }
+    {
+        if self.saved.generation >= LAST_GENERATION {
+            return Err(RecordFault::Unfit);
+        }
+        Ok(Replica::open(self.noted_next(alloc, noted)?))
+    }
+
+    // What is saved after the event of the record.
+    fn noted_next(&self, alloc: Global, noted: &Record) -> Result<Saved, RecordFault>
+        requires fits { FitsImage self.now.saved }
+        requires generation { self.now.saved.generation < 2 ^ 63 - 1 }
+        requires spelled { FitsRecord self.now.saved.members noted.now }
+        ensures noted { IfOk result (λ saved. IsNoted self.now.saved noted.now saved) }
+        ensures unfit { IsErrOf result RecordFault.Unfit → IsFit self.now.saved noted.now → ⊥ }
+        ensures never { IsErrOf result RecordFault.NotRecord → ⊥ }
+    {
+        match noted {
+            Record::Change(op) => self.changed_next(alloc, op),
+            Record::Ask => Ok(self.saved_again()?),
+            Record::Accept { entries, files } => self.merged_next(alloc, entries, files),
+            Record::Collect => Ok(self.collect(alloc)?.replica.saved),
+        }
+    }
+
+    // What is saved after the operation, where it fits.
+    fn changed_next(&self, alloc: Global, op: &Op) -> Result<Saved, RecordFault>
+        requires fits { FitsImage self.now.saved }
+        requires generation { self.now.saved.generation < 2 ^ 63 - 1 }
+        requires spelled { FitsOp op.now }
+        ensures noted { IfOk result (λ saved. IsNoted self.now.saved (NotedChange op.now) saved) }
+        ensures unfit { IsErrOf result RecordFault.Unfit → FitsUpdate self.now.saved op.now → ⊥ }
+        ensures never { IsErrOf result RecordFault.NotRecord → ⊥ }
+    {
+        if !self.fits_update(op) {
+            return Err(RecordFault::Unfit);
+        }
+        Ok(self.saved_after(alloc, op)?)
+    }
+
+    // What is saved once the tables are taken, where they fit.
+    fn merged_next(
+        &self,
+        alloc: Global,
+        entries: &Entries,
+        files: &Files,
+    ) -> Result<Saved, RecordFault>
+        requires fits { FitsImage self.now.saved }
+        requires generation { self.now.saved.generation < 2 ^ 63 - 1 }
+        requires tables { FitsTables self.now.saved.members entries.now files.now }
+        ensures noted { IfOk result (λ saved. IsNoted self.now.saved (NotedAccept entries.now files.now) saved) }
+        ensures unfit { IsErrOf result RecordFault.Unfit → MayTake self.now.saved entries.now files.now → ⊥ }
+        ensures never { IsErrOf result RecordFault.NotRecord → ⊥ }
+    {
+        match self.take_tables(alloc, entries, files) {
+            Ok(replica) => Ok(replica.saved),
+            Err(Refusal::BadMessage) => Err(RecordFault::Unfit),
+            Err(Refusal::Memory) => Err(RecordFault::Memory),
+            Err(_) => unreachable!(),
+        }
+    }
+}
