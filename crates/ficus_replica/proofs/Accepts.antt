@@ -45,7 +45,7 @@ use Rattle.ficus_replica.specs.declared.replica.Asked.{Asked}
 use Rattle.ficus_replica.specs.declared.replica.Replica.{Replica}
 use Rattle.ficus_replica.specs.Accept.{IsOpen, MayTake, AreTablesMerged, MakesMerged, Accepted, AcceptGives, IsServed, AcceptStands, TakeGives}
 use Rattle.ficus_replica.specs.Makes.{IsNoted}
-use Rattle.ficus_replica.specs.SavedOf.{is_saved, generation_of, IsOpenAskOf, StandsFor}
+use Rattle.ficus_replica.specs.SavedOf.{is_saved, generation_of, IsOpenAskOf, IsSavedOf, StandsFor}
 use Rattle.ficus_replica.proofs.OpenAsks.{open_none}
 use Rattle.ficus_replica.proofs.Saves.{accept_is_saved, ask_is_saved, generation_saved, saved_then, written_kept}
 use Rattle.ficus_replica.proofs.Tables.{image_then, tables_of}
@@ -136,7 +136,7 @@ touched_same entries id = (
 
 -- In each of these the replica takes what was served to it, where the history allows it.
 module _ (volume : Volume) (H : List Event) (r from number : ℕ) (entries : List Entry) (files : List FileReplica)
-    (serve : ℕ) (old : Replica) (lawful : IsLawful volume H) (stands : StandsFor volume H r old)
+    (serve : ℕ) (old : Saved) (lawful : IsLawful volume H) (is : IsSavedOf volume H r old)
     (served : IsServed volume H r from number entries files serve) (may : MayAccept volume H r serve) where
   abbrev after : List Event
   after = H ++ Accept r serve ∷ []
@@ -144,38 +144,44 @@ module _ (volume : Volume) (H : List Event) (r from number : ℕ) (entries : Lis
   answer : IsAnswer volume H r serve from
   answer = answer_to volume H r from number entries files serve lawful served may
 
-  merged_held : {merged : List Entry} {both : List FileReplica} → AreTablesMerged old.saved entries merged files both →
+  merged_held : {merged : List Entry} {both : List FileReplica} → AreTablesMerged old entries merged files both →
       AreHeldEntries volume.members after r merged
   merged_held {merged} tables = record {
     rising = tables.rising;
-    kept = merged_kept volume H r serve from old.saved.entries entries merged answer stands.saved.entries.kept
-        served.held.kept
-        (subst (λ members. MergesEntries r members old.saved.entries entries merged) stands.saved.members
-        (subst (λ me. MergesEntries me old.saved.members old.saved.entries entries merged) stands.saved.me
-        tables.merges));
+    kept = merged_kept volume H r serve from old.entries entries merged answer is.entries.kept served.held.kept
+        (subst (λ members. MergesEntries r members old.entries entries merged) is.members
+        (subst (λ me. MergesEntries me old.members old.entries entries merged) is.me tables.merges));
   }
 
-  both_held : {merged : List Entry} {both : List FileReplica} → AreTablesMerged old.saved entries merged files both →
+  both_held : {merged : List Entry} {both : List FileReplica} → AreTablesMerged old entries merged files both →
       AreHeldFiles volume.members after r both
   both_held {merged} {both} tables =
-      files_merged volume H r serve from answer stands.saved.files served.held_files merged (touched_by merged) both
+      files_merged volume H r serve from answer is.files served.held_files merged (touched_by merged) both
       (touched_same merged) tables.merges_files (merged_held tables) tables.held
 
-  -- the new replica stands for the history with the Accept
-  pub accepted_stands : (new : Replica) → Accepted old from number entries files new →
-      StandsFor volume after r new
-  accepted_stands new accepted =
+  -- what is saved then is that of the history with the Accept
+  pub merged_saved : (new : Saved) → MakesMerged old entries files new → IsSavedOf volume after r new
+  merged_saved new makes =
       let accept = Accept r serve in
-      let was = stands.saved in
-      subst (StandsFor volume after r) (sym accepted.replica) (record {
-        saved = saved_then was
-            (omega (arith, was.next, count_no_update r H accept refl))
-            (was.used ∙ sym (written_kept r H accept refl))
-            (omega (arith, was.generation, generation_saved r H accept (accept_is_saved r serve)))
-            (merged_held accepted.tables)
-            (both_held accepted.tables);
-        ask = open_none H r accept refl (λ to is. cc);
-      })
+      subst (IsSavedOf volume after r) (sym makes.saved) (saved_then is
+      (omega (arith, is.next, count_no_update r H accept refl))
+      (is.used ∙ sym (written_kept r H accept refl))
+      (omega (arith, is.generation, generation_saved r H accept (accept_is_saved r serve)))
+      (merged_held makes.tables)
+      (both_held makes.tables))
+
+-- the new replica stands for the history with the Accept
+pub accepted_stands : (volume : Volume) (H : List Event) (r from number : ℕ) (entries : List Entry)
+    (files : List FileReplica) (serve : ℕ) (old : Replica) → IsLawful volume H → StandsFor volume H r old →
+    IsServed volume H r from number entries files serve → MayAccept volume H r serve →
+    (new : Replica) → Accepted old from number entries files new → StandsFor volume (H ++ Accept r serve ∷ []) r new
+accepted_stands volume H r from number entries files serve old lawful stands served may new accepted =
+    let after = H ++ Accept r serve ∷ [] in
+    subst (StandsFor volume after r) (sym accepted.replica) (record {
+      saved = merged_saved volume H r from number entries files serve old.saved lawful stands.saved served may _
+          (record { merged = accepted.merged; both = accepted.both; tables = accepted.tables; saved = refl });
+      ask = open_none H r (Accept r serve) refl (λ to is. cc);
+    })
 
 module _ (volume : Volume) (H : List Event) (r serve : ℕ) (me next : ℕ) (me_is : me ≡ r)
     (next_is : next ≡ count_of r H + 1) where

@@ -19,3 +19,4 @@ pub mod Accepts
 pub mod Pulls
 pub mod Leaving
 pub mod Collects
+pub mod Recorded

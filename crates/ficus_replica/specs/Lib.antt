@@ -6,3 +6,4 @@ pub mod Ask
 pub mod Accept
 pub mod Collect
 pub mod Makes
+pub mod Recording

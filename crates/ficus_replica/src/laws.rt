@@ -1,4 +1,4 @@
-ghost use Rattle.std.specs.Prelude.{◌≡◌, ◌↔◌, ℕ, List, Result};
+ghost use Rattle.std.specs.Prelude.{◌≡◌, ◌↔◌, ◌++◌, ◌∷◌, [], ℕ, List, Result};
 ghost use Rattle.ficus_saved.specs.Saved.{FitsImage};
 ghost use Rattle.ficus_saved.specs.declared.saved.Saved.{Saved};
 ghost use Rattle.ficus_commands.specs.declared.change.Change.{Change};
@@ -6,13 +6,16 @@ ghost use Rattle.ficus_commands.specs.declared.look.Look.{Look};
 ghost use Rattle.ficus_commands.specs.declared.told.Told.{Told};
 ghost use Rattle.ficus_ids.specs.declared.refusal.Refusal.{Refusal};
 ghost use Rattle.ficus_model.specs.Known.{Knows};
-ghost use Rattle.ficus_model.specs.Lawful.{Volume, IsLawful};
+ghost use Rattle.ficus_model.specs.Lawful.{Volume, IsLawful, MayCome};
 ghost use Rattle.ficus_model.specs.View.{ViewSame};
 ghost use Rattle.ficus_rules.specs.Alike.{AreAlike};
 ghost use Rattle.ficus_rules.specs.View.{history_view};
 ghost use Rattle.ficus_model.specs.declared.event.Event.{Event};
 ghost use Rattle.ficus_replica.specs.Change.{ChangeGives, ChangeStands};
 ghost use Rattle.ficus_replica.specs.Collect.{CollectGives, Garbage, IsGarbage};
+ghost use Rattle.ficus_record.specs.declared.record.Record.{Record};
+ghost use Rattle.ficus_replica.specs.Makes.{Makes};
+ghost use Rattle.ficus_replica.specs.Recording.{IsRecordOf};
 ghost use Rattle.ficus_replica.specs.Look.{LookGives, LookStands};
 ghost use Rattle.ficus_replica.specs.SavedOf.{IsSavedOf, StandsFor};
 ghost use Rattle.ficus_replica.specs.declared.collect.Collected.{Collected};
@@ -64,4 +67,13 @@ pub fn one_collection()
 pub fn one_garbage()
     ensures { (members : ℕ) (H : List Event) (replica : ℕ) (one other : Garbage)
         → IsGarbage members H replica one → IsGarbage members H replica other → one ≡ other }
+{}
+
+/// Where a lawful history is followed by an event that may come, what the record of the event makes of what a replica saves
+/// after the history is what it saves after the event.
+pub fn records_stand()
+    ensures { (volume : Volume) (H : List Event) (replica : ℕ) (event : Event) (noted : Record) (old new : Saved)
+        → FitsImage old → IsLawful volume H → IsSavedOf volume H replica old → MayCome volume H event
+        → IsRecordOf volume H replica event noted → Makes old noted new
+        → IsSavedOf volume (H ++ event ∷ []) replica new }
 {}

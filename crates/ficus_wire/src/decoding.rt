@@ -3,6 +3,10 @@ ghost use Rattle.ficus_ids.specs.Members.{IsCount};
 ghost use Rattle.ficus_formats.specs.Format.{Reads, ReadsAll};
 ghost use Rattle.ficus_wire.specs.Message.{route, answer, message, message_of, message_bytes, FitsMessage, HasTables, ReadsLetter};
 ghost use Rattle.ficus_wire.specs.declared.message.Message.{Message as MessageValue};
+ghost use Rattle.ficus_wire.specs.declared.message.Message.TheVariants.{Answer};
+ghost use Rattle.ficus_codec.specs.Formats.{tables_bytes};
+ghost use Rattle.ficus_entry.specs.declared.entry.Entry.{Entry as EntryValue};
+ghost use Rattle.ficus_file.specs.declared.file.FileReplica.{FileReplica as FileValue};
 
 use crate::message::Route;
 use crate::{Letter, Message, WireFault};
@@ -136,6 +140,19 @@ pub fn decode(alloc: Global, bytes: &[u8], members: Members) -> Result<Message, 
         Ok(message) => Ok(message),
         Err(Memory) => Err(WireFault::Memory),
     }
+}
+
+// How many bytes of an answer stand before its tables: the version, the kind, and the route.
+const HEAD: usize = 12;
+
+/// The spelling of the tables of an answer, in the bytes that spell the answer: all that stands behind its head.
+pub fn tables_in(bytes: &[u8]) -> &[u8]
+    ensures { (members from to number : ℕ) (entries : List EntryValue) (files : List FileValue)
+        → bytes.now ≡ message_bytes members (Answer from to number entries files)
+        → result.now ≡ tables_bytes members entries files }
+{
+    let head = HEAD.min(bytes.len());
+    &bytes[head..]
 }
 
 /// The law that no message has the spelling of another, and that no spelling begins another. It does nothing when it
