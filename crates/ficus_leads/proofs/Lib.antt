@@ -1,2 +1,2 @@
 pub mod Led
-pub mod Following
+pub mod Splitting

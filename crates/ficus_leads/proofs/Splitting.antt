@@ -1,9 +1,16 @@
 -- How far records have been applied, one after the other.
-use Rattle.std.proofs.Common.{◌≡◌, ℕ, List, [], ◌∷◌, ◌++◌, refl, sym, ◌∙◌, subst, append_assoc}
+use Rattle.std.proofs.Common.{◌≡◌, ℕ, List, [], ◌∷◌, ◌++◌, Result, Err, refl, sym, ap, ◌∙◌, subst, append_assoc, arith}
+use Rattle.std.proofs.Math.Seq.{take-length}
+use Rattle.std.specs.Prelude.{◌-◌, ◌≤◌, IsErrOf, drop, get_or, length, take}
 use Rattle.std.proofs.lemmas.List.{append-nil}
 use Rattle.ficus_leads.specs.Chain.{LeadAll}
 use Rattle.ficus_leads.specs.Holds.{Leads}
 use Rattle.ficus_leads.proofs.Led.{OneLed, all_led_once, led_on}
+use Rattle.ficus_record.specs.Record.{FitsRecord, record_bytes}
+use Rattle.ficus_record.specs.declared.fault.RecordFault.{RecordFault}
+use Rattle.ficus_record.specs.declared.record.Record.{Record}
+use Rattle.ficus_record.proofs.Unique.{unique-record}
+use Rattle.ficus_replica.specs.Makes.{IsFit}
 use Rattle.ficus_saved.specs.Saved.{FitsImage}
 use Rattle.ficus_saved.specs.declared.saved.Saved.{Saved}
 
@@ -47,3 +54,25 @@ next_leads led records base now end body left fits so_far leads =
     (subst (λ (l : List (List ℕ)). LeadAll Leads l base end) so_far.is leads) in
     let same : parts.0 ≡ now = all_led_once led so_far.done base parts.0 now fits parts.1 so_far.leads in
     (parts.2.0, subst (λ (s : Saved). Leads body s parts.2.0) same parts.2.1)
+
+-- where bytes lead on, the record that they spell fits
+pub led_fit : (body : List ℕ) (old next : Saved) (noted : Record) → FitsImage old → FitsRecord old.members noted
+    → body ≡ record_bytes old.members noted → Leads body old next → IsFit old noted
+led_fit body old next noted fits spelled is leads =
+    let same : leads.noted ≡ noted = ((unique-record old.members fits.members).one leads.noted noted [] []
+    leads.step.spelled spelled (ap (λ (l : List ℕ). l ++ []) (sym leads.is ∙ is))).0 in
+    subst (IsFit old) same leads.step.fit
+
+-- the first of some, and the rest
+pub first_and_rest : (left : List (List ℕ)) (body : List ℕ) → 1 ≤ length left → body ≡ get_or left 0 body
+    → left ≡ body ∷ take (length left - 1) (drop 1 left)
+first_and_rest [] body some is = absurd (omega (arith, some))
+first_and_rest (x ∷ xs) body some is =
+    let count : length (x ∷ xs) - 1 ≡ length xs = omega arith in
+    let rest : take (length (x ∷ xs) - 1) xs ≡ xs = ap (λ (n : ℕ). take n xs) count ∙ take-length xs in
+    λ i. ((sym is) i) ∷ ((sym rest) i)
+
+-- a fault is the same, whatever would have come in its place
+pub same_fault : {A B : Type 0} (fault other : RecordFault) → (let one : Result A RecordFault = Err fault in IsErrOf one other)
+    → (let two : Result B RecordFault = Err fault in IsErrOf two other)
+same_fault fault other is = let same : fault ≡ other = cc in ap (λ (f : RecordFault). Err f) same

@@ -1,0 +1,42 @@
+ghost use Rattle.std.specs.Prelude.{IfOk, IsErrOf};
+ghost use Rattle.ficus_leads.specs.Chain.{LeadAll};
+ghost use Rattle.ficus_leads.specs.Holds.{Leads};
+ghost use Rattle.ficus_saved.specs.Saved.{FitsImage};
+ghost use Rattle.ficus_saved.specs.declared.saved.Saved.{Saved as SavedValue};
+
+use crate::one_led;
+use ficus_ids::Listed;
+use ficus_record::{RecordFault, decode_record};
+use ficus_replica::Replica;
+use ficus_saved::Saved;
+use std::alloc::Global;
+
+/// What is saved once the records are applied, from the first to the last, to what was saved before. An error besides
+/// `Memory` comes exactly where they lead to nothing: where one of them is no record, or doesn't fit what those before it
+/// lead to.
+pub fn led_by(alloc: Global, base: Saved, records: &[Listed<u8>]) -> Result<Saved, RecordFault>
+    requires { FitsImage base }
+    ensures led { IfOk result (LeadAll Leads records.now base) }
+    ensures none { (saved : SavedValue) → LeadAll Leads records.now base saved
+        → (IsErrOf result RecordFault.NotRecord → ⊥) × (IsErrOf result RecordFault.Unfit → ⊥) }
+{
+    one_led();
+    let mut replica = Replica::open(base);
+    let mut left = records;
+    'records: while let [first, rest @ ..] = left {
+        replica = one_step(alloc, &replica, first.items())?;
+        left = rest;
+    }
+    Ok(replica.saved)
+}
+
+// What one record leads to.
+fn one_step(alloc: Global, old: &Replica, body: &[u8]) -> Result<Replica, RecordFault>
+    requires { FitsImage old.now.saved }
+    ensures led { IfOk result (λ next. Leads body.now old.now.saved next.saved) }
+    ensures none { (next : SavedValue) → Leads body.now old.now.saved next
+        → (IsErrOf result RecordFault.NotRecord → ⊥) × (IsErrOf result RecordFault.Unfit → ⊥) }
+{
+    let noted = decode_record(alloc, body, old.saved.members)?;
+    old.apply(alloc, &noted)
+}
