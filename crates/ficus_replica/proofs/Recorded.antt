@@ -1,5 +1,5 @@
 -- What the record of an event makes of what is saved is saved after the history with the event.
-use Rattle.std.proofs.Common.{ℕ, ◌≤◌, List, [], ◌∷◌, ◌++◌, refl, sym, subst, inr}
+use Rattle.std.proofs.Common.{ℕ, List, [], ◌∷◌, ◌++◌, refl, sym, subst, inr}
 use Rattle.ficus_ids.specs.Members.{IsCount}
 use Rattle.ficus_model.specs.declared.event.Event.{Event}
 use Rattle.ficus_model.specs.declared.event.Event.TheVariants.{Update, Ask, Accept, Collect}
