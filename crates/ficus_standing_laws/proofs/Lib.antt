@@ -1,0 +1,3 @@
+pub mod Existing
+pub mod CutOff
+pub mod GivingUp
