@@ -1,6 +1,6 @@
-ghost use Rattle.std.specs.Prelude.{◌≡◌, ◌↔◌, ◌++◌, IsTrue, OnOk};
+ghost use Rattle.std.specs.Prelude.{◌≡◌, ◌↔◌, ◌++◌, IsTrue, IfErr, OnErr, OnOk};
 ghost use Rattle.ficus_ids.specs.Name.{IsName};
-ghost use Rattle.ficus_formats.specs.Format.{Reads};
+ghost use Rattle.ficus_formats.specs.Format.{Keeps, Reads};
 ghost use Rattle.ficus_codec.specs.Formats.{name, marks, dead, state, state_bytes, entry, entry_fields};
 ghost use Rattle.ficus_codec.specs.FormatsUnique.{unique-entry};
 ghost use Rattle.ficus_saved.specs.Tables.{IsIssuable, MayHoldEntries, FitsState, FitsEntry};
@@ -50,14 +50,16 @@ pub fn read_name(reader: &mut Reader<'_>) -> Result<Name, ReadFault>
 }
 
 fn read_marks(reader: &mut Reader<'_>, members: Members) -> Result<Marks, ReadFault>
-    ensures { Reads (marks members) reader.old result reader.new }
+    ensures reads { Reads (marks members) reader.old result reader.new }
+    ensures unspelled { IfErr result (λ fault. fault ≡ ReadFault.Unspelled) }
 {
     let bits = reader.byte()?;
     Marks::from_bits(bits, members).ok_or(ReadFault::Unspelled)
 }
 
 fn read_dead(reader: &mut Reader<'_>, members: Members) -> Result<(Marks, Marks), ReadFault>
-    ensures { Reads (dead members) reader.old result reader.new }
+    ensures reads { Reads (dead members) reader.old result reader.new }
+    ensures unspelled { IfErr result (λ fault. fault ≡ ReadFault.Unspelled) }
 {
     let one = read_marks(reader, members)?;
     let two = read_marks(reader, members)?;
@@ -68,7 +70,8 @@ fn read_dead(reader: &mut Reader<'_>, members: Members) -> Result<(Marks, Marks)
 }
 
 fn read_state(reader: &mut Reader<'_>, members: Members) -> Result<State, ReadFault>
-    ensures { Reads (state members) reader.old result reader.new }
+    ensures reads { Reads (state members) reader.old result reader.new }
+    ensures unspelled { IfErr result (λ fault. fault ≡ ReadFault.Unspelled) }
 {
     match reader.byte()? {
         0 => Ok(State::Live),
@@ -81,7 +84,8 @@ fn read_state(reader: &mut Reader<'_>, members: Members) -> Result<State, ReadFa
 }
 
 fn put_state(out: &mut Vec<u8>, value: State) -> Result<(), Memory>
-    ensures { OnOk result (out.new.items ≡ out.old.items ++ state_bytes value) }
+    ensures put { OnOk result (out.new.items ≡ out.old.items ++ state_bytes value) }
+    ensures kept { OnErr result (Keeps out.old.items out.new.items) }
 {
     match value {
         State::Live => put_u8(out, 0),
@@ -95,7 +99,8 @@ fn put_state(out: &mut Vec<u8>, value: State) -> Result<(), Memory>
 
 // The fields of an entry, each by itself.
 fn read_fields(reader: &mut Reader<'_>, members: Members) -> Result<Entry, ReadFault>
-    ensures { Reads (entry_fields members) reader.old result reader.new }
+    ensures reads { Reads (entry_fields members) reader.old result reader.new }
+    ensures unspelled { IfErr result (λ fault. fault ≡ ReadFault.Unspelled) }
 {
     Ok(Entry {
         id: reader.id()?,
@@ -104,6 +109,19 @@ fn read_fields(reader: &mut Reader<'_>, members: Members) -> Result<Entry, ReadF
         target: reader.id()?,
         state: read_state(reader, members)?,
     })
+}
+
+// An entry that may stand in tables.
+fn read_entry(reader: &mut Reader<'_>, members: Members) -> Result<Entry, ReadFault>
+    ensures reads { Reads (entry members) reader.old result reader.new }
+    ensures unspelled { IfErr result (λ fault. fault ≡ ReadFault.Unspelled) }
+{
+    let entry = read_fields(reader, members)?;
+    if fits_entry(&entry, members) {
+        Ok(entry)
+    } else {
+        Err(ReadFault::Unspelled)
+    }
 }
 
 /// How entries are spelled in a volume of so many members.
@@ -120,12 +138,7 @@ impl Spelling for EntrySpelling {
     ghost unique = { λ s. unique-entry s.members };
 
     fn read(&self, _: Global, reader: &mut Reader<'_>) -> Result<Entry, ReadFault> {
-        let entry = read_fields(reader, self.members)?;
-        if fits_entry(&entry, self.members) {
-            Ok(entry)
-        } else {
-            Err(ReadFault::Unspelled)
-        }
+        read_entry(reader, self.members)
     }
 
     fn put(&self, out: &mut Vec<u8>, value: &Entry) -> Result<(), Memory> {

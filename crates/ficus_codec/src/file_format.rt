@@ -1,7 +1,7 @@
-ghost use Rattle.std.specs.Prelude.{◌≡◌, ◌↔◌, ◌++◌, ◌∷◌, [], All, Contains, IsTrue, OnOk};
+ghost use Rattle.std.specs.Prelude.{◌≡◌, ◌↔◌, ◌++◌, ◌∷◌, [], All, Contains, IsTrue, IfErr, OnErr, OnOk};
 ghost use Rattle.ficus_file.specs.Version.{AreCurrent};
 ghost use Rattle.ficus_file.specs.declared.version.Version.{Version as VersionValue};
-ghost use Rattle.ficus_formats.specs.Format.{Reads};
+ghost use Rattle.ficus_formats.specs.Format.{Keeps, Reads};
 ghost use Rattle.ficus_codec.specs.Checks.{MayPrecede, IsBare, IsWhole};
 ghost use Rattle.ficus_codec.specs.Formats.{kind, kind_number, count, counts, content, version, version_fields, versions, file, file_fields};
 ghost use Rattle.ficus_codec.specs.FormatsUnique.{unique-version, unique-file};
@@ -41,7 +41,8 @@ fn number_of(kind: Kind) -> u8
 }
 
 fn read_count(reader: &mut Reader<'_>) -> Result<u32, ReadFault>
-    ensures { Reads count reader.old result reader.new }
+    ensures reads { Reads count reader.old result reader.new }
+    ensures unspelled { IfErr result (λ fault. fault ≡ ReadFault.Unspelled) }
 {
     let count = reader.number32()?;
     if count > UPDATE_LIMIT {
@@ -52,7 +53,8 @@ fn read_count(reader: &mut Reader<'_>) -> Result<u32, ReadFault>
 
 // A count for each member. Those that aren't members have none.
 fn read_counts(reader: &mut Reader<'_>, members: Members) -> Result<Vector, ReadFault>
-    ensures { Reads (counts members) reader.old result reader.new }
+    ensures reads { Reads (counts members) reader.old result reader.new }
+    ensures unspelled { IfErr result (λ fault. fault ≡ ReadFault.Unspelled) }
 {
     let mut counts = [0; 8];
     for index in 0..usize::from(members.count()) {
@@ -62,7 +64,8 @@ fn read_counts(reader: &mut Reader<'_>, members: Members) -> Result<Vector, Read
 }
 
 fn put_counts(out: &mut Vec<u8>, vector: Vector, members: Members) -> Result<(), Memory>
-    ensures { OnOk result (out.new.items ≡ out.old.items ++ (counts members).spell vector) }
+    ensures put { OnOk result (out.new.items ≡ out.old.items ++ (counts members).spell vector) }
+    ensures kept { OnErr result (Keeps out.old.items out.new.items) }
 {
     for index in 0..members.count() {
         put_u32(out, vector.count(index + 1))?;

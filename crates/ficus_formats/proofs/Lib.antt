@@ -1,3 +1,4 @@
 pub mod Adjacent
+pub mod Keeping
 pub mod Reading
 pub mod Runs

@@ -104,3 +104,8 @@ TakesAt f size bytes at None = length bytes < at + size
 -- no value has two spellings, no bytes are the spelling of two values, and none begins another
 pub record IsUnique {X : Type 0} (f : Format X) : Type 0 where
   pub one : (x y : X) (a b : List ℕ) → f.fits x → f.fits y → f.spell x ++ a ≡ f.spell y ++ b → (x ≡ y) × (a ≡ b)
+
+-- the bytes are those that stood there, and maybe more behind them
+pub record Keeps (before after : List ℕ) : Type 0 where
+  pub more : List ℕ
+  pub is : after ≡ before ++ more

@@ -1,8 +1,7 @@
 -- Each format has one spelling of each value, and none begins another.
-use Rattle.std.proofs.Common.{◌≡◌, ℕ, zero, suc, ◌+◌, ◌<◌, ◌≤◌, ◌^◌, List, [], ◌∷◌, ◌++◌, length, take, drop, refl, sym, ap, subst, ◌∙◌, append_assoc, arith, length-append}
+use Rattle.std.proofs.Common.{◌≡◌, ℕ, List, [], ◌∷◌, ◌++◌, length, refl, sym, ap, ◌∙◌, append_assoc, arith}
 use Rattle.std.specs.List.{flat_map, AllByRecursion}
 use Rattle.std.specs.Int.{w16, w32, w64, to_be_bytes, from_be_bytes}
-use Rattle.std.proofs.lemmas.List.{take_at, drop_at}
 use Rattle.std.proofs.lemmas.Nat.{from_be_bytes-to_be_bytes_2, from_be_bytes-to_be_bytes_4, from_be_bytes-to_be_bytes_8}
 use Rattle.ficus_formats.specs.Format.{Format, IsUnique, byte, number16, number32, number64, ◌then◌, shaped, meeting, checked, times, counted, string, id, rising}
 use Rattle.ficus_ids.specs.declared.id.Id.{Id}

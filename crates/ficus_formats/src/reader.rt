@@ -1,12 +1,12 @@
-ghost use Rattle.std.specs.Prelude.{◌≡◌, ◌==◌, ◌<◌, ◌++◌, List, ℕ, length, drop, IfSome, IfNone, OnErr};
+ghost use Rattle.std.specs.Prelude.{◌≡◌, ◌==◌, ◌<◌, ◌++◌, List, ℕ, length, drop, IfSome, IfNone, IfErr, OnErr};
 ghost use Rattle.ficus_formats.specs.Format.{Reads, ReadsBytes, byte, number16, number32, number64, string, id};
 
 use crate::ReadFault;
 use ficus_ids::Id;
 use std::marker::Model;
 
-/// The bytes that are left to be read. Contracts see it as these bytes. What a reader is worth that has failed is said
-/// nowhere: it isn't used again.
+/// The bytes that are left to be read. Contracts see it as these bytes. No call of it takes memory, so each fails with
+/// `Unspelled` alone. What a reader is worth that has failed is said nowhere: it isn't used again.
 #[derive(Drop)]
 pub struct Reader<'a> {
     rest: &'a [u8],
@@ -72,6 +72,7 @@ impl<'a> Reader<'a> {
     pub fn byte(&mut self) -> Result<u8, ReadFault>
         ensures reads { Reads byte self.old result self.new }
         ensures short { OnErr result (length self.old < 1) }
+        ensures unspelled { IfErr result (λ fault. fault ≡ ReadFault.Unspelled) }
     {
         match self.front(1) {
             Some(front) => Ok(front[0]),
@@ -83,6 +84,7 @@ impl<'a> Reader<'a> {
     pub fn number16(&mut self) -> Result<u16, ReadFault>
         ensures reads { Reads number16 self.old result self.new }
         ensures short { OnErr result (length self.old < 2) }
+        ensures unspelled { IfErr result (λ fault. fault ≡ ReadFault.Unspelled) }
     {
         match self.front(2) {
             Some(front) => Ok(u16::from_be_bytes([front[0], front[1]])),
@@ -94,6 +96,7 @@ impl<'a> Reader<'a> {
     pub fn number32(&mut self) -> Result<u32, ReadFault>
         ensures reads { Reads number32 self.old result self.new }
         ensures short { OnErr result (length self.old < 4) }
+        ensures unspelled { IfErr result (λ fault. fault ≡ ReadFault.Unspelled) }
     {
         match self.front(4) {
             Some(front) => Ok(u32::from_be_bytes([front[0], front[1], front[2], front[3]])),
@@ -106,6 +109,7 @@ impl<'a> Reader<'a> {
     pub fn number64(&mut self) -> Result<u64, ReadFault>
         ensures reads { Reads number64 self.old result self.new }
         ensures short { OnErr result (length self.old < 8) }
+        ensures unspelled { IfErr result (λ fault. fault ≡ ReadFault.Unspelled) }
     {
         match self.front(8) {
             Some(front) => Ok(u64::from_be_bytes([
@@ -119,6 +123,7 @@ impl<'a> Reader<'a> {
     pub fn id(&mut self) -> Result<Id, ReadFault>
         ensures reads { Reads id self.old result self.new }
         ensures short { OnErr result (length self.old < 5) }
+        ensures unspelled { IfErr result (λ fault. fault ≡ ReadFault.Unspelled) }
     {
         match self.front(5) {
             Some(front) => Ok(Id {
@@ -131,7 +136,8 @@ impl<'a> Reader<'a> {
 
     /// Bytes behind their length in one byte.
     pub fn short_string(&mut self) -> Result<&'a [u8], ReadFault>
-        ensures { ReadsBytes (string byte) self.old result self.new }
+        ensures reads { ReadsBytes (string byte) self.old result self.new }
+        ensures unspelled { IfErr result (λ fault. fault ≡ ReadFault.Unspelled) }
     {
         let length = self.byte()?;
         self.front(usize::from(length)).ok_or(ReadFault::Unspelled)
@@ -139,7 +145,8 @@ impl<'a> Reader<'a> {
 
     /// Bytes behind their length in two bytes.
     pub fn long_string(&mut self) -> Result<&'a [u8], ReadFault>
-        ensures { ReadsBytes (string number16) self.old result self.new }
+        ensures reads { ReadsBytes (string number16) self.old result self.new }
+        ensures unspelled { IfErr result (λ fault. fault ≡ ReadFault.Unspelled) }
     {
         let length = self.number16()?;
         self.front(usize::from(length)).ok_or(ReadFault::Unspelled)

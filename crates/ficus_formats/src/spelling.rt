@@ -1,6 +1,6 @@
-ghost use Rattle.std.specs.Prelude.{◌≡◌, ◌++◌, OnOk};
+ghost use Rattle.std.specs.Prelude.{◌≡◌, ◌++◌, OnErr, OnOk};
 ghost use Rattle.std.specs.List.{flat_map, AllByRecursion};
-ghost use Rattle.ficus_formats.specs.Format.{Format, IsUnique, Reads, times};
+ghost use Rattle.ficus_formats.specs.Format.{Format, IsUnique, Keeps, Reads, times};
 
 use crate::{ReadFault, Reader};
 use ficus_ids::{Listed, Memory};
@@ -26,7 +26,8 @@ pub trait Spelling {
     /// Appends the spelling of a value.
     fn put(&self, out: &mut Vec<u8>, value: &Self::Value) -> Result<(), Memory>
         requires { (format self.now).fits value.now }
-        ensures { OnOk result (out.new.items ≡ out.old.items ++ (format self.now).spell value.now) };
+        ensures put { OnOk result (out.new.items ≡ out.old.items ++ (format self.now).spell value.now) }
+        ensures kept { OnErr result (Keeps out.old.items out.new.items) };
 }
 
 /// Appends the spellings of the values, one after the other.
@@ -36,7 +37,8 @@ pub fn put_run<S: Spelling>(
     values: &[S::Value],
 ) -> Result<(), Memory>
     requires { AllByRecursion (S.format spelling.now).fits values.now }
-    ensures { OnOk result (out.new.items ≡ out.old.items ++ flat_map (S.format spelling.now).spell values.now) }
+    ensures put { OnOk result (out.new.items ≡ out.old.items ++ flat_map (S.format spelling.now).spell values.now) }
+    ensures kept { OnErr result (Keeps out.old.items out.new.items) }
 {
     for value in values {
         spelling.put(out, value)?;

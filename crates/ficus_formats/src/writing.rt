@@ -1,11 +1,12 @@
-ghost use Rattle.std.specs.Prelude.{◌≡◌, ◌<◌, ◌++◌, ◌^◌, length, OnOk};
-ghost use Rattle.ficus_formats.specs.Format.{byte, number16, number32, number64, string, id};
+ghost use Rattle.std.specs.Prelude.{◌≡◌, ◌<◌, ◌++◌, ◌^◌, length, OnErr, OnOk};
+ghost use Rattle.ficus_formats.specs.Format.{byte, number16, number32, number64, string, id, Keeps};
 
 use ficus_ids::{Id, Memory};
 
 /// Appends bytes as they are.
 pub fn put_bytes(out: &mut Vec<u8>, bytes: &[u8]) -> Result<(), Memory>
-    ensures { OnOk result (out.new.items ≡ out.old.items ++ bytes.now) }
+    ensures put { OnOk result (out.new.items ≡ out.old.items ++ bytes.now) }
+    ensures kept { OnErr result (Keeps out.old.items out.new.items) }
 {
     out.extend_from_slice(bytes)?;
     Ok(())
@@ -13,7 +14,8 @@ pub fn put_bytes(out: &mut Vec<u8>, bytes: &[u8]) -> Result<(), Memory>
 
 /// Appends a byte.
 pub fn put_u8(out: &mut Vec<u8>, value: u8) -> Result<(), Memory>
-    ensures { OnOk result (out.new.items ≡ out.old.items ++ byte.spell value) }
+    ensures put { OnOk result (out.new.items ≡ out.old.items ++ byte.spell value) }
+    ensures kept { OnErr result (Keeps out.old.items out.new.items) }
 {
     out.push(value)?;
     Ok(())
@@ -21,28 +23,32 @@ pub fn put_u8(out: &mut Vec<u8>, value: u8) -> Result<(), Memory>
 
 /// Appends a number in two bytes, the high one first.
 pub fn put_u16(out: &mut Vec<u8>, value: u16) -> Result<(), Memory>
-    ensures { OnOk result (out.new.items ≡ out.old.items ++ number16.spell value) }
+    ensures put { OnOk result (out.new.items ≡ out.old.items ++ number16.spell value) }
+    ensures kept { OnErr result (Keeps out.old.items out.new.items) }
 {
     put_bytes(out, &value.to_be_bytes())
 }
 
 /// Appends a number in four bytes, the highest one first.
 pub fn put_u32(out: &mut Vec<u8>, value: u32) -> Result<(), Memory>
-    ensures { OnOk result (out.new.items ≡ out.old.items ++ number32.spell value) }
+    ensures put { OnOk result (out.new.items ≡ out.old.items ++ number32.spell value) }
+    ensures kept { OnErr result (Keeps out.old.items out.new.items) }
 {
     put_bytes(out, &value.to_be_bytes())
 }
 
 /// Appends a number in eight bytes, the highest one first.
 pub fn put_u64(out: &mut Vec<u8>, value: u64) -> Result<(), Memory>
-    ensures { OnOk result (out.new.items ≡ out.old.items ++ number64.spell value) }
+    ensures put { OnOk result (out.new.items ≡ out.old.items ++ number64.spell value) }
+    ensures kept { OnErr result (Keeps out.old.items out.new.items) }
 {
     put_bytes(out, &value.to_be_bytes())
 }
 
 /// Appends an identifier: the replica in one byte, the number in four.
 pub fn put_id(out: &mut Vec<u8>, value: Id) -> Result<(), Memory>
-    ensures { OnOk result (out.new.items ≡ out.old.items ++ id.spell value) }
+    ensures put { OnOk result (out.new.items ≡ out.old.items ++ id.spell value) }
+    ensures kept { OnErr result (Keeps out.old.items out.new.items) }
 {
     let [first, second, third, fourth] = value.number.to_be_bytes();
     put_bytes(out, &[value.replica, first, second, third, fourth])
@@ -51,7 +57,8 @@ pub fn put_id(out: &mut Vec<u8>, value: Id) -> Result<(), Memory>
 /// Appends bytes, fewer than 2^8, behind their length in one byte.
 pub fn put_short_string(out: &mut Vec<u8>, bytes: &[u8]) -> Result<(), Memory>
     requires { length bytes.now < 2 ^ 8 }
-    ensures { OnOk result (out.new.items ≡ out.old.items ++ (string byte).spell bytes.now) }
+    ensures put { OnOk result (out.new.items ≡ out.old.items ++ (string byte).spell bytes.now) }
+    ensures kept { OnErr result (Keeps out.old.items out.new.items) }
 {
     put_u8(out, bytes.len() as u8)?;
     put_bytes(out, bytes)
@@ -60,7 +67,8 @@ pub fn put_short_string(out: &mut Vec<u8>, bytes: &[u8]) -> Result<(), Memory>
 /// Appends bytes, fewer than 2^16, behind their length in two bytes.
 pub fn put_long_string(out: &mut Vec<u8>, bytes: &[u8]) -> Result<(), Memory>
     requires { length bytes.now < 2 ^ 16 }
-    ensures { OnOk result (out.new.items ≡ out.old.items ++ (string number16).spell bytes.now) }
+    ensures put { OnOk result (out.new.items ≡ out.old.items ++ (string number16).spell bytes.now) }
+    ensures kept { OnErr result (Keeps out.old.items out.new.items) }
 {
     put_u16(out, bytes.len() as u16)?;
     put_bytes(out, bytes)

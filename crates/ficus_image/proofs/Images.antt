@@ -15,7 +15,7 @@ use Rattle.ficus_saved.specs.Saved.{FitsImage}
 use Rattle.ficus_saved.specs.Tables.{FitsTables}
 use Rattle.ficus_saved.specs.declared.saved.Saved.{Saved}
 use Rattle.ficus_image.specs.declared.front.Front.{Front}
-use Rattle.ficus_image.specs.Image.{magic, member_count, front_parts, front, front_of, image_bytes, image_parts, image}
+use Rattle.ficus_image.specs.Image.{BeginsFront, magic, member_count, front_parts, front, front_of, image_bytes, image_parts, image}
 
 -- the bytes begin with four others
 pub no_magic : (before four rest : List ℕ) (fault : ReadFault) → length four ≡ 4 → before ≡ four ++ rest →
@@ -170,3 +170,11 @@ pub read_one : (bytes : List ℕ) (x : Saved) → Spells image x bytes → (s : 
 read_one bytes x spells s fits is =
     one_spelled x s bytes (record { fits = image_narrows x spells.fits; is = spells.is })
     (record { fits = image_narrows s fits; is = is })
+
+-- what is spelled by its parts begins with what stands in front of the tables
+pub spelled_begins : (saved : Saved) (bytes : List ℕ) → Spells image_parts saved bytes → BeginsFront bytes
+spelled_begins saved bytes spells = record {
+  front_is = front_of saved;
+  rest = tables_bytes saved.members saved.entries saved.files;
+  begins = record { fits = spells.fits.0; spelled = spells.is };
+}

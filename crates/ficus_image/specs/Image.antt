@@ -1,7 +1,7 @@
 -- Images: how what a replica saves is spelled. Which of it may stand in an image `FitsImage` of `ficus_saved` says.
 use Rattle.std.specs.Prelude.{ℕ, List, ◌++◌, codes}
 use Rattle.ficus_ids.specs.Members.{IsCount}
-use Rattle.ficus_formats.specs.Format.{Format, byte, number32, number64, ◌then◌, shaped, meeting}
+use Rattle.ficus_formats.specs.Format.{Begins, Format, byte, number32, number64, ◌then◌, shaped, meeting}
 use Rattle.ficus_codec.specs.Formats.{tables_bytes}
 use Rattle.ficus_saved.specs.Saved.{FitsImage}
 use Rattle.ficus_saved.specs.Tables.{FitsTables}
@@ -48,3 +48,9 @@ image_parts = record {
 
 abbrev pub image : Format Saved
 image = meeting FitsImage image_parts
+
+-- the bytes begin with what stands in front of the tables of an image
+pub record BeginsFront (bytes : List ℕ) : Type 0 where
+  pub front_is : Front
+  pub rest : List ℕ
+  pub begins : Begins front bytes front_is rest

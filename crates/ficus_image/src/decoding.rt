@@ -5,7 +5,7 @@ ghost use Rattle.ficus_ids.specs.Members.{IsMember};
 ghost use Rattle.ficus_saved.specs.Saved.{FitsImage, HasOwnPast};
 ghost use Rattle.ficus_saved.specs.Tables.{FitsTables};
 ghost use Rattle.ficus_saved.specs.declared.saved.Saved.{Saved as SavedValue};
-ghost use Rattle.ficus_image.specs.Image.{image, image_parts, image_bytes};
+ghost use Rattle.ficus_image.specs.Image.{BeginsFront, image, image_parts, image_bytes};
 
 use crate::ImageFault;
 use crate::front::read_front;
@@ -35,7 +35,8 @@ fn read_all_tables(
 
 // What stands in front of the tables, and the tables to the end.
 fn read_parts(alloc: Global, reader: Reader<'_>) -> Result<Saved, ReadFault>
-    ensures { ReadsAll image_parts reader.entry result }
+    ensures reads { ReadsAll image_parts reader.entry result }
+    ensures memory { IsErrOf result ReadFault.Memory → BeginsFront reader.entry }
 {
     let mut rest = reader;
     let front = read_front(&mut rest)?;
@@ -97,7 +98,8 @@ fn fits_image(saved: &Saved) -> Result<bool, Memory>
 
 // What the bytes spell that are left.
 fn read_image(alloc: Global, reader: Reader<'_>) -> Result<Saved, ReadFault>
-    ensures { ReadsAll image reader.entry result }
+    ensures reads { ReadsAll image reader.entry result }
+    ensures memory { IsErrOf result ReadFault.Memory → BeginsFront reader.entry }
 {
     let saved = read_parts(alloc, reader)?;
     if fits_image(&saved)? {
@@ -108,7 +110,7 @@ fn read_image(alloc: Global, reader: Reader<'_>) -> Result<Saved, ReadFault>
 }
 
 /// What the bytes spell, from the first to the last. `NotImage` comes exactly where they spell nothing that a replica
-/// may save.
+/// may save; `Memory` only where there stands what every image has in front of its tables.
 pub fn decode_image(alloc: Global, bytes: &[u8]) -> Result<Saved, ImageFault>
     ensures fits { IfOk result (λ saved. FitsImage saved) }
     ensures spelled { IfOk result (λ saved. bytes.now ≡ image_bytes saved) }
@@ -116,6 +118,7 @@ pub fn decode_image(alloc: Global, bytes: &[u8]) -> Result<Saved, ImageFault>
         → IfOk result (λ read. read ≡ saved) }
     ensures not_image { IsErrOf result ImageFault.NotImage →
         (saved : SavedValue) → FitsImage saved → bytes.now ≡ image_bytes saved → ⊥ }
+    ensures memory { IsErrOf result ImageFault.Memory → BeginsFront bytes.now }
 {
     let saved = read_image(alloc, Reader::new(bytes))?;
     Ok(saved)

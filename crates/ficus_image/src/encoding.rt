@@ -1,4 +1,5 @@
-ghost use Rattle.std.specs.Prelude.{◌≡◌, ◌++◌, IfOk, OnOk};
+ghost use Rattle.std.specs.Prelude.{◌≡◌, ◌++◌, IfOk, OnErr, OnOk};
+ghost use Rattle.ficus_formats.specs.Format.{Keeps};
 ghost use Rattle.ficus_saved.specs.Saved.{FitsImage};
 ghost use Rattle.ficus_image.specs.Image.{image_bytes};
 
@@ -10,7 +11,8 @@ use std::alloc::Global;
 /// Appends the one spelling of what is saved, in one pass over the tables. After `Memory` part of it may stand there.
 pub fn put_image(out: &mut Vec<u8>, saved: &Saved) -> Result<(), Memory>
     requires { FitsImage saved.now }
-    ensures { OnOk result (out.new.items ≡ out.old.items ++ image_bytes saved.now) }
+    ensures put { OnOk result (out.new.items ≡ out.old.items ++ image_bytes saved.now) }
+    ensures kept { OnErr result (Keeps out.old.items out.new.items) }
 {
     put_front(out, saved)?;
     put_tables(out, &saved.entries, &saved.files, saved.members)

@@ -1,5 +1,5 @@
-ghost use Rattle.std.specs.Prelude.{◌≡◌, ◌++◌, OnOk};
-ghost use Rattle.ficus_formats.specs.Format.{Reads};
+ghost use Rattle.std.specs.Prelude.{◌≡◌, ◌++◌, IfErr, OnErr, OnOk};
+ghost use Rattle.ficus_formats.specs.Format.{Keeps, Reads};
 ghost use Rattle.ficus_image.specs.Image.{magic, member_count, front, front_of};
 
 use ficus_codec::{ReadFault, Reader, Saved, put_bytes, put_u8, put_u32, put_u64};
@@ -19,7 +19,8 @@ pub(crate) struct Front {
 
 // The bytes with which every image begins.
 fn read_magic(reader: &mut Reader<'_>) -> Result<(), ReadFault>
-    ensures { Reads magic reader.old result reader.new }
+    ensures reads { Reads magic reader.old result reader.new }
+    ensures unspelled { IfErr result (λ fault. fault ≡ ReadFault.Unspelled) }
 {
     match reader.front(4) {
         Some(front) if front == b"FIC1".as_slice() => Ok(()),
@@ -29,7 +30,8 @@ fn read_magic(reader: &mut Reader<'_>) -> Result<(), ReadFault>
 
 // How many members there are.
 fn read_member_count(reader: &mut Reader<'_>) -> Result<Members, ReadFault>
-    ensures { Reads member_count reader.old result reader.new }
+    ensures reads { Reads member_count reader.old result reader.new }
+    ensures unspelled { IfErr result (λ fault. fault ≡ ReadFault.Unspelled) }
 {
     let count = reader.byte()?;
     Members::new(count).ok_or(ReadFault::Unspelled)
@@ -37,7 +39,8 @@ fn read_member_count(reader: &mut Reader<'_>) -> Result<Members, ReadFault>
 
 /// Reads what stands in front of the tables.
 pub(crate) fn read_front(reader: &mut Reader<'_>) -> Result<Front, ReadFault>
-    ensures { Reads front reader.old result reader.new }
+    ensures reads { Reads front reader.old result reader.new }
+    ensures unspelled { IfErr result (λ fault. fault ≡ ReadFault.Unspelled) }
 {
     read_magic(reader)?;
     Ok(Front {
@@ -53,7 +56,8 @@ pub(crate) fn read_front(reader: &mut Reader<'_>) -> Result<Front, ReadFault>
 
 /// Appends what stands in front of the tables.
 pub(crate) fn put_front(out: &mut Vec<u8>, saved: &Saved) -> Result<(), Memory>
-    ensures { OnOk result (out.new.items ≡ out.old.items ++ front.spell (front_of saved.now)) }
+    ensures put { OnOk result (out.new.items ≡ out.old.items ++ front.spell (front_of saved.now)) }
+    ensures kept { OnErr result (Keeps out.old.items out.new.items) }
 {
     put_bytes(out, b"FIC1")?;
     put_u8(out, saved.me)?;

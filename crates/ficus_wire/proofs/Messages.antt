@@ -18,7 +18,7 @@ use Rattle.ficus_wire.specs.declared.message.Letter.TheVariants as letters
 use Rattle.ficus_wire.specs.declared.message.Message.{Message}
 use Rattle.ficus_wire.specs.declared.message.Message.TheVariants.{Ask, Answer}
 use Rattle.ficus_wire.specs.declared.message.Route.{Route}
-use Rattle.ficus_wire.specs.Message.{IsRoute, route_parts, route_fields, route, answer, way, message, message_of, message_bytes, FitsMessage, HasTables, ReadsLetter}
+use Rattle.ficus_wire.specs.Message.{BeginsAnswer, IsAnswer, IsRoute, route_parts, route_fields, route, answer, way, message, message_of, message_bytes, FitsMessage, HasTables, ReadsLetter}
 
 pub route_narrows : (members : ℕ) (w : Route) → IsRoute members w → route_fields.fits w
 route_narrows members w fits = (tt, (tt, fits.number))
@@ -106,3 +106,17 @@ passed_letter members before (Err given) fault is none = rw is none
 pub has_tables : (members : ℕ) (letter : Letter) → FitsMessage members (message_of letter) → HasTables letter
 has_tables members (letters.Ask from to number) fits = tt
 has_tables members (letters.Answer from to number es fs) fits = (fits.1.rising, are_files members es fs fits.1)
+
+-- the bytes of an answer begin with its kind and its route
+pub answer_begins : (members : ℕ) (bytes : List ℕ) (m : Message) → IsAnswer m → FitsMessage members m →
+    bytes ≡ message_bytes members m → BeginsAnswer members bytes
+answer_begins members bytes (Ask from to number) is fits spelled = absurd is
+answer_begins members bytes (Answer from to number es fs) is fits spelled = record {
+  behind = (answer members).spell (way from to number, (es, fs));
+  kind = spelled;
+  route = record {
+    way = way from to number;
+    rest = (tables members).spell (es, fs);
+    begins = record { fits = fits.0; spelled = refl };
+  };
+}

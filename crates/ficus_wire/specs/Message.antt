@@ -5,7 +5,7 @@ use Rattle.ficus_entry.specs.Entry.{IsRising}
 use Rattle.ficus_entry.specs.declared.entry.Entry.{Entry}
 use Rattle.ficus_file.specs.Files.{AreFiles}
 use Rattle.ficus_file.specs.declared.file.FileReplica.{FileReplica}
-use Rattle.ficus_formats.specs.Format.{Format, byte, number64, ◌then◌, shaped, meeting, Spells}
+use Rattle.ficus_formats.specs.Format.{Begins, Format, byte, number64, ◌then◌, shaped, meeting, Spells}
 use Rattle.ficus_formats.specs.declared.fault.ReadFault.{ReadFault}
 use Rattle.ficus_formats.specs.declared.fault.ReadFault.TheVariants.{Unspelled}
 use Rattle.ficus_codec.specs.Formats.{tables}
@@ -74,3 +74,20 @@ ReadsLetter members bytes (Err fault) = fault ≡ Unspelled → (m : Message) �
 abbrev pub HasTables : Letter → Type 0
 HasTables (letter.Ask from to number) = Unit {0}
 HasTables (letter.Answer from to number entries files) = IsRising entries × AreFiles files
+
+-- the message answers an ask
+abbrev pub IsAnswer : Message → Type 0
+IsAnswer (Ask from to number) = ⊥
+IsAnswer (Answer from to number entries files) = Unit {0}
+
+-- the bytes begin with a route
+pub record BeginsRoute (members : ℕ) (bytes : List ℕ) : Type 0 where
+  pub way : Route
+  pub rest : List ℕ
+  pub begins : Begins (route members) bytes way rest
+
+-- and behind the version and the kind of an answer with one: rows may follow
+pub record BeginsAnswer (members : ℕ) (bytes : List ℕ) : Type 0 where
+  pub behind : List ℕ
+  pub kind : bytes ≡ 1 ∷ 2 ∷ behind
+  pub route : BeginsRoute members behind

@@ -1,7 +1,7 @@
-ghost use Rattle.std.specs.Prelude.{◌≡◌, List, ℕ, ◌++◌, IfOk, IsErrOf};
+ghost use Rattle.std.specs.Prelude.{◌≡◌, List, ℕ, ◌++◌, IfErr, IfOk, OnErr, IsErrOf};
 ghost use Rattle.ficus_ids.specs.Members.{IsCount};
 ghost use Rattle.ficus_formats.specs.Format.{Reads, ReadsAll};
-ghost use Rattle.ficus_wire.specs.Message.{route, answer, message, message_of, message_bytes, FitsMessage, HasTables, ReadsLetter};
+ghost use Rattle.ficus_wire.specs.Message.{route, answer, message, message_of, message_bytes, BeginsAnswer, BeginsRoute, FitsMessage, HasTables, IsAnswer, ReadsLetter};
 ghost use Rattle.ficus_wire.specs.declared.message.Message.{Message as MessageValue};
 ghost use Rattle.ficus_wire.specs.declared.message.Message.TheVariants.{Answer};
 ghost use Rattle.ficus_codec.specs.Formats.{tables_bytes};
@@ -19,7 +19,8 @@ use std::alloc::Global;
 
 // From whom to whom a message goes, two different members, and the number of its ask.
 fn read_route(reader: &mut Reader<'_>, members: Members) -> Result<Route, ReadFault>
-    ensures { Reads (route members) reader.old result reader.new }
+    ensures reads { Reads (route members) reader.old result reader.new }
+    ensures unspelled { IfErr result (λ fault. fault ≡ ReadFault.Unspelled) }
 {
     let from = reader.byte()?;
     let to = reader.byte()?;
@@ -32,7 +33,8 @@ fn read_route(reader: &mut Reader<'_>, members: Members) -> Result<Route, ReadFa
 
 // What stands behind the kind of an ask, from the first byte to the last.
 fn read_ask(reader: Reader<'_>, members: Members) -> Result<Route, ReadFault>
-    ensures { ReadsAll (route members) reader.entry result }
+    ensures reads { ReadsAll (route members) reader.entry result }
+    ensures unspelled { IfErr result (λ fault. fault ≡ ReadFault.Unspelled) }
 {
     let mut rest = reader;
     let way = read_route(&mut rest, members)?;
@@ -49,7 +51,8 @@ fn read_answer(
     reader: Reader<'_>,
     members: Members,
 ) -> Result<(Route, (Listed<Entry>, Listed<FileReplica>)), ReadFault>
-    ensures { ReadsAll (answer members) reader.entry result }
+    ensures reads { ReadsAll (answer members) reader.entry result }
+    ensures memory { IsErrOf result ReadFault.Memory → BeginsRoute members reader.entry }
 {
     let mut rest = reader;
     let way = read_route(&mut rest, members)?;
@@ -59,7 +62,8 @@ fn read_answer(
 
 // The message that the bytes spell which are left, from the first to the last.
 fn read_message(alloc: Global, reader: Reader<'_>, members: Members) -> Result<Letter, ReadFault>
-    ensures { ReadsLetter members reader.entry result }
+    ensures reads { ReadsLetter members reader.entry result }
+    ensures memory { IsErrOf result ReadFault.Memory → BeginsAnswer members reader.entry }
 {
     let mut rest = reader;
     if rest.byte()? != 1 {
@@ -85,12 +89,13 @@ fn read_message(alloc: Global, reader: Reader<'_>, members: Members) -> Result<L
 }
 
 /// The message between members that the bytes spell, from the first to the last, as it is read. `NotMessage` comes
-/// exactly where they spell none.
+/// exactly where they spell none; `Memory` only where an answer's kind and route stand in front, which rows follow.
 pub fn read_letter(alloc: Global, bytes: &[u8], members: Members) -> Result<Letter, WireFault>
     ensures fits { IfOk result (λ letter. FitsMessage members (message_of letter)) }
     ensures spelled { IfOk result (λ letter. bytes.now ≡ message_bytes members (message_of letter)) }
     ensures not_message { IsErrOf result WireFault.NotMessage →
         (m : MessageValue) → FitsMessage members m → bytes.now ≡ message_bytes members m → ⊥ }
+    ensures memory { IsErrOf result WireFault.Memory → BeginsAnswer members bytes.now }
 {
     let _ = members.count();
     let letter = read_message(alloc, Reader::new(bytes), members)?;
@@ -100,7 +105,8 @@ pub fn read_letter(alloc: Global, bytes: &[u8], members: Members) -> Result<Lett
 // The message of a letter.
 fn message_in(alloc: Global, letter: Letter) -> Result<Message, Memory>
     requires { HasTables letter }
-    ensures { IfOk result (λ m. m ≡ message_of letter) }
+    ensures made { IfOk result (λ m. m ≡ message_of letter) }
+    ensures memory { OnErr result (IsAnswer (message_of letter)) }
 {
     match letter {
         Letter::Ask { from, to, number } => Ok(Message::Ask { from, to, number }),
@@ -125,7 +131,7 @@ fn message_in(alloc: Global, letter: Letter) -> Result<Message, Memory>
 }
 
 /// The message between members that the bytes spell, from the first to the last. `NotMessage` comes exactly where they
-/// spell none.
+/// spell none; `Memory` only where an answer's kind and route stand in front.
 pub fn decode(alloc: Global, bytes: &[u8], members: Members) -> Result<Message, WireFault>
     ensures fits { IfOk result (λ m. FitsMessage members m) }
     ensures spelled { IfOk result (λ m. bytes.now ≡ message_bytes members m) }
@@ -133,6 +139,7 @@ pub fn decode(alloc: Global, bytes: &[u8], members: Members) -> Result<Message, 
         → IfOk result (λ read. read ≡ m) }
     ensures not_message { IsErrOf result WireFault.NotMessage →
         (m : MessageValue) → FitsMessage members m → bytes.now ≡ message_bytes members m → ⊥ }
+    ensures memory { IsErrOf result WireFault.Memory → BeginsAnswer members bytes.now }
 {
     let _ = members.count();
     let letter = read_letter(alloc, bytes, members)?;

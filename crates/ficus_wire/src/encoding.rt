@@ -1,5 +1,5 @@
-ghost use Rattle.std.specs.Prelude.{◌≡◌, ◌++◌, ◌∷◌, IfOk, OnOk};
-ghost use Rattle.ficus_formats.specs.Format.{number64};
+ghost use Rattle.std.specs.Prelude.{◌≡◌, ◌++◌, ◌∷◌, IfOk, OnErr, OnOk};
+ghost use Rattle.ficus_formats.specs.Format.{Keeps, number64};
 ghost use Rattle.ficus_wire.specs.Message.{message_bytes, FitsMessage};
 
 use crate::Message;
@@ -11,7 +11,8 @@ use std::alloc::Global;
 
 // Appends the version, the kind of a message and its route.
 fn put_front(out: &mut Vec<u8>, kind: u8, way: Route) -> Result<(), Memory>
-    ensures { OnOk result (out.new.items ≡ out.old.items ++ (1 ∷ kind ∷ way.from ∷ way.to ∷ number64.spell way.number)) }
+    ensures put { OnOk result (out.new.items ≡ out.old.items ++ (1 ∷ kind ∷ way.from ∷ way.to ∷ number64.spell way.number)) }
+    ensures kept { OnErr result (Keeps out.old.items out.new.items) }
 {
     put_u8(out, 1)?;
     put_u8(out, kind)?;
@@ -24,7 +25,8 @@ fn put_front(out: &mut Vec<u8>, kind: u8, way: Route) -> Result<(), Memory>
 // Appends the spelling of a message.
 fn put_message(out: &mut Vec<u8>, message: &Message, members: Members) -> Result<(), Memory>
     requires { FitsMessage members message.now }
-    ensures { OnOk result (out.new.items ≡ out.old.items ++ message_bytes members message.now) }
+    ensures put { OnOk result (out.new.items ≡ out.old.items ++ message_bytes members message.now) }
+    ensures kept { OnErr result (Keeps out.old.items out.new.items) }
 {
     match message {
         Message::Ask { from, to, number } => {
