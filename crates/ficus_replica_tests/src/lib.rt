@@ -1,7 +1,11 @@
-//! Tests of what a replica refuses where no script brings it about, each refusal by its variant with ample memory. What
-//! scripts bring about is shown by the examples.
+//! Tests of what a replica refuses where no script brings it about, each refusal by its variant with ample memory, and of
+//! each call that can want memory, that with ample memory it answers. What scripts bring about is shown by the examples.
 #![tactic(auto)]
 
+#[cfg(test)]
+mod calls;
+#[cfg(test)]
+mod scenes;
 #[cfg(test)]
 mod steps;
 #[cfg(test)]

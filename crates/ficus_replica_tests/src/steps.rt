@@ -1,7 +1,7 @@
 ghost use Rattle.std.specs.Prelude.{◌-◌, ◌^◌, ◌<◌, IfOk, OnOk};
 ghost use Rattle.ficus_saved.specs.Saved.{FitsImage};
 ghost use Rattle.ficus_commands.specs.Change.{HasFitPaths};
-ghost use Rattle.ficus_path.specs.Path.{IsNew};
+ghost use Rattle.ficus_path.specs.Path.{IsEntry, IsNew};
 
 use ficus_commands::Change;
 use ficus_ids::{Kind, Listed, Members, Refusal};
@@ -49,8 +49,8 @@ pub(crate) enum Make {
     Text(usize),
 }
 
-// The replica once it has made this.
-fn changed(alloc: Global, replica: &Replica, make: Make) -> Result<Replica, Fail>
+/// The replica once it has made this.
+pub(crate) fn changed(alloc: Global, replica: &Replica, make: Make) -> Result<Replica, Fail>
     requires { FitsImage replica.now.saved }
     ensures { IfOk result (λ changed. FitsImage changed.saved) }
 {
@@ -58,7 +58,7 @@ fn changed(alloc: Global, replica: &Replica, make: Make) -> Result<Replica, Fail
     changed_by(alloc, replica, &change)
 }
 
-fn changed_by(alloc: Global, replica: &Replica, change: &Change) -> Result<Replica, Fail>
+pub(crate) fn changed_by(alloc: Global, replica: &Replica, change: &Change) -> Result<Replica, Fail>
     requires new { HasFitPaths change.now }
     requires fits { FitsImage replica.now.saved }
     ensures { IfOk result (λ changed. FitsImage changed.saved) }
@@ -160,7 +160,7 @@ fn asking(replica: &Replica) -> Result<Replica, Fail>
     Ok(replica.ask(2)?)
 }
 
-fn may_save(replica: &Replica) -> Result<(), Fail>
+pub(crate) fn may_save(replica: &Replica) -> Result<(), Fail>
     ensures { OnOk result (replica.now.saved.generation < 2 ^ 63 - 1) }
 {
     if replica.saved.generation > 9 {
@@ -169,12 +169,22 @@ fn may_save(replica: &Replica) -> Result<(), Fail>
     Ok(())
 }
 
-fn new_path(alloc: Global, name: &[u8]) -> Result<Path, Fail>
+pub(crate) fn new_path(alloc: Global, name: &[u8]) -> Result<Path, Fail>
     ensures { IfOk result IsNew }
 {
     let path = read_path(alloc, name)?;
     if !path.is_new() {
         return Err("no entry may be made there".into());
+    }
+    Ok(path)
+}
+
+pub(crate) fn entry_path(alloc: Global, name: &[u8]) -> Result<Path, Fail>
+    ensures { IfOk result IsEntry }
+{
+    let path = read_path(alloc, name)?;
+    if !path.is_entry() {
+        return Err("no entry is there".into());
     }
     Ok(path)
 }

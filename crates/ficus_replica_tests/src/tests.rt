@@ -1,6 +1,8 @@
 ghost use Rattle.std.specs.Prelude.{IfOk};
 ghost use Rattle.ficus_saved.specs.Saved.{FitsImage};
 
+use crate::calls::{Changing, Looking, refused, told};
+use crate::scenes::{Scene, after};
 use crate::steps::{Make, fresh, made, why_not_changed, why_not_taken, written};
 use ficus_ids::{Kind, Refusal};
 use ficus_replica::Replica;
@@ -77,4 +79,51 @@ fn replica_with(alloc: Global, kind: Option<Kind>) -> Result<Replica, Fail>
         None => fresh(alloc, 1, 0),
         Some(kind) => made(alloc, 1, 0, kind),
     }
+}
+
+// What a look tells of a scene with ample memory: how many items.
+const LOOKS: &[(Scene, Looking, usize)] = &[
+    (Scene::Written, Looking::Tree, 1),
+    (Scene::Written, Looking::VersionsOfFile, 1),
+    (Scene::Written, Looking::MergedFiles, 1),
+    (Scene::Conflict, Looking::ConflictingFiles, 1),
+    (Scene::Conflict, Looking::VersionsOfFile, 2),
+    (Scene::Orphan, Looking::Orphans, 1),
+    (Scene::Orphan, Looking::Tree, 0),
+    (Scene::Removed, Looking::Marks, 1),
+    (Scene::Detached, Looking::Detached, 2),
+    (Scene::Detached, Looking::Marks, 2),
+];
+
+#[test]
+fn each_look_tells_with_ample_memory(rt: HostRuntime) -> Result<(), Fail> {
+    for &(scene, look, items) in LOOKS {
+        let replica = after(rt.alloc(), scene)?;
+        let found = told(rt.alloc(), &replica, look)?;
+        assert!(rt; found == items, "{scene:?} {look:?}: {found}");
+    }
+    Ok(())
+}
+
+// What a change is answered after a scene with ample memory: why it is refused, where it is.
+const CHANGES: &[(Scene, Changing, Option<Refusal>)] = &[
+    (Scene::Written, Changing::Link, None),
+    (Scene::Written, Changing::Rename, None),
+    (Scene::Written, Changing::Remove, None),
+    (Scene::Conflict, Changing::Settle, None),
+    (Scene::Conflict, Changing::Resolve, None),
+    (Scene::Orphan, Changing::Adopt, None),
+    (Scene::Orphan, Changing::Discard, None),
+    (Scene::Written, Changing::Settle, Some(Refusal::NoConflict)),
+    (Scene::Written, Changing::Discard, Some(Refusal::NotOrphan)),
+];
+
+#[test]
+fn each_change_is_done_with_ample_memory(rt: HostRuntime) -> Result<(), Fail> {
+    for &(scene, change, refusal) in CHANGES {
+        let replica = after(rt.alloc(), scene)?;
+        let found = refused(rt.alloc(), &replica, change)?;
+        assert!(rt; found == refusal, "{scene:?} {change:?}");
+    }
+    Ok(())
 }

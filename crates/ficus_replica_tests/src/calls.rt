@@ -1,0 +1,132 @@
+ghost use Rattle.ficus_saved.specs.Saved.{FitsImage};
+
+use crate::steps::{entry_path, may_save, new_path};
+use ficus_ids::{Id, Refusal};
+use ficus_path::read_path;
+use ficus_recon_file::{merge_files, merge_fits};
+use ficus_replica::{Next, Replica};
+use std::alloc::Global;
+use std::test::Fail;
+
+/// A call that looks.
+#[derive(Clone, Copy, Debug)]
+pub(crate) enum Looking {
+    Tree,
+    ConflictingFiles,
+    Orphans,
+    Detached,
+    Marks,
+    VersionsOfFile,
+    /// What its files make together with themselves.
+    MergedFiles,
+}
+
+/// How many items it tells.
+pub(crate) fn told(alloc: Global, replica: &Replica, look: Looking) -> Result<usize, Fail>
+    requires { FitsImage replica.now.saved }
+{
+    Ok(match look {
+        Looking::Tree => replica.tree(alloc)?.len(),
+        Looking::ConflictingFiles => replica.conflicts(alloc)?.files.items().len(),
+        Looking::Orphans => replica.orphans(alloc)?.len(),
+        Looking::Detached => replica.detached(alloc)?.len(),
+        Looking::Marks => replica.marks(alloc)?.len(),
+        Looking::VersionsOfFile => {
+            let path = read_path(alloc, b"/f")?;
+            replica.versions(alloc, &path)?.len()
+        }
+        Looking::MergedFiles => merged(alloc, replica)?,
+    })
+}
+
+// How many files those of the replica make together with themselves.
+fn merged(alloc: Global, replica: &Replica) -> Result<usize, Fail> {
+    let (entries, files) = replica.tables();
+    if !merge_fits(files, files) {
+        return Err("files don't fit themselves".into());
+    }
+    Ok(merge_files(alloc, files, files, entries)?.len())
+}
+
+/// A call that changes: of the file `/f`, or of the orphan `1.1`.
+#[derive(Clone, Copy, Debug)]
+pub(crate) enum Changing {
+    Link,
+    Rename,
+    Remove,
+    Settle,
+    Resolve,
+    Adopt,
+    Discard,
+}
+
+/// Why it is refused, where it is.
+pub(crate) fn refused(
+    alloc: Global,
+    replica: &Replica,
+    change: Changing,
+) -> Result<Option<Refusal>, Fail>
+    requires { FitsImage replica.now.saved }
+{
+    let answer = match change {
+        Changing::Link | Changing::Rename => given_name(alloc, replica, change)?,
+        Changing::Remove => removed(alloc, replica)?,
+        Changing::Settle | Changing::Resolve => ended(alloc, replica, change)?,
+        Changing::Adopt | Changing::Discard => of_orphan(alloc, replica, change)?,
+    };
+    Ok(answer.err())
+}
+
+fn given_name(
+    alloc: Global,
+    replica: &Replica,
+    change: Changing,
+) -> Result<Result<Next, Refusal>, Fail>
+    requires { FitsImage replica.now.saved }
+{
+    let from = entry_path(alloc, b"/f")?;
+    let path = new_path(alloc, b"/g")?;
+    may_save(replica)?;
+    Ok(match change {
+        Changing::Link => replica.link(alloc, &from, &path),
+        _ => replica.rename(alloc, &from, &path),
+    })
+}
+
+fn removed(alloc: Global, replica: &Replica) -> Result<Result<Next, Refusal>, Fail>
+    requires { FitsImage replica.now.saved }
+{
+    let path = entry_path(alloc, b"/f")?;
+    may_save(replica)?;
+    Ok(replica.remove(alloc, &path))
+}
+
+fn ended(alloc: Global, replica: &Replica, change: Changing) -> Result<Result<Next, Refusal>, Fail>
+    requires { FitsImage replica.now.saved }
+{
+    let path = read_path(alloc, b"/f")?;
+    may_save(replica)?;
+    Ok(match change {
+        Changing::Settle => replica.settle(alloc, &path, b"n"),
+        _ => replica.resolve(alloc, &path),
+    })
+}
+
+fn of_orphan(
+    alloc: Global,
+    replica: &Replica,
+    change: Changing,
+) -> Result<Result<Next, Refusal>, Fail>
+    requires { FitsImage replica.now.saved }
+{
+    let orphan = Id {
+        replica: 1,
+        number: 1,
+    };
+    let path = new_path(alloc, b"/g")?;
+    may_save(replica)?;
+    Ok(match change {
+        Changing::Adopt => replica.adopt(alloc, orphan, &path),
+        _ => replica.discard(alloc, orphan),
+    })
+}
