@@ -337,6 +337,7 @@ module _ {K D : Type 0} (keep : Keep K) (disk : Disk D)
     tells_for (command.Alike by other) = tt
     tells_for (command.Restart by) = disks_told
     tells_for (command.Stop by calls pick) = tt
+    tells_for (command.Sweep order) = tt
 
     pub lift : (W : ModelWorld) (old new : Whole) (x y : List (Pair D)) → WorldStandsFor volume W old
         → Passes tells keep disk old new x y → Lifted W old new x y

@@ -46,12 +46,12 @@ mail_extends volume number given W left gives =
     {outcomes = left.outcomes} {answer = given}
     (record { result = Ok given; does = gives; answer_is = refl })
 
-pub part_extends : (volume : Volume) (command : Command) (W : ModelWorld) (left : Effect ModelWorld)
-    → DoesPart volume command W left → Extends W.events left.after.events
-part_extends volume (command.Pull by to) W left (InFirst same) = nothing_extends W left same
-part_extends volume (command.Pull by to) W left (InRest {left = l} (Goes (Says one) (Says two)) (InFirst same)) =
+pull_part_extends : (volume : Volume) (by to : ℕ) (W : ModelWorld) (left : Effect ModelWorld)
+    → PullsPart volume by to W left → Extends W.events left.after.events
+pull_part_extends volume by to W left (InFirst same) = nothing_extends W left same
+pull_part_extends volume by to W left (InRest {left = l} (Goes (Says one) (Says two)) (InFirst same)) =
     nothing_extends W l same
-part_extends volume (command.Pull by to) W left
+pull_part_extends volume by to W left
     (InRest (Goes (Says one) (Says two)) (InRest {a = number} {middle = m} {left = l} asks (InFirst same))) =
     further (asks_extends volume by to number W m asks) (nothing_extends m.after l same)
 part_extends volume (command.Pull by to) W left
@@ -67,6 +67,8 @@ part_extends volume (command.Give number) W left same = nothing_extends W left s
 part_extends volume (command.Alike by other) W left same = nothing_extends W left same
 part_extends volume (command.Restart by) W left same = nothing_extends W left same
 part_extends volume (command.Stop by calls pick) W left same = nothing_extends W left same
+part_extends volume (command.Sweep order) W left part =
+    sweeps_part_extends volume (sweep_steps order volume.members) W left part
 
 -- the trail of what a world passes leads to whatever world of the model it then stands for, behind what had happened
 pub trail_to : {K D : Type 0} (keep : Keep K) (disk : Disk D)

@@ -1,5 +1,5 @@
 -- What holds of each action, and of one after the other, holds of what a command does.
-use Rattle.std.proofs.Common.{◌≡◌, ℕ, Result, refl}
+use Rattle.std.proofs.Common.{◌≡◌, ℕ, List, [], ◌∷◌, Result, refl}
 use Rattle.ficus_ids.specs.declared.refusal.Refusal.{Refusal}
 use Rattle.ficus_model.specs.declared.event.Event.{Event}
 use Rattle.ficus_model.specs.Lawful.{Volume}
@@ -18,6 +18,7 @@ use Rattle.ficus_runs.specs.Exchange.{Composes, Asks, Behind, AnAsk, AnAnswer, H
 use Rattle.ficus_runs.specs.ModelWorld.{ModelWorld}
 use Rattle.ficus_runs.specs.Run.{Does}
 use Rattle.ficus_runs.specs.Sequence.{First, ByRule}
+use Rattle.ficus_runs.specs.Sweep.{CollectsAt, Collecting, DoesSweepStep, Pulling, PullsFrom, SweepStep, Swept, Sweeps, none_swept, sweep_steps, swept_answer, with_answer}
 use Rattle.ficus_run_laws.proofs.Rules.{look_answer_once, alike_answer_once, wants_once, composes_once, counts_once, behind_once}
 
 -- It holds of one action after the other where it holds of both, of each rule that gives one thing, and of each other
@@ -77,6 +78,27 @@ module _ (volume : Volume) (P : (A : Type 0) → ModelAction A → Type 0) (hold
       holds.behind _ _ (gives_mail_holds number) (λ given. gives_only_holds Done)
   gives_next_holds other = gives_only_holds Done
 
+  pulls_hold : (by to : ℕ) → P Answer (PullsFrom volume by to)
+  pulls_hold by to =
+      holds.behind _ _ (at_peers_holds by to)
+      (λ peers. holds.behind _ _ (asks_holds by to)
+      (λ number. holds.behind _ _ (gives_mail_holds number) gives_next_holds))
+
+  collects_hold : (by : ℕ) → P Answer (CollectsAt volume by)
+  collects_hold by =
+      holds.behind _ _ (at_member_holds by)
+      (λ member. holds.behind _ _ (holds.by_rule _ (λ W. counts_once volume.members W.events by))
+      (λ counted. holds.saves _ _ _))
+
+  sweep_step_holds : (step : SweepStep) → P Answer (DoesSweepStep volume step)
+  sweep_step_holds (Pulling by to) = pulls_hold by to
+  sweep_step_holds (Collecting by) = collects_hold by
+
+  sweeps_hold : (steps : List SweepStep) (swept : Swept) → P Swept (Sweeps volume steps swept)
+  sweeps_hold [] swept = gives_only_holds swept
+  sweeps_hold (step ∷ steps) swept =
+      holds.behind _ _ (sweep_step_holds step) (λ given. sweeps_hold steps (with_answer swept given))
+
   -- so it holds of what a command does, where it holds of arming, if the command is a stop
   pub does_holds : (command : Command)
       → ((by calls pick : ℕ) → command ≡ Stop by calls pick → P Answer (Arms by calls pick))
@@ -89,17 +111,11 @@ module _ (volume : Volume) (P : (A : Type 0) → ModelAction A → Type 0) (hold
   does_holds (command.Look by look) arms =
       holds.behind _ _ (at_member_holds by)
       (λ member. holds.by_rule _ (λ W. look_answer_once volume W.events by look))
-  does_holds (command.Collect by) arms =
-      holds.behind _ _ (at_member_holds by)
-      (λ member. holds.behind _ _ (holds.by_rule _ (λ W. counts_once volume.members W.events by))
-      (λ counted. holds.saves _ _ _))
+  does_holds (command.Collect by) arms = collects_hold by
   does_holds (command.Ask by to) arms =
       holds.behind _ _ (asks_holds by to) (λ number. gives_only_holds (Mail number))
   does_holds (command.Give number) arms = gives_mail_holds number
-  does_holds (command.Pull by to) arms =
-      holds.behind _ _ (at_peers_holds by to)
-      (λ peers. holds.behind _ _ (asks_holds by to)
-      (λ number. holds.behind _ _ (gives_mail_holds number) gives_next_holds))
+  does_holds (command.Pull by to) arms = pulls_hold by to
   does_holds (command.Alike by other) arms =
       holds.behind _ _ (at_peers_holds by other)
       (λ peers. holds.by_rule _ (λ W.
@@ -108,3 +124,6 @@ module _ (volume : Volume) (P : (A : Type 0) → ModelAction A → Type 0) (hold
   does_holds (Stop by calls pick) arms =
       holds.behind _ _ (at_member_holds by)
       (λ member. holds.behind _ _ (wants_holds _ _) (λ fused. arms by calls pick refl))
+  does_holds (command.Sweep order) arms =
+      holds.behind _ _ (sweeps_hold (sweep_steps order volume.members) none_swept)
+      (λ swept. gives_only_holds (swept_answer swept))

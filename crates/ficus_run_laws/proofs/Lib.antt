@@ -10,6 +10,7 @@ pub mod Extending
 pub mod Up
 pub mod Arming
 pub mod Runs
+pub mod SweepSteps
 pub mod Starts
 pub mod Agreement
 pub mod Never

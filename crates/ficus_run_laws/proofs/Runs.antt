@@ -28,6 +28,7 @@ use Rattle.ficus_runs.specs.Sequence.{First, ByRule, Cut, CutFirst, Effect, Noth
 use Rattle.ficus_runs.specs.Sequence.First.{Ends, Goes}
 use Rattle.ficus_runs.specs.Sequence.ByRule.{Says}
 use Rattle.ficus_runs.specs.Sequence.CutFirst.{InFirst, InRest}
+use Rattle.ficus_runs.specs.Sweep.{CollectsAt, Collecting, DoesSweepPart, DoesSweepStep, Pulling, PullsFrom, PullsPart, SweepStep, Swept, Sweeps, SweepsPart, none_swept, sweep_steps, with_answer}
 
 -- from this world the action leaves a lawful history lawful
 abbrev KeepsLawful : {A : Type 0} → Volume → ModelWorld → ModelAction A → Type 0
@@ -146,6 +147,27 @@ module _ (volume : Volume) where
   at_peers_lawful : (by other : ℕ) (W : ModelWorld) → KeepsLawful volume W (AtPeers volume by other)
   at_peers_lawful by other W = first_lawful _ _ W (by_rule_lawful _ W) (λ peers V. by_rule_lawful _ V)
 
+  pulls_lawful : (by to : ℕ) (W : ModelWorld) → KeepsLawful volume W (PullsFrom volume by to)
+  pulls_lawful by to W =
+      first_lawful _ _ W (at_peers_lawful by to W)
+      (λ peers V. first_lawful _ _ V (asks_lawful by to V)
+      (λ number U. first_lawful _ _ U (gives_mail_lawful number U) gives_next_lawful))
+
+  collects_lawful : (by : ℕ) (W : ModelWorld) → KeepsLawful volume W (CollectsAt volume by)
+  collects_lawful by W =
+      member_first by _ W
+      (λ here member. rule_first _ _ W (λ counted is. saves_lawful _ _ _ W member))
+
+  sweep_step_lawful : (step : SweepStep) (W : ModelWorld) → KeepsLawful volume W (DoesSweepStep volume step)
+  sweep_step_lawful (Pulling by to) W = pulls_lawful by to W
+  sweep_step_lawful (Collecting by) W = collects_lawful by W
+
+  sweeps_lawful : (steps : List SweepStep) (swept : Swept) (W : ModelWorld)
+      → KeepsLawful volume W (Sweeps volume steps swept)
+  sweeps_lawful [] swept W = by_rule_lawful _ W
+  sweeps_lawful (step ∷ steps) swept W =
+      first_lawful _ _ W (sweep_step_lawful step W) (λ given. sweeps_lawful steps (with_answer swept given))
+
   -- what a command does leaves a lawful history lawful
   does_lawful : (command : Command) (W : ModelWorld) → KeepsLawful volume W (Does volume command)
   does_lawful (command.Change by change) W =
@@ -156,22 +178,20 @@ module _ (volume : Volume) where
       saves_lawful _ _ _ W (record { member = member; left = may.left; bytes = may.bytes; allowed = may.allowed })
       result left lawful))
   does_lawful (command.Look by look) W = member_first by _ W (λ here member. by_rule_lawful _ W)
-  does_lawful (command.Collect by) W =
-      member_first by _ W
-      (λ here member. rule_first _ _ W (λ counted is. saves_lawful _ _ _ W member))
+  does_lawful (command.Collect by) W = collects_lawful by W
   does_lawful (command.Ask by to) W =
       first_lawful _ _ W (asks_lawful by to W) (λ number V. by_rule_lawful _ V)
   does_lawful (command.Give number) W = gives_mail_lawful number W
-  does_lawful (command.Pull by to) W =
-      first_lawful _ _ W (at_peers_lawful by to W)
-      (λ peers V. first_lawful _ _ V (asks_lawful by to V)
-      (λ number U. first_lawful _ _ U (gives_mail_lawful number U) gives_next_lawful))
+  does_lawful (command.Pull by to) W = pulls_lawful by to W
   does_lawful (command.Alike by other) W =
       first_lawful _ _ W (at_peers_lawful by other W) (λ peers V. by_rule_lawful _ V)
   does_lawful (command.Restart by) W = rule_first _ _ W (λ wanted member. opens_lawful by W member.0)
   does_lawful (command.Stop by calls pick) W =
       member_first by _ W
       (λ here member. rule_first _ _ W (λ wanted fused. arms_lawful by calls pick W))
+  does_lawful (command.Sweep order) W =
+      first_lawful _ _ W (sweeps_lawful (sweep_steps order volume.members) none_swept W)
+      (λ swept V. by_rule_lawful _ V)
 
   nothing_lawful : (W : ModelWorld) → CutLawful volume W NothingDone
   nothing_lawful W left lawful same =
@@ -186,13 +206,27 @@ module _ (volume : Volume) where
       (InRest {a = a} {middle = m} {left = l} is next) =
       behind_keeps a m.after l (keeps (Ok a) m lawful is) next
 
-  -- and so does what it has done where memory is refused
-  pub part_lawful : (command : Command) (W : ModelWorld) (left : Effect ModelWorld) → IsLawful volume W.events
-      → DoesPart volume command W left → IsLawful volume left.after.events
-  part_lawful (command.Pull by to) W =
+  pulls_part_lawful : (by to : ℕ) (W : ModelWorld) → CutLawful volume W (PullsPart volume by to)
+  pulls_part_lawful by to W =
       cut_lawful _ _ _ W (at_peers_lawful by to W) (nothing_lawful W)
       (λ peers V. cut_lawful _ _ _ V (asks_lawful by to V) (nothing_lawful V)
       (λ number U. cut_lawful _ _ _ U (gives_mail_lawful number U) (nothing_lawful U) (λ given. nothing_lawful)))
+
+  sweep_step_part_lawful : (step : SweepStep) (W : ModelWorld) → CutLawful volume W (DoesSweepPart volume step)
+  sweep_step_part_lawful (Pulling by to) W = pulls_part_lawful by to W
+  sweep_step_part_lawful (Collecting by) W = nothing_lawful W
+
+  sweeps_part_lawful : (steps : List SweepStep) (W : ModelWorld) → CutLawful volume W (SweepsPart volume steps)
+  sweeps_part_lawful [] W = nothing_lawful W
+  sweeps_part_lawful (step ∷ steps) W =
+      cut_lawful _ _ _ W (sweep_step_lawful step W) (sweep_step_part_lawful step W)
+      (λ given. sweeps_part_lawful steps)
+
+  -- and so does what it has done where memory is refused
+  pub part_lawful : (command : Command) (W : ModelWorld) (left : Effect ModelWorld) → IsLawful volume W.events
+      → DoesPart volume command W left → IsLawful volume left.after.events
+  part_lawful (command.Pull by to) W = pulls_part_lawful by to W
+  part_lawful (command.Sweep order) W = sweeps_part_lawful (sweep_steps order volume.members) W
   part_lawful other W = nothing_lawful W
 
 pub step_lawful : {volume : Volume} {old new : ModelWorld} {command : Command} {outcomes : List Outcome}

@@ -10,3 +10,4 @@ pub mod Exchange
 pub mod Run
 pub mod Start
 pub mod Fuses
+pub mod Sweep

@@ -10,31 +10,36 @@ use Rattle.ficus_script.specs.declared.answer.Answer.{Answer}
 use Rattle.ficus_script.specs.declared.answer.Answer.TheVariants.{Done, Mail}
 use Rattle.ficus_rules.specs.Change.{MayWantMemory}
 use Rattle.ficus_rules.specs.View.{history_view}
-use Rattle.ficus_runs.specs.Actions.{ModelAction, AtMember, Decides, Updates, Sees, GivesOnly, Counts, Collects, AtPeers, Compares, Wants, Opens, Arms}
+use Rattle.ficus_runs.specs.Actions.{ModelAction, AtMember, Decides, Updates, Sees, GivesOnly, AtPeers, Compares, Wants, Opens, Arms}
 use Rattle.ficus_runs.specs.Answers.{answer_as}
-use Rattle.ficus_runs.specs.Exchange.{Asks, GivesMail, GivesNext}
+use Rattle.ficus_runs.specs.Exchange.{Asks, GivesMail}
 use Rattle.ficus_runs.specs.ModelWorld.{ModelWorld, IsUp, IsFused}
 use Rattle.ficus_runs.specs.Outcome.{Outcome, AllDone}
 use Rattle.ficus_runs.specs.Peers.{ArePeers}
-use Rattle.ficus_runs.specs.Sequence.{Cut, CutFirst, Effect, First, NothingDone}
+use Rattle.ficus_runs.specs.Sequence.{Cut, Effect, First, NothingDone}
+use Rattle.ficus_runs.specs.Sweep.{CollectsAt, PullsFrom, PullsPart, Sweeps, SweepsPart, none_swept, sweep_steps, swept_answer}
 
 -- what each command does, action by action
 abbrev pub Does : Volume → Command → ModelAction Answer
 Does volume (command.Change by change) =
     First (AtMember volume by) (λ member. First (Decides volume by change) (Updates by))
 Does volume (command.Look by look) = First (AtMember volume by) (λ member. Sees volume by look)
-Does volume (command.Collect by) =
-    First (AtMember volume by) (λ member. First (Counts volume by) (Collects by))
+Does volume (command.Collect by) = CollectsAt volume by
 Does volume (command.Ask by to) = First (Asks volume by to) (λ number. GivesOnly (Mail number))
 Does volume (command.Give number) = GivesMail volume number
-Does volume (command.Pull by to) =
-    First (AtPeers volume by to)
-    (λ peers. First (Asks volume by to) (λ number. First (GivesMail volume number) (GivesNext volume)))
+Does volume (command.Pull by to) = PullsFrom volume by to
 Does volume (command.Alike by other) = First (AtPeers volume by other) (λ peers. Compares volume by other)
 Does volume (command.Restart by) =
     First (Wants (λ W. IsMember volume.members by) refusal.Member) (λ member. Opens volume by)
 Does volume (command.Stop by calls pick) =
     First (AtMember volume by) (λ member. First (Wants (IsFused by) refusal.NoFuse) (λ fused. Arms by calls pick))
+Does volume (command.Sweep order) =
+    First (Sweeps volume (sweep_steps order volume.members) none_swept) (λ swept. GivesOnly (swept_answer swept))
+
+-- the command is one step of a world; a sweep is several
+abbrev pub IsStep : Command → Type 0
+IsStep (command.Sweep order) = ⊥
+IsStep other = Unit {0}
 
 -- nothing refuses the command, where all that it asks of the outside is done
 abbrev pub IsUnrefused : Volume → ModelWorld → Command → Type 0
@@ -48,7 +53,8 @@ AreUpPeers volume W by other = ArePeers volume.members by other × IsUp by W × 
 
 -- Where the command may end for want of memory: where nothing refuses it; and, for a change by a member, where the
 -- member has to take memory before that is known. A message between members is spelled before there is known to be room
--- for it, and is fetched before it is known what it says. Disks are read before it is known what they hold.
+-- for it, and is fetched before it is known what it says. Disks are read before it is known what they hold. The steps of
+-- a sweep are laid out before any is taken.
 abbrev pub CommandMayWantMemory : Volume → ModelWorld → Command → Type 0
 CommandMayWantMemory volume W (command.Change by change) =
     IsMember volume.members by × IsUp by W × MayWantMemory (history_view volume W.events by) change
@@ -60,13 +66,13 @@ CommandMayWantMemory volume W (command.Pull by to) = AreUpPeers volume W by to
 CommandMayWantMemory volume W (command.Alike by other) = IsUnrefused volume W (command.Alike by other)
 CommandMayWantMemory volume W (command.Restart by) = IsMember volume.members by
 CommandMayWantMemory volume W (command.Stop by calls pick) = ⊥
+CommandMayWantMemory volume W (command.Sweep order) = Unit {0}
 
--- What each command has done where memory is refused on the way: nothing; but a pull keeps its ask, and its first give.
+-- What each command has done where memory is refused on the way: nothing; but a pull keeps its ask, and its first give,
+-- and a sweep the steps before the one in which it is, and what that one has done.
 abbrev pub DoesPart : Volume → Command → Cut ModelWorld
-DoesPart volume (command.Pull by to) =
-    CutFirst (AtPeers volume by to) NothingDone
-    (λ peers. CutFirst (Asks volume by to) NothingDone
-    (λ number. CutFirst (GivesMail volume number) NothingDone (λ given. NothingDone)))
+DoesPart volume (command.Pull by to) = PullsPart volume by to
+DoesPart volume (command.Sweep order) = SweepsPart volume (sweep_steps order volume.members)
 DoesPart volume other = NothingDone
 
 -- one command: what became of all that it asked of the outside, its answer, and the world after it

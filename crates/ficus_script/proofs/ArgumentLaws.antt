@@ -1,5 +1,5 @@
 -- No two arguments are spelled by the same words.
-use Rattle.std.proofs.Common.{◌≡◌, ◌≢◌, ◌⊎◌, ℕ, ◌<◌, ◌^◌, List, [], ◌∷◌, ◌++◌, get_or, Option, None, Some, refl, inl, inr, sym, ◌∙◌, ap, subst, arith, if◌then◌else◌, ◌==◌}
+use Rattle.std.proofs.Common.{◌≡◌, ◌≢◌, ◌⊎◌, ℕ, ◌<◌, ◌≤◌, ◌^◌, List, [], ◌∷◌, ◌++◌, get_or, true, Option, None, Some, refl, inl, inr, sym, ◌∙◌, ap, subst, arith, if◌then◌else◌, ◌==◌}
 use Rattle.std.specs.Fmt.{decimal}
 use Rattle.std.specs.List.{join_with_byte}
 use Rattle.std.proofs.lemmas.Bool.{ne_eqb}
@@ -17,13 +17,18 @@ use Rattle.ficus_path.specs.Path.{IsPath}
 use Rattle.ficus_path.specs.Spelling.{path_text}
 use Rattle.ficus_path.specs.Text.{SpellsText, quoted_text}
 use Rattle.ficus_script.specs.Arguments.{Arguments}
-use Rattle.ficus_script.specs.Arguments.{Nothing, OnePath, PathAndKind, PathAndText, TwoPaths, OneNumber, TwoReplicas, Arming}
+use Rattle.ficus_script.specs.Order.{order_word}
+use Rattle.ficus_script.specs.declared.order.Order.{Order}
+use Rattle.ficus_script.specs.declared.order.Order.TheVariants.{Star, Ring}
+use Rattle.ficus_script.specs.Arguments.{Nothing, OnePath, PathAndKind, PathAndText, TwoPaths, OneNumber, OneOrder, TwoReplicas, Arming}
 use Rattle.ficus_script.specs.Arguments.{AreArguments, IsReplicaNumber, Begins, IsReadingBehind, IsReadingWords, BeginsPath, BeginsText, argument_words, left_of}
 use Rattle.ficus_script.proofs.Cuts.{join_first, one_first_word, spaced}
+use Rattle.ficus_script.proofs.Letters.{are_letters, letters_free}
 use Rattle.ficus_script.proofs.Numbers.{IsFreeOf-number, IsFreeOf-replica, same_number, same_replica, first_digit}
 
 -- The shapes have numbers, and the first word and what is left behind it tell the shape. The two with a number behind
--- that of a replica share theirs: they differ in a space that stands further behind.
+-- that of a replica share theirs: they differ in a space that stands further behind. So do a number and the order of a
+-- sweep: they differ in the first byte.
 abbrev shape_of : Arguments → ℕ
 shape_of Nothing = 0
 shape_of (OnePath path) = 1
@@ -33,6 +38,7 @@ shape_of (PathAndText path text) = 3
 shape_of (PathAndKind path kind) = 4
 shape_of (TwoPaths one two) = 5
 shape_of (OneNumber number) = 6
+shape_of (OneOrder order) = 6
 
 abbrev last_shape_at : ℕ → ℕ
 last_shape_at byte = if byte == 34 then 3 else if byte == 47 then 5 else if byte == 126 then 5 else 4
@@ -72,6 +78,17 @@ no_replica_begins : (first : List ℕ) (replica : ℕ) → IsReplicaNumber repli
     BeginsPath first → ⊥
 no_replica_begins first replica number same =
     no_path_begins first replica (omega (arith, number.at_most)) same
+
+-- the order of a sweep begins with a letter
+order_letter : (order : Order) → (114 ≤ get_or (order_word order) 0 0) × (get_or (order_word order) 0 0 ≤ 115)
+order_letter Star = (omega arith, omega arith)
+order_letter Ring = (omega arith, omega arith)
+
+no_order_begins : (first : List ℕ) (order : Order) → first ≡ order_word order → BeginsPath first → ⊥
+no_order_begins first order same (inl slash) =
+    omega (arith, slash, ap (λ (word : List ℕ). get_or word 0 0) same, order_letter order)
+no_order_begins first order same (inr tilde) =
+    omega (arith, tilde, ap (λ (word : List ℕ). get_or word 0 0) same, order_letter order)
 
 path_shape : (first : List ℕ) (rest : Option (List ℕ)) → BeginsPath first → shape_at first rest ≡ behind_path rest
 path_shape first rest (inl slash) = ap (λ (byte : ℕ). first_shape_at byte rest) slash
@@ -128,6 +145,8 @@ shape_is (TwoPaths one other) first rest are words =
     ∙ second_path_shape (path_text other) (path_begins other)
 shape_is (OneNumber number) first rest are words =
     number_shape first rest (no_path_begins first number are words.0) ∙ ap behind_number words.1
+shape_is (OneOrder order) first rest are words =
+    number_shape first rest (no_order_begins first order words.0) ∙ ap behind_number words.1
 shape_is (TwoReplicas one other) first rest are words =
     number_shape first rest (no_replica_begins first one are.0 words.0) ∙ ap behind_number words.1
 shape_is (Arming by calls pick) first rest are words =
@@ -148,6 +167,28 @@ kind_found Keep = refl
 
 kind_word_injective : (kind other : Kind) → kind_word kind ≡ kind_word other → kind ≡ other
 kind_word_injective kind other same = sym (kind_found kind) ∙ ap kind_at same ∙ kind_found other
+
+-- the first letter of its word tells the order
+abbrev order_at : List ℕ → Order
+order_at word = if get_or word 0 0 == 115 then Star else Ring
+
+order_found : (order : Order) → order_at (order_word order) ≡ order
+order_found Star = refl
+order_found Ring = refl
+
+order_word_injective : (order other : Order) → order_word order ≡ order_word other → order ≡ other
+order_word_injective order other same = sym (order_found order) ∙ ap order_at same ∙ order_found other
+
+-- the order of a sweep is no number
+no_number : (word : List ℕ) (order : Order) (number : ℕ) → number < 2 ^ 32 → word ≡ order_word order →
+    word ≡ decimal number → ⊥
+no_number word order number fits is also =
+    omega (
+      arith,
+      ap (λ (word : List ℕ). get_or word 0 0) (sym is ∙ also),
+      order_letter order,
+      first_digit number fits,
+    )
 
 -- the number of a replica is no number with a word behind it
 not_alone : (replica number : ℕ) (word : List ℕ) → IsReplicaNumber replica → number < 2 ^ 32 →
@@ -179,6 +220,12 @@ one_of_words (TwoPaths one two) (TwoPaths other another) first rest are also wor
     ∙ ap (λ (path : Path). TwoPaths other path) (path_text_injective two another are.1 also.1 (cc))
 one_of_words (OneNumber number) (OneNumber other) first rest are also words same =
     ap (λ (n : ℕ). OneNumber n) (same_number number other are also (sym words.0 ∙ same.0))
+one_of_words (OneOrder order) (OneOrder other) first rest are also words same =
+    ap (λ (o : Order). OneOrder o) (order_word_injective order other (sym words.0 ∙ same.0))
+one_of_words (OneNumber number) (OneOrder order) first rest are also words same =
+    absurd (no_number first order number are same.0 words.0)
+one_of_words (OneOrder order) (OneNumber number) first rest are also words same =
+    absurd (no_number first order number also words.0 same.0)
 one_of_words (TwoReplicas one two) (TwoReplicas other another) first rest are also words same =
     let seconds : Some (decimal two) ≡ Some (decimal another) = sym words.1 ∙ same.1 in
     ap (λ (n : ℕ). TwoReplicas n two) (same_replica one other are.0 also.0 (sym words.0 ∙ same.0))
@@ -209,6 +256,10 @@ IsFreeOf-path path is_path =
     let visible = path_text_visible path is_path in
     λ k d within same. omega (arith, visible k d within, same)
 
+order_letters : (order : Order) → are_letters (order_word order) ≡ true
+order_letters Star = refl
+order_letters Ring = refl
+
 -- no space stands in the first word
 first_free : (arguments : Arguments) (first : List ℕ) (rest : Option (List ℕ)) → AreArguments arguments →
     Begins first rest (argument_words arguments) → IsFreeOf 32 first
@@ -218,6 +269,7 @@ first_free (PathAndText path text) first rest are words = rw words.0 (IsFreeOf-p
 first_free (PathAndKind path kind) first rest are words = rw words.0 (IsFreeOf-path path are.0)
 first_free (TwoPaths one two) first rest are words = rw words.0 (IsFreeOf-path one are.0)
 first_free (OneNumber number) first rest are words = rw words.0 (IsFreeOf-number number are)
+first_free (OneOrder order) first rest are words = rw words.0 (letters_free (order_word order) (order_letters order))
 first_free (TwoReplicas one two) first rest are words = rw words.0 (IsFreeOf-replica one are.0)
 first_free (Arming by calls pick) first rest are words = rw words.0 (IsFreeOf-replica by are.0)
 
@@ -285,6 +337,7 @@ no_path first rest begins none = go
     go (PathAndKind path kind) are words = none path are.0 words.0
     go (TwoPaths one two) are words = none one are.0 words.0
     go (OneNumber number) are words = no_path_begins first number are words.0 begins
+    go (OneOrder order) are words = no_order_begins first order words.0 begins
     go (TwoReplicas one two) are words = no_replica_begins first one are.0 words.0 begins
     go (Arming by calls pick) are words = no_replica_begins first by are.0 words.0 begins
 
@@ -307,6 +360,7 @@ no_numbers first words second last no_path whole free no_replica no_pick = go
     go (PathAndKind path kind) are begins = led path begins.0
     go (TwoPaths one two) are begins = led one begins.0
     go (OneNumber number) are begins = let something : Some words ≡ None = begins.1 in cc
+    go (OneOrder order) are begins = let something : Some words ≡ None = begins.1 in cc
     go (TwoReplicas one two) are begins =
         let spelled : Some words ≡ Some (decimal two) = begins.1 in
         let cut = one_first_word second (decimal two) last None free (IsFreeOf-replica two are.1)

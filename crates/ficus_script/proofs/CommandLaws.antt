@@ -15,7 +15,7 @@ use Rattle.ficus_path.proofs.CutLaws.{IsFreeOf}
 use Rattle.ficus_commands.specs.declared.change.Change.TheVariants.{MkDir, Create, Write, Settle, Resolve, Rm, Ln, Mv, Adopt, Discard}
 use Rattle.ficus_commands.specs.declared.look.Look.TheVariants.{Ls, Read, Versions, Tree, Conflicts, Orphans, Detached, Marks}
 use Rattle.ficus_script.specs.Arguments.{Arguments}
-use Rattle.ficus_script.specs.Arguments.{Nothing, OnePath, PathAndKind, PathAndText, TwoPaths, OneNumber, TwoReplicas, Arming}
+use Rattle.ficus_script.specs.Arguments.{Nothing, OnePath, PathAndKind, PathAndText, TwoPaths, OneNumber, OneOrder, TwoReplicas, Arming}
 use Rattle.ficus_script.specs.declared.command.Command.{Command}
 use Rattle.ficus_script.specs.declared.command.Command.TheVariants as command
 use Rattle.ficus_script.specs.declared.line.LineFault.{LineFault}
@@ -29,6 +29,7 @@ use Rattle.ficus_script.specs.Command.{IsCommand, IsCommandOf, IsSpelled, Spelli
 use Rattle.ficus_script.specs.Line.{IsReadingAt, IsReadingOf, led_by}
 use Rattle.ficus_script.proofs.ArgumentLaws.{one_arguments}
 use Rattle.ficus_script.proofs.Cuts.{IsCut, join_first, one_cut, one_first_word, spaced}
+use Rattle.ficus_script.proofs.Letters.{are_letters, letters_free}
 use Rattle.ficus_script.proofs.Numbers.{IsFreeOf-replica, first_digit_of_replica}
 
 -- the orphan at which a path begins, and any number at the root
@@ -64,7 +65,9 @@ commands_with text (Some by) (TwoPaths from path) =
 commands_with text None (OneNumber number) = command.Give number ∷ command.Restart number ∷ []
 commands_with text None (TwoReplicas by to) = command.Ask by to ∷ command.Pull by to ∷ command.Alike by to ∷ []
 commands_with text None (Arming by calls pick) = command.Stop by calls pick ∷ []
+commands_with text None (OneOrder order) = command.Sweep order ∷ []
 commands_with text (Some by) (OneNumber number) = []
+commands_with text (Some by) (OneOrder order) = []
 commands_with text (Some by) (TwoReplicas first second) = []
 commands_with text (Some by) (Arming replica calls pick) = []
 commands_with text None Nothing = []
@@ -85,11 +88,6 @@ with_verb verb (command ∷ commands) = if bytes_eq (verb_of command) verb then 
 -- the command that the table has for the spelling, with this text where it has one
 abbrev at_spelling : List ℕ → Spelling → Option Command
 at_spelling text spelling = with_verb spelling.verb (commands_with text spelling.by spelling.behind)
-
--- no byte stands before the letters
-abbrev are_letters : List ℕ → Bool
-are_letters [] = true
-are_letters (byte ∷ bytes) = if nat_le 97 byte then are_letters bytes else false
 
 -- The command's verb is of letters, its text is spelled behind it, and its spelling leads back to the command.
 record IsListed (command : Command) : Type 0 where
@@ -124,6 +122,7 @@ listed (command.Pull by to) = record { letters = refl; text = refl; found = refl
 listed (command.Alike by other) = record { letters = refl; text = refl; found = refl }
 listed (command.Restart by) = record { letters = refl; text = refl; found = refl }
 listed (command.Stop by calls pick) = record { letters = refl; text = refl; found = refl }
+listed (command.Sweep order) = record { letters = refl; text = refl; found = refl }
 
 -- the table has one command for a spelling
 one_command : (command other : Command) → spelling_of command ≡ spelling_of other → command ≡ other
@@ -168,15 +167,6 @@ no_adopt by from path none =
     let is : at_orphan (orphan_of from.base) ≡ from = cc in
     none (orphan_of from.base) (sym is))
 
--- no space stands among letters
-letters_free : (bytes : List ℕ) → are_letters bytes ≡ true → AllByRecursion (λ byte. byte ≢ 32) bytes
-letters_free [] letters = tt
-letters_free (byte ∷ bytes) letters =
-    elim (leb_tells 97 byte) [
-      | inl letter ↦ (omega (arith, letter.1), letters_free bytes (rw letter.0 at letters))
-      | inr other ↦ let clash : false ≡ true = rw other.0 at letters in cc
-    ]
-
 -- letters spell no number of a replica
 no_number : (verb : List ℕ) (replica : ℕ) → are_letters verb ≡ true → IsReplicaNumber replica → verb ≡ decimal replica →
     ⊥
@@ -209,8 +199,7 @@ IsCut-command : (command : Command) → IsCommand command →
 IsCut-command command valid =
     let spelling : Spelling = spelling_of command in
     let letters = (listed command).letters in
-    let free : IsFreeOf 32 spelling.verb =
-    All-from_recursion (λ byte. byte ≢ 32) spelling.verb (letters_free spelling.verb letters) in
+    let free : IsFreeOf 32 spelling.verb = letters_free spelling.verb letters in
     let words : List (List ℕ) = argument_words spelling.behind in
     let whole = led_words spelling.by spelling.verb words in
     record {

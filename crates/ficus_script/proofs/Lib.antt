@@ -1,6 +1,7 @@
 pub mod ArgumentLaws
 pub mod CommandLaws
 pub mod Cuts
+pub mod Letters
 pub mod Numbers
 pub mod ScriptLaws
 pub mod Scripts

@@ -125,6 +125,11 @@ alike_text_of alike = codes "ok " ++ (if alike then codes "alike" else codes "ap
 abbrev pub collected_text_of : ℕ → ℕ → List ℕ
 collected_text_of entries files = codes "collected " ++ decimal entries ++ 32 ∷ decimal files ++ 10 ∷ []
 
+-- how many pulls there were, and how many removed entries and how many files and directories were given up in all
+abbrev pub swept_text_of : ℕ → ℕ → ℕ → List ℕ
+swept_text_of pulls entries files =
+    codes "swept " ++ decimal pulls ++ 32 ∷ decimal entries ++ 32 ∷ decimal files ++ 10 ∷ []
+
 -- the text of each answer
 abbrev pub answer_text_of : Answer → List ℕ
 answer_text_of answer.Done = codes "ok" ++ 10 ∷ []
@@ -133,4 +138,5 @@ answer_text_of (answer.Mail number) = codes "ok " ++ decimal number ++ 10 ∷ []
 answer_text_of (answer.Collected entries files) = collected_text_of entries files
 answer_text_of (answer.Told told) = told_text_of told
 answer_text_of (answer.Alike alike) = alike_text_of alike
+answer_text_of (answer.Swept pulls entries files) = swept_text_of pulls entries files
 answer_text_of (answer.Refused refusal) = codes "no " ++ refusal_word refusal ++ 10 ∷ []

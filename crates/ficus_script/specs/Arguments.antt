@@ -13,6 +13,8 @@ use Rattle.ficus_path.specs.Text.{SpellsText}
 use Rattle.ficus_script.specs.declared.arguments.Shape.{Shape}
 use Rattle.ficus_script.specs.declared.arguments.Shape.TheVariants as shape
 use Rattle.ficus_script.specs.declared.line_paths.LinePaths.{LinePaths}
+use Rattle.ficus_script.specs.declared.order.Order.{Order}
+use Rattle.ficus_script.specs.Order.{order_word}
 
 -- what stands behind a verb; a text as it is spelled
 pub data Arguments : Type 0 where
@@ -22,6 +24,7 @@ pub data Arguments : Type 0 where
   PathAndText : (path : Path) → (text : List ℕ) → Arguments
   TwoPaths : (first : Path) → (second : Path) → Arguments
   OneNumber : (number : ℕ) → Arguments
+  OneOrder : (order : Order) → Arguments
   TwoReplicas : (first : ℕ) → (second : ℕ) → Arguments
   Arming : (by : ℕ) → (calls : ℕ) → (pick : ℕ) → Arguments
 
@@ -33,6 +36,7 @@ arguments_of paths (shape.PathAndKind kind) = PathAndKind paths.first kind
 arguments_of paths (shape.PathAndText text) = PathAndText paths.first text
 arguments_of paths shape.TwoPaths = TwoPaths paths.first paths.second
 arguments_of paths (shape.OneNumber number) = OneNumber number
+arguments_of paths (shape.OneOrder order) = OneOrder order
 arguments_of paths (shape.TwoReplicas first second) = TwoReplicas first second
 arguments_of paths (shape.Arming by calls pick) = Arming by calls pick
 
@@ -50,6 +54,7 @@ AreArguments (PathAndKind path kind) = IsPath path × (kind ≢ Dir)
 AreArguments (PathAndText path text) = IsPath path × SpellsText text
 AreArguments (TwoPaths first second) = IsPath first × IsPath second
 AreArguments (OneNumber number) = number < 2 ^ 32
+AreArguments (OneOrder order) = Unit {0}
 AreArguments (TwoReplicas first second) = IsReplicaNumber first × IsReplicaNumber second
 AreArguments (Arming by calls pick) = IsReplicaNumber by × (calls < 2 ^ 32) × (pick < 4)
 
@@ -61,6 +66,7 @@ argument_words (PathAndKind path kind) = path_text path ∷ kind_word kind ∷ [
 argument_words (PathAndText path text) = path_text path ∷ text ∷ []
 argument_words (TwoPaths first second) = path_text first ∷ path_text second ∷ []
 argument_words (OneNumber number) = decimal number ∷ []
+argument_words (OneOrder order) = order_word order ∷ []
 argument_words (TwoReplicas first second) = decimal first ∷ decimal second ∷ []
 argument_words (Arming by calls pick) = decimal by ∷ decimal calls ∷ decimal pick ∷ []
 

@@ -8,7 +8,7 @@ use Rattle.ficus_commands.specs.Change.{HasFitPaths}
 use Rattle.ficus_commands.specs.declared.change.Change.TheVariants.{MkDir, Create, Write, Settle, Resolve, Rm, Ln, Mv, Adopt, Discard}
 use Rattle.ficus_commands.specs.declared.look.Look.TheVariants.{Ls, Read, Versions, Tree, Conflicts, Orphans, Detached, Marks}
 use Rattle.ficus_script.specs.Arguments.{Arguments}
-use Rattle.ficus_script.specs.Arguments.{Nothing, OnePath, PathAndKind, PathAndText, TwoPaths, OneNumber, TwoReplicas, Arming}
+use Rattle.ficus_script.specs.Arguments.{Nothing, OnePath, PathAndKind, PathAndText, TwoPaths, OneNumber, OneOrder, TwoReplicas, Arming}
 use Rattle.ficus_script.specs.declared.command.Command.{Command}
 use Rattle.ficus_script.specs.declared.command.Command.TheVariants as command
 use Rattle.ficus_script.specs.Arguments.{AreArguments, IsReplicaNumber, argument_words}
@@ -55,6 +55,7 @@ spelling_of (command.Pull by to) = of_none (codes "pull") (TwoReplicas by to)
 spelling_of (command.Alike by other) = of_none (codes "alike") (TwoReplicas by other)
 spelling_of (command.Restart by) = of_none (codes "restart") (OneNumber by)
 spelling_of (command.Stop by calls pick) = of_none (codes "stop") (Arming by calls pick)
+spelling_of (command.Sweep order) = of_none (codes "sweep") (OneOrder order)
 
 -- the arguments are of the sort that the command takes: a change takes paths of its own sort, and a restart the number
 -- of a replica; others may be any
@@ -68,6 +69,7 @@ TakesArguments (command.Pull by to) = Unit {0}
 TakesArguments (command.Alike by other) = Unit {0}
 TakesArguments (command.Restart by) = IsReplicaNumber by
 TakesArguments (command.Stop by calls pick) = Unit {0}
+TakesArguments (command.Sweep order) = Unit {0}
 
 -- the number that leads is that of a replica, the arguments are such, and of the sort that the command takes
 pub record IsCommand (command : Command) : Type 0 where

@@ -17,6 +17,9 @@ pub enum Answer {
     Told(Told),
     /// Whether two replicas show the same.
     Alike(bool),
+    /// It was done: so many pulls, and collections that gave up so many removed entries and so many files and
+    /// directories in all.
+    Swept { pulls: u32, entries: u32, files: u32 },
     /// It was refused.
     Refused(Refusal),
 }

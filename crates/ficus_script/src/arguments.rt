@@ -1,4 +1,4 @@
-ghost use Rattle.std.specs.Prelude.{◌≡◌, ◌≢◌, ◌↔◌, IsTrue, Some, IfSome, IfNone, option_map};
+ghost use Rattle.std.specs.Prelude.{◌≡◌, ◌≢◌, ◌↔◌, IsTrue, None, Some, IfSome, IfNone, option_map};
 ghost use Rattle.ficus_ids.specs.Kind.{kind_word};
 ghost use Rattle.ficus_ids.specs.declared.kind.Kind.{Kind};
 ghost use Rattle.ficus_ids.specs.declared.kind.Kind.TheVariants.{Dir};
@@ -7,8 +7,10 @@ ghost use Rattle.ficus_path.specs.Spelling.{path_text};
 ghost use Rattle.ficus_script.specs.Arguments.{arguments_of, bytes_of, BeginsPath, BeginsText, IsReadingBehind, IsReadingWords};
 ghost use Rattle.ficus_script.specs.declared.line_paths.LinePaths.{LinePaths};
 
+use crate::Order;
 use crate::cut::cut_at;
 use crate::line_paths::LinePaths;
+use crate::order::read_order;
 use crate::pick::read_pick;
 use crate::replica::read_replica;
 use ficus_ids::{Kind, read_number};
@@ -29,6 +31,8 @@ pub(crate) enum Shape<'a> {
     TwoPaths,
     /// One number, that of a message or of a replica.
     OneNumber(u32),
+    /// The order of a sweep.
+    OneOrder(Order),
     /// The numbers of two replicas.
     TwoReplicas(u8, u8),
     /// The number of a replica, a number of calls, and a pick.
@@ -110,15 +114,26 @@ fn read_kind(word: &[u8]) -> Option<Kind>
     }
 }
 
-// The shapes whose first word is a number.
+// The shapes whose first word is a number, or the order of a sweep.
 fn number_first<'a>(first: &[u8], rest: Option<&[u8]>) -> Option<Shape<'a>>
     requires { BeginsPath first.now → ⊥ }
     ensures { (paths : LinePaths) →
         IsReadingWords first.now (bytes_of rest.entry) (option_map (arguments_of paths) result) }
 {
     match rest {
-        None => Some(Shape::OneNumber(read_number(first)?)),
+        None => one_word(first),
         Some(words) => replica_first(first, words),
+    }
+}
+
+// The shapes of one word that is no path.
+fn one_word<'a>(word: &[u8]) -> Option<Shape<'a>>
+    requires { BeginsPath word.now → ⊥ }
+    ensures { (paths : LinePaths) → IsReadingWords word.now None (option_map (arguments_of paths) result) }
+{
+    match read_order(word) {
+        Some(order) => Some(Shape::OneOrder(order)),
+        None => Some(Shape::OneNumber(read_number(word)?)),
     }
 }
 

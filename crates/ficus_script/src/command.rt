@@ -1,3 +1,4 @@
+use crate::Order;
 use ficus_commands::{Change, Look};
 
 /// What a line of a script asks for. The numbers of replicas are from 1 to 255; a world refuses those of no
@@ -26,4 +27,6 @@ pub enum Command {
     /// `stop R K PICK`: the disks of replica `by` stop after `calls` more calls that write or sync; `pick`, from 0 to
     /// 3, says which of the images that a crash may then leave is found by the next restart.
     Stop { by: u8, calls: u32, pick: u8 },
+    /// `sweep star`, `sweep ring`: the pulls of the order, and then a collection by each replica, up to the first refusal.
+    Sweep { order: Order },
 }

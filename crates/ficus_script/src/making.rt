@@ -15,7 +15,7 @@ use crate::line::LineFault;
 use crate::line_paths::LinePaths;
 use crate::verbs::{
     KindVerb, PathVerb, PathsVerb, TextVerb, kind_verb, path_verb, paths_verb, text_verb,
-    with_arming, with_nothing, with_number, with_replicas,
+    with_arming, with_nothing, with_number, with_order, with_replicas,
 };
 use ficus_commands::{Change, Look};
 use ficus_ids::{Kind, Listed, Memory};
@@ -41,6 +41,7 @@ pub(crate) fn command_of(
         (Some(by), Shape::PathAndText(text)) => with_text(alloc, by, verb, &paths.first, text),
         (Some(by), Shape::TwoPaths) => with_paths(alloc, by, verb, &paths.first, &paths.second),
         (None, Shape::OneNumber(number)) => with_number(verb, *number).ok_or(LineFault::NotCommand),
+        (None, Shape::OneOrder(order)) => with_order(verb, *order).ok_or(LineFault::NotCommand),
         (None, Shape::TwoReplicas(first, second)) => {
             with_replicas(verb, *first, *second).ok_or(LineFault::NotCommand)
         }

@@ -7,9 +7,9 @@ ghost use Rattle.ficus_path.specs.Text.{quoted_text};
 ghost use Rattle.ficus_script.specs.Arguments.{AreArguments, IsReplicaNumber, arguments_of};
 ghost use Rattle.ficus_script.specs.Command.{IsCommandOf, IsSpelled, Spelling, of_none, of_replica};
 ghost use Rattle.ficus_script.specs.Verb.{kind_command, path_command, paths_command, text_command};
-ghost use Rattle.ficus_script.specs.Arguments.{Nothing, OnePath, PathAndKind, PathAndText, TwoPaths, OneNumber, TwoReplicas, Arming};
+ghost use Rattle.ficus_script.specs.Arguments.{Nothing, OnePath, PathAndKind, PathAndText, TwoPaths, OneNumber, OneOrder, TwoReplicas, Arming};
 
-use crate::Command;
+use crate::{Command, Order};
 use crate::arguments::Shape;
 use crate::line_paths::LinePaths;
 use crate::replica::is_replica;
@@ -64,6 +64,7 @@ pub(crate) fn is_command_of(by: Option<u8>, verb: &[u8], paths: &LinePaths, behi
         (Some(_), Shape::PathAndText(_)) => text_verb(verb).is_some(),
         (Some(_), Shape::TwoPaths) => paths_verb(verb, &paths.first, &paths.second).is_some(),
         (None, Shape::OneNumber(number)) => is_one(with_number(verb, *number)),
+        (None, Shape::OneOrder(order)) => is_one(with_order(verb, *order)),
         (None, Shape::TwoReplicas(first, second)) => is_one(with_replicas(verb, *first, *second)),
         (None, Shape::Arming(by, calls, pick)) => is_one(with_arming(verb, *by, *calls, *pick)),
         _ => false,
@@ -200,6 +201,16 @@ pub(crate) fn with_number(verb: &[u8], number: u32) -> Option<Command>
         _ if verb == b"restart".as_slice() && is_replica(number) => Some(Command::Restart {
             by: number as u8,
         }),
+        _ => None,
+    }
+}
+
+/// The command that the verb makes of the order of a sweep behind it.
+pub(crate) fn with_order(verb: &[u8], order: Order) -> Option<Command>
+    ensures { IsCommandOf (of_none verb.now (OneOrder order)) result }
+{
+    match verb {
+        _ if verb == b"sweep".as_slice() => Some(Command::Sweep { order }),
         _ => None,
     }
 }

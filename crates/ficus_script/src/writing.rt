@@ -1,7 +1,7 @@
 ghost use Rattle.std.specs.Prelude.{◌≡◌, [], ◌∷◌, ◌++◌, codes, IfOk, OnOk};
 ghost use Rattle.ficus_path.specs.Text.{quoted_text};
 ghost use Rattle.ficus_script.specs.Answer.{answer_text_of, told_text_of, count_line, counted_lines, mark_line, name_line, tree_line};
-ghost use Rattle.ficus_script.specs.Answer.{alike_text_of, clashes_text_of, collected_text_of, id_line, orphan_line, vector_text, version_line};
+ghost use Rattle.ficus_script.specs.Answer.{alike_text_of, clashes_text_of, collected_text_of, id_line, orphan_line, swept_text_of, vector_text, version_line};
 
 use crate::Answer;
 use crate::conflicts::{append_clash_lines, append_file_lines, append_orphan_line};
@@ -26,6 +26,11 @@ pub fn answer_text(alloc: Global, answer: &Answer) -> Result<Vec<u8>, Memory>
         Answer::Collected { entries, files } => collected_text(alloc, *entries, *files),
         Answer::Told(told) => told_text(alloc, told),
         Answer::Alike(alike) => alike_text(alloc, *alike),
+        Answer::Swept {
+            pulls,
+            entries,
+            files,
+        } => swept_text(alloc, *pulls, *entries, *files),
         Answer::Refused(refusal) => {
             let word = refusal.word();
             Ok(format!(in alloc; "no {word}\n")?.into_bytes())
@@ -48,6 +53,12 @@ fn alike_text(alloc: Global, alike: bool) -> Result<Vec<u8>, Memory>
         b"ok apart\n".as_slice()
     };
     Ok(Vec::from_slice(alloc, text)?)
+}
+
+fn swept_text(alloc: Global, pulls: u32, entries: u32, files: u32) -> Result<Vec<u8>, Memory>
+    ensures { IfOk result (λ text. text.items ≡ swept_text_of pulls entries files) }
+{
+    Ok(format!(in alloc; "swept {pulls} {entries} {files}\n")?.into_bytes())
 }
 
 fn told_text(alloc: Global, told: &Told) -> Result<Vec<u8>, Memory>

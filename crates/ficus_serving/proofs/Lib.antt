@@ -1,4 +1,5 @@
 pub mod Faults
 pub mod Places
 pub mod Serves
+pub mod Sweeping
 pub mod Tallying

@@ -1,3 +1,4 @@
 pub mod Puts
 pub mod Serving
+pub mod Sweeping
 pub mod Tally

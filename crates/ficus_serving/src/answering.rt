@@ -7,11 +7,13 @@ ghost use Rattle.ficus_script.specs.Command.{IsCommand};
 ghost use Rattle.ficus_serving.specs.Puts.{PutsFront};
 ghost use Rattle.ficus_serving.specs.Serving.{serving_limit, ServesWorld, ServesWorldFront};
 ghost use Rattle.ficus_serving.specs.Serving.{script_limit};
+ghost use Rattle.ficus_sweep.specs.Follows.{most_swept, sweeping_limit};
 ghost use Rattle.ficus_world.specs.Disks.{AreDisksOf};
 ghost use Rattle.ficus_world.specs.Follows.{TellsFor};
 ghost use Rattle.ficus_world.specs.Kills.{OthersStay};
 ghost use Rattle.ficus_world.specs.World.{WorldStandsFor, event_limit, most_events};
 
+use crate::command::carry_out;
 use crate::fault::AnsweringFault;
 use crate::put::put_all;
 use ficus_disk::{Disk, Pair};
@@ -68,7 +70,7 @@ fn answer_one<K: Sink, D: Disk, P: Keep + KeepImages + Drop, L: Link + Drop>(
     output: &mut K,
 ) -> Result<(), AnsweringFault>
     requires command { IsCommand command.now }
-    requires room { length world.old.whole.events < event_limit }
+    requires room { length world.old.whole.events < sweeping_limit }
     requires pairs { length world.old.whole.members ≤ length disks.old.items }
     requires disks { AreDisksOf D.tells P.kept P.fits D.seen D.may_leave D.armings world.old.whole.members
         world.old.stables disks.old.items }
@@ -89,9 +91,9 @@ fn answer_one<K: Sink, D: Disk, P: Keep + KeepImages + Drop, L: Link + Drop>(
     ensures failed { IsErrOf result AnsweringFault.Sink → Rose (K.faults output.old) (K.faults output.new) }
     ensures told { K.faults output.old < K.faults output.new → IsErrOf result AnsweringFault.Sink }
     ensures counted { K.faults output.old ≤ K.faults output.new }
-    ensures grows { length world.new.whole.events ≤ length world.old.whole.events + most_events }
+    ensures grows { length world.new.whole.events ≤ length world.old.whole.events + most_swept }
 {
-    let answer = world.step(alloc, disks, command)?;
+    let answer = carry_out(alloc, world, disks, command)?;
     put_answer(alloc, &answer, output)
 }
 

@@ -3,6 +3,7 @@
 #![tactic(auto)]
 
 mod answering;
+mod command;
 mod fault;
 mod put;
 mod tally;

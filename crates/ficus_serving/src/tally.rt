@@ -4,10 +4,12 @@ ghost use Rattle.ficus_runs.specs.ModelWorld.{ModelWorld};
 ghost use Rattle.ficus_script.specs.Command.{IsCommand};
 ghost use Rattle.ficus_serving.specs.Serving.{script_limit, serving_limit};
 ghost use Rattle.ficus_serving.specs.Tally.{Tallies, with_answer};
+ghost use Rattle.ficus_sweep.specs.Follows.{most_swept, sweeping_limit};
 ghost use Rattle.ficus_world.specs.Disks.{AreDisksOf};
 ghost use Rattle.ficus_world.specs.Follows.{TellsFor};
-ghost use Rattle.ficus_world.specs.World.{WorldStandsFor, event_limit, most_events};
+ghost use Rattle.ficus_world.specs.World.{WorldStandsFor};
 
+use crate::command::carry_out;
 use ficus_disk::{Disk, Pair};
 use ficus_ids::Memory;
 use ficus_keep::{Keep, KeepImages};
@@ -71,7 +73,7 @@ fn count_one<D: Disk, P: Keep + KeepImages + Drop, L: Link + Drop>(
 ) -> Result<(), Memory>
     requires command { IsCommand command.now }
     requires few { tally.old.ok + tally.old.no < script_limit }
-    requires room { length world.old.whole.events < event_limit }
+    requires room { length world.old.whole.events < sweeping_limit }
     requires pairs { length world.old.whole.members ≤ length disks.old.items }
     requires disks { AreDisksOf D.tells P.kept P.fits D.seen D.may_leave D.armings world.old.whole.members
         world.old.stables disks.old.items }
@@ -84,9 +86,9 @@ fn count_one<D: Disk, P: Keep + KeepImages + Drop, L: Link + Drop>(
         world.new.stables disks.new.items }
     ensures members { length world.new.whole.members ≡ length world.old.whole.members }
     ensures pairs { length disks.new.items ≡ length disks.old.items }
-    ensures grows { length world.new.whole.events ≤ length world.old.whole.events + most_events }
+    ensures grows { length world.new.whole.events ≤ length world.old.whole.events + most_swept }
 {
-    let answer = world.step(alloc, disks, command)?;
+    let answer = carry_out(alloc, world, disks, command)?;
     tally.count(&answer);
     Ok(())
 }

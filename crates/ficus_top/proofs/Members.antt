@@ -1,5 +1,5 @@
 -- What commands ask of disks they ask of the disks of members.
-use Rattle.std.proofs.Common.{◌≡◌, ℕ, ◌+◌, ◌==◌, Bool, List, ◌++◌, cond, length, Result, Ok, Err, refl, ap, subst, ◌∙◌, arith}
+use Rattle.std.proofs.Common.{◌≡◌, ℕ, ◌+◌, ◌==◌, Bool, List, [], ◌∷◌, ◌++◌, cond, length, Result, Ok, Err, refl, ap, subst, ◌∙◌, arith}
 use Rattle.std.proofs.lemmas.Bool.{ne_eqb}
 use Rattle.std.proofs.lemmas.List.{length-set}
 use Rattle.ficus_ids.specs.Members.{IsMember}
@@ -25,6 +25,7 @@ use Rattle.ficus_runs.specs.Run.Run.{End, Then}
 use Rattle.ficus_runs.specs.Sequence.{First, ByRule, Effect}
 use Rattle.ficus_runs.specs.Sequence.First.{Ends, Goes}
 use Rattle.ficus_runs.specs.Sequence.ByRule.{Says}
+use Rattle.ficus_runs.specs.Sweep.{CollectsAt, Collecting, DoesSweepStep, Pulling, PullsFrom, SweepStep, Swept, Sweeps, none_swept, sweep_steps, with_answer}
 use Rattle.ficus_run_laws.specs.Outcomes.{all_outcomes}
 use Rattle.ficus_run_laws.proofs.Outcomes.{count_append}
 
@@ -152,23 +153,41 @@ module _ (members : ℕ) where
         first_among _ _ W (gives_mail_among number W) (λ given V. by_rule_among _ V)
     gives_next_among other W = by_rule_among _ W
 
+    pulls_among : (by to : ℕ) (W : ModelWorld) → StaysAmong W (PullsFrom volume by to)
+    pulls_among by to W =
+        first_among _ _ W (at_peers_among by to W)
+        (λ peers V. first_among _ _ V (asks_among by to V)
+        (λ number U. first_among _ _ U (gives_mail_among number U) gives_next_among))
+
+    collects_among : (by : ℕ) (W : ModelWorld) → StaysAmong W (CollectsAt volume by)
+    collects_among by W =
+        member_first by _ W (λ here up. rule_first _ _ W (λ counted is. saves_among _ by _ W up))
+
+    sweep_step_among : (step : SweepStep) (W : ModelWorld) → StaysAmong W (DoesSweepStep volume step)
+    sweep_step_among (Pulling by to) W = pulls_among by to W
+    sweep_step_among (Collecting by) W = collects_among by W
+
+    sweeps_among : (steps : List SweepStep) (swept : Swept) (W : ModelWorld) → StaysAmong W (Sweeps volume steps swept)
+    sweeps_among [] swept W = by_rule_among _ W
+    sweeps_among (step ∷ steps) swept W =
+        first_among _ _ W (sweep_step_among step W) (λ given. sweeps_among steps (with_answer swept given))
+
     does_among : (command : Command) (W : ModelWorld) → StaysAmong W (Does volume command)
     does_among (command.Change by change) W =
         member_first by _ W (λ here up. rule_first _ _ W (λ op decided. saves_among _ by _ W up))
     does_among (command.Look by look) W = member_first by _ W (λ here up. by_rule_among _ W)
-    does_among (command.Collect by) W =
-        member_first by _ W (λ here up. rule_first _ _ W (λ counted is. saves_among _ by _ W up))
+    does_among (command.Collect by) W = collects_among by W
     does_among (command.Ask by to) W = first_among _ _ W (asks_among by to W) (λ number V. by_rule_among _ V)
     does_among (command.Give number) W = gives_mail_among number W
-    does_among (command.Pull by to) W =
-        first_among _ _ W (at_peers_among by to W)
-        (λ peers V. first_among _ _ V (asks_among by to V)
-        (λ number U. first_among _ _ U (gives_mail_among number U) gives_next_among))
+    does_among (command.Pull by to) W = pulls_among by to W
     does_among (command.Alike by other) W =
         first_among _ _ W (at_peers_among by other W) (λ peers V. by_rule_among _ V)
     does_among (command.Restart by) W = rule_first _ _ W (λ wanted member. opens_among volume by W)
     does_among (command.Stop by calls pick) W =
         member_first by _ W (λ here up. rule_first _ _ W (λ wanted fused. arms_among by calls pick W))
+    does_among (command.Sweep order) W =
+        first_among _ _ W (sweeps_among (sweep_steps order volume.members) none_swept W)
+        (λ swept V. by_rule_among _ V)
 
 -- in a run no disk of another than its members failed
 pub run_spares : {volume : Volume} {members : ℕ} {old new : ModelWorld} {commands : List Command}

@@ -1,5 +1,5 @@
 -- Disks are armed only by stops of the script.
-use Rattle.std.proofs.Common.{◌≡◌, ℕ, List, [], take, drop, Ok, refl, ap, subst, inl, inr, arith}
+use Rattle.std.proofs.Common.{◌≡◌, ◌≢◌, ℕ, List, [], ◌∷◌, take, drop, Ok, refl, ap, subst, inl, inr, arith}
 use Rattle.std.specs.Prelude.{Contains}
 use Rattle.std.proofs.lemmas.Bool.{cases_eq}
 use Rattle.std.proofs.lemmas.List.{take-append-drop}
@@ -10,6 +10,7 @@ use Rattle.ficus_keep.specs.Pairs.{PairSame}
 use Rattle.ficus_model.specs.Lawful.{Volume}
 use Rattle.ficus_run_laws.proofs.Arming.{run_arms, step_unarming}
 use Rattle.ficus_run_laws.proofs.Outcomes.{count_append}
+use Rattle.ficus_run_laws.proofs.SweepSteps.{as_step}
 use Rattle.ficus_run_laws.specs.Outcomes.{all_outcomes}
 use Rattle.ficus_runs.specs.Exchange.{Asks, GivesMail}
 use Rattle.ficus_runs.specs.Fuses.{FuseState}
@@ -21,6 +22,7 @@ use Rattle.ficus_runs.specs.Sequence.{CutFirst, Effect, NothingDone, unchanged}
 use Rattle.ficus_runs.specs.Sequence.ByRule.{Says}
 use Rattle.ficus_runs.specs.Sequence.CutFirst.{InFirst, InRest}
 use Rattle.ficus_runs.specs.Sequence.First.{Goes}
+use Rattle.ficus_runs.specs.Sweep.{Collecting, DoesSweepPart, Pulling, PullsPart, SweepStep, SweepsPart, command_of, sweep_steps}
 use Rattle.ficus_script.specs.declared.answer.Answer.{Answer}
 use Rattle.ficus_script.specs.declared.answer.Answer.TheVariants.{Mail}
 use Rattle.ficus_script.specs.declared.command.Command.{Command}
@@ -67,12 +69,39 @@ module _ (r : ℕ) where
           give_unarming number asked.after last rest,
         )
 
+    pull_unarming : (by to : ℕ) (W : ModelWorld) (left : Effect ModelWorld) → PullsPart volume by to W left
+        → armings_in r left.outcomes ≡ 0
+    pull_unarming by to W left (InFirst same) = nothing_unarming same
+    pull_unarming by to W left (InRest {left = last} (Goes (Says member) (Says up)) rest) =
+        ask_unarming by to W last rest
+
+    no_stop : (step : SweepStep) (calls pick : ℕ) → command_of step ≢ command.Stop r calls pick
+    no_stop (Pulling by to) calls pick = λ same. cc same
+    no_stop (Collecting by) calls pick = λ same. cc same
+
+    sweep_part_unarming : (step : SweepStep) (W : ModelWorld) (left : Effect ModelWorld)
+        → DoesSweepPart volume step W left → armings_in r left.outcomes ≡ 0
+    sweep_part_unarming (Pulling by to) W left part = pull_unarming by to W left part
+    sweep_part_unarming (Collecting by) W left same = nothing_unarming same
+
+    sweeps_unarming : (steps : List SweepStep) (W : ModelWorld) (left : Effect ModelWorld)
+        → SweepsPart volume steps W left → armings_in r left.outcomes ≡ 0
+    sweeps_unarming [] W left same = nothing_unarming same
+    sweeps_unarming (step ∷ steps) W left (InFirst part) = sweep_part_unarming step W left part
+    sweeps_unarming (step ∷ steps) W left (InRest {a = answer} {middle = m} {left = last} does rest) =
+        omega (
+          arith,
+          count_append (is_arming r) m.outcomes last.outcomes,
+          step_unarming r (as_step volume step W (Ok answer) m does) (no_stop step),
+          sweeps_unarming steps m.after last rest,
+        )
+
     -- what a command has done that was cut short arms nothing
     part_unarming : (command : Command) (W : ModelWorld) (left : Effect ModelWorld) → DoesPart volume command W left
         → armings_in r left.outcomes ≡ 0
-    part_unarming (command.Pull by to) W left (InFirst same) = nothing_unarming same
-    part_unarming (command.Pull by to) W left (InRest {left = last} (Goes (Says member) (Says up)) rest) =
-        ask_unarming by to W last rest
+    part_unarming (command.Pull by to) W left part = pull_unarming by to W left part
+    part_unarming (command.Sweep order) W left part =
+        sweeps_unarming (sweep_steps order volume.members) W left part
     part_unarming other W left same = nothing_unarming same
 
   cut_unarming : {may : Type 0} {volume : Volume} {W after : ModelWorld} {last : List Answer} {commands : List Command}

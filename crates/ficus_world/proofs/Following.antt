@@ -437,6 +437,7 @@ module _ (volume : Volume) (W : ModelWorld) (old : Whole) (stands : WorldStandsF
       does
   wanted (command.Restart by) member = member_of volume W old stands by member
   wanted (command.Stop by calls pick) none = none
+  wanted (command.Sweep order) none = absurd none
 
 -- where the command may want memory by what the members hold, it may by what has happened
 pub follow_wanted : (volume : Volume) (W : ModelWorld) (old : Whole) → WorldStandsFor volume W old
@@ -521,6 +522,7 @@ module _ (tells : Type 0) (told : tells) (volume : Volume) where
       λ W old stands. follow_restart volume W old stands tells disks_tell disks_told by
   follow_command disks_tell (command.Stop by calls pick) disks_told =
       λ W old stands. follow_stop volume W old stands tells disks_tell by calls pick
+  follow_command disks_tell (command.Sweep order) disks_told = λ W old stands result left none. absurd none
 
   -- where memory is refused
   cut_command : (command : Command) → CutLifts volume (CutShort tells command) (DoesPart volume command)
@@ -533,6 +535,7 @@ module _ (tells : Type 0) (told : tells) (volume : Volume) where
   cut_command (command.Alike by other) = nothing_lifts volume
   cut_command (command.Restart by) = nothing_lifts volume
   cut_command (command.Stop by calls pick) = nothing_lifts volume
+  cut_command (command.Sweep order) = λ W old stands left none. absurd none
 
 -- whatever a command does to the world, it does to what the world stands for
 pub follow : (tells disks_tell : Type 0) (told : tells) (volume : Volume) (W : ModelWorld) (old : Whole)

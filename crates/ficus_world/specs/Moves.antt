@@ -326,7 +326,7 @@ abbrev pub TablesCompare : Compared → WholeAction Answer
 TablesCompare both =
     ByRule (λ world. AlikeAnswer (tables_view both.one.replica.saved) (tables_view both.other.replica.saved))
 
--- what each command does to a world, action by action
+-- what each command does to a world, action by action; one that is no step of a world does nothing
 abbrev pub CarriesOut : Type 0 → Type 0 → Command → WholeAction Answer
 CarriesOut tells disks_tell (command.Change by change) =
     First (FindsUp by) (λ member. First (TablesDecide member change) (KeepsUpdate by member))
@@ -340,6 +340,7 @@ CarriesOut tells disks_tell (command.Pull by to) =
 CarriesOut tells disks_tell (command.Alike by other) = First (FindsPeers by other) TablesCompare
 CarriesOut tells disks_tell (command.Restart by) = First (FindsMember by) (Reopens disks_tell by)
 CarriesOut tells disks_tell (command.Stop by calls pick) = First (FindsUp by) (ArmsDisks by calls pick)
+CarriesOut tells disks_tell (command.Sweep order) = λ old result left. ⊥
 
 -- a member that is up may want memory for what it holds
 pub record IsWantedBy (old : Whole) (by : ℕ) (may : Member → Type 0) : Type 0 where
@@ -370,6 +371,7 @@ TablesMayWantMemory old (command.Pull by to) = ArePeersUp old by to
 TablesMayWantMemory old (command.Alike by other) = ArePeersUp old by other
 TablesMayWantMemory old (command.Restart by) = IsMember (length old.members) by
 TablesMayWantMemory old (command.Stop by calls pick) = ⊥
+TablesMayWantMemory old (command.Sweep order) = ⊥
 
 -- what each command leaves where memory is refused on the way: the world as it was; but a pull keeps its ask, and its
 -- first give
@@ -378,6 +380,7 @@ CutShort tells (command.Pull by to) =
     CutFirst (FindsPeers by to) NothingDone
     (λ peers. CutFirst (KeepsAsk tells by to) NothingDone
     (λ number. CutFirst (GivesMessage tells number) NothingDone (λ given. NothingDone)))
+CutShort tells (command.Sweep order) = λ old left. ⊥
 CutShort tells other = NothingDone
 
 -- one command: what became of all that it asked of the outside, its answer, and the world after it

@@ -58,3 +58,4 @@ OnlyLooks (command.Pull by to) = ⊥
 OnlyLooks (command.Alike by other) = Unit {0}
 OnlyLooks (command.Restart by) = ⊥
 OnlyLooks (command.Stop by calls pick) = ⊥
+OnlyLooks (command.Sweep order) = ⊥

@@ -9,7 +9,7 @@ use ficus_outside::Link;
 impl<K: Keep + KeepImages + Drop, L: Link + Drop> World<K, L> {
     /// The law that whatever a crash leaves of a world's disks holds what each member has saved, or what is pending. It
     /// does nothing when it runs.
-    pub(crate) fn settled<D: Disk>(&self, disks: &Vec<Pair<D>>)
+    pub fn settled<D: Disk>(&self, disks: &Vec<Pair<D>>)
         requires { AreDisksOf D.tells K.kept K.fits D.seen D.may_leave D.armings self.now.whole.members
             self.now.stables disks.now.items }
         ensures { IsSettled K.Keep D.Disk self.now.whole disks.now.items }

@@ -23,15 +23,16 @@ impl<K: Keep + KeepImages + Drop, L: Link + Drop> World<K, L> {
     ghost use Rattle.ficus_script.specs.Command.{IsCommand};
     ghost use Rattle.ficus_script.specs.declared.command.Command.TheVariants.{Alike as Compares, Change as Changes, Collect as Collects, Look as Looks, Pull as Pulls, Restart as Restarts, Stop as StopsDisks};
     ghost use Rattle.ficus_runs.specs.ModelWorld.{ModelWorld};
-    ghost use Rattle.ficus_runs.specs.Run.{CommandMayWantMemory};
+    ghost use Rattle.ficus_runs.specs.Run.{CommandMayWantMemory, IsStep};
     ghost use Rattle.ficus_world.specs.Follows.{FollowsOn, StopsOn, TellsFor};
     ghost use Rattle.ficus_world.specs.Stepped.{ComesTo, CutOn, LookComesTo, OnlyLooks, Stepped};
     ghost use Rattle.ficus_world.specs.Moves.{HasCollected};
     ghost use Rattle.ficus_world.specs.World.{WorldStandsFor};
 
-    /// Carries out one command, and answers it. What a member saves is on its disks before it is answered; where they
-    /// fail, the answer is `Store`, the member is down, and what it would have saved is pending until it is restarted.
-    /// After `Memory` the world is as before, but that a pull keeps what it has done: its ask, and the serving of it.
+    /// Carries out one command that is no sweep, and answers it. What a member saves is on its disks before it is
+    /// answered; where they fail, the answer is `Store`, the member is down, and what it would have saved is pending until
+    /// it is restarted. After `Memory` the world is as before, but that a pull keeps what it has done: its ask, and the
+    /// serving of it.
     pub fn step<D: Disk>(
         &mut self,
         alloc: Global,
@@ -39,6 +40,7 @@ impl<K: Keep + KeepImages + Drop, L: Link + Drop> World<K, L> {
         command: &Command,
     ) -> Result<Answer, Memory>
         requires command { IsCommand command.now }
+        requires step { IsStep command.now }
         requires room { length self.old.whole.events < event_limit }
         requires pairs { length self.old.whole.members ≤ length disks.old.items }
         requires disks { AreDisksOf D.tells K.kept K.fits D.seen D.may_leave D.armings self.old.whole.members
@@ -94,6 +96,7 @@ impl<K: Keep + KeepImages + Drop, L: Link + Drop> World<K, L> {
         command: &Command,
     ) -> Result<Answer, Refusal>
         requires command { IsCommand command.now }
+        requires step { IsStep command.now }
         requires room { length self.old.whole.events < event_limit }
         requires pairs { length self.old.whole.members ≤ length disks.old.items }
         requires disks { AreDisksOf D.tells K.kept K.fits D.seen D.may_leave D.armings self.old.whole.members
@@ -124,6 +127,7 @@ impl<K: Keep + KeepImages + Drop, L: Link + Drop> World<K, L> {
             Command::Alike { by, other } => self.alike(alloc, *by, *other),
             Command::Restart { by } => self.restart(alloc, disks, *by),
             Command::Stop { by, calls, pick } => self.stop(disks, *by, *calls, *pick),
+            Command::Sweep { .. } => unreachable!(),
         }
     }
 

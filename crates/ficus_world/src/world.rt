@@ -48,6 +48,13 @@ impl<K: Keep + KeepImages + Drop, L: Link + Drop> World<K, L> {
         &self.group.history
     }
 
+    /// How many members there are.
+    pub fn members(&self) -> Members
+        ensures { result ≡ length self.now.whole.members }
+    {
+        self.group.count()
+    }
+
     /// The link over which the members exchange messages.
     pub fn link(&self) -> &L
         ensures posts { L.posts result.now ≡ self.now.whole.post.posts }

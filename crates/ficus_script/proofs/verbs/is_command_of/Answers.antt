@@ -40,6 +40,10 @@ pub returns-in-None-OneNumber : goal.returns-in-None-OneNumber
 returns-in-None-OneNumber c =
     rw (c.in-None-OneNumber.is-0, c.in-None-OneNumber.is-1) (c.is_one-in-None-OneNumber.ensures _ c.with_number.ensures)
 
+pub returns-in-None-OneOrder : goal.returns-in-None-OneOrder
+returns-in-None-OneOrder c =
+    rw (c.in-None-OneOrder.is-0, c.in-None-OneOrder.is-1) (c.is_one-in-None-OneOrder.ensures _ c.with_order.ensures)
+
 pub returns-in-None-TwoReplicas : goal.returns-in-None-TwoReplicas
 returns-in-None-TwoReplicas c =
     rw (c.in-None-TwoReplicas.is-0, c.in-None-TwoReplicas.is-1)

@@ -3,6 +3,7 @@ use Rattle.std.specs.Prelude.{All}
 use Rattle.ficus_model.specs.Lawful.{Volume}
 use Rattle.ficus_runs.specs.ModelWorld.{ModelWorld}
 use Rattle.ficus_serving.specs.Serving.{ServesWorld}
+use Rattle.ficus_sweep.specs.Follows.{most_swept}
 use Rattle.ficus_world.specs.Disks.{AreDisksOf}
 use Rattle.ficus_world.specs.Follows.{TellsFor}
 use Rattle.ficus_world.specs.Kills.{OthersStay}
@@ -23,6 +24,6 @@ invariant-loop-command g l = record {
   members : length l.world.whole.members ≡ length l.fn.world.whole.members;
   others : OthersStay (length l.fn.world.whole.members) l.fn.disks.items l.disks.items;
   pairs : length l.disks.items ≡ length l.fn.disks.items;
-  grows : length l.world.whole.events ≤ length l.fn.world.whole.events + most_events * l.command-index;
+  grows : length l.world.whole.events ≤ length l.fn.world.whole.events + most_swept * l.command-index;
   steady : g.K.Sink.faults l.output ≡ g.K.Sink.faults l.fn.output;
 }

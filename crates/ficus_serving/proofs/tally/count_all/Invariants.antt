@@ -3,9 +3,10 @@ use Rattle.std.specs.Prelude.{All}
 use Rattle.ficus_model.specs.Lawful.{Volume}
 use Rattle.ficus_runs.specs.ModelWorld.{ModelWorld}
 use Rattle.ficus_serving.specs.Tally.{Tallies}
+use Rattle.ficus_sweep.specs.Follows.{most_swept}
 use Rattle.ficus_world.specs.Disks.{AreDisksOf}
 use Rattle.ficus_world.specs.Follows.{TellsFor}
-use Rattle.ficus_world.specs.World.{WorldStandsFor, most_events}
+use Rattle.ficus_world.specs.World.{WorldStandsFor}
 use Rattle.ficus_serving.proofs.tally.count_all.Given as goal
 
 -- the commands so far were counted, and the disks are still those of the world; none stored too many events
@@ -20,5 +21,5 @@ invariant-loop-command g l = record {
       l.world.whole.members l.world.stables l.disks.items;
   members : length l.world.whole.members ≡ length l.fn.world.whole.members;
   pairs : length l.disks.items ≡ length l.fn.disks.items;
-  grows : length l.world.whole.events ≤ length l.fn.world.whole.events + most_events * l.command-index;
+  grows : length l.world.whole.events ≤ length l.fn.world.whole.events + most_swept * l.command-index;
 }

@@ -1,0 +1,4 @@
+pub mod Answering
+pub mod Commands
+pub mod Few
+pub mod Following

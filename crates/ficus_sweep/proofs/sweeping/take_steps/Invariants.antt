@@ -1,0 +1,27 @@
+use Rattle.std.proofs.Common.{◌≡◌, ◌+◌, ◌*◌, ◌≤◌, List, length, map, take, Ok}
+use Rattle.ficus_model.specs.Lawful.{Volume}
+use Rattle.ficus_runs.specs.ModelWorld.{ModelWorld}
+use Rattle.ficus_runs.specs.Sweep.{SweepStep, Sweeps, command_of, none_swept}
+use Rattle.ficus_sweep.specs.Follows.{CountsFew, FollowsAction, swept_of}
+use Rattle.ficus_world.specs.Disks.{AreDisksOf}
+use Rattle.ficus_world.specs.Kills.{Passes}
+use Rattle.ficus_world.specs.World.{WorldStandsFor, most_events}
+use Rattle.ficus_sweep.proofs.sweeping.take_steps.Given as goal
+
+-- the steps so far are done, and the disks are still those of the world; none stored too many events, and none was
+-- counted too often
+abbrev pub invariant-loop-step : goal.invariant-loop-step
+invariant-loop-step g l = record {
+  done : g.L.Link.tells → (some : List SweepStep) → l.steps ≡ map command_of some → (volume : Volume)
+      (W : ModelWorld) → WorldStandsFor volume W l.fn.world.whole
+      → FollowsAction g.K.Keep g.D.Disk volume W l.fn.world.whole
+      (Sweeps volume (take l.step-index some) none_swept) (Ok (swept_of l.report)) l.world.whole l.fn.disks.items
+      l.disks.items;
+  passes : Passes g.L.Link.tells g.K.Keep g.D.Disk l.fn.world.whole l.world.whole l.fn.disks.items l.disks.items;
+  disks : AreDisksOf g.D.Disk.tells g.K.Keep.kept g.K.Keep.fits g.D.Disk.seen g.D.Disk.may_leave g.D.Disk.armings
+      l.world.whole.members l.world.stables l.disks.items;
+  members : length l.world.whole.members ≡ length l.fn.world.whole.members;
+  pairs : length l.disks.items ≡ length l.fn.disks.items;
+  grows : length l.world.whole.events ≤ length l.fn.world.whole.events + most_events * l.step-index;
+  few : CountsFew l.step-index l.report;
+}

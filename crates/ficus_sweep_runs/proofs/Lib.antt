@@ -1,0 +1,4 @@
+pub mod Adding
+pub mod Chains
+pub mod Rounds
+pub mod Whole
