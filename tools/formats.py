@@ -1,0 +1,108 @@
+"""What `docs/FORMATS.md` says of commands, refusals and codes: its tables, read where they stand."""
+from __future__ import annotations
+
+import pathlib
+import re
+from dataclasses import dataclass
+from enum import Enum
+from functools import lru_cache
+
+FORMATS = pathlib.Path(__file__).resolve().parent.parent / "docs" / "FORMATS.md"
+
+# The first cell of the head of each table.
+_COMMANDS, _REFUSALS, _KINDS, _CODES = "command", "word", "kind", "status"
+
+
+class Shape(Enum):
+    """How many lines an answer that is no refusal has."""
+
+    LINE = "one"
+    LISTING = "one that says how many follow"
+    UNKNOWN = "the document doesn't say it in a form that is known here"
+
+
+@dataclass(frozen=True)
+class Usage:
+    """A command, as the table of commands has it."""
+
+    words: tuple[str, ...]
+    does: str
+    answer: str
+
+    @property
+    def name(self) -> str:
+        return self.words[1] if self.is_of_replica else self.words[0]
+
+    @property
+    def is_of_replica(self) -> bool:
+        return self.words[0] == "R"
+
+    @property
+    def shape(self) -> Shape:
+        if "`ok C`, then C lines" in self.answer:
+            return Shape.LISTING
+        return Shape.UNKNOWN if "line" in self.answer else Shape.LINE
+
+    def __str__(self) -> str:
+        return " ".join(self.words)
+
+
+@lru_cache(maxsize=None)
+def _rows(first: str) -> list[list[str]]:
+    """The rows of the first table whose head begins with this word."""
+    rows: list[list[str]] = []
+    within = False
+    for line in FORMATS.read_text(encoding="utf-8").splitlines():
+        if not line.startswith("|"):
+            if within:
+                break
+            continue
+        cells = [cell.strip() for cell in line.strip("|").split(" | ")]
+        if within and not set(line) <= set("|-"):
+            rows.append(cells)
+        within = within or cells[0] == first
+    return rows
+
+
+def _code(cell: str) -> str:
+    """What stands between the first two backquotes of a cell."""
+    found = re.search(r"`([^`]*)`", cell)
+    return found[1] if found else ""
+
+
+@lru_cache(maxsize=None)
+def commands() -> dict[str, Usage]:
+    """Each command by its name, in the order of the table."""
+    usages = [Usage(tuple(_code(row[0]).split()), row[1], row[2]) for row in _rows(_COMMANDS) if len(row) == 3]
+    return {usage.name: usage for usage in usages if usage.words}
+
+
+def usage_of(line: str) -> Usage | None:
+    """The command that a line of a script has, where the table has it."""
+    words = line.split(" ")
+    name = words[1] if words[0].isdigit() and len(words) > 1 else words[0]
+    usage = commands().get(name)
+    return usage if usage and usage.is_of_replica == words[0].isdigit() else None
+
+
+@lru_cache(maxsize=None)
+def refusals() -> dict[str, str]:
+    """When each word of a refusal comes."""
+    return {_code(row[0]): row[1] for row in _rows(_REFUSALS)}
+
+
+@lru_cache(maxsize=None)
+def codes() -> dict[int, str]:
+    """When the program ends with each code."""
+    return {int(row[0]): row[1] for row in _rows(_CODES) if row[0].isdigit()}
+
+
+def kinds() -> list[str]:
+    """The kinds of files."""
+    return [_code(row[0]) for row in _rows(_KINDS)]
+
+
+def orders() -> list[str]:
+    """The orders in which a sweep pulls."""
+    said = re.search(r"^.*\bORDER is (.*)\.$", FORMATS.read_text(encoding="utf-8"), re.MULTILINE)
+    return re.findall(r"`([^`]*)`", said[1]) if said else []

@@ -1,0 +1,218 @@
+"""`./ficus import`: a real folder into a volume."""
+from __future__ import annotations
+
+import os
+import stat
+import sys
+from argparse import ArgumentParser, Namespace, RawDescriptionHelpFormatter
+from dataclasses import dataclass, field
+
+import formats
+import places
+import unfit
+from faults import Fault, Status
+from lock import locked
+from program import Folder, ask, ask_all
+from progress import followed
+from refusals import in_words
+from spelling import FILE_BYTES, PATH_PARTS, Path, spell_name, spell_text, why_no_name
+from tree import Node, content, list_below, read_files
+from unfit import Unfit
+
+# The most that one replica does over its life.
+LIFE_UPDATES = 100_000
+LIFE_BYTES = 4_194_304
+
+DESCRIPTION = """\
+Brings the directories and files of the real FOLDER into the volume in ROOT, as changes of replica R, at PATH or at its
+root. Only what differs is changed, so that the same again does the rest after an interruption; what the volume has
+besides stays. What can't go in is listed before anything is done."""
+WHAT_STAYS = "what was done until then stays, and the same again does the rest"
+NOT_KEPT = "owners, modes and times aren't kept, nor that several names are one file's"
+
+
+def add(parser: ArgumentParser) -> None:
+    parser.description = DESCRIPTION
+    parser.formatter_class = RawDescriptionHelpFormatter
+    places.add_root(parser)
+    places.add_replica(parser)
+    parser.add_argument("folder", metavar="FOLDER", type=os.fsencode, help="the folder to bring in")
+    parser.add_argument("path", metavar="PATH", nargs="?", type=places.volume_path, default=Path("", ()),
+                        help="the directory of the volume, which is made where it is missing")
+    parser.add_argument("--kind", choices=formats.kinds(), default="plain", help="the kind of new files (plain)")
+    unfit.add_skip(parser)
+
+
+def run(words: Namespace) -> int:
+    with locked(words.root) as volume:
+        made = missing_above(volume, words.replica, words.path)
+        found = [] if made else list_below(volume, words.replica, words.path).below
+        plan = Plan(words.replica, words.kind)
+        plan.make_directories(made)
+        plan.compare(scan(words.folder), words.path, found)
+        plan.compare_bytes(volume)
+        plan.weigh()
+        print(NOT_KEPT, file=sys.stderr)
+        unfit.settle(plan.unfit, words.skip, "in")
+        plan.carry_out(volume)
+        plan.tell()
+    return Status.DONE
+
+
+@dataclass
+class Real:
+    """A name of the real folder: a directory with what lies in it, a file with its bytes, or why it is unfit."""
+
+    where: bytes
+    name: bytes
+    below: list[Real] | None = None
+    bytes: bytes = b""
+    why: str | None = None
+
+
+def scan(folder: bytes) -> list[Real]:
+    """What lies in the folder, by the bytes of its names."""
+    with os.scandir(folder) as entries:
+        return [_real(entry) for entry in sorted(entries, key=lambda entry: entry.name)]
+
+
+def _real(entry: os.DirEntry[bytes]) -> Real:
+    real = Real(entry.path, entry.name, why=why_no_name(entry.name))
+    if real.why:
+        return real
+    try:
+        found = entry.stat(follow_symlinks=False)
+        if stat.S_ISDIR(found.st_mode):
+            real.below = scan(entry.path)
+        elif not stat.S_ISREG(found.st_mode):
+            real.why = _special(found.st_mode)
+        elif found.st_size > FILE_BYTES:
+            real.why = f"the file has {found.st_size:,} bytes, and {FILE_BYTES:,} is the most"
+        else:
+            with open(entry.path, "rb") as file:
+                real.bytes = file.read(FILE_BYTES + 1)
+    except OSError as error:
+        real.why = f"it can't be read: {error.strerror}"
+    return real
+
+
+def _special(mode: int) -> str:
+    return "it is a symbolic link" if stat.S_ISLNK(mode) else "it is neither a directory nor a file"
+
+
+def missing_above(volume: Folder, replica: int, path: Path) -> list[Path]:
+    """The directories to be made so that the path is one, the upper ones first."""
+    fronts = path.fronts()
+    answers = list(ask(volume, [f"{replica} ls {front}" for front in fronts]))
+    for front, answer in zip(fronts, answers):
+        if answer.refusal and (answer.refusal != "noentry" or "#" in str(front)):
+            raise Fault(f"{front} at replica {replica}: {in_words(answer.refusal)}", Status.REFUSED)
+    return [front for front, answer in zip(fronts, answers) if answer.refusal]
+
+
+@dataclass
+class Plan:
+    """What is to be asked of a replica, and what can't be."""
+
+    replica: int
+    kind: str
+    commands: list[tuple[str, str]] = field(default_factory=list)
+    unfit: list[Unfit] = field(default_factory=list)
+    same: list[tuple[Node, Real]] = field(default_factory=list)
+    directories: int = 0
+    files: int = 0
+    written: int = 0
+    written_bytes: int = 0
+    equal: int = 0
+
+    def ask(self, path: Path, name: str, *arguments: str) -> None:
+        self.commands.append((str(path), " ".join([str(self.replica), name, str(path), *arguments])))
+
+    def refuse(self, where: bytes, why: str) -> None:
+        self.unfit.append(Unfit(unfit.show(where), why))
+
+    def make_directories(self, paths: list[Path]) -> None:
+        for path in paths:
+            self.ask(path, "mkdir")
+        self.directories += len(paths)
+
+    def compare(self, reals: list[Real], path: Path, nodes: list[Node]) -> None:
+        """What is to be made at the path, where the volume has these names."""
+        shown: dict[str, list[Node]] = {}
+        for node in nodes:
+            shown.setdefault(node.row.name, []).append(node)
+        for real in reals:
+            name = spell_name(real.name)
+            why = real.why or _why_not_there(real, path, shown.get(name, []))
+            if why:
+                self.refuse(real.where, why)
+            else:
+                self.take(real, path.below(name), shown.get(name, []))
+
+    def take(self, real: Real, path: Path, there: list[Node]) -> None:
+        if real.below is not None:
+            if not there:
+                self.make_directories([path])
+            self.compare(real.below, path, there[0].below if there else [])
+        elif there:
+            self.same.append((there[0], real))
+        else:
+            self.ask(path, "create", self.kind)
+            self.files += 1
+            if real.bytes:
+                self.write(path, real.bytes)
+
+    def write(self, path: Path, bytes_there: bytes) -> None:
+        self.ask(path, "write", spell_text(bytes_there))
+        self.written += 1
+        self.written_bytes += len(bytes_there)
+
+    def compare_bytes(self, volume: Folder) -> None:
+        """Which of the files that are there have other bytes."""
+        versions = read_files(volume, self.replica, [node for node, _ in self.same])
+        for told, (node, real) in followed(zip(versions, self.same), len(self.same), "comparing"):
+            if len(told) != 1:
+                self.refuse(real.where, "the volume has no file of bytes there")
+            elif content(told[0]) == real.bytes:
+                self.equal += 1
+            else:
+                self.write(node.path, real.bytes)
+
+    def weigh(self) -> None:
+        """What is more than one replica does in its life can't go in, nor any part of it."""
+        if len(self.commands) > LIFE_UPDATES:
+            raise Fault(f"nothing was done: these are {len(self.commands):,} updates, and {LIFE_UPDATES:,} are the "
+                        "most of a replica's life", Status.UNFIT)
+        if self.written_bytes > LIFE_BYTES:
+            raise Fault(f"nothing was done: these are {self.written_bytes:,} bytes, and {LIFE_BYTES:,} are the most "
+                        "that a replica writes over its life", Status.UNFIT)
+
+    def carry_out(self, volume: Folder) -> None:
+        answers = ask_all(volume, (command for _, command in self.commands))
+        refused: list[Unfit] = []
+        try:
+            for answer, (path, _) in followed(zip(answers, self.commands), len(self.commands), "importing"):
+                if answer.refusal:
+                    refused.append(Unfit(path, in_words(answer.refusal)))
+        except KeyboardInterrupt:
+            raise Fault(f"interrupted; {WHAT_STAYS}", Status.INTERRUPTED) from None
+        unfit.report(refused, WHAT_STAYS)
+
+    def tell(self) -> None:
+        print(f"{self.directories} directories and {self.files} files made, {self.written} files written, "
+              f"{self.equal} files equal")
+        if self.unfit:
+            print(f"{len(self.unfit)} left out")
+
+
+def _why_not_there(real: Real, path: Path, there: list[Node]) -> str | None:
+    """Why the volume can't take it there, or nothing where it can."""
+    if len(path.parts) == PATH_PARTS:
+        return f"its path in the volume has more than {PATH_PARTS} parts"
+    if len(there) > 1:
+        return "the volume has several objects of this name"
+    if there and there[0].row.is_directory != (real.below is not None):
+        return "the volume has a directory there" if there[0].row.is_directory else "the volume has no directory there"
+    if there and there[0].row.is_in_conflict:
+        return "the volume's file is in conflict, which comes first"
+    return None

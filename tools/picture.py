@@ -1,0 +1,94 @@
+"""`./ficus picture`: a run, drawn."""
+from __future__ import annotations
+
+import sys
+from argparse import ArgumentParser, Namespace, RawDescriptionHelpFormatter
+from html import escape
+from pathlib import Path
+
+import story
+from chart import Chart
+from faults import Fault, Status
+from folding import fold
+from formats import usage_of
+from program import Memory, is_command
+from spelling import to_str
+from svg import visible
+
+DESCRIPTION = """\
+Runs SCRIPT over a fresh volume in memory and draws it: a lane for each replica with its commands and their answers,
+messages as arrows, conflicts and orphans as bars for as long as they last, stops and restarts, and what collections
+give up. One file that needs nothing else. Above 80 commands, those that say little are folded, and so is what is left
+in the middle; a page has all of them."""
+
+LEAST = 2
+PAGE = """<!doctype html>
+<html lang="en"><head><meta charset="utf-8"><title>{title}</title>
+<style>body {{ font-family: sans-serif; margin: 1em; }} pre {{ line-height: 1.4; }}</style></head>
+<body>
+{drawing}
+<details><summary>All commands with their answers</summary><pre>
+{commands}
+</pre></details>
+</body></html>
+"""
+
+
+def add(parser: ArgumentParser) -> None:
+    parser.description = DESCRIPTION
+    parser.formatter_class = RawDescriptionHelpFormatter
+    parser.add_argument("script", metavar="SCRIPT", type=Path, help="the script, in a file")
+    parser.add_argument("--members", metavar="N",
+                        help="how many replicas the volume has; else as many as NAME.members beside NAME.script "
+                             "says, or the greatest that the script names")
+    parser.add_argument("-o", dest="out", metavar="FILE", type=Path,
+                        help="where it goes, a .svg or a .html; else standard output, as SVG")
+
+
+def run(words: Namespace) -> int:
+    if words.out and words.out.suffix not in (".svg", ".html"):
+        raise Fault("the file is to end in .svg or .html", Status.USAGE)
+    drawing, commands = drawing_of(words.script, words.members)
+    if words.out and words.out.suffix == ".html":
+        drawing = PAGE.format(title=escape(words.script.name), drawing=drawing, commands=commands)
+    if words.out:
+        words.out.write_text(drawing, encoding="utf-8")
+    else:
+        sys.stdout.buffer.write(drawing.encode())
+    return Status.DONE
+
+
+def drawing_of(script: Path, members: str | None) -> tuple[str, str]:
+    """The run of a script as SVG, and all its commands with their answers as a page has them."""
+    lines = to_str(script.read_bytes()).split("\n")
+    told = story.tell(lines, Memory(members or members_of(script, lines)))
+    commands = "\n".join(_told(step) for step in told.steps)
+    fold(told)
+    return Chart(told, title_of(lines)).draw(), commands
+
+
+def members_of(script: Path, lines: list[str]) -> str:
+    """How many members the volume of a script has, by the file beside it, or by what it names."""
+    beside = script.with_suffix(".members")
+    if beside.exists():
+        return beside.read_text(encoding="ascii").strip()
+    named = [LEAST]
+    for line in filter(is_command, lines):
+        usage = usage_of(line)
+        if usage:
+            named += [int(word) for kind, word in zip(usage.words, line.split(" ")) if kind in "RS" and word.isdigit()]
+    return str(max(named))
+
+
+def title_of(lines: list[str]) -> str:
+    """The comment with which a script begins."""
+    comment = []
+    for line in lines:
+        if not line.startswith("#"):
+            break
+        comment.append(line.lstrip("# "))
+    return " ".join(comment)
+
+
+def _told(step: story.Step) -> str:
+    return "\n    ".join(escape(visible(line)) for line in (f"{step.number}  {step.whole}", *step.answer.lines))

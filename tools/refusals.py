@@ -1,0 +1,35 @@
+"""Refusals in words."""
+from __future__ import annotations
+
+import formats
+
+_WORDS = {
+    "nomail": "there is no message with this number",
+    "member": "the volume has no such replica, or both are the same one",
+    "down": "the replica has stopped, and answers nothing until it is restarted",
+    "nofuse": "a disk in a folder can't be told to stop",
+    "stale": "this isn't the answer to the replica's open ask",
+    "notorphan": "no orphan has this identifier",
+    "noentry": "nothing has this name",
+    "ambiguous": "several objects have this name",
+    "notdir": "this is a file, not a directory",
+    "isdir": "this is a directory, not a file",
+    "intoself": "a directory can't go into itself",
+    "exists": "the name is taken",
+    "conflict": "the file is in conflict: `versions` tells its versions, `settle` and `resolve` end it",
+    "noconflict": "the file isn't in conflict",
+    "declined": "the resolver of the file's kind makes nothing of its versions",
+    "notempty": "something lies in the directory, and it has no other name",
+    "toolong": "it is more than a file may have",
+    "spent": "the replica has made all the updates of its life",
+    "quota": "the replica has written all the bytes of its life",
+    "linkfull": "the messages of this run have no more room",
+    "store": "the disks of the replica failed; a restart opens them again",
+    "image": "the disks hold no image of this replica that fits",
+}
+
+
+def in_words(refusal: str) -> str:
+    """A refusal with what it means, in short words, or as the document says it."""
+    words = _WORDS.get(refusal) or formats.refusals().get(refusal)
+    return f"no {refusal}: {words}" if words else f"no {refusal}"
