@@ -1,0 +1,2 @@
+mod Backing
+pub mod Decided

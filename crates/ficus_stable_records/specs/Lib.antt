@@ -1,0 +1,4 @@
+pub mod Fuses
+pub mod Holds
+pub mod Reading
+pub mod Stable
