@@ -39,7 +39,8 @@ fn fits_entry(entry: &Entry, members: Members) -> bool
 
 /// Reads a name: its length in one byte, and its bytes.
 pub fn read_name(reader: &mut Reader<'_>) -> Result<Name, ReadFault>
-    ensures { Reads name reader.old result reader.new }
+    ensures reads { Reads name reader.old result reader.new }
+    ensures unspelled { IfErr result (λ fault. fault ≡ ReadFault.Unspelled) }
 {
     let bytes = reader.short_string()?;
     match Name::new(bytes) {

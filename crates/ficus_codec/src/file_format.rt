@@ -21,7 +21,8 @@ use std::cmp::Ordering;
 
 /// Reads a kind: its number in one byte.
 pub fn read_kind(reader: &mut Reader<'_>) -> Result<Kind, ReadFault>
-    ensures { Reads kind reader.old result reader.new }
+    ensures reads { Reads kind reader.old result reader.new }
+    ensures unspelled { IfErr result (λ fault. fault ≡ ReadFault.Unspelled) }
 {
     match reader.byte()? {
         0 => Ok(Kind::Dir),

@@ -14,5 +14,5 @@ pub use ficus_formats::{
 };
 pub use ficus_saved::{BYTE_LIMIT, FILE_LIMIT, Saved, UPDATE_LIMIT};
 pub use file_format::read_kind;
-pub use tables::{put_tables, read_all_lists, read_lists, read_tables, take_tables};
+pub use tables::{one_tables, put_tables, read_all_lists, read_lists, read_tables, take_tables};
 pub use take_fault::TakeFault;

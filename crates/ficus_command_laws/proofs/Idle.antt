@@ -48,6 +48,7 @@ looks_idle volume (command.Alike by other) is =
     (λ peers. by_rule_idle _)
 looks_idle volume (command.Change by asked) is = absurd is
 looks_idle volume (command.Collect by) is = absurd is
+looks_idle volume (command.Sweep order) is = absurd is
 looks_idle volume (command.Ask by to) is = absurd is
 looks_idle volume (command.Give mail) is = absurd is
 looks_idle volume (command.Pull by to) is = absurd is

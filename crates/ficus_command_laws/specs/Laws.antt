@@ -29,6 +29,7 @@ abbrev pub OnlyLooks : Command → Type 0
 OnlyLooks (command.Change by asked) = ⊥
 OnlyLooks (command.Look by look) = Unit {0}
 OnlyLooks (command.Collect by) = ⊥
+OnlyLooks (command.Sweep order) = ⊥
 OnlyLooks (command.Ask by to) = ⊥
 OnlyLooks (command.Give mail) = ⊥
 OnlyLooks (command.Pull by to) = ⊥

@@ -1,5 +1,5 @@
 -- The trail of a step leads to what the step leads to.
-use Rattle.std.proofs.Common.{◌≡◌, ℕ, List, [], ◌++◌, Ok, Option, refl, sym, subst}
+use Rattle.std.proofs.Common.{◌≡◌, ℕ, List, [], ◌∷◌, ◌++◌, Ok, Option, refl, sym, subst}
 use Rattle.ficus_disk.specs.declared.disk.Disk.{Ghosts as Disk}
 use Rattle.ficus_disk.specs.declared.pair.Pair.{Pair}
 use Rattle.ficus_keep.specs.Kept.{Kept}
@@ -17,8 +17,10 @@ use Rattle.ficus_runs.specs.Run.Run.{End, Then}
 use Rattle.ficus_runs.specs.Sequence.{Effect, unchanged}
 use Rattle.ficus_runs.specs.Sequence.ByRule.{Says}
 use Rattle.ficus_runs.specs.Sequence.CutFirst.{InFirst, InRest}
-use Rattle.ficus_runs.specs.Sequence.First.{Goes}
+use Rattle.ficus_runs.specs.Sequence.First.{Ends, Goes}
+use Rattle.ficus_runs.specs.Sweep.{Collecting, DoesSweepPart, Pulling, PullsPart, SweepStep, SweepsPart, sweep_steps}
 use Rattle.ficus_run_laws.proofs.Extending.{Extends, as_it_was, further, step_extends}
+use Rattle.ficus_run_laws.proofs.SweepSteps.{as_step}
 use Rattle.ficus_world.specs.Follows.{StoresAsMany}
 use Rattle.ficus_world.specs.Kills.{Passes}
 use Rattle.ficus_world.specs.World.{Whole, WorldStandsFor}
@@ -54,11 +56,27 @@ pull_part_extends volume by to W left (InRest {left = l} (Goes (Says one) (Says 
 pull_part_extends volume by to W left
     (InRest (Goes (Says one) (Says two)) (InRest {a = number} {middle = m} {left = l} asks (InFirst same))) =
     further (asks_extends volume by to number W m asks) (nothing_extends m.after l same)
-part_extends volume (command.Pull by to) W left
+pull_part_extends volume by to W left
     (InRest (Goes (Says one) (Says two)) (InRest {a = number} {middle = m} asks
     (InRest {a = given} {middle = n} {left = l} gives same))) =
     further (asks_extends volume by to number W m asks)
     (further (mail_extends volume number given m.after n gives) (nothing_extends n.after l same))
+
+sweep_part_extends : (volume : Volume) (step : SweepStep) (W : ModelWorld) (left : Effect ModelWorld)
+    → DoesSweepPart volume step W left → Extends W.events left.after.events
+sweep_part_extends volume (Pulling by to) W left part = pull_part_extends volume by to W left part
+sweep_part_extends volume (Collecting by) W left same = nothing_extends W left same
+
+sweeps_part_extends : (volume : Volume) (steps : List SweepStep) (W : ModelWorld) (left : Effect ModelWorld)
+    → SweepsPart volume steps W left → Extends W.events left.after.events
+sweeps_part_extends volume [] W left same = nothing_extends W left same
+sweeps_part_extends volume (step ∷ steps) W left (InFirst part) = sweep_part_extends volume step W left part
+sweeps_part_extends volume (step ∷ steps) W left (InRest {a = given} {middle = m} {left = l} does rest) =
+    further (step_extends (as_step volume step W (Ok given) m does)) (sweeps_part_extends volume steps m.after l rest)
+
+pub part_extends : (volume : Volume) (command : Command) (W : ModelWorld) (left : Effect ModelWorld)
+    → DoesPart volume command W left → Extends W.events left.after.events
+part_extends volume (command.Pull by to) W left part = pull_part_extends volume by to W left part
 part_extends volume (command.Change by change) W left same = nothing_extends W left same
 part_extends volume (command.Look by look) W left same = nothing_extends W left same
 part_extends volume (command.Collect by) W left same = nothing_extends W left same

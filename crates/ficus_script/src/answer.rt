@@ -12,14 +12,21 @@ pub enum Answer {
     /// It was done, and a message of this number was posted.
     Mail(u32),
     /// It was done, and gave up so many removed entries and so many files and directories.
-    Collected { entries: u32, files: u32 },
+    Collected {
+        entries: u32,
+        files: u32,
+    },
     /// What the look told.
     Told(Told),
     /// Whether two replicas show the same.
     Alike(bool),
     /// It was done: so many pulls, and collections that gave up so many removed entries and so many files and
     /// directories in all.
-    Swept { pulls: u32, entries: u32, files: u32 },
+    Swept {
+        pulls: u32,
+        entries: u32,
+        files: u32,
+    },
     /// It was refused.
     Refused(Refusal),
 }

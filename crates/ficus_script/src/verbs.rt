@@ -9,10 +9,10 @@ ghost use Rattle.ficus_script.specs.Command.{IsCommandOf, IsSpelled, Spelling, o
 ghost use Rattle.ficus_script.specs.Verb.{kind_command, path_command, paths_command, text_command};
 ghost use Rattle.ficus_script.specs.Arguments.{Nothing, OnePath, PathAndKind, PathAndText, TwoPaths, OneNumber, OneOrder, TwoReplicas, Arming};
 
-use crate::{Command, Order};
 use crate::arguments::Shape;
 use crate::line_paths::LinePaths;
 use crate::replica::is_replica;
+use crate::{Command, Order};
 use ficus_commands::Look;
 use ficus_ids::Id;
 use ficus_path::PathDraft;

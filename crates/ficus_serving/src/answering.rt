@@ -11,7 +11,7 @@ ghost use Rattle.ficus_sweep.specs.Follows.{most_swept, sweeping_limit};
 ghost use Rattle.ficus_world.specs.Disks.{AreDisksOf};
 ghost use Rattle.ficus_world.specs.Follows.{TellsFor};
 ghost use Rattle.ficus_world.specs.Kills.{OthersStay};
-ghost use Rattle.ficus_world.specs.World.{WorldStandsFor, event_limit, most_events};
+ghost use Rattle.ficus_world.specs.World.{WorldStandsFor};
 
 use crate::command::carry_out;
 use crate::fault::AnsweringFault;

@@ -7,12 +7,12 @@ ghost use Rattle.ficus_serving.specs.Sweeping.{AnswersSweep};
 ghost use Rattle.ficus_sweep.specs.Follows.{most_swept, sweeping_limit};
 ghost use Rattle.ficus_world.specs.Disks.{AreDisksOf};
 ghost use Rattle.ficus_world.specs.Follows.{FollowsOn, StopsOn, TellsFor};
-ghost use Rattle.ficus_world.specs.Kills.{Passes};
+ghost use Rattle.ficus_world.specs.Kills.{OthersStay, Passes};
 ghost use Rattle.ficus_world.specs.World.{WorldStandsFor};
 
 use ficus_disk::{Disk, Pair};
 use ficus_ids::Memory;
-use ficus_keep::Keep;
+use ficus_keep::{Keep, KeepImages};
 use ficus_outside::Link;
 use ficus_script::{Answer, Command, Order};
 use ficus_sweep::{SweepFault, SweepReport, sweep};
@@ -20,7 +20,7 @@ use ficus_world::World;
 use std::alloc::Global;
 
 /// Carries out one command, which is one step of the world or a sweep, and answers it.
-pub(crate) fn carry_out<D: Disk, P: Keep + Drop, L: Link + Drop>(
+pub(crate) fn carry_out<D: Disk, P: Keep + KeepImages + Drop, L: Link + Drop>(
     alloc: Global,
     world: &mut World<P, L>,
     disks: &mut Vec<Pair<D>>,
@@ -39,6 +39,7 @@ pub(crate) fn carry_out<D: Disk, P: Keep + Drop, L: Link + Drop>(
         → OnErr result (StopsOn P.Keep D.Disk volume W world.old.whole command.now world.new.whole disks.old.items
         disks.new.items) }
     ensures passes { Passes L.tells P.Keep D.Disk world.old.whole world.new.whole disks.old.items disks.new.items }
+    ensures others { OthersStay (length world.old.whole.members) disks.old.items disks.new.items }
     ensures disks { AreDisksOf D.tells P.kept P.fits D.seen D.may_leave D.armings world.new.whole.members
         world.new.stables disks.new.items }
     ensures members { length world.new.whole.members ≡ length world.old.whole.members }
@@ -52,7 +53,7 @@ pub(crate) fn carry_out<D: Disk, P: Keep + Drop, L: Link + Drop>(
 }
 
 // Sweeps, and answers the sweep.
-fn answer_sweep<D: Disk, P: Keep + Drop, L: Link + Drop>(
+fn answer_sweep<D: Disk, P: Keep + KeepImages + Drop, L: Link + Drop>(
     alloc: Global,
     world: &mut World<P, L>,
     disks: &mut Vec<Pair<D>>,
@@ -69,6 +70,7 @@ fn answer_sweep<D: Disk, P: Keep + Drop, L: Link + Drop>(
         → OnErr result (StopsOn P.Keep D.Disk volume W world.old.whole (Sweeps order) world.new.whole disks.old.items
         disks.new.items) }
     ensures passes { Passes L.tells P.Keep D.Disk world.old.whole world.new.whole disks.old.items disks.new.items }
+    ensures others { OthersStay (length world.old.whole.members) disks.old.items disks.new.items }
     ensures disks { AreDisksOf D.tells P.kept P.fits D.seen D.may_leave D.armings world.new.whole.members
         world.new.stables disks.new.items }
     ensures members { length world.new.whole.members ≡ length world.old.whole.members }

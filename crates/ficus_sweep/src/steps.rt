@@ -4,8 +4,7 @@ ghost use Rattle.ficus_runs.specs.Sweep.{command_of, leg_step, leg_steps, ring_r
 ghost use Rattle.ficus_sweep.specs.Legs.{leg_of};
 
 use ficus_ids::Memory;
-use ficus_script::Command;
-use ficus_script::Order;
+use ficus_script::{Command, Order};
 use std::alloc::Global;
 
 // What each of some members does in turn, in rising order.

@@ -5,14 +5,14 @@ ghost use Rattle.ficus_runs.specs.Sweep.{SweepStep, command_of, sweep_steps};
 ghost use Rattle.ficus_script.specs.Command.{IsCommand};
 ghost use Rattle.ficus_sweep.specs.Follows.{CountsFew, FollowsStep, FollowsSweep, GivesUpFew, IsSweepCommand, LeavesSwept, ReportsSo, most_steps, most_swept, swept_of, sweeping_limit};
 ghost use Rattle.ficus_world.specs.Disks.{AreDisksOf};
-ghost use Rattle.ficus_world.specs.Kills.{Passes};
+ghost use Rattle.ficus_world.specs.Kills.{OthersStay, Passes};
 ghost use Rattle.ficus_world.specs.World.{WorldStandsFor, event_limit, most_events};
 
 use crate::fault::SweepFault;
 use crate::report::SweepReport;
 use crate::steps::steps_of;
 use ficus_disk::{Disk, Pair};
-use ficus_keep::Keep;
+use ficus_keep::{Keep, KeepImages};
 use ficus_outside::Link;
 use ficus_script::{Answer, Command, Order};
 use ficus_world::World;
@@ -20,7 +20,7 @@ use std::alloc::Global;
 
 /// All pulls of the order, and then each member collects, up to the first refusal. `Stopped` comes exactly where one of
 /// them is refused, and says how; `Memory` where memory was. After both the steps that were done stand.
-pub fn sweep<D: Disk, K: Keep + Drop, L: Link + Drop>(
+pub fn sweep<D: Disk, K: Keep + KeepImages + Drop, L: Link + Drop>(
     alloc: Global,
     world: &mut World<K, L>,
     disks: &mut Vec<Pair<D>>,
@@ -41,6 +41,7 @@ pub fn sweep<D: Disk, K: Keep + Drop, L: Link + Drop>(
         → IfOk result (λ report. LeavesSwept volume world.new.whole) }
     // At each moment of it the disks are as before, or one member saves: link by link, a link for each message.
     ensures passes { Passes L.tells K.Keep D.Disk world.old.whole world.new.whole disks.old.items disks.new.items }
+    ensures others { OthersStay (length world.old.whole.members) disks.old.items disks.new.items }
     ensures disks { AreDisksOf D.tells K.kept K.fits D.seen D.may_leave D.armings world.new.whole.members
         world.new.stables disks.new.items }
     ensures members { length world.new.whole.members ≡ length world.old.whole.members }
@@ -53,7 +54,7 @@ pub fn sweep<D: Disk, K: Keep + Drop, L: Link + Drop>(
 }
 
 // The steps, up to the first refusal.
-fn take_steps<D: Disk, K: Keep + Drop, L: Link + Drop>(
+fn take_steps<D: Disk, K: Keep + KeepImages + Drop, L: Link + Drop>(
     alloc: Global,
     world: &mut World<K, L>,
     disks: &mut Vec<Pair<D>>,
@@ -71,6 +72,7 @@ fn take_steps<D: Disk, K: Keep + Drop, L: Link + Drop>(
         → FollowsSweep K.Keep D.Disk volume W world.old.whole some result world.new.whole disks.old.items
         disks.new.items }
     ensures passes { Passes L.tells K.Keep D.Disk world.old.whole world.new.whole disks.old.items disks.new.items }
+    ensures others { OthersStay (length world.old.whole.members) disks.old.items disks.new.items }
     ensures disks { AreDisksOf D.tells K.kept K.fits D.seen D.may_leave D.armings world.new.whole.members
         world.new.stables disks.new.items }
     ensures members { length world.new.whole.members ≡ length world.old.whole.members }
@@ -90,7 +92,7 @@ fn take_steps<D: Disk, K: Keep + Drop, L: Link + Drop>(
 }
 
 // One step.
-fn take_step<D: Disk, K: Keep + Drop, L: Link + Drop>(
+fn take_step<D: Disk, K: Keep + KeepImages + Drop, L: Link + Drop>(
     alloc: Global,
     world: &mut World<K, L>,
     disks: &mut Vec<Pair<D>>,
@@ -110,6 +112,7 @@ fn take_step<D: Disk, K: Keep + Drop, L: Link + Drop>(
         disks.old.items disks.new.items }
     ensures few { (count : ℕ) → CountsFew count report → IfOk result (CountsFew (count + 1)) }
     ensures passes { Passes L.tells K.Keep D.Disk world.old.whole world.new.whole disks.old.items disks.new.items }
+    ensures others { OthersStay (length world.old.whole.members) disks.old.items disks.new.items }
     ensures disks { AreDisksOf D.tells K.kept K.fits D.seen D.may_leave D.armings world.new.whole.members
         world.new.stables disks.new.items }
     ensures members { length world.new.whole.members ≡ length world.old.whole.members }

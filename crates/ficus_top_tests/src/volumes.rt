@@ -280,14 +280,15 @@ fn what_disks_hold_besides_is_told(rt: HostRuntime) -> Result<(), Fail> {
 }
 
 // How many calls are made of each disk of two members before the commands.
-const CALLS: [u32; 4] = [10, 4, 10, 4];
+const CALLS: [u8; 4] = [10, 4, 10, 4];
 
 #[test]
 fn each_call_of_a_disk_before_the_commands_may_fail(rt: HostRuntime) -> Result<(), Fail> {
     for (disk, calls) in CALLS.iter().enumerate() {
-        for fails in 1..=*calls + 1 {
+        let calls = u32::from(*calls);
+        for fails in 1..=calls + 1 {
             let mut disks = failing_pairs(rt.alloc(), disk as u8, fails)?;
-            let ended = if fails <= *calls {
+            let ended = if fails <= calls {
                 Status {
                     code: 6,
                     line: 0,
@@ -373,7 +374,8 @@ fn replay_ends<D: Disk>(
 
 // How many calls a restart makes of this disk of replica 1, each of which may fail; or none, where something else comes
 // of it.
-fn restart_calls(alloc: Global, disk: u8, before: u32) -> Result<Option<u32>, Fail> {
+fn restart_calls(alloc: Global, disk: u8, before: u8) -> Result<Option<u32>, Fail> {
+    let before = u32::from(before);
     for call in 1..=20 {
         let mut disks = failing_pairs(alloc, disk, before + call)?;
         if replay_ends(alloc, &mut disks, NOT_RESTARTED)? {

@@ -1,6 +1,7 @@
 ghost use Rattle.std.specs.Prelude.{◌≡◌, ◌↔◌, length, IsSome, IfSome};
 
 use crate::group::Group;
+use ficus_ids::Members;
 use ficus_keep::{Keep, KeepImages};
 use ficus_model::History;
 use ficus_outside::Link;

@@ -7,7 +7,7 @@ use Rattle.ficus_sweep.specs.Follows.{most_swept}
 use Rattle.ficus_world.specs.Disks.{AreDisksOf}
 use Rattle.ficus_world.specs.Follows.{TellsFor}
 use Rattle.ficus_world.specs.Kills.{OthersStay}
-use Rattle.ficus_world.specs.World.{WorldStandsFor, most_events}
+use Rattle.ficus_world.specs.World.{WorldStandsFor}
 use Rattle.ficus_serving.proofs.answering.answer_all.Given as goal
 
 -- the commands so far were served, and the disks are still those of the world; none stored too many events; no fault of

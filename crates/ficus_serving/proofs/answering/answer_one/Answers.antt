@@ -42,7 +42,7 @@ returns-clause-front g c = λ told tells_for.
     put) c.put_answer.ensures.front
 
 pub returns-in_err-answer-clause-others : goal.returns-in_err-answer-clause-others
-returns-in_err-answer-clause-others g c = c.step.ensures.others
+returns-in_err-answer-clause-others g c = c.carry_out.ensures.others
 
 pub returns-clause-others : goal.returns-clause-others
-returns-clause-others g c = c.step.ensures.others
+returns-clause-others g c = c.carry_out.ensures.others

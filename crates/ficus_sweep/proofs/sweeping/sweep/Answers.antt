@@ -1,4 +1,4 @@
-use Rattle.std.proofs.Common.{◌≡◌, Err, map, sym, subst, ap, ◌∙◌}
+use Rattle.std.proofs.Common.{◌≡◌, Err, length, map, sym, subst, ap, ◌∙◌}
 use Rattle.std.proofs.lemmas.Result.{err_from_is_err_and}
 use Rattle.ficus_ids.specs.Members.{IsCount}
 use Rattle.ficus_runs.specs.Sweep.{command_of, sweep_steps}
@@ -7,6 +7,7 @@ use Rattle.ficus_sweep.proofs.Commands.{commands_of, few_commands, of_sweep}
 use Rattle.ficus_sweep.proofs.Following.{stops_first, swept_of_result}
 use Rattle.ficus_world.specs.Kills.Passes.{Idles}
 use Rattle.ficus_world.specs.Kills.Touches.{TouchesNone}
+use Rattle.ficus_world.proofs.Others.{others_none}
 use Rattle.ficus_sweep.proofs.sweeping.sweep.Goals as goal
 
 pub returns-in_err-steps-clause-follows : goal.returns-in_err-steps-clause-follows
@@ -48,3 +49,7 @@ returns-clause-swept g c = λ told volume W stands.
     (c.take_steps.ensures.follows told (sweep_steps c.args.order volume.members)
     (c.deref.ensures.value ∙ c.in_ok-steps.ensures ∙ ap (λ n. map command_of (sweep_steps c.args.order n))
     (c.count.ensures.value ∙ c.members.ensures ∙ stands.members)) volume W stands)
+
+pub returns-in_err-steps-clause-others : goal.returns-in_err-steps-clause-others
+returns-in_err-steps-clause-others g c =
+    others_none (length c.args.world.now.whole.members) c.args.disks.now.items

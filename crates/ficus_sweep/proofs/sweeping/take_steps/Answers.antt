@@ -1,10 +1,12 @@
-use Rattle.std.proofs.Common.{List, get_or, Ok, Err, refl, sym, subst, ap, ◌∙◌, arith}
+use Rattle.std.proofs.Common.{List, length, get_or, Ok, Err, refl, sym, subst, ap, ◌∙◌, arith}
 use Rattle.std.proofs.lemmas.Result.{err_from_is_err_and}
 use Rattle.ficus_runs.specs.Sweep.{SweepStep, Collecting, Sweeps, none_swept}
 use Rattle.ficus_sweep.specs.Follows.{FollowsAction, FollowsSweep, IsSweepCommand, swept_of}
 use Rattle.ficus_sweep.proofs.Following.{all_taken, last_step, next_step, no_steps, step_is, within_steps}
 use Rattle.ficus_world.specs.Kills.Passes.{Idles, Joins}
 use Rattle.ficus_world.specs.Kills.Touches.{TouchesNone}
+use Rattle.ficus_world.specs.Kills.{OthersStay}
+use Rattle.ficus_world.proofs.Others.{others_none, others_then}
 use Rattle.ficus_sweep.proofs.sweeping.take_steps.Goals as goal
 
 pub loop-step-init : goal.loop-step-init
@@ -13,6 +15,7 @@ loop-step-init g c = record {
   passes = Idles c.settled.ensures TouchesNone;
   disks = c.requires.disks;
   members = refl;
+  others = others_none (length c.args.world.now.whole.members) c.args.disks.now.items;
   pairs = refl;
   grows = omega arith;
   few = record { pulls = omega arith; entries = omega arith; files = omega arith };
@@ -37,6 +40,11 @@ loop-step-preserved g c = record {
   passes = Joins c.loop-step.invariant.passes c.take_step.ensures.passes;
   disks = c.take_step.ensures.disks;
   members = c.take_step.ensures.members ∙ c.loop-step.invariant.members;
+  others =
+      others_then (length c.args.world.now.whole.members) c.args.disks.now.items c.loop-step.disks.items
+      c.take_step.new.disks.items c.loop-step.invariant.others
+      (subst (λ n. OthersStay n c.loop-step.disks.items c.take_step.new.disks.items) c.loop-step.invariant.members
+      c.take_step.ensures.others);
   pairs = c.take_step.ensures.pairs ∙ c.loop-step.invariant.pairs;
   grows = omega (arith, c.take_step.ensures.grows, c.loop-step.invariant.grows);
   few = c.in_ok-report.ensures.few c.loop-step.step-index c.loop-step.invariant.few;
@@ -66,3 +74,13 @@ returns-clause-follows g c = λ told some same volume W stands.
 
 pub returns-in_err-report-clause-passes : goal.returns-in_err-report-clause-passes
 returns-in_err-report-clause-passes g c = Joins c.loop-step.invariant.passes c.take_step.ensures.passes
+
+pub returns-in_err-report-clause-others : goal.returns-in_err-report-clause-others
+returns-in_err-report-clause-others g c =
+    others_then (length c.args.world.now.whole.members) c.args.disks.now.items c.loop-step.disks.items
+    c.take_step.new.disks.items c.loop-step.invariant.others
+    (subst (λ n. OthersStay n c.loop-step.disks.items c.take_step.new.disks.items) c.loop-step.invariant.members
+    c.take_step.ensures.others)
+
+pub returns-clause-others : goal.returns-clause-others
+returns-clause-others g c = c.loop-step.invariant.others

@@ -4,7 +4,7 @@ use Rattle.ficus_runs.specs.ModelWorld.{ModelWorld}
 use Rattle.ficus_runs.specs.Sweep.{SweepStep, Sweeps, command_of, none_swept}
 use Rattle.ficus_sweep.specs.Follows.{CountsFew, FollowsAction, swept_of}
 use Rattle.ficus_world.specs.Disks.{AreDisksOf}
-use Rattle.ficus_world.specs.Kills.{Passes}
+use Rattle.ficus_world.specs.Kills.{OthersStay, Passes}
 use Rattle.ficus_world.specs.World.{WorldStandsFor, most_events}
 use Rattle.ficus_sweep.proofs.sweeping.take_steps.Given as goal
 
@@ -21,6 +21,7 @@ invariant-loop-step g l = record {
   disks : AreDisksOf g.D.Disk.tells g.K.Keep.kept g.K.Keep.fits g.D.Disk.seen g.D.Disk.may_leave g.D.Disk.armings
       l.world.whole.members l.world.stables l.disks.items;
   members : length l.world.whole.members ≡ length l.fn.world.whole.members;
+  others : OthersStay (length l.fn.world.whole.members) l.fn.disks.items l.disks.items;
   pairs : length l.disks.items ≡ length l.fn.disks.items;
   grows : length l.world.whole.events ≤ length l.fn.world.whole.events + most_events * l.step-index;
   few : CountsFew l.step-index l.report;
