@@ -1,4 +1,6 @@
-ghost use Rattle.std.specs.Prelude.{◌≡◌, ◌^◌, ◌≤◌, ⊤, IfOk, IsOk, IsErr, OnOk, OnErr, [], None, Ok, string_bytes};
+ghost use Rattle.std.specs.Prelude.{◌≡◌, ◌^◌, ◌≤◌, ⊤, IfOk, IsOk, IsErr, OnOk, OnErr, [], None, Ok, length, string_bytes};
+ghost use Rattle.ficus_disk.specs.Bytes.{Torn};
+ghost use Rattle.ficus_disk.specs.Crash.{Follows};
 ghost use Rattle.ficus_faults.specs.Faults.{Rose, next_fault};
 ghost use Rattle.ficus_file_disk.specs.Place.{Placed};
 
@@ -93,11 +95,21 @@ impl<R: Files + Clone + Drop> Disk for FileDisk<R> {
 
     ghost left_earlier = { λ d t u c le left. left };
 
-    fn size(&mut self) -> Result<u64, Failed> {
+    fn size(&mut self) -> Result<u64, Failed>
+        ensures place { self.new.path ≡ self.old.path }
+        ensures failed { OnErr result (Rose self.old.faults self.new.faults) }
+        ensures steady { OnOk result (self.new.faults ≡ self.old.faults) }
+        ensures risen { self.old.faults ≤ self.new.faults }
+    {
         counted(&mut self.faults, self.file.size())
     }
 
-    fn read(&mut self, at: u64, into: &mut [u8]) -> Result<(), Failed> {
+    fn read(&mut self, at: u64, into: &mut [u8]) -> Result<(), Failed>
+        ensures place { self.new.path ≡ self.old.path }
+        ensures failed { OnErr result (Rose self.old.faults self.new.faults) }
+        ensures steady { OnOk result (self.new.faults ≡ self.old.faults) }
+        ensures risen { self.old.faults ≤ self.new.faults }
+    {
         counted(&mut self.faults, self.file.read(at, into))
     }
 
@@ -111,11 +123,22 @@ impl<R: Files + Clone + Drop> Disk for FileDisk<R> {
         Ok(())
     }
 
-    fn write(&mut self, at: u64, bytes: &[u8]) -> Result<(), Failed> {
+    fn write(&mut self, at: u64, bytes: &[u8]) -> Result<(), Failed>
+        ensures place { self.new.path ≡ self.old.path }
+        ensures crash { Follows (Torn at (length bytes.now)) (λ _. ⊤) (λ _. ⊤) }
+        ensures failed { OnErr result (Rose self.old.faults self.new.faults) }
+        ensures steady { OnOk result (self.new.faults ≡ self.old.faults) }
+        ensures risen { self.old.faults ≤ self.new.faults }
+    {
         counted(&mut self.faults, self.file.write(at, bytes))
     }
 
-    fn sync(&mut self) -> Result<(), Failed> {
+    fn sync(&mut self) -> Result<(), Failed>
+        ensures place { self.new.path ≡ self.old.path }
+        ensures failed { OnErr result (Rose self.old.faults self.new.faults) }
+        ensures steady { OnOk result (self.new.faults ≡ self.old.faults) }
+        ensures risen { self.old.faults ≤ self.new.faults }
+    {
         counted(&mut self.faults, self.file.sync())
     }
 
@@ -123,9 +146,16 @@ impl<R: Files + Clone + Drop> Disk for FileDisk<R> {
         false
     }
 
-    fn arm(&mut self, _calls: u32, _pick: u8) {}
+    fn arm(&mut self, _calls: u32, _pick: u8)
+        ensures kept { self.new ≡ self.old }
+    {}
 
-    fn again(&mut self) -> Result<(), Failed> {
+    fn again(&mut self) -> Result<(), Failed>
+        ensures place { self.new.path ≡ self.old.path }
+        ensures failed { OnErr result (Rose self.old.faults self.new.faults) }
+        ensures steady { OnOk result (self.new.faults ≡ self.old.faults) }
+        ensures risen { self.old.faults ≤ self.new.faults }
+    {
         counted(&mut self.faults, self.file.again())
     }
 }

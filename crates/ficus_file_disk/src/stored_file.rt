@@ -34,7 +34,9 @@ impl<R: Files + Clone + Drop> StoredFile<R> {
     }
 
     /// How many bytes it has, and 0 where it is missing.
-    pub(crate) fn size(&mut self) -> io::Result<u64> {
+    pub(crate) fn size(&mut self) -> io::Result<u64>
+        ensures place { self.new.path ≡ self.old.path }
+    {
         self.find()?;
         match &self.file {
             Some(file) => Ok(file.metadata()?.len()),
@@ -43,7 +45,9 @@ impl<R: Files + Clone + Drop> StoredFile<R> {
     }
 
     /// Fills the buffer from this place on. The end of the file before that is an error.
-    pub(crate) fn read(&mut self, at: u64, into: &mut [u8]) -> io::Result<()> {
+    pub(crate) fn read(&mut self, at: u64, into: &mut [u8]) -> io::Result<()>
+        ensures place { self.new.path ≡ self.old.path }
+    {
         self.find()?;
         match &mut self.file {
             Some(file) => read_from(file, at, into),
@@ -53,7 +57,9 @@ impl<R: Files + Clone + Drop> StoredFile<R> {
     }
 
     /// Writes all the bytes from this place on. A missing file is made, and its folders where they are missing.
-    pub(crate) fn write(&mut self, at: u64, bytes: &[u8]) -> io::Result<()> {
+    pub(crate) fn write(&mut self, at: u64, bytes: &[u8]) -> io::Result<()>
+        ensures place { self.new.path ≡ self.old.path }
+    {
         self.find()?;
         let mut file = match self.file.take() {
             Some(file) => file,
@@ -65,7 +71,9 @@ impl<R: Files + Clone + Drop> StoredFile<R> {
     }
 
     /// Syncs it and the folders that are to be. Nothing is done where it is missing.
-    pub(crate) fn sync(&mut self) -> io::Result<()> {
+    pub(crate) fn sync(&mut self) -> io::Result<()>
+        ensures place { self.new.path ≡ self.old.path }
+    {
         self.find()?;
         if let Some(file) = &self.file {
             file.sync_all()?;
@@ -76,13 +84,17 @@ impl<R: Files + Clone + Drop> StoredFile<R> {
     }
 
     /// Opens it anew, and syncs it.
-    pub(crate) fn again(&mut self) -> io::Result<()> {
+    pub(crate) fn again(&mut self) -> io::Result<()>
+        ensures place { self.new.path ≡ self.old.path }
+    {
         self.file = None;
         self.sync()
     }
 
     // Opens it, where it isn't open and isn't missing.
-    fn find(&mut self) -> io::Result<()> {
+    fn find(&mut self) -> io::Result<()>
+        ensures place { self.new.path ≡ self.old.path }
+    {
         if self.file.is_none() {
             self.file = open_if_there(&self.rt, &self.path)?;
         }
@@ -90,7 +102,9 @@ impl<R: Files + Clone + Drop> StoredFile<R> {
     }
 
     // Makes it, and its folders where they are missing. What a failure leaves is synced too, once the file is there.
-    fn make(&mut self) -> io::Result<R::File> {
+    fn make(&mut self) -> io::Result<R::File>
+        ensures place { self.new.path ≡ self.old.path }
+    {
         let missing = folders::count_missing(&self.rt, &self.path)?;
         self.unsynced = self.unsynced.max(missing.saturating_add(1));
         folders::make(&self.rt, &self.path)?;

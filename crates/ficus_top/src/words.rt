@@ -1,4 +1,4 @@
-ghost use Rattle.std.specs.Prelude.{◌≡◌, ℕ, List, IfNone, IfOk, IfSome, option_map, string_bytes};
+ghost use Rattle.std.specs.Prelude.{◌≡◌, ◌≢◌, ℕ, List, None, IfNone, IfOk, IfSome, IsErr, option_map, string_bytes};
 ghost use Rattle.ficus_top.specs.Words.{NameRoot, root_in, texts};
 
 use ficus_ids::Memory;
@@ -20,7 +20,10 @@ pub fn root_of(alloc: Global, words: &Vec<String>) -> Result<Option<String>, Mem
 
 // Where the volume of the mode lies, or is to lie.
 fn root_in(alloc: Global, mode: &Mode) -> Result<Option<String>, Memory>
-    ensures { IfOk result (λ root. option_map string_bytes root ≡ root_in mode.now) }
+    ensures found { IfOk result (λ root. option_map string_bytes root ≡ root_in mode.now) }
+
+    // Memory is wanted for a place alone.
+    ensures memory { IsErr result → root_in mode.now ≢ None }
 {
     match mode {
         Mode::Init { root, .. } | Mode::Run { root } => {

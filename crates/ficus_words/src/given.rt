@@ -45,6 +45,7 @@ pub(crate) fn read_given<'a>(alloc: Global, words: &'a [String]) -> Result<Given
 // Why a parse failed.
 fn fault_of(error: &Error) -> WordsFault
     ensures usage { result ≡ WordsFault.Usage → kind_of error.now ≢ ErrorKind.OutOfMemory }
+    ensures memory { result ≡ WordsFault.Memory → kind_of error.now ≡ ErrorKind.OutOfMemory }
 {
     if error.kind() == ErrorKind::OutOfMemory {
         WordsFault::Memory

@@ -10,7 +10,7 @@ pub returns-in-Ok-clause-none : goal.returns-in-Ok-clause-none
 returns-in-Ok-clause-none c =
     none_found c.in-Ok.mode c.root_in.result
     (subst (λ (words : List (String Global)). AreWords (texts words) c.in-Ok.mode) c.as_slice.ensures.value
-    c.in-Ok.ensures.read) c.root_in.ensures
+    c.in-Ok.ensures.read) c.root_in.ensures.found
 
 pub returns-in-Err-Usage-clause-none : goal.returns-in-Err-Usage-clause-none
 returns-in-Err-Usage-clause-none c =
