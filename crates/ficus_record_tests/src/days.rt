@@ -1,0 +1,25 @@
+use crate::steps::played;
+use std::test::Fail;
+
+// Days of two replicas, in which each operation, asks, accepts and collections come.
+const DAYS: &[&str] = &[
+    "1 mkdir /d\n1 create /d/f plain\n1 write /d/f \"one\"\n1 ln /d/f /g\n1 mv /d/f /h\n1 rm /g\n",
+    // What is removed here is written there, and gets a name again.
+    "1 create /f plain\npull 2 1\n1 rm /f\n2 write /f \"kept\"\npull 1 2\n1 adopt ~1.1 /back\n",
+    // Or it is given up.
+    "1 create /f plain\npull 2 1\n1 rm /f\n2 write /f \"kept\"\npull 1 2\n1 discard ~1.1\npull 2 1\n",
+    // Both write, and the conflicts end by hand and by the resolver.
+    "1 create /f plain\n1 create /m max\npull 2 1\n1 write /f \"a\"\n1 write /m \"3\"\n2 write /f \"b\"\n\
+    2 write /m \"4\"\npull 1 2\n1 settle /f \"c\"\n1 resolve /m\n",
+    // What all know to be removed is collected.
+    "1 mkdir /d\n1 rm /d\npull 2 1\npull 1 2\npull 2 1\npull 1 2\n1 collect\n",
+];
+
+#[test]
+fn records_of_days_are_applied(rt: HostRuntime) -> Result<(), Fail> {
+    for day in DAYS {
+        // Each step applies its record, or fails.
+        played(rt.alloc(), day, 40, 40)?;
+    }
+    Ok(())
+}
