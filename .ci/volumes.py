@@ -1,4 +1,4 @@
-"""A day's work of three members, what a volume shows after each of its commands, and what its replicas save."""
+"""A day's work of three members, what a volume shows after each of its commands, and the images and records of replicas."""
 import struct
 import subprocess
 
@@ -71,23 +71,37 @@ def replayed(program, commands):
     return answers_of(ran.stdout, commands)
 
 
-def shown_after_each(program, commands):
+def shown_after_each(program, commands, looks=LOOKS):
     """What the members show at first, and after each of the commands."""
-    given = replayed(program, LOOKS + [line for command in commands for line in [command, *LOOKS]])
-    return [given[at:at + len(LOOKS)] for at in range(0, len(given), len(LOOKS) + 1)]
+    given = replayed(program, looks + [line for command in commands for line in [command, *looks]])
+    return [given[at:at + len(looks)] for at in range(0, len(given), len(looks) + 1)]
 
 
-def image(member, members, made, tables):
-    """What a member saves that has made so many directories, with the default limits, and done nothing else."""
-    return struct.pack(">4sBBIIIIQ", b"FIC1", member, members, 100_000, 4_194_304, made + 1, 0, made) + tables
+def image(member, members, made, tables, saves=None, used=0):
+    """The image of a member that has made so many updates, and written so many bytes, with the default limits, and saved
+    so often, or once for each."""
+    saves = made if saves is None else saves
+    return struct.pack(">4sBBIIIIQ", b"FIC1", member, members, 100_000, 4_194_304, made + 1, used, saves) + tables
 
 
 def slot(generation, image):
     return struct.pack(">BQQ", 1, generation, len(image)) + image + b"\0"
 
 
+def logged(held, generation, *bodies):
+    """What a file holds that held what is of this generation, with records of these bodies behind it."""
+    for number, body in enumerate(bodies, generation + 1):
+        held = held[:-1] + struct.pack(">BQI", 1, number, len(body)) + body + b"\0"
+    return held
+
+
+def making(name):
+    """The body of the record of a directory that is made in the root."""
+    return struct.pack(">B5xB", 1, len(name)) + name + b"\0"
+
+
 def directories(members, made):
-    """What member 1 saves that has made so many directories, each with a name of eight digits."""
+    """The slot with the image of member 1 that has made so many directories, each with a name of eight digits."""
     identifiers = [struct.pack(">BI", 1, number) for number in range(1, made + 1)]
     entries = [it + bytes(5) + b"\x08%08d" % number + it + b"\0" for number, it in enumerate(identifiers)]
     files = [it + bytes(2 + 4 * members) for it in identifiers]

@@ -12,9 +12,14 @@ from program import SCRIPT_BYTES, Folder, Memory, ask
 from spelling import to_bytes
 
 # Commands that change nothing, so that they need not be carried out again.
-LOOKS = {"read", "versions", "ls", "tree", "conflicts", "orphans", "detached", "marks", "alike"}
-# Commands of which something lasts no longer than a run.
-WITHIN_A_RUN = {"ask", "give"}
+LOOKS = {"read", "versions", "ls", "tree", "conflicts", "orphans", "detached", "marks", "why", "alike"}
+# Why commands that speak of one run tell nothing where each line is a run of its own.
+_LOST = "an ask is lost with the run that made it: use pull, or a shell with --members"
+WITHIN_A_RUN = {
+    "ask": _LOST,
+    "give": _LOST,
+    "why": "why tells of the updates of its own run alone: put them into one script, or use a shell with --members",
+}
 # From how long a replay on it is told how many lines are replayed, in seconds.
 LONG = 1.0
 
@@ -48,8 +53,7 @@ class FolderSession:
     def do(self, line: str) -> Answer:
         usage = usage_of(line)
         if usage and usage.name in WITHIN_A_RUN:
-            raise Fault("each line is a run of its own here, and an ask is lost with the run that made it: use pull, "
-                        "or a shell with --members", Status.REFUSED)
+            raise Fault(f"each line is a run of its own here, and {WITHIN_A_RUN[usage.name]}", Status.REFUSED)
         return self.look(line)
 
     def look(self, line: str) -> Answer:

@@ -7,15 +7,14 @@ use Rattle.ficus_model.specs.Live.{ModelEntry, IsEntered, IsLive}
 use Rattle.ficus_script.specs.declared.answer.Answer.{Answer}
 use Rattle.ficus_script.specs.declared.command.Command.{Command}
 use Rattle.ficus_script.specs.declared.command.Command.TheVariants as command
-use Rattle.ficus_runs.specs.Actions.{ModelAction, AtMember, AtPeers, Compares, Sees}
+use Rattle.ficus_runs.specs.Actions.{ModelAction, AtMember, AtPeers, Compares, Explaining, Sees}
 use Rattle.ficus_runs.specs.ModelWorld.{ModelWorld}
 use Rattle.ficus_runs.specs.Outcome.{Outcome}
-use Rattle.ficus_runs.specs.Run.{Does, Run, Step}
+use Rattle.ficus_runs.specs.Run.{Does, OnlyLooks, Run, Step}
 use Rattle.ficus_runs.specs.Sequence.{ByRule, Effect, First, joined, unchanged}
 use Rattle.ficus_runs.specs.Sequence.First.{Ends, Goes}
 use Rattle.ficus_runs.specs.Sequence.ByRule.{Says}
 use Rattle.ficus_run_laws.proofs.Extending.{run_never_returns}
-use Rattle.ficus_command_laws.specs.Laws.{OnlyLooks}
 
 -- the action changes nothing, and asks nothing of the outside
 abbrev pub IsIdle : {A : Type 0} → ModelAction A → Type 0
@@ -46,6 +45,8 @@ looks_idle volume (command.Look by look) is =
 looks_idle volume (command.Alike by other) is =
     behind_idle (AtPeers volume by other) (λ peers. Compares volume by other) (at_peers_idle volume by other)
     (λ peers. by_rule_idle _)
+looks_idle volume (command.Why by) is =
+    behind_idle (AtMember volume by) (λ member. Explaining by) (at_member_idle volume by) (λ member. by_rule_idle _)
 looks_idle volume (command.Change by asked) is = absurd is
 looks_idle volume (command.Collect by) is = absurd is
 looks_idle volume (command.Sweep order) is = absurd is

@@ -22,20 +22,7 @@ use Rattle.ficus_script.specs.declared.command.Command.{Command}
 use Rattle.ficus_script.specs.declared.command.Command.TheVariants as command
 use Rattle.ficus_runs.specs.ModelWorld.{ModelWorld}
 use Rattle.ficus_runs.specs.Outcome.{Outcome}
-use Rattle.ficus_runs.specs.Run.{Run, Step}
-
--- the command asks only for what is shown
-abbrev pub OnlyLooks : Command → Type 0
-OnlyLooks (command.Change by asked) = ⊥
-OnlyLooks (command.Look by look) = Unit {0}
-OnlyLooks (command.Collect by) = ⊥
-OnlyLooks (command.Sweep order) = ⊥
-OnlyLooks (command.Ask by to) = ⊥
-OnlyLooks (command.Give mail) = ⊥
-OnlyLooks (command.Pull by to) = ⊥
-OnlyLooks (command.Alike by other) = Unit {0}
-OnlyLooks (command.Restart by) = ⊥
-OnlyLooks (command.Stop by calls pick) = ⊥
+use Rattle.ficus_runs.specs.Run.{OnlyLooks, Run, Step}
 
 -- what only looks changes nothing, and asks nothing of the outside
 abbrev pub LooksChangeNothing : Type 0

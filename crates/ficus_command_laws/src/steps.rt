@@ -1,6 +1,6 @@
 ghost use Rattle.ficus_command_laws.specs.Laws.{LooksChangeNothing, SecondCollectsNothing, WasAlive};
 
-/// A look, and a comparison of two members, changes nothing and asks nothing of the outside.
+/// A look, a comparison of two members and why change nothing and ask nothing of the outside.
 pub fn looks_change_nothing()
     ensures { LooksChangeNothing }
 {}

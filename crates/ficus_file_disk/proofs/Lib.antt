@@ -1,1 +1,3 @@
+mod Above
 mod Places
+mod Refusals

@@ -1,13 +1,18 @@
 -- Where disks over files lie.
-use Rattle.std.specs.Prelude.{ℕ, List, ◌++◌, codes, map}
+use Rattle.std.specs.Prelude.{ℕ, Bool, List, ◌++◌, codes, map}
 use Rattle.std.specs.Fmt.{decimal}
 use Rattle.std.specs.List.{range_with_len}
 use Rattle.ficus_disk.specs.declared.pair.Pair.{Pair}
+use Rattle.ficus_file_disk.specs.Told.{Told}
 
--- a disk over a file: where this lies, in the runtime's own terms, and how often the disk has failed
+-- a disk over a file: where this lies, in the runtime's own terms, how often the disk has failed, whether the file is
+-- open, how many of the folders above it are to be synced with it, and what the system has told, where it tells that
 pub record Placed : Type 0 where
   pub path : List ℕ
   pub faults : ℕ
+  pub is_open : Bool
+  pub unsynced : ℕ
+  pub told : List Told
 
 -- where the two disks of a pair lie
 pub record Places : Type 0 where

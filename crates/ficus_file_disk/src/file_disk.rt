@@ -1,10 +1,12 @@
-ghost use Rattle.std.specs.Prelude.{◌≡◌, ◌^◌, ◌≤◌, ⊤, IfOk, IsOk, IsErr, OnOk, OnErr, [], None, Ok, length, string_bytes};
+ghost use Rattle.std.specs.Prelude.{is_some, false, ◌⊎◌, ◌≡◌, ◌^◌, ◌≤◌, ⊤, IfOk, IsOk, IsErr, OnOk, OnErr, [], None, Ok, length, string_bytes};
 ghost use Rattle.ficus_disk.specs.Bytes.{Torn};
 ghost use Rattle.ficus_disk.specs.Crash.{Follows};
 ghost use Rattle.ficus_faults.specs.Faults.{Rose, next_fault};
 ghost use Rattle.ficus_file_disk.specs.Place.{Placed};
+ghost use Rattle.ficus_file_disk.specs.Told.{AreRefused, IsMeasured, IsMissing, IsRead, IsSynced, IsWritten};
 
 use crate::stored_file::StoredFile;
+use crate::system::{Runtime, System};
 use ficus_disk::{Disk, Failed};
 use ficus_faults::Faults;
 use ficus_ids::Memory;
@@ -12,32 +14,47 @@ use std::io;
 use std::marker::Model;
 use std::rt::Files;
 
-/// A file of the system as a disk without a fuse. It tells nothing of what it holds.
+/// A file of the system as a disk without a fuse. It tells nothing of what it holds, and what it asked of the system
+/// where this tells it.
 ///
 /// Nothing is touched before the first call. A file that the system says isn't there has size 0; its `sync` and `again`
 /// make nothing and answer `Ok`, and its first `write` makes it, with the folders that are missing. Each of these, and
 /// the one above them, is synced with the file at the next `sync`, and the folder of a file that was there at the first.
 /// Any other refusal of the system is a fault, and so is the end of the file within a read.
 #[derive(Drop)]
-pub struct FileDisk<R: Files + Clone + Drop> {
-    file: StoredFile<R>,
+pub struct SystemDisk<S: System + Drop> {
+    file: StoredFile<S>,
     faults: Faults,
 }
 
-// Contracts see where the file lies, and the count of faults.
-impl<R: Files + Clone + Drop> Model for FileDisk<R> {
+/// A disk over a file of a runtime, which tells nothing of what it was asked.
+pub type FileDisk<R> = SystemDisk<Runtime<R>>;
+
+impl<S: System + Drop> Model for SystemDisk<S> {
     ghost Value = { Placed };
 
-    ghost view = { λ d. record { path = string_bytes d.file.path; faults = d.faults } };
+    ghost view = { λ d. record {
+      path = string_bytes d.file.path;
+      faults = d.faults;
+      is_open = is_some d.file.file;
+      unsynced = d.file.unsynced;
+      told = S.told d.file.system;
+    } };
 }
 
-impl<R: Files + Clone + Drop> FileDisk<R> {
+impl<R: Files + Clone + Drop> SystemDisk<Runtime<R>> {
     /// The file at `path`, in the runtime's own terms, with no fault counted.
     pub fn new(rt: R, path: String) -> FileDisk<R>
-        ensures { result ≡ record { path = string_bytes path; faults = 0 } }
+        ensures { result ≡ record {
+          path = string_bytes path;
+          faults = 0;
+          is_open = false;
+          unsynced = 1;
+          told = [];
+        } }
     {
-        FileDisk {
-            file: StoredFile::new(rt, path),
+        SystemDisk {
+            file: StoredFile::new(Runtime::new(rt), path),
             faults: Faults::new(),
         }
     }
@@ -58,7 +75,7 @@ fn counted<T: Drop>(faults: &mut Faults, answer: io::Result<T>) -> Result<T, Fai
     }
 }
 
-impl<R: Files + Clone + Drop> Disk for FileDisk<R> {
+impl<S: System + Drop> Disk for SystemDisk<S> {
     ghost use Rattle.ficus_disk.specs.declared.fuse.Fuse.TheVariants.{Unarmed};
 
     ghost tells = { ⊥ };
@@ -100,6 +117,9 @@ impl<R: Files + Clone + Drop> Disk for FileDisk<R> {
         ensures failed { OnErr result (Rose self.old.faults self.new.faults) }
         ensures steady { OnOk result (self.new.faults ≡ self.old.faults) }
         ensures risen { self.old.faults ≤ self.new.faults }
+        ensures asked { S.tells → IfOk result (IsMeasured self.old.is_open self.old.path self.old.told self.new.told) }
+        ensures unsynced { self.new.unsynced ≡ self.old.unsynced }
+        ensures refused { S.tells → OnErr result (AreRefused self.old.told self.new.told) }
     {
         counted(&mut self.faults, self.file.size())
     }
@@ -109,6 +129,11 @@ impl<R: Files + Clone + Drop> Disk for FileDisk<R> {
         ensures failed { OnErr result (Rose self.old.faults self.new.faults) }
         ensures steady { OnOk result (self.new.faults ≡ self.old.faults) }
         ensures risen { self.old.faults ≤ self.new.faults }
+        ensures asked { S.tells → OnOk result (IsRead self.old.is_open self.old.path self.old.told self.new.told at
+            into.new) }
+        ensures unsynced { self.new.unsynced ≡ self.old.unsynced }
+        ensures refused { S.tells → OnErr result (AreRefused self.old.told self.new.told
+            ⊎ IsMissing self.old.is_open self.old.path self.old.told self.new.told) }
     {
         counted(&mut self.faults, self.file.read(at, into))
     }
@@ -129,6 +154,10 @@ impl<R: Files + Clone + Drop> Disk for FileDisk<R> {
         ensures failed { OnErr result (Rose self.old.faults self.new.faults) }
         ensures steady { OnOk result (self.new.faults ≡ self.old.faults) }
         ensures risen { self.old.faults ≤ self.new.faults }
+        ensures asked { S.tells → OnOk result (IsWritten self.old.is_open self.old.path self.old.told self.new.told at
+            bytes.now self.new.unsynced) }
+        ensures unsynced { self.old.unsynced ≤ self.new.unsynced }
+        ensures refused { S.tells → OnErr result (AreRefused self.old.told self.new.told) }
     {
         counted(&mut self.faults, self.file.write(at, bytes))
     }
@@ -138,6 +167,10 @@ impl<R: Files + Clone + Drop> Disk for FileDisk<R> {
         ensures failed { OnErr result (Rose self.old.faults self.new.faults) }
         ensures steady { OnOk result (self.new.faults ≡ self.old.faults) }
         ensures risen { self.old.faults ≤ self.new.faults }
+        ensures asked { S.tells → OnOk result (IsSynced self.old.is_open self.old.path self.old.told self.new.told
+            self.old.unsynced self.new.unsynced) }
+        ensures unsynced { OnErr result (self.new.unsynced ≡ self.old.unsynced) }
+        ensures refused { S.tells → OnErr result (AreRefused self.old.told self.new.told) }
     {
         counted(&mut self.faults, self.file.sync())
     }
@@ -155,6 +188,10 @@ impl<R: Files + Clone + Drop> Disk for FileDisk<R> {
         ensures failed { OnErr result (Rose self.old.faults self.new.faults) }
         ensures steady { OnOk result (self.new.faults ≡ self.old.faults) }
         ensures risen { self.old.faults ≤ self.new.faults }
+        ensures asked { S.tells → OnOk result (IsSynced false self.old.path self.old.told self.new.told
+            self.old.unsynced self.new.unsynced) }
+        ensures unsynced { OnErr result (self.new.unsynced ≡ self.old.unsynced) }
+        ensures refused { S.tells → OnErr result (AreRefused self.old.told self.new.told) }
     {
         counted(&mut self.faults, self.file.again())
     }

@@ -5,7 +5,9 @@
 mod file_disk;
 mod folders;
 mod stored_file;
+mod system;
 mod volume;
 
-pub use file_disk::FileDisk;
+pub use file_disk::{FileDisk, SystemDisk};
+pub use system::{Runtime, System};
 pub use volume::disks_in;

@@ -1,5 +1,5 @@
-//! Tests of the disk over a file, of which no clause says what it asks of the system: over the system's own files, and
-//! over a system that notes what it is asked, and fails.
+//! Tests of the disk over a file, of which no clause says that the calls on a runtime are those that it names: over the
+//! system's own files, and over a system that notes what it is asked, and fails.
 #![tactic(auto)]
 
 #[cfg(test)]

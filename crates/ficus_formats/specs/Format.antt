@@ -1,12 +1,12 @@
 -- Formats: which values have a spelling, and which bytes it is.
-use Rattle.std.specs.Prelude.{◌≡◌, ℕ, ◌+◌, ◌<◌, ◌^◌, List, [], ◌∷◌, ◌++◌, length, drop, Option, Some, None, Result, Ok, Err}
+use Rattle.std.specs.Prelude.{◌≡◌, ℕ, ◌+◌, ◌<◌, ◌^◌, List, [], ◌∷◌, ◌++◌, length, drop, Option, Some, None, Result, Ok, Err, IsErrOf}
 use Rattle.std.specs.List.{flat_map, AllByRecursion}
 use Rattle.std.specs.Borrow.{Bor}
 use Rattle.std.specs.Int.{w16, w32, w64, to_be_bytes}
 use Rattle.ficus_ids.specs.Rising.{IsRisingBy}
 use Rattle.ficus_ids.specs.declared.id.Id.{Id}
 use Rattle.ficus_formats.specs.declared.fault.ReadFault.{ReadFault}
-use Rattle.ficus_formats.specs.declared.fault.ReadFault.TheVariants.{Unspelled}
+use Rattle.ficus_formats.specs.declared.fault.ReadFault.TheVariants.{Unspelled, Memory}
 
 -- the bytes that a value is spelled with, and which values are
 pub record Format (X : Type 0) : Type 1 where
@@ -104,6 +104,18 @@ TakesAt f size bytes at None = length bytes < at + size
 -- no value has two spellings, no bytes are the spelling of two values, and none begins another
 pub record IsUnique {X : Type 0} (f : Format X) : Type 0 where
   pub one : (x y : X) (a b : List ℕ) → f.fits x → f.fits y → f.spell x ++ a ≡ f.spell y ++ b → (x ≡ y) × (a ≡ b)
+
+-- but for want of memory the bytes are read in one way: a value and what is left behind it, or no value
+pub record IsReadOnce {X : Type 0} (f : Format X) : Type 0 where
+  pub answer : (before after behind : List ℕ) (one other : Result X ReadFault) → Reads f before one after →
+      Reads f before other behind → (IsErrOf one Memory → ⊥) → (IsErrOf other Memory → ⊥) → one ≡ other
+  pub rest : (before after behind : List ℕ) (one other : X) → Begins f before one after →
+      Begins f before other behind → after ≡ behind
+
+-- what stands at a place and takes so many bytes is one thing
+abbrev pub IsTakenOnce : {X : Type 0} → Format X → ℕ → Type 0
+IsTakenOnce f size = (bytes : List ℕ) (at : ℕ) (one other : Option _) → TakesAt f size bytes at one →
+    TakesAt f size bytes at other → one ≡ other
 
 -- the bytes are those that stood there, and maybe more behind them
 pub record Keeps (before after : List ℕ) : Type 0 where

@@ -2,6 +2,7 @@
 #![tactic(auto)]
 
 mod fault;
+mod laws;
 mod reader;
 mod rising;
 mod spelling;
@@ -9,6 +10,7 @@ mod taking;
 mod writing;
 
 pub use fault::ReadFault;
+pub use laws::{one_number, one_reading};
 pub use reader::Reader;
 pub use rising::{RowSpelling, read_rising};
 pub use spelling::{Spelling, put_run, read_run};

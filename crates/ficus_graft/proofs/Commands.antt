@@ -11,10 +11,9 @@ use Rattle.ficus_commands.specs.declared.change.Change.{Change}
 use Rattle.ficus_commands.specs.declared.look.Look.{Look}
 use Rattle.ficus_commands.specs.declared.change.Change.TheVariants.{MkDir, Create, Write, Settle, Resolve, Rm, Ln, Mv, Adopt, Discard}
 use Rattle.ficus_commands.specs.declared.look.Look.TheVariants.{Ls, Read, Versions, Tree, Conflicts, Orphans, Detached, Marks}
-use Rattle.ficus_script.specs.Command.{IsCommand, spelling_of}
+use Rattle.ficus_script.specs.Command.{IsCommand, IsStep, spelling_of}
 use Rattle.ficus_script.specs.declared.command.Command.{Command}
 use Rattle.ficus_script.specs.declared.command.Command.TheVariants as command
-use Rattle.ficus_runs.specs.Run.{IsStep}
 use Rattle.ficus_world.specs.Follows.{TellsFor}
 use Rattle.ficus_script.specs.Arguments.{Arguments}
 use Rattle.ficus_script.specs.Arguments.{Nothing, OnePath, PathAndKind, PathAndText, TwoPaths, OneNumber, OneOrder, TwoReplicas, Arming}
@@ -157,6 +156,7 @@ command_behind first second (command.Alike by other) is passed = is
 command_behind first second (command.Restart by) is passed = is
 command_behind first second (command.Stop by calls pick) is passed = is
 command_behind first second (command.Sweep order) is passed = is
+command_behind first second (command.Why by) is passed = is
 
 module _ (f g : Path → Path) where
   -- it is a step of a world, as before
@@ -171,6 +171,7 @@ module _ (f g : Path → Path) where
   step_along (command.Restart by) is = tt
   step_along (command.Stop by calls pick) is = tt
   step_along (command.Sweep order) is = is
+  step_along (command.Why by) is = is
 
   -- the disks need tell no more for it
   pub tells_along : (tells : Type 0) (it : Command) → TellsFor tells it → TellsFor tells (along f g it)
@@ -184,6 +185,7 @@ module _ (f g : Path → Path) where
   tells_along tells (command.Restart by) told = told
   tells_along tells (command.Stop by calls pick) told = told
   tells_along tells (command.Sweep order) told = told
+  tells_along tells (command.Why by) told = told
 
   same_one : (make : Path → Command) (own path : Path) → own ∷ [] ≡ path ∷ [] → make (f own) ≡ make (f path)
   same_one make own path is =
@@ -225,6 +227,7 @@ module _ (f g : Path → Path) where
   along_one (command.Restart by) path is = refl
   along_one (command.Stop by calls pick) path is = refl
   along_one (command.Sweep order) path is = refl
+  along_one (command.Why by) path is = refl
 
   pub along_two : (it : Command) (path other : Path) → paths_of it ≡ path ∷ other ∷ []
       → along f g it ≡ with_paths (f path) (g other) it
@@ -257,6 +260,7 @@ module _ (f g : Path → Path) where
   along_two (command.Restart by) path other is = refl
   along_two (command.Stop by calls pick) path other is = refl
   along_two (command.Sweep order) path other is = refl
+  along_two (command.Why by) path other is = refl
 
 -- where no part was passed, it is the same
 pub along_none : (it : Command) → along (rest_behind 0) (rest_behind 0) it ≡ it
@@ -286,6 +290,7 @@ along_none (command.Alike by other) = refl
 along_none (command.Restart by) = refl
 along_none (command.Stop by calls pick) = refl
 along_none (command.Sweep order) = refl
+along_none (command.Why by) = refl
 
 -- what is neither a change nor a look has no path
 pub pathless : (it : Command) → ((by : ℕ) (change : Change) → it ≡ command.Change by change → ⊥)
@@ -300,3 +305,4 @@ pathless (command.Alike by other) no_change no_look = refl
 pathless (command.Restart by) no_change no_look = refl
 pathless (command.Stop by calls pick) no_change no_look = refl
 pathless (command.Sweep order) no_change no_look = refl
+pathless (command.Why by) no_change no_look = refl

@@ -8,6 +8,7 @@ use Rattle.std.proofs.lemmas.Option.{get_or_from_slice_get}
 use Rattle.ficus_disk.specs.declared.disk.Disk.{Ghosts as Disk}
 use Rattle.ficus_ids.specs.Members.{IsMember}
 use Rattle.ficus_ids.specs.declared.refusal.Refusal.{Refusal}
+use Rattle.ficus_ids.specs.declared.refusal.Refusal.TheVariants as refusal
 use Rattle.ficus_keep.specs.declared.keep.Keep.{Ghosts as Keep}
 use Rattle.ficus_path.specs.declared.path.Path.{Path}
 use Rattle.ficus_script.specs.declared.answer.Answer.{Answer}
@@ -17,8 +18,8 @@ use Rattle.ficus_run_laws.proofs.Numbers.{number_read}
 use Rattle.ficus_world.specs.World.{Backed}
 use Rattle.ficus_graft.specs.declared.courses.Course.{Course}
 use Rattle.ficus_graft.specs.declared.following.End.{End}
-use Rattle.ficus_graft.specs.declared.line.VolumeLine.{VolumeLine}
-use Rattle.ficus_graft.specs.Answered.{IsUnrefused, Sent, crossing, sent_so, sendings}
+use Rattle.ficus_script.specs.declared.volume_line.VolumeLine.{VolumeLine}
+use Rattle.ficus_graft.specs.Answered.{IsUnrefused, Sent, sent_so, sendings}
 use Rattle.ficus_graft.specs.Answered.IsAnswered.{AtLook, AtCrossing, AtEnd}
 use Rattle.ficus_graft.specs.declared.courses.Courses.TheVariants as courses
 use Rattle.ficus_graft.specs.declared.following.Stop.{Stop}
@@ -104,7 +105,7 @@ module _ {K D : Type 0} {told : Type 0} {keep : Keep K} {disk : Disk D} (line : 
   -- the paths lead to different volumes
   pub line_parts : (passed : List Sent) → Route (length worlds) line (sendings passed) Apart → All IsUnrefused passed
       → EachRuns told keep disk passed worlds worlds disks disks
-      → AnswersLine told keep disk line (Refused crossing) worlds worlds disks disks
+      → AnswersLine told keep disk line (Refused refusal.Crossing) worlds worlds disks disks
   line_parts passed route unrefused runs = record {
     sent = passed;
     answered = AtCrossing route unrefused;
@@ -249,7 +250,7 @@ module _ {K D : Type 0} (told also_told : Type 0) (further : also_told → told)
 
         -- they lead to different volumes
         pub two_part : end.volume ≢ far.volume
-            → AnswersLine also_told keep disk line (Refused crossing) worlds worlds disks disks
+            → AnswersLine also_told keep disk line (Refused refusal.Crossing) worlds worlds disks disks
         two_part apart =
             line_parts line worlds disks passed
             (Parting paths leads more (sym looks_are) apart)
@@ -380,10 +381,10 @@ module _ {K D : Type 0} (told also_told : Type 0) (further : also_told → told)
       → AreCourses line.command (courses.Two by first second) → new ≡ worlds → new_disks ≡ disks
       → Reaches told keep disk by line.volume first end worlds disks
       → Reaches told keep disk by line.volume second far worlds disks → end.volume ≢ far.volume
-      → LineHalts also_told keep disk line (stop.Refused crossing) worlds new disks new_disks
+      → LineHalts also_told keep disk line (stop.Refused refusal.Crossing) worlds new disks new_disks
   parted_halts by first second end far new new_disks (actor, path, other, paths, is, also) same kept reaches reaches_too
       apart =
-      halts_as also_told keep disk line (stop.Refused crossing) same kept
+      halts_as also_told keep disk line (stop.Refused refusal.Crossing) same kept
       (two_part told also_told further keep disk by line actor worlds disks first second path other paths is also end
       reaches far reaches_too apart)
 

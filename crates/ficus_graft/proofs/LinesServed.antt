@@ -11,7 +11,7 @@ use Rattle.ficus_serving.proofs.Serves.{texts_append}
 use Rattle.ficus_run_laws.proofs.Numbers.{number_read}
 use Rattle.ficus_runs.specs.Numbered.{IsNumbered}
 use Rattle.ficus_world.specs.World.{Backed}
-use Rattle.ficus_graft.specs.declared.line.VolumeLine.{VolumeLine}
+use Rattle.ficus_script.specs.declared.volume_line.VolumeLine.{VolumeLine}
 use Rattle.ficus_graft.specs.Answered.{AreAnswered, IsAnswered, Sent}
 use Rattle.ficus_graft.specs.Answered.AreAnswered.{None, Next}
 use Rattle.ficus_graft.specs.Runs.{AnswersFront, AnswersLines, Disks, IsNextCut, StopsLine}

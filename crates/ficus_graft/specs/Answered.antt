@@ -6,7 +6,7 @@ use Rattle.ficus_script.specs.declared.answer.Answer.{Answer}
 use Rattle.ficus_script.specs.declared.answer.Answer.TheVariants.{Refused}
 use Rattle.ficus_script.specs.declared.command.Command.{Command}
 use Rattle.ficus_serving.specs.Tally.{is_refusal}
-use Rattle.ficus_graft.specs.declared.line.VolumeLine.{VolumeLine}
+use Rattle.ficus_script.specs.declared.volume_line.VolumeLine.{VolumeLine}
 use Rattle.ficus_graft.specs.Route.{Sending, sending, Ending, Route}
 use Rattle.ficus_graft.specs.Route.Ending.{Apart, Arrives}
 
@@ -21,10 +21,6 @@ sendings sent = map (λ one. one.what) sent
 abbrev pub IsUnrefused : Sent → Type 0
 IsUnrefused one = is_refusal one.answer ≡ false
 
--- that of a line whose paths end in different volumes, since no refusal means this alone
-abbrev pub crossing : Refusal
-crossing = refusal.Stale
-
 -- a command sent to a volume, and its answer
 abbrev pub sent_so : ℕ → Command → Answer → Sent
 sent_so volume command answer = record { what = sending volume command; answer = answer }
@@ -38,7 +34,7 @@ pub data IsAnswered (count : ℕ) (line : VolumeLine) : List Sent → Answer →
       → IsAnswered count line sent (Refused refusal)
   -- where none is, the volumes are compared
   AtCrossing : {passed : List Sent} → Route count line (sendings passed) Apart → All IsUnrefused passed
-      → IsAnswered count line passed (Refused crossing)
+      → IsAnswered count line passed (Refused refusal.Crossing)
   -- and the answer to the command is that of the line
   AtEnd : {sent : List Sent} {volume : ℕ} {command : Command} {answer : Answer} → (passed : List Sent)
       → Route count line (sendings passed) (Arrives volume command) → All IsUnrefused passed

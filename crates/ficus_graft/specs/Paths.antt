@@ -59,6 +59,7 @@ names_entries (command.Alike by other) = false
 names_entries (command.Restart by) = false
 names_entries (command.Stop by calls pick) = false
 names_entries (command.Sweep order) = false
+names_entries (command.Why by) = false
 
 -- how many parts of a path may lead to volumes: all, or all but the last
 abbrev pub crossable : Bool → List Part → ℕ
@@ -101,6 +102,7 @@ module _ (f g : Path → Path) where
   along (command.Restart by) = command.Restart by
   along (command.Stop by calls pick) = command.Stop by calls pick
   along (command.Sweep order) = command.Sweep order
+  along (command.Why by) = command.Why by
 
 -- the command with these paths in the place of its own
 abbrev pub with_paths : Path → Path → Command → Command

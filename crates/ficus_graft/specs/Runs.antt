@@ -12,17 +12,17 @@ use Rattle.ficus_run_laws.specs.Outcomes.{all_outcomes}
 use Rattle.ficus_runs.specs.ModelWorld.{ModelWorld}
 use Rattle.ficus_runs.specs.Numbered.{IsNumbered}
 use Rattle.ficus_runs.specs.Outcome.{Outcome, link_failures}
-use Rattle.ficus_runs.specs.Run.{IsStep, Run}
+use Rattle.ficus_runs.specs.Run.{Run}
 use Rattle.ficus_world.specs.Causes.{AreCaused}
 use Rattle.ficus_world.specs.Disks.{AreDisksOf, DisksFollow}
 use Rattle.ficus_world.specs.Follows.{FollowsOn, StopsOn, StoresAsMany}
 use Rattle.ficus_world.specs.Fuses.{FusesFollow}
 use Rattle.ficus_world.specs.World.{Backed, Whole, WorldStandsFor}
-use Rattle.ficus_graft.specs.declared.line.VolumeLine.{VolumeLine}
+use Rattle.ficus_script.specs.declared.volume_line.VolumeLine.{VolumeLine}
 use Rattle.ficus_graft.specs.Answered.{AreAnswered, IsAnswered, IsLastTo, IsUnrefused, Sent, answers_to, commands_to, sendings}
 use Rattle.ficus_graft.specs.Route.{Route}
 use Rattle.ficus_graft.specs.Route.Ending.{Arrives}
-use Rattle.ficus_script.specs.Command.{IsCommand}
+use Rattle.ficus_script.specs.Command.{IsCommand, IsStep}
 use Rattle.ficus_serving.specs.Puts.{PutsFront}
 use Rattle.ficus_serving.specs.Serving.{texts_of}
 
@@ -175,7 +175,7 @@ pub record AnswersFront {K D : Type 0} (tells link told : Type 0) (keep : Keep K
       ⊎ IsNextCut link keep disk lines count last worlds new disks new_disks
   pub put : tells → PutsFront (was ++ texts_of whole) (texts_of last) now
 
--- the line is one of so many volumes, and its command is one step of a world: no sweep
+-- the line is one of so many volumes, and its command is one step of a world: no sweep, and no why
 pub record IsLineOf (count : ℕ) (line : VolumeLine) : Type 0 where
   pub volume : IsMember count line.volume
   pub command : IsCommand line.command

@@ -7,7 +7,7 @@ use Rattle.ficus_script.specs.declared.answer.Answer.{Answer}
 use Rattle.ficus_serving.specs.Puts.{PutsFront}
 use Rattle.ficus_world.specs.Follows.{TellsFor}
 use Rattle.ficus_world.specs.World.{Backed}
-use Rattle.ficus_graft.specs.declared.line.VolumeLine.{VolumeLine}
+use Rattle.ficus_script.specs.declared.volume_line.VolumeLine.{VolumeLine}
 use Rattle.ficus_graft.specs.Runs.{AnswersLine, Disks, StopsLine}
 
 -- the links tell their posts, and the disks what they hold, where a line restarts a replica

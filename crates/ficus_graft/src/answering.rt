@@ -1,26 +1,23 @@
-ghost use Rattle.std.specs.Prelude.{◌≡◌, ◌<◌, ◌≤◌, ◌+◌, ◌++◌, All, length, ℕ, OnOk, OnErr, IsErrOf};
+ghost use Rattle.std.specs.Prelude.{◌≡◌, ◌<◌, ◌≤◌, ◌+◌, All, length, ℕ, OnOk, OnErr, IsErrOf};
 ghost use Rattle.ficus_faults.specs.Faults.{Rose};
 ghost use Rattle.ficus_graft.specs.Runs.{AnswersFront, AnswersLine, AnswersLines, AreHeld, HaveRoom, IsLineOf};
 ghost use Rattle.ficus_graft.specs.Serving.{Told, PutsLine, PutsLineFront};
-ghost use Rattle.ficus_script.specs.Answer.{answer_text_of};
-ghost use Rattle.ficus_serving.specs.Puts.{PutsFront};
 ghost use Rattle.ficus_serving.specs.Serving.{script_limit, serving_limit};
 ghost use Rattle.ficus_world.specs.Follows.{TellsFor};
 ghost use Rattle.ficus_world.specs.World.{event_limit, most_events};
 
-use crate::line::VolumeLine;
 use crate::volumes::Volumes;
 use ficus_disk::{Disk, Pair};
-use ficus_keep::{Keep, KeepImages};
+use ficus_keep::Keep;
 use ficus_outside::{Link, Sink};
-use ficus_script::{Answer, answer_text};
-use ficus_serving::{AnsweringFault, put_all};
+use ficus_script::VolumeLine;
+use ficus_serving::{AnsweringFault, put_answer};
 use std::alloc::Global;
 
 /// Answers each line and puts its answer, before the next one. `Sink` comes where the sink failed, and always where it
 /// counted a fault; `Memory` where memory was refused. Then some first lines were answered, of which the last answer may be
 /// put in part; or all of theirs were put, and the next line's command was cut short.
-pub fn answer_lines<S: Sink, D: Disk, K: Keep + KeepImages + Drop, L: Link + Drop>(
+pub fn answer_lines<S: Sink, D: Disk, K: Keep + Drop, L: Link + Drop>(
     alloc: Global,
     volumes: &mut Volumes<K, L>,
     disks: &mut Vec<Vec<Pair<D>>>,
@@ -46,7 +43,7 @@ pub fn answer_lines<S: Sink, D: Disk, K: Keep + KeepImages + Drop, L: Link + Dro
 }
 
 // Answers one line and puts its answer.
-fn answer_line<S: Sink, D: Disk, K: Keep + KeepImages + Drop, L: Link + Drop>(
+fn answer_line<S: Sink, D: Disk, K: Keep + Drop, L: Link + Drop>(
     alloc: Global,
     volumes: &mut Volumes<K, L>,
     disks: &mut Vec<Vec<Pair<D>>>,
@@ -70,18 +67,4 @@ fn answer_line<S: Sink, D: Disk, K: Keep + KeepImages + Drop, L: Link + Drop>(
 {
     let answer = volumes.step(alloc, disks, line)?;
     put_answer(alloc, &answer, output)
-}
-
-// Puts the text of the answer.
-fn put_answer<S: Sink>(alloc: Global, answer: &Answer, output: &mut S) -> Result<(), AnsweringFault>
-    ensures put { OnOk result (S.tells → S.written output.new ≡ S.written output.old ++ answer_text_of answer.now) }
-    ensures front { OnErr result (S.tells
-        → PutsFront (S.written output.old) (answer_text_of answer.now) (S.written output.new)) }
-    ensures failed { IsErrOf result AnsweringFault.Sink → Rose (S.faults output.old) (S.faults output.new) }
-    ensures told { S.faults output.old < S.faults output.new → IsErrOf result AnsweringFault.Sink }
-    ensures counted { S.faults output.old ≤ S.faults output.new }
-{
-    let text = answer_text(alloc, answer)?;
-    put_all(output, &text)?;
-    Ok(())
 }

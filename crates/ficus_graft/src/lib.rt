@@ -8,10 +8,8 @@ mod courses;
 mod crossing;
 mod following;
 mod laws;
-mod line;
 mod volumes;
 
 pub use answering::answer_lines;
 pub use laws::{one_route, same_sent_same_answers};
-pub use line::VolumeLine;
 pub use volumes::Volumes;

@@ -1,9 +1,9 @@
 ghost use Rattle.std.specs.Prelude.{◌≡◌, ◌≢◌, ◌+◌, ◌≤◌, ℕ, [], length, Bool, IfErr, IfNone, IfOk, IfSome, OnErr, OnOk};
 ghost use Rattle.ficus_ids.specs.Members.{IsMember};
 ghost use Rattle.ficus_path.specs.Path.{IsPath, path_from};
-ghost use Rattle.ficus_runs.specs.Run.{IsStep};
+ghost use Rattle.ficus_runs.specs.Run.{OnlyLooks};
 ghost use Rattle.ficus_script.specs.Arguments.{IsReplicaNumber};
-ghost use Rattle.ficus_script.specs.Command.{IsCommand};
+ghost use Rattle.ficus_script.specs.Command.{IsCommand, IsStep};
 ghost use Rattle.ficus_graft.specs.Answered.{sent_so};
 ghost use Rattle.ficus_graft.specs.Following.{Halts, IsRefusedBy, LineHalts, Passes, Reaches, course_path};
 ghost use Rattle.ficus_graft.specs.Paths.{ArePassed, along, names_entries, paths_of, rest_behind};
@@ -11,21 +11,19 @@ ghost use Rattle.ficus_graft.specs.Route.{ls, sending};
 ghost use Rattle.ficus_graft.specs.Runs.{AnswersLine, AreHeld, HaveRoom, IsCutShort, MayBeCut, Sends, StopsLine};
 ghost use Rattle.ficus_serving.specs.Tally.{is_refusal};
 ghost use Rattle.ficus_world.specs.Follows.{TellsFor};
-ghost use Rattle.ficus_world.specs.Stepped.{OnlyLooks};
 ghost use Rattle.ficus_world.specs.World.{event_limit, most_events};
 
 use crate::behind::{base_behind, command_behind, path_of};
 use crate::courses::{Course, Courses, courses_of};
 use crate::crossing::first_crossing;
 use crate::following::{End, Stop};
-use crate::line::VolumeLine;
 use ficus_commands::Look;
 use ficus_disk::{Disk, Pair};
 use ficus_ids::{Memory, Refusal};
-use ficus_keep::{Keep, KeepImages};
+use ficus_keep::Keep;
 use ficus_outside::Link;
 use ficus_path::{Base, Part};
-use ficus_script::{Answer, Command};
+use ficus_script::{Answer, Command, VolumeLine};
 use ficus_world::World;
 use std::alloc::Global;
 use std::marker::Model;
@@ -34,11 +32,11 @@ use std::marker::Model;
 /// if there is one of this number: the directory under that name is looked at, and nothing more is asked of it. The disks
 /// are lent to each call.
 #[derive(Drop)]
-pub struct Volumes<K: Keep + KeepImages + Drop, L: Link + Drop> {
+pub struct Volumes<K: Keep + Drop, L: Link + Drop> {
     worlds: Vec<World<K, L>>,
 }
 
-impl<K: Keep + KeepImages + Drop, L: Link + Drop> Model for Volumes<K, L> {
+impl<K: Keep + Drop, L: Link + Drop> Model for Volumes<K, L> {
     ghost use Rattle.std.specs.Prelude.{List, length};
     ghost use Rattle.ficus_world.specs.World.{Backed};
     ghost use Rattle.ficus_graft.specs.Crossing.{AreFew};
@@ -50,7 +48,7 @@ impl<K: Keep + KeepImages + Drop, L: Link + Drop> Model for Volumes<K, L> {
     ghost invariant = { λ v. AreFew (length v.worlds.items) };
 }
 
-impl<K: Keep + KeepImages + Drop, L: Link + Drop> Volumes<K, L> {
+impl<K: Keep + Drop, L: Link + Drop> Volumes<K, L> {
     ghost use Rattle.ficus_graft.specs.Crossing.{AreFew};
 
     /// The volumes of these worlds, which are numbered in this order.
@@ -61,12 +59,19 @@ impl<K: Keep + KeepImages + Drop, L: Link + Drop> Volumes<K, L> {
         Volumes { worlds }
     }
 
+    /// The worlds of the volumes, in the order of their numbers.
+    pub fn worlds(&self) -> &[World<K, L>]
+        ensures { result.now ≡ self.now }
+    {
+        self.worlds.as_slice()
+    }
+
     /// Answers one line. Its paths are followed from its volume on, the first path first: at each part that leads to a
     /// volume the directory there is looked at, and the path goes on from the root of that volume. The last part of a path
     /// that names an entry, or is new, leads nowhere. The first look that is refused ends the line with its refusal. Where
-    /// the paths end in different volumes, nothing more is done, and the answer is a refusal: `Stale`, since no refusal
-    /// means this alone yet. Else the command is carried out in the volume where they end, with what is left of its paths;
-    /// one without a path, in the line's volume. Only the volume to which something was sent last may change.
+    /// the paths end in different volumes, nothing more is done, and the answer is the refusal `Crossing`. Else the command
+    /// is carried out in the volume where they end, with what is left of its paths; one without a path, in the line's
+    /// volume. Only the volume to which something was sent last may change.
     ///
     /// `Memory` comes where memory was refused. Then nothing has changed; or the paths were followed, and the command has
     /// done in its volume what one leaves that is cut short.
@@ -128,7 +133,7 @@ impl<K: Keep + KeepImages + Drop, L: Link + Drop> Volumes<K, L> {
                 let end = self.follow(alloc, disks, line.volume, by, &first)?;
                 let other = self.follow(alloc, disks, line.volume, by, &second)?;
                 if end.volume != other.volume {
-                    return Err(Stop::Refused(Refusal::Stale));
+                    return Err(Stop::Refused(Refusal::Crossing));
                 }
                 Ok(self.arrive(
                     alloc,
@@ -302,6 +307,7 @@ fn refusal_of(answer: &Answer) -> Option<Refusal>
         | Answer::Collected { .. }
         | Answer::Told(_)
         | Answer::Alike(_)
-        | Answer::Swept { .. } => None,
+        | Answer::Swept { .. }
+        | Answer::Why(_) => None,
     }
 }

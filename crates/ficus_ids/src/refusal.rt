@@ -58,10 +58,12 @@ pub enum Refusal {
     Link,
     /// The disks hold no image that fits.
     Image,
+    /// The two paths of the command end in different volumes.
+    Crossing = 28,
 }
 
 impl Refusal {
-    /// Its number, from 0 to 24.
+    /// Its number, from 0 to 24, or 28.
     pub fn number(self) -> u8
         ensures { result ≡ refusal_number self }
     {
@@ -98,6 +100,7 @@ impl Refusal {
             Refusal::Member => "member",
             Refusal::Link => "link",
             Refusal::Image => "image",
+            Refusal::Crossing => "crossing",
         }
     }
 }

@@ -157,7 +157,7 @@ module _ (on_a : Bool) (keeper : Journal) (force other : List ℕ)
             | inl none ↦ trim_none y none
             | inr before ↦ subst IsTrim (sym before) regular.trim_other
           ]
-          | inr now ↦ trim_log (saved_as new body) [] (0 ∷ now.more) y (new_log (saved_as new body) y now) (omega arith)
+          | inr now ↦ trim_log (saved_as new body) [] (0 ∷ now.slot.more) y (new_log (saved_as new body) y now) (omega arith)
               refl
         ];
       })

@@ -11,7 +11,7 @@ use Rattle.ficus_journal.proofs.Sides.{kept_log, new_log, saved_as}
 pub made_kept : (body a b : List ℕ) → IsNew (saved_as 0 body) a → b ≡ [] → kept_in a b ≡ Some (image_alone 0 body)
 made_kept body a b new empty =
     ap (λ (l : List ℕ). kept_in a l) empty
-    ∙ ap (λ k. later k (kept_on [])) (kept_log (saved_as 0 body) [] (0 ∷ new.more) a (new_log (saved_as 0 body) a new))
+    ∙ ap (λ k. later k (kept_on [])) (kept_log (saved_as 0 body) [] (0 ∷ new.slot.more) a (new_log (saved_as 0 body) a new))
 
 pub made_old : (old a b : List ℕ) → IsOld old a → old ≡ [] → b ≡ [] → kept_in a b ≡ None
 made_old old a b (inl none) was empty =
@@ -30,7 +30,7 @@ made_regular body a b new empty =
       even = λ s found. let is : saved_as 0 body ≡ s = some_same (saved_as 0 body) s (sym new.is ∙ found) in
           omega (arith, ap (λ (z : Saved). z.generation) is);
       odd = λ s found. absurd (let isnt = sym none ∙ found in cc);
-      trim_a = trim_log (saved_as 0 body) [] (0 ∷ new.more) a (new_log (saved_as 0 body) a new) (omega arith) refl;
+      trim_a = trim_log (saved_as 0 body) [] (0 ∷ new.slot.more) a (new_log (saved_as 0 body) a new) (omega arith) refl;
       trim_b = trim_none b none;
     }
   where

@@ -6,7 +6,7 @@ use Rattle.std.proofs.lemmas.Bool.Decides.{nat_tests}
 use Rattle.ficus_keep.specs.Kept.{Kept, after_commit, image_alone}
 use Rattle.ficus_slot.specs.Gate.{GateIs}
 use Rattle.ficus_slot.specs.Slot.{Saved, slot_in}
-use Rattle.ficus_slot.proofs.Written.{open_of}
+use Rattle.ficus_slot.proofs.Written.{open_of, tail_of}
 use Rattle.ficus_slot.specs.Stays.{IsFound, IsNew, IsOld, Stays}
 use Rattle.ficus_log.specs.Appending.{Appends, HasRecord, IsAppended, IsShutAt, StaysShut}
 use Rattle.ficus_log.specs.Log.{Log, is_open, log_of, record_range, tail_log}
@@ -39,15 +39,15 @@ kept_log saved bodies rest c is =
     kept_slot c saved is.slot ∙ ap (λ (log : Log). kept log.bodies) is.log
 
 -- a new image
-pub new_log : (saved : Saved) (c : List ℕ) (new : IsNew saved c) → LogIs saved [] (0 ∷ new.more) c
+pub new_log : (saved : Saved) (c : List ℕ) (new : IsNew saved c) → LogIs saved [] (0 ∷ new.slot.more) c
 new_log saved c new = record {
   slot = new.is;
-  log = ap (log_of saved.generation) new.tail ∙ closed saved.generation 0 new.more (λ e. absurd (omega arith));
+  log = ap (log_of saved.generation) (tail_of new.slot) ∙ closed saved.generation 0 new.slot.more (λ e. absurd (omega arith));
 }
 
 length_new : (saved : Saved) (c : List ℕ) (new : IsNew saved c)
-    → length saved.body + 17 + length (0 ∷ new.more) ≡ length c
-length_new saved c new = omega (arith, ap length new.tail, length-drop (17 + length saved.body) c)
+    → length saved.body + 17 + length (0 ∷ new.slot.more) ≡ length c
+length_new saved c new = omega (arith, ap length (tail_of new.slot), length-drop (17 + length saved.body) c)
 
 abbrev pub generation_of_slot : Option Saved → ℕ
 generation_of_slot None = 0
@@ -186,7 +186,7 @@ module _ (on_a : Bool) (keeper : Journal) (force other : List ℕ)
         let log = new_log (saved_as new body) c is in
         let at : Saved = saved_as after.generation body in
         let same : saved_as new body ≡ at = ap (λ g. saved_as g body) (sym generation) in
-        let log_is : tail_log at c ≡ record { bodies = []; rest = 0 ∷ is.more } =
+        let log_is : tail_log at c ≡ record { bodies = []; rest = 0 ∷ is.slot.more } =
         ap (λ (s : Saved). tail_log s c) (sym same) ∙ log.log in
         record {
           stands = record {

@@ -17,7 +17,7 @@ use Rattle.ficus_replica.specs.SavedOf.{generation_of, is_saved}
 use Rattle.ficus_saved.specs.declared.saved.Saved.{Saved}
 use Rattle.ficus_script.specs.declared.command.Command.{Command}
 use Rattle.ficus_script.specs.declared.command.Command.TheVariants as command
-use Rattle.ficus_stable.specs.Holds.{Holds}
+use Rattle.ficus_leads.specs.Holds.{Holds}
 use Rattle.ficus_runs.specs.ModelWorld.{IsUp, ModelWorld, Standing}
 use Rattle.ficus_runs.specs.ModelWorld as model
 use Rattle.ficus_runs.specs.Numbered.{IsNumbered}
@@ -338,6 +338,7 @@ module _ {K D : Type 0} (keep : Keep K) (disk : Disk D)
     tells_for (command.Restart by) = disks_told
     tells_for (command.Stop by calls pick) = tt
     tells_for (command.Sweep order) = tt
+    tells_for (command.Why by) = tt
 
     pub lift : (W : ModelWorld) (old new : Whole) (x y : List (Pair D)) → WorldStandsFor volume W old
         → Passes tells keep disk old new x y → Lifted W old new x y

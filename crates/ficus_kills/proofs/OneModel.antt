@@ -74,6 +74,7 @@ module _ (volume : Volume) (V U : ModelWorld) (world : Whole) (one : WorldStands
   pub model_once : V ≡ U
   model_once = λ i. record {
     events = events i;
+    earlier = (sym one.began ∙ raises_same ∙ two.began) i;
     standings = same_list V.standings U.standings (one.standings ∙ sym two.standings) same_standing i;
     fused = same_list V.fused U.fused (one.fuses ∙ sym two.fuses) same_fused i;
     posted = same_list V.posted U.posted (one.posted ∙ sym two.posted) same_posted i;

@@ -6,6 +6,7 @@ use Rattle.std.proofs.lemmas.List.{length-replicate}
 use Rattle.ficus_disk.specs.declared.disk.Disk.{Ghosts as Disk}
 use Rattle.ficus_disk.specs.declared.pair.Pair.{Pair}
 use Rattle.ficus_keep.specs.Kept.{Kept}
+use Rattle.ficus_leads.proofs.Led.{held_at}
 use Rattle.ficus_model.specs.declared.event.Event.{Event}
 use Rattle.ficus_model.specs.declared.event.Event.TheVariants.{Restart}
 use Rattle.ficus_model.specs.Lawful.{Volume}
@@ -59,10 +60,9 @@ module _ {D : Type 0} (kept : List ℕ → List ℕ → Option Kept) (disk : Dis
                 saved = held.saved;
                 is = restarts_saved volume H r held.saved (range_with_len 1 volume.members) held.is;
                 fits = held.fits;
-                holds = record {
-                  is = ap (λ (c : List ℕ). kept c b) same_a ∙ ap (λ (c : List ℕ). kept (disk.seen was.a) c) same_b
-                      ∙ held.holds.is;
-                };
+                holds = held_at _ _ held.saved
+                    (ap (λ (c : List ℕ). kept c b) same_a ∙ ap (λ (c : List ℕ). kept (disk.seen was.a) c) same_b)
+                    held.holds;
               } in
               let up : standing ≡ Up = (up_first volume.members).each r standing at in
               inl (subst (λ (s : Standing). KeepsFor volume first.events r (kept a b) s) (sym up) keeps);

@@ -87,6 +87,7 @@ part_extends volume (command.Restart by) W left same = nothing_extends W left sa
 part_extends volume (command.Stop by calls pick) W left same = nothing_extends W left same
 part_extends volume (command.Sweep order) W left part =
     sweeps_part_extends volume (sweep_steps order volume.members) W left part
+part_extends volume (command.Why by) W left same = nothing_extends W left same
 
 -- the trail of what a world passes leads to whatever world of the model it then stands for, behind what had happened
 pub trail_to : {K D : Type 0} (keep : Keep K) (disk : Disk D)

@@ -17,13 +17,13 @@ ghost use Rattle.ficus_world.specs.World.{Whole, WorldStandsFor};
 ghost use Rattle.ficus_kills.specs.Trail.{BeginsSave, Covers, DuringAt, KeepsFrom, LeftOn, Neighbours, RunOn, Somewhere, Trail, WasLeft};
 
 use ficus_disk::Disk;
-use ficus_keep::{Keep, KeepImages};
+use ficus_keep::Keep;
 use ficus_outside::Link;
 
 /// The law that where a world stands for one of the model, over a link that tells its posts and disks that tell what they
 /// hold, what it passes leaves a trail, from that world of the model to the one for which it then stands. It does
 /// nothing when it runs.
-pub fn steps_leave_trails<K: Keep + KeepImages, L: Link, D: Disk>()
+pub fn steps_leave_trails<K: Keep, L: Link, D: Disk>()
     ensures { (volume : Volume) (W : ModelWorld) (old new : Whole) (disks now : List (PairValue D)) → L.tells → D.tells
         → WorldStandsFor volume W old → Passes L.tells K.Keep D.Disk old new disks now
         → (after : ModelWorld) × WorldStandsFor volume after new × Trail K.kept D.Disk volume W after disks now }

@@ -114,6 +114,10 @@ led_generation [] old new leads = omega (arith, ap (λ (s : Saved). s.generation
 led_generation (body ∷ bodies) old new (mid, step, on) =
     omega (arith, led_next body old mid step, led_generation bodies mid new on)
 
+-- what is found as this is holds what this holds
+pub held_at : (found after : Option Kept) (saved : Saved) → found ≡ after → Holds after saved → Holds found saved
+held_at found after saved is holds = subst (λ (k : Option Kept). Holds k saved) (sym is) holds
+
 -- the generation that is kept is that of what is held
 pub held_generation : (kept : Kept) (saved : Saved) → Holds (Some kept) saved → generation_of kept ≡ saved.generation
 held_generation kept saved holds =

@@ -23,3 +23,7 @@ pub record Holds (found : Option Kept) (saved : Saved) : Type 0 where
   pub records : List (List ℕ)
   pub is : found ≡ Some (record { generation = base.generation; image = image_bytes base; records = records })
   pub leads : LeadAll Leads records base saved
+
+-- what a keeper found holds one thing at most
+abbrev pub OneHeld : Type 0
+OneHeld = (found : Option Kept) (one other : Saved) → Holds found one → Holds found other → one ≡ other

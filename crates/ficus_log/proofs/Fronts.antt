@@ -1,10 +1,11 @@
 -- A slot with records behind it: what stands in front of the gate at which reading ends.
-use Rattle.std.proofs.Common.{◌≡◌, ℕ, ◌+◌, ◌==◌, ◌&&◌, ◌≤◌, Bool, true, false, Some, None, List, [], ◌∷◌, ◌++◌, length, take, drop, refl, sym, ◌∙◌, ap, subst, arith, append_assoc, length-append, length-drop}
-use Rattle.std.specs.Prelude.{if◌then◌else◌, nat_le}
+use Rattle.std.proofs.Common.{◌≡◌, ℕ, ◌+◌, ◌==◌, ◌&&◌, ◌≤◌, Bool, true, Some, None, List, [], ◌∷◌, ◌++◌, length, take, drop, refl, sym, ◌∙◌, ap, subst, arith, append_assoc, length-append, length-drop}
+use Rattle.std.specs.Prelude.{if◌then◌else◌}
 use Rattle.std.proofs.lemmas.List.{take_at, drop_at, take-append-le, drop-append-le, take-append-drop, length-take-le}
 use Rattle.std.specs.Int.{w64, from_be_bytes}
 use Rattle.std.proofs.lemmas.Bool.Decides.{nat_tests}
 use Rattle.ficus_slot.specs.Slot.{Saved, is_whole, number_of, slot_in}
+use Rattle.ficus_slot.proofs.Read.{and_parts, at_most, gate_one, if_some}
 use Rattle.ficus_log.specs.Log.{log_of, tail_log}
 use Rattle.ficus_log.proofs.Walks.{Reads, log_reads}
 
@@ -56,20 +57,6 @@ slot_has saved bytes has =
     let body : take (number_of (drop 8 rest)) (drop 16 rest) ≡ saved.body =
     (λ i. take (count i) (back i)) ∙ take_at saved.body has.tail (length saved.body) refl in
     ap slot_in has.is ∙ slot_where rest saved whole (numbers.0 ∙ has.stamp) body
-
-if_some : {A : Type 0} (b : Bool) (x y : A) → (if b then Some x else None) ≡ Some y → (b ≡ true) × (x ≡ y)
-if_some true x y is = (refl, cc)
-if_some false x y is = absurd (cc)
-
-and_parts : (a b : Bool) → (a && b) ≡ true → (a ≡ true) × (b ≡ true)
-and_parts true b is = (refl, is)
-and_parts false b is = absurd (cc)
-
-gate_one : (gate : ℕ) → (gate == 1) ≡ true → gate ≡ 1
-gate_one gate is = grind (arith, nat_tests)
-
-at_most : (m n : ℕ) → nat_le m n ≡ true → m ≤ n
-at_most m n is = grind (arith, nat_tests)
 
 abbrev slot_at : List ℕ → Saved
 slot_at rest = record { generation = number_of rest; body = take (number_of (drop 8 rest)) (drop 16 rest) }

@@ -1,5 +1,5 @@
 -- What both make together is determined.
-use Rattle.std.proofs.Common.{◌≡◌, List, Contains, Option, Some, None, sym, subst, ◌∙◌, ap, refl}
+use Rattle.std.proofs.Common.{◌≡◌, ℕ, List, length, Contains, Option, Some, None, inl, inr, sym, subst, ◌∙◌, ap, refl}
 use Rattle.std.specs.declared.cmp.Ordering.TheVariants.{Less}
 use Rattle.ficus_ids.specs.declared.id.Id.{Id}
 use Rattle.ficus_ids.specs.ListLaws.{same_rising}
@@ -11,6 +11,8 @@ use Rattle.ficus_file.specs.declared.file.FileReplica.{FileReplica}
 use Rattle.ficus_file.specs.declared.version.Version.{Version}
 use Rattle.ficus_file.specs.Files.{id_of, IsRising, HoldsUnder}
 use Rattle.ficus_recon_file.specs.Versions.{AreMerged}
+use Rattle.ficus_recon_file.specs.Counts.{MakeSoMany}
+use Rattle.ficus_recon_file.specs.News.{AreNew}
 use Rattle.ficus_recon_file.specs.Merge.{IsMergedFile, IsTaken, Merges, AreMergedFiles}
 
 pub same_versions : (mine theirs a b : List Version) → AreMerged mine theirs a → AreMerged mine theirs b → a ≡ b
@@ -65,3 +67,22 @@ pub same_merge : (held : List Id) (mine theirs one other : List FileReplica) →
 same_merge held mine theirs one other rising_one rising_other merged_one merged_other =
     same_items id_of one other rising_one rising_other (λ file.
     (same_inside held mine theirs one other merged_one merged_other file, same_inside held mine theirs other one merged_other merged_one file))
+
+-- what is new of a peer's files is one list
+new_there : (mine theirs one other : List FileReplica) → AreNew mine theirs one → AreNew mine theirs other →
+    (file : FileReplica) → Contains one file → Contains other file
+new_there mine theirs one other are also file inside = elim (also.all file (are.of_theirs file inside)) [
+  | inl there ↦ there
+  | inr held ↦ absurd (are.not_of_mine file inside held)
+]
+
+pub same_news : (mine theirs one other : List FileReplica) → AreNew mine theirs one → AreNew mine theirs other →
+    one ≡ other
+same_news mine theirs one other are also = same_items id_of one other are.rising also.rising
+    (λ file. (new_there mine theirs one other are also file, new_there mine theirs other one also are file))
+
+-- and two lists of versions make one number
+pub same_count : (mine theirs : List Version) (one other : ℕ) → MakeSoMany mine theirs one →
+    MakeSoMany mine theirs other → one ≡ other
+same_count mine theirs one other makes also =
+    sym makes.long ∙ ap length (same_versions mine theirs makes.both also.both makes.merged also.merged) ∙ also.long

@@ -10,7 +10,7 @@ mod sides;
 mod versions;
 
 pub use fits::news_fit;
-pub use laws::one_merge;
+pub use laws::{one_merge, one_news};
 pub use merge::merge_news;
 pub use news::{NewFile, News};
 pub use sides::{merge_files, merge_fits};

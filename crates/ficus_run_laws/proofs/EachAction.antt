@@ -13,13 +13,14 @@ use Rattle.ficus_script.specs.declared.answer.Answer.TheVariants.{Done, Mail}
 use Rattle.ficus_script.specs.declared.command.Command.{Command}
 use Rattle.ficus_script.specs.declared.command.Command.TheVariants as command
 use Rattle.ficus_script.specs.declared.command.Command.TheVariants.{Stop}
+use Rattle.ficus_why_runs.specs.Row.{run_of}
 use Rattle.ficus_runs.specs.Actions.{ModelAction, Adds, Saves, Posts, Fetches, Opens, Arms, Wants, GivesOnly, AtMember, AtPeers}
 use Rattle.ficus_runs.specs.Exchange.{Composes, Asks, Behind, AnAsk, AnAnswer, Handles, GivesMail, GivesNext}
 use Rattle.ficus_runs.specs.ModelWorld.{ModelWorld}
 use Rattle.ficus_runs.specs.Run.{Does}
 use Rattle.ficus_runs.specs.Sequence.{First, ByRule}
 use Rattle.ficus_runs.specs.Sweep.{CollectsAt, Collecting, DoesSweepStep, Pulling, PullsFrom, SweepStep, Swept, Sweeps, none_swept, sweep_steps, swept_answer, with_answer}
-use Rattle.ficus_run_laws.proofs.Rules.{look_answer_once, alike_answer_once, wants_once, composes_once, counts_once, behind_once}
+use Rattle.ficus_run_laws.proofs.Rules.{look_answer_once, alike_answer_once, wants_once, composes_once, counts_once, behind_once, why_lines_once}
 
 -- It holds of one action after the other where it holds of both, of each rule that gives one thing, and of each other
 -- action but that of a stop.
@@ -127,3 +128,6 @@ module _ (volume : Volume) (P : (A : Type 0) → ModelAction A → Type 0) (hold
   does_holds (command.Sweep order) arms =
       holds.behind _ _ (sweeps_hold (sweep_steps order volume.members) none_swept)
       (λ swept. gives_only_holds (swept_answer swept))
+  does_holds (command.Why by) arms =
+      holds.behind _ _ (at_member_holds by)
+      (λ member. holds.by_rule _ (λ W. why_lines_once (run_of W.earlier W.events) by))

@@ -15,7 +15,9 @@ use Rattle.ficus_rules.proofs.Rules.{then_once, where_once, gives_once, tells_on
 use Rattle.ficus_rules.proofs.Sound.{history_sound}
 use Rattle.ficus_replica.specs.Collect.{IsGarbage}
 use Rattle.ficus_replica.proofs.Collects.{garbage_once}
-use Rattle.ficus_script.specs.declared.answer.Answer.TheVariants.{Alike, Told}
+use Rattle.ficus_script.specs.declared.answer.Answer.TheVariants.{Alike, Told, Why}
+use Rattle.ficus_why_runs.specs.Row.{Explains}
+use Rattle.ficus_why_runs.proofs.Once.{explains_once}
 use Rattle.ficus_runs.specs.Actions.{collected}
 use Rattle.ficus_runs.specs.Answers.{AlikeAnswer, LookAnswer}
 use Rattle.ficus_runs.specs.Exchange.{Behind, LiesBehind}
@@ -51,6 +53,10 @@ composes_once volume event W =
 -- a collection is answered with one pair of numbers
 pub counts_once : (members : ℕ) (H : List Event) (r : ℕ) → Once (Tells collected (IsGarbage members H r))
 counts_once members H r = tells_once collected (λ one other is too. garbage_once is too)
+
+-- why is answered with one list of lines
+pub why_lines_once : (H : List Event) (r : ℕ) → Once (Tells Why (Explains H r))
+why_lines_once H r = tells_once Why (explains_once H r)
 
 -- one thing lies behind a message
 pub behind_once : (W : ModelWorld) (number : ℕ) (one other : Behind) → LiesBehind W number one

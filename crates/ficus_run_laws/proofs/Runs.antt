@@ -192,6 +192,7 @@ module _ (volume : Volume) where
   does_lawful (command.Sweep order) W =
       first_lawful _ _ W (sweeps_lawful (sweep_steps order volume.members) none_swept W)
       (λ swept V. by_rule_lawful _ V)
+  does_lawful (command.Why by) W = member_first by _ W (λ here member. by_rule_lawful _ W)
 
   nothing_lawful : (W : ModelWorld) → CutLawful volume W NothingDone
   nothing_lawful W left lawful same =

@@ -15,7 +15,8 @@ use Rattle.ficus_rules.specs.Rule.{Where, Gives, Tells}
 use Rattle.ficus_rules.specs.View.{history_view}
 use Rattle.ficus_replica.specs.Collect.{Garbage, IsGarbage}
 use Rattle.ficus_script.specs.declared.answer.Answer.{Answer}
-use Rattle.ficus_script.specs.declared.answer.Answer.TheVariants.{Collected, Done}
+use Rattle.ficus_script.specs.declared.answer.Answer.TheVariants.{Collected, Done, Why}
+use Rattle.ficus_why_runs.specs.Row.{Explains, run_of}
 use Rattle.ficus_runs.specs.Answers.{answer_to, AlikeAnswer, LookAnswer}
 use Rattle.ficus_runs.specs.ModelWorld.{ModelWorld, Standing, Up, Down, IsUp, IsFused}
 use Rattle.ficus_runs.specs.Numbered.{IsNumbered}
@@ -96,6 +97,10 @@ AtPeers volume by other =
 abbrev pub Compares : Volume → ℕ → ℕ → ModelAction Answer
 Compares volume by other =
     ByRule (λ W. AlikeAnswer (history_view volume W.events by) (history_view volume W.events other))
+
+-- the lines of the clashes at the member, over the events of the run alone
+abbrev pub Explaining : ℕ → ModelAction Answer
+Explaining by = ByRule (λ W. Tells Why (Explains (run_of W.earlier W.events) by))
 
 -- where the next event will stand
 abbrev pub next_position : ModelWorld → ℕ

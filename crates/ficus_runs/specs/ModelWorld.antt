@@ -8,10 +8,11 @@ pub data Standing : Type 0 where
   Up : Standing
   Down : Option Event → Standing
 
--- all that has happened; how each member stands; whether both of its disks have a fuse; the position of the event
--- behind each posted message; and how many bytes were posted
+-- all that has happened, and how much of it had before the run; how each member stands; whether both of its disks have
+-- a fuse; the position of the event behind each posted message; and how many bytes were posted
 pub record ModelWorld : Type 0 where
   pub events : List Event
+  pub earlier : ℕ
   pub standings : List Standing
   pub fused : List Bool
   pub posted : List ℕ

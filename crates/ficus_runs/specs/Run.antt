@@ -10,7 +10,7 @@ use Rattle.ficus_script.specs.declared.answer.Answer.{Answer}
 use Rattle.ficus_script.specs.declared.answer.Answer.TheVariants.{Done, Mail}
 use Rattle.ficus_rules.specs.Change.{MayWantMemory}
 use Rattle.ficus_rules.specs.View.{history_view}
-use Rattle.ficus_runs.specs.Actions.{ModelAction, AtMember, Decides, Updates, Sees, GivesOnly, AtPeers, Compares, Wants, Opens, Arms}
+use Rattle.ficus_runs.specs.Actions.{ModelAction, AtMember, Decides, Updates, Sees, GivesOnly, AtPeers, Compares, Explaining, Wants, Opens, Arms}
 use Rattle.ficus_runs.specs.Answers.{answer_as}
 use Rattle.ficus_runs.specs.Exchange.{Asks, GivesMail}
 use Rattle.ficus_runs.specs.ModelWorld.{ModelWorld, IsUp, IsFused}
@@ -35,11 +35,21 @@ Does volume (command.Stop by calls pick) =
     First (AtMember volume by) (λ member. First (Wants (IsFused by) refusal.NoFuse) (λ fused. Arms by calls pick))
 Does volume (command.Sweep order) =
     First (Sweeps volume (sweep_steps order volume.members) none_swept) (λ swept. GivesOnly (swept_answer swept))
+Does volume (command.Why by) = First (AtMember volume by) (λ member. Explaining by)
 
--- the command is one step of a world; a sweep is several
-abbrev pub IsStep : Command → Type 0
-IsStep (command.Sweep order) = ⊥
-IsStep other = Unit {0}
+-- the command asks only for what is shown
+abbrev pub OnlyLooks : Command → Type 0
+OnlyLooks (command.Change by change) = ⊥
+OnlyLooks (command.Look by look) = Unit {0}
+OnlyLooks (command.Collect by) = ⊥
+OnlyLooks (command.Ask by to) = ⊥
+OnlyLooks (command.Give mail) = ⊥
+OnlyLooks (command.Pull by to) = ⊥
+OnlyLooks (command.Alike by other) = Unit {0}
+OnlyLooks (command.Restart by) = ⊥
+OnlyLooks (command.Stop by calls pick) = ⊥
+OnlyLooks (command.Sweep order) = ⊥
+OnlyLooks (command.Why by) = Unit {0}
 
 -- nothing refuses the command, where all that it asks of the outside is done
 abbrev pub IsUnrefused : Volume → ModelWorld → Command → Type 0
@@ -67,6 +77,7 @@ CommandMayWantMemory volume W (command.Alike by other) = IsUnrefused volume W (c
 CommandMayWantMemory volume W (command.Restart by) = IsMember volume.members by
 CommandMayWantMemory volume W (command.Stop by calls pick) = ⊥
 CommandMayWantMemory volume W (command.Sweep order) = Unit {0}
+CommandMayWantMemory volume W (command.Why by) = IsUnrefused volume W (command.Why by)
 
 -- What each command has done where memory is refused on the way: nothing; but a pull keeps its ask, and its first give,
 -- and a sweep the steps before the one in which it is, and what that one has done.

@@ -1,5 +1,5 @@
 -- How a run begins.
-use Rattle.std.specs.Prelude.{ℕ, Bool, List, [], ◌++◌, map, replicate}
+use Rattle.std.specs.Prelude.{ℕ, Bool, List, [], ◌++◌, length, map, replicate}
 use Rattle.std.specs.List.{range_with_len}
 use Rattle.ficus_model.specs.declared.event.Event.{Event}
 use Rattle.ficus_model.specs.declared.event.Event.TheVariants.{Restart}
@@ -19,6 +19,7 @@ restarts members = map (λ r. Restart r) (range_with_len 1 members)
 abbrev pub start : List Event → ℕ → ℕ → List Bool → ModelWorld
 start earlier members total fused = record {
   events = earlier ++ restarts members;
+  earlier = length earlier;
   standings = replicate members Up;
   fused = fused;
   posted = [];

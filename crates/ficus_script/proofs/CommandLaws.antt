@@ -1,11 +1,12 @@
 -- Each command is read off the table of verbs from its spelling, and no two commands share one.
-use Rattle.std.proofs.Common.{◌≡◌, ◌≢◌, ℕ, Bool, true, false, if◌then◌else◌, List, [], ◌∷◌, ◌++◌, get_or, Option, None, Some, Result, Err, IfNone, refl, sym, ◌∙◌, ap, inl, inr, arith}
-use Rattle.std.specs.Prelude.{codes, nat_le, Ok}
+use Rattle.std.proofs.Common.{◌≡◌, ◌≢◌, ℕ, ◌<◌, ◌^◌, true, false, if◌then◌else◌, List, [], ◌∷◌, ◌++◌, get_or, Option, None, Some, Result, Err, IfNone, IfSome, refl, sym, ◌∙◌, ap, subst, inl, inr, arith}
+use Rattle.std.specs.Prelude.{codes, Ok}
 use Rattle.std.specs.Fmt.{decimal}
-use Rattle.std.specs.List.{AllByRecursion, join_with_byte}
+use Rattle.std.specs.List.{join_with_byte}
 use Rattle.std.specs.Str.{bytes_eq}
 use Rattle.std.proofs.lemmas.Bool.Decides.{leb_tells}
-use Rattle.std.proofs.lemmas.List.Elements.{All-from_recursion}
+use Rattle.std.proofs.lemmas.Fmt.{decimal_nonempty}
+use Rattle.std.proofs.lemmas.List.{get_or_append_left}
 use Rattle.ficus_ids.specs.declared.id.Id.{Id}
 use Rattle.ficus_ids.specs.declared.id.TheConstants.{ROOT}
 use Rattle.ficus_path.specs.declared.path.Base.{Base}
@@ -24,8 +25,8 @@ use Rattle.ficus_script.specs.Arguments.{IsReplicaNumber, IsReadingBehind, argum
 use Rattle.ficus_path.specs.Path.{at_orphan}
 use Rattle.ficus_path.specs.Text.{quoted_text}
 use Rattle.ficus_path.proofs.TextLaws.{quoted_text_injective}
-use Rattle.ficus_script.specs.Script.{IsCommandLine}
-use Rattle.ficus_script.specs.Command.{IsCommand, IsCommandOf, IsSpelled, Spelling, of_replica, spelling_of, replica_words, spelling_text, command_text}
+use Rattle.ficus_script.specs.Script.{IsCommandLine, IsStepLine}
+use Rattle.ficus_script.specs.Command.{IsCommand, IsCommandOf, IsSpelled, IsSpelledStep, IsStep, Spelling, of_replica, spelling_of, replica_words, spelling_text, command_text}
 use Rattle.ficus_script.specs.Line.{IsReadingAt, IsReadingOf, led_by}
 use Rattle.ficus_script.proofs.ArgumentLaws.{one_arguments}
 use Rattle.ficus_script.proofs.Cuts.{IsCut, join_first, one_cut, one_first_word, spaced}
@@ -52,7 +53,7 @@ word_of arguments = quoted_text []
 abbrev commands_with : List ℕ → Option ℕ → Arguments → List Command
 commands_with text (Some by) Nothing =
     command.Look by Tree ∷ command.Look by Conflicts ∷ command.Look by Orphans ∷ command.Look by Detached
-    ∷ command.Look by Marks ∷ command.Collect by ∷ []
+    ∷ command.Look by Marks ∷ command.Collect by ∷ command.Why by ∷ []
 commands_with text (Some by) (OnePath path) =
     command.Change by (MkDir path) ∷ command.Change by (Rm path) ∷ command.Change by (Resolve path)
     ∷ command.Change by (Discard (orphan_of path.base)) ∷ command.Look by (Ls path) ∷ command.Look by (Read path) ∷ command.Look by (Versions path) ∷ []
@@ -123,6 +124,7 @@ listed (command.Alike by other) = record { letters = refl; text = refl; found = 
 listed (command.Restart by) = record { letters = refl; text = refl; found = refl }
 listed (command.Stop by calls pick) = record { letters = refl; text = refl; found = refl }
 listed (command.Sweep order) = record { letters = refl; text = refl; found = refl }
+listed (command.Why by) = record { letters = refl; text = refl; found = refl }
 
 -- the table has one command for a spelling
 one_command : (command other : Command) → spelling_of command ≡ spelling_of other → command ≡ other
@@ -134,6 +136,32 @@ one_command command other same =
     sym (listed command).found ∙ ap (λ (text : List ℕ). at_spelling text (spelling_of command)) texts
     ∙ ap (at_spelling (text_of other)) same ∙ (listed other).found in
     cc
+
+-- with nothing behind its verb, or an order, a command may be more than one step
+abbrev pub MayBeNoStep : Option ℕ → Arguments → Type 0
+MayBeNoStep (Some by) Nothing = Unit {0}
+MayBeNoStep None (OneOrder order) = Unit {0}
+MayBeNoStep by behind = ⊥
+
+-- with anything else it is one
+is_step : (it : Command) → (MayBeNoStep (spelling_of it).by (spelling_of it).behind → ⊥) → IsStep it
+is_step (command.Sweep order) none = absurd (none tt)
+is_step (command.Why by) none = absurd (none tt)
+is_step it none = tt
+
+pub spelled_step : (spelling : Spelling) → (MayBeNoStep spelling.by spelling.behind → ⊥) → IsSpelled spelling →
+    IsSpelledStep spelling
+spelled_step spelling none spelled =
+    let same = spelled.2 in
+    (spelled.0, spelled.1, same, is_step spelled.0 (rw same none))
+
+-- where a spelling's command was found, it is a step exactly where that one is
+pub found_step : (spelling : Spelling) (it : Command) → IsCommand it → spelling_of it ≡ spelling →
+    (IsStep it → IsSpelledStep spelling) × (IsSpelledStep spelling → IsStep it)
+found_step spelling it valid same = (
+  λ step. (it, valid, same, step),
+  λ spelled. subst IsStep (one_command spelled.0 it (spelled.2 ∙ sym same)) spelled.3,
+)
 
 -- where the table's command has another spelling, none has this one
 no_other : (spelling : Spelling) (candidate : Command) →
@@ -209,6 +237,28 @@ IsCut-command command valid =
       none = rw whole (no_leading_number spelling.by spelling.verb (left_of words) letters free);
     }
 
+-- a command's text doesn't begin with `@` (64)
+begins_so : (by : Option ℕ) (verb : List ℕ) (left : Option (List ℕ)) → IfSome by IsReplicaNumber →
+    are_letters verb ≡ true → get_or (led_by by (verb ++ spaced left)) 0 0 ≢ 64
+begins_so (Some by) verb left number letters is =
+    let fits : by < 2 ^ 64 = omega (arith, number.at_most) in
+    let first = first_digit_of_replica by number in
+    let same = get_or_append_left (decimal by) (32 ∷ verb ++ spaced left) 0 0 (decimal_nonempty by fits) in
+    omega (arith, first.0, first.1, same, is)
+begins_so None [] None number letters is = omega (arith, is)
+begins_so None [] (Some left) number letters is = omega (arith, is)
+begins_so None (byte ∷ verb) left number letters is =
+    elim (leb_tells 97 byte) [
+      | inl letter ↦ omega (arith, letter.1, is)
+      | inr other ↦ let clash : false ≡ true = rw other.0 at letters in cc
+    ]
+
+pub no_at : (it : Command) → IsCommand it → get_or (command_text it) 0 0 ≢ 64
+no_at it valid is =
+    let cut = IsCut-command it valid in
+    begins_so (spelling_of it).by (verb_of it) (left_of (argument_words (spelling_of it).behind)) cut.number (listed it).letters
+    (sym (ap (λ (l : List ℕ). get_or l 0 0) cut.whole) ∙ is)
+
 -- a spelling is its three parts
 same_spelling : (spelling other : Spelling) → spelling.by ≡ other.by → spelling.verb ≡ other.verb →
     spelling.behind ≡ other.behind → spelling ≡ other
@@ -257,6 +307,21 @@ module _ (line verb : List ℕ) (by : Option ℕ) (left : Option (List ℕ)) (cu
       let arguments = one_arguments spelling.behind behind spelled.1.behind read.0 (parts.2 ∙ read.1) in
       (command, spelled.1, same_spelling spelling _ parts.0 parts.1 arguments)
 
+  -- where it spells a step, so does the line, and the other way round
+  pub step_line : (behind : Arguments) → IsReadingBehind left (Some behind) →
+      IsSpelledStep (record { by = by; verb = verb; behind = behind }) → IsStepLine line
+  unfolding spelled_line
+  step_line behind read spelled =
+      let is = spelled_line behind read (spelled.0, spelled.1, spelled.2) in
+      (spelled.0, spelled.1, is.2, spelled.3)
+
+  pub line_step : (behind : Arguments) → IsReadingBehind left (Some behind) → IsStepLine line →
+      IsSpelledStep (record { by = by; verb = verb; behind = behind })
+  unfolding line_spelled
+  line_step behind read spelled =
+      let is = line_spelled behind read (spelled.0, spelled.1, spelled.2) in
+      (spelled.0, spelled.1, is.2, spelled.3)
+
   -- the line has the spelling of the command that is read off it, or no command's
   pub reading_of : (behind : Arguments) (found : Result Command LineFault) → IsReadingBehind left (Some behind) →
       IsReadingAt (record { by = by; verb = verb; behind = behind }) found → IsReadingOf line found
@@ -265,9 +330,14 @@ module _ (line verb : List ℕ) (by : Option ℕ) (left : Option (List ℕ)) (cu
       let spelled = spelled_line behind read (command, is.0, is.1) in
       (is.0, spelled.2)
   reading_of behind (Err NotCommand) read none = λ spelled. none (line_spelled behind read spelled)
-  reading_of behind (Err OutOfMemory) read spelled = spelled_line behind read spelled
+  reading_of behind (Err OutOfMemory) read spelled = step_line behind read spelled
 
   -- where what stands behind the verb are no arguments, the line is no command's
   pub no_arguments : IsReadingBehind left None → IsCommandLine line → ⊥
   no_arguments none spelled =
       none (spelling_of spelled.0).behind spelled.1.behind (sym (same_parts spelled.0 spelled.1 spelled.2).2)
+
+-- a command that a line spells is a step exactly where the line spells one
+pub line_is_step : (line : List ℕ) (it : Command) → IsCommand it → line ≡ command_text it → IsStepLine line → IsStep it
+line_is_step line it valid same spelled =
+    subst IsStep (command_text_injective spelled.0 it spelled.1 valid (sym spelled.2 ∙ same)) spelled.3

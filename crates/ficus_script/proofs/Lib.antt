@@ -8,3 +8,4 @@ pub mod Scripts
 pub mod VectorTexts
 pub mod VerbLaws
 pub mod SetTexts
+pub mod VolumeLaws

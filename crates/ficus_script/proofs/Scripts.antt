@@ -1,16 +1,14 @@
 -- How a script falls into its lines, and how far it is read.
-use Rattle.std.proofs.Common.{◌≡◌, ◌≢◌, ℕ, ◌+◌, ◌<◌, ◌≤◌, List, [], ◌∷◌, ◌++◌, length, map, Option, None, Some, MatchOption, refl, sym, ◌∙◌, ap, arith, length-append}
+use Rattle.std.proofs.Common.{◌≡◌, ◌≢◌, ℕ, ◌+◌, ◌<◌, ◌≤◌, List, [], ◌∷◌, ◌++◌, length, Option, None, Some, MatchOption, refl, sym, ◌∙◌, ap, inr, false, arith, length-append}
 use Rattle.std.specs.Prelude.{unwrap_or, Result, Ok, Err, is_ok, OnOk}
-use Rattle.std.specs.List.{All, AllByRecursion, filter, onto_first}
+use Rattle.std.specs.List.{All, AllByRecursion, AllZip, filter, onto_first}
 use Rattle.std.specs.Borrow.{Bor}
-use Rattle.std.proofs.lemmas.List.{append_assoc, append-nil, map-append}
-use Rattle.std.proofs.lemmas.List.Elements.{recursion_from_All, All-nil, All-push, All-append, filter-append}
+use Rattle.std.proofs.lemmas.List.{append_assoc, append-nil}
+use Rattle.std.proofs.lemmas.List.Elements.{recursion_from_All, All-nil, All-push, filter-append}
 use Rattle.std.proofs.lemmas.Bool.{ne_eqb, true≢false}
 use Rattle.ficus_path.proofs.CutLaws.{IsFreeOf}
-use Rattle.ficus_script.specs.declared.command.Command.{Command}
-use Rattle.ficus_script.specs.Command.{IsCommand, command_text}
 use Rattle.ficus_script.specs.Line.{AddsLine}
-use Rattle.ficus_script.specs.Script.{lines_of, is_kept, IsFirstBadLine, IsScriptLine}
+use Rattle.ficus_script.specs.Script.{lines_of, is_kept, is_passed_over, AreLines, IsFirstBad, MayStand}
 
 abbrev pub AreFree : List ℕ → Type 0
 AreFree line = AllByRecursion (λ byte. byte ≢ 10) line
@@ -37,68 +35,100 @@ first_of_lines bytes line None nothing empty some free whole =
 first_of_lines bytes line (Some behind) nothing empty some free cut =
     ap lines_of cut ∙ line_cut line behind.now (recursion_from_All (λ byte. byte ≢ 10) line free)
 
--- The script is seen up to the rest: the lines before it may stand in a script.
-pub record IsSeenTo (bytes : List ℕ) (number : ℕ) (rest : List ℕ) : Type 0 where
-  pub before : List (List ℕ)
-  pub lines : lines_of bytes ≡ before ++ lines_of rest
-  pub counted : number ≡ length before
-  pub good : All IsScriptLine before
-  pub within : number + length rest ≤ length bytes
+module _ (may : List ℕ → Type 0) where
+  -- The script is seen up to the rest: the lines before it may stand there.
+  pub record IsSeenTo (bytes : List ℕ) (number : ℕ) (rest : List ℕ) : Type 0 where
+    pub before : List (List ℕ)
+    pub lines : lines_of bytes ≡ before ++ lines_of rest
+    pub counted : number ≡ length before
+    pub good : All may before
+    pub within : number + length rest ≤ length bytes
 
-pub IsSeenTo-more : {bytes rest : List ℕ} {number : ℕ} (line others : List ℕ) → IsSeenTo bytes number rest →
-    lines_of rest ≡ line ∷ lines_of others → length others < length rest → IsScriptLine line →
-    IsSeenTo bytes (number + 1) others
-IsSeenTo-more line others so_far cut shorter good = record {
-  before = so_far.before ++ line ∷ [];
-  lines = so_far.lines ∙ ap (λ (lines : List (List ℕ)). so_far.before ++ lines) cut
-      ∙ sym (append_assoc so_far.before (line ∷ []) (lines_of others));
-  counted = omega (arith, so_far.counted, length-append so_far.before (line ∷ []));
-  good = All-push IsScriptLine so_far.before line so_far.good good;
-  within = omega (arith, so_far.within);
-}
+  -- at first nothing is
+  pub IsSeenTo-none : (bytes : List ℕ) → IsSeenTo bytes 0 bytes
+  IsSeenTo-none bytes =
+      record { before = []; lines = refl; counted = refl; good = All-nil may; within = omega arith }
 
--- a line that may stand in no script is the first such one
-pub first_bad : {bytes rest : List ℕ} {number : ℕ} (line others : List ℕ) → IsSeenTo bytes number rest →
-    lines_of rest ≡ line ∷ lines_of others → (IsScriptLine line → ⊥) → IsFirstBadLine bytes (number + 1)
-first_bad line others so_far cut bad = record {
-  before = so_far.before;
-  bad = line;
-  behind = lines_of others;
-  lines = so_far.lines ∙ ap (λ (lines : List (List ℕ)). so_far.before ++ lines) cut;
-  counted = omega (arith, so_far.counted);
-  each = so_far.good;
-  no_line = bad;
-}
+  pub IsSeenTo-more : {bytes rest : List ℕ} {number : ℕ} (line others : List ℕ) → IsSeenTo bytes number rest →
+      lines_of rest ≡ line ∷ lines_of others → length others < length rest → may line →
+      IsSeenTo bytes (number + 1) others
+  IsSeenTo-more line others so_far cut shorter good = record {
+    before = so_far.before ++ line ∷ [];
+    lines = so_far.lines ∙ ap (λ (lines : List (List ℕ)). so_far.before ++ lines) cut
+        ∙ sym (append_assoc so_far.before (line ∷ []) (lines_of others));
+    counted = omega (arith, so_far.counted, length-append so_far.before (line ∷ []));
+    good = All-push may so_far.before line so_far.good good;
+    within = omega (arith, so_far.within);
+  }
 
--- where all is seen, all lines may
-pub all_seen : {bytes rest : List ℕ} {number : ℕ} → IsSeenTo bytes number rest → rest ≡ [] →
-    All IsScriptLine (lines_of bytes)
-all_seen {rest} so_far end =
-    let whole = so_far.lines ∙ ap (λ (rest : List ℕ). so_far.before ++ lines_of rest) end in
-    rw (whole ∙ append-nil so_far.before) so_far.good
+  -- a line that may not stand there is the first such one
+  pub first_bad : {bytes rest : List ℕ} {number : ℕ} (line others : List ℕ) → IsSeenTo bytes number rest →
+      lines_of rest ≡ line ∷ lines_of others → (may line → ⊥) → IsFirstBad may bytes (number + 1)
+  first_bad line others so_far cut bad = record {
+    before = so_far.before;
+    bad = line;
+    behind = lines_of others;
+    lines = so_far.lines ∙ ap (λ (lines : List (List ℕ)). so_far.before ++ lines) cut;
+    counted = omega (arith, so_far.counted);
+    each = so_far.good;
+    no_line = bad;
+  }
 
--- It is read up to there: these are the commands that the lines spell.
-pub record IsReadTo (bytes : List ℕ) (number : ℕ) (commands : List Command) (rest : List ℕ) : Type 0 where
-  pub seen : IsSeenTo bytes number rest
-  pub each : All IsCommand commands
-  pub spelled : filter is_kept seen.before ≡ map command_text commands
+  -- where all is seen, all lines may
+  pub all_seen : {bytes rest : List ℕ} {number : ℕ} → IsSeenTo bytes number rest → rest ≡ [] →
+      All may (lines_of bytes)
+  all_seen {rest} so_far end =
+      let whole = so_far.lines ∙ ap (λ (rest : List ℕ). so_far.before ++ lines_of rest) end in
+      rw (whole ∙ append-nil so_far.before) so_far.good
 
--- at first nothing is
-pub IsReadTo-none : (bytes : List ℕ) → IsReadTo bytes 0 [] bytes
-IsReadTo-none bytes = record {
-  seen = record { before = []; lines = refl; counted = refl; good = All-nil IsScriptLine; within = omega arith };
-  each = All-nil IsCommand;
-  spelled = refl;
-}
+-- what is spelled, and then more
+zip_append : {A B : Type 0} (R : A → B → Type 0) (xs more : List A) (ys others : List B) → AllZip R xs ys →
+    AllZip R more others → AllZip R (xs ++ more) (ys ++ others)
+zip_append R [] more [] others zip behind = behind
+zip_append R [] more (y ∷ ys) others zip behind = absurd zip
+zip_append R (x ∷ xs) more [] others zip behind = absurd zip
+zip_append R (x ∷ xs) more (y ∷ ys) others zip behind = (zip.0, zip_append R xs more ys others zip.1 behind)
 
-pub IsReadTo-more : {bytes rest : List ℕ} {number : ℕ} {old new : List Command} (line others : List ℕ) →
-    IsReadTo bytes number old rest → lines_of rest ≡ line ∷ lines_of others → length others < length rest →
-    AddsLine line old new → IsReadTo bytes (number + 1) new others
-unfolding IsSeenTo-more
-IsReadTo-more {old} line others so_far cut shorter takes = record {
-  seen = IsSeenTo-more line others so_far.seen cut shorter takes.good;
-  each = rw takes.added (All-append IsCommand old takes.more so_far.each takes.each);
-  spelled = rw (filter-append, so_far.spelled, takes.spelled, takes.added, map-append) refl;
+module _ {A : Type 0} (spells : A → List ℕ → Type 0) (is_spelled : List ℕ → Type 0) where
+  -- It is read up to there: this is what the lines spell.
+  pub record IsReadTo (bytes : List ℕ) (number : ℕ) (items : List A) (rest : List ℕ) : Type 0 where
+    pub seen : IsSeenTo (MayStand is_spelled) bytes number rest
+    pub spelled : AllZip spells items (filter is_kept seen.before)
+
+  -- at first nothing is
+  pub IsReadTo-none : (bytes : List ℕ) → IsReadTo bytes 0 [] bytes
+  IsReadTo-none bytes = record {
+    seen = record { before = []; lines = refl; counted = refl; good = All-nil (MayStand is_spelled); within = omega arith };
+    spelled = tt;
+  }
+
+  pub IsReadTo-more : {bytes rest : List ℕ} {number : ℕ} {old new : List A} (line others : List ℕ) →
+      IsReadTo bytes number old rest → lines_of rest ≡ line ∷ lines_of others → length others < length rest →
+      AddsLine spells is_spelled line old new → IsReadTo bytes (number + 1) new others
+  unfolding IsSeenTo-more
+  IsReadTo-more {old} line others so_far cut shorter takes = record {
+    seen = IsSeenTo-more (MayStand is_spelled) line others so_far.seen cut shorter takes.good;
+    spelled = rw (filter-append, takes.added)
+        (zip_append spells old takes.more (filter is_kept so_far.seen.before) (filter is_kept (line ∷ [])) so_far.spelled
+        takes.spelled);
+  }
+
+  -- where all is read, these are the lines
+  pub all_read : {bytes rest : List ℕ} {number : ℕ} {items : List A} → IsReadTo bytes number items rest → rest ≡ [] →
+      AreLines spells bytes items
+  all_read {rest} {items} so_far end =
+      let whole = so_far.seen.lines ∙ ap (λ (rest : List ℕ). so_far.seen.before ++ lines_of rest) end in
+      rw (whole ∙ append-nil so_far.seen.before) so_far.spelled
+
+-- a line that isn't passed over comes behind the others
+pub adds_line : {A : Type 0} (spells : A → List ℕ → Type 0) (is_spelled : List ℕ → Type 0) (line : List ℕ)
+    (old new : List A) (one : A) → is_passed_over line ≡ false → new ≡ old ++ one ∷ [] → spells one line →
+    is_spelled line → AddsLine spells is_spelled line old new
+adds_line spells is_spelled line old new one kept added spelled may = record {
+  more = one ∷ [];
+  added = added;
+  spelled = rw kept (spelled, tt);
+  good = inr may;
 }
 
 -- what holds on `Ok` holds where the same call with its error changed is `Ok`

@@ -1,5 +1,5 @@
 -- What is told of a spelling by a command, by a verb, or by none.
-use Rattle.std.proofs.Common.{◌≡◌, ◌↔◌, Bool, Option, None, Some, refl}
+use Rattle.std.proofs.Common.{◌↔◌, Option, None, Some, refl}
 use Rattle.std.specs.Prelude.{IsTrue, is_some, ok_or, option_map}
 use Rattle.std.proofs.lemmas.Bool.{false≢true}
 use Rattle.ficus_script.specs.declared.command.Command.{Command}

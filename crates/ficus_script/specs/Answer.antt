@@ -130,6 +130,10 @@ abbrev pub swept_text_of : ℕ → ℕ → ℕ → List ℕ
 swept_text_of pulls entries files =
     codes "swept " ++ decimal pulls ++ 32 ∷ decimal entries ++ 32 ∷ decimal files ++ 10 ∷ []
 
+-- how many lines there are, and each of them as it is
+abbrev pub why_text_of : List (List ℕ) → List ℕ
+why_text_of lines = counted_lines (λ line. line) lines
+
 -- the text of each answer
 abbrev pub answer_text_of : Answer → List ℕ
 answer_text_of answer.Done = codes "ok" ++ 10 ∷ []
@@ -139,4 +143,5 @@ answer_text_of (answer.Collected entries files) = collected_text_of entries file
 answer_text_of (answer.Told told) = told_text_of told
 answer_text_of (answer.Alike alike) = alike_text_of alike
 answer_text_of (answer.Swept pulls entries files) = swept_text_of pulls entries files
+answer_text_of (answer.Why lines) = why_text_of lines
 answer_text_of (answer.Refused refusal) = codes "no " ++ refusal_word refusal ++ 10 ∷ []

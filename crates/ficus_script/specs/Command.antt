@@ -56,6 +56,7 @@ spelling_of (command.Alike by other) = of_none (codes "alike") (TwoReplicas by o
 spelling_of (command.Restart by) = of_none (codes "restart") (OneNumber by)
 spelling_of (command.Stop by calls pick) = of_none (codes "stop") (Arming by calls pick)
 spelling_of (command.Sweep order) = of_none (codes "sweep") (OneOrder order)
+spelling_of (command.Why by) = of_replica by (codes "why") Nothing
 
 -- the arguments are of the sort that the command takes: a change takes paths of its own sort, and a restart the number
 -- of a replica; others may be any
@@ -70,6 +71,7 @@ TakesArguments (command.Alike by other) = Unit {0}
 TakesArguments (command.Restart by) = IsReplicaNumber by
 TakesArguments (command.Stop by calls pick) = Unit {0}
 TakesArguments (command.Sweep order) = Unit {0}
+TakesArguments (command.Why by) = Unit {0}
 
 -- the number that leads is that of a replica, the arguments are such, and of the sort that the command takes
 pub record IsCommand (command : Command) : Type 0 where
@@ -99,3 +101,14 @@ IsSpelled spelling = (command : Command) × IsCommand command × (spelling_of co
 abbrev pub IsCommandOf : Spelling → Option Command → Type 0
 IsCommandOf spelling (Some command) = IsCommand command × (spelling_of command ≡ spelling)
 IsCommandOf spelling None = (command : Command) → IsCommand command → spelling_of command ≡ spelling → ⊥
+
+-- the command is one step of a world; a sweep is several, and why asks only what is stored
+abbrev pub IsStep : Command → Type 0
+IsStep (command.Sweep order) = ⊥
+IsStep (command.Why by) = ⊥
+IsStep other = Unit {0}
+
+-- a command that is one step has this spelling
+abbrev pub IsSpelledStep : Spelling → Type 0
+IsSpelledStep spelling =
+    (command : Command) × IsCommand command × (spelling_of command ≡ spelling) × IsStep command

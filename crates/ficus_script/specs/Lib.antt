@@ -5,3 +5,4 @@ pub mod Line
 pub mod Order
 pub mod Script
 pub mod Verb
+pub mod VolumeLine

@@ -1,5 +1,5 @@
 use ficus_commands::Told;
-use ficus_ids::{Id, Refusal};
+use ficus_ids::{Id, Listed, Refusal};
 
 /// What a command came to.
 #[derive(Drop)]
@@ -27,6 +27,8 @@ pub enum Answer {
         entries: u32,
         files: u32,
     },
+    /// Of each file in conflict with a certificate, its line, which ends with byte 10.
+    Why(Listed<Listed<u8>>),
     /// It was refused.
     Refused(Refusal),
 }

@@ -1,3 +1,5 @@
+ghost use Rattle.std.specs.Prelude.{◌↔◌, IsTrue};
+
 use crate::Order;
 use ficus_commands::{Change, Look};
 
@@ -29,4 +31,29 @@ pub enum Command {
     Stop { by: u8, calls: u32, pick: u8 },
     /// `sweep star`, `sweep ring`: the pulls of the order, and then a collection by each replica, up to the first refusal.
     Sweep { order: Order },
+    /// `R why`: for each file in conflict at replica `by`, two updates of this run that clash.
+    Why { by: u8 },
+}
+
+impl Command {
+    ghost use Rattle.ficus_script.specs.Command.{IsStep};
+
+    /// Whether it is one step of a world: every command is, but a sweep, which is several, and why, which asks only what is
+    /// stored.
+    pub fn is_step(&self) -> bool
+        ensures { IsTrue result ↔ IsStep self.now }
+    {
+        match self {
+            Command::Sweep { .. } | Command::Why { .. } => false,
+            Command::Change { .. }
+            | Command::Look { .. }
+            | Command::Collect { .. }
+            | Command::Ask { .. }
+            | Command::Give { .. }
+            | Command::Pull { .. }
+            | Command::Alike { .. }
+            | Command::Restart { .. }
+            | Command::Stop { .. } => true,
+        }
+    }
 }

@@ -1,6 +1,8 @@
-ghost use Rattle.std.specs.Prelude.{◌≡◌, ℕ, List};
+ghost use Rattle.std.specs.Prelude.{◌≡◌, ◌≤◌, ℕ, List};
 ghost use Rattle.ficus_script.specs.declared.command.Command.{Command};
+ghost use Rattle.ficus_script.specs.declared.volume_line.VolumeLine.{VolumeLine};
 ghost use Rattle.ficus_script.specs.Script.{IsScript, IsFirstBadLine};
+ghost use Rattle.ficus_script.specs.VolumeLine.{IsVolumeScript, IsFirstBadVolumeLine};
 
 /// The law that no two lists of commands are one script's. It does nothing when it runs.
 pub fn one_script()
@@ -18,4 +20,15 @@ pub fn no_bad_line()
 pub fn one_bad_line()
     ensures { (bytes : List ℕ) (line other : ℕ) →
         IsFirstBadLine bytes line → IsFirstBadLine bytes other → line ≡ other }
+{}
+
+/// The same of scripts over several volumes: one list of lines, or one first bad line, and never both. It does nothing
+/// when it runs.
+pub fn one_volume_script()
+    ensures lines { (volumes : ℕ) (bytes : List ℕ) (lines others : List VolumeLine) → volumes ≤ 255 →
+        IsVolumeScript volumes bytes lines → IsVolumeScript volumes bytes others → lines ≡ others }
+    ensures no_line { (volumes : ℕ) (bytes : List ℕ) (lines : List VolumeLine) (line : ℕ) →
+        IsVolumeScript volumes bytes lines → IsFirstBadVolumeLine volumes bytes line → ⊥ }
+    ensures bad_line { (volumes : ℕ) (bytes : List ℕ) (line other : ℕ) →
+        IsFirstBadVolumeLine volumes bytes line → IsFirstBadVolumeLine volumes bytes other → line ≡ other }
 {}

@@ -1,15 +1,15 @@
 ghost use Rattle.std.specs.Prelude.{◌≡◌, ◌↔◌, ℕ, List, Some, IsTrue, IfSome, IfNone};
 ghost use Rattle.ficus_script.specs.Arguments.{IsReplicaNumber};
 ghost use Rattle.ficus_script.specs.declared.line.LineFault.TheVariants.{Memory as OutOfMemory};
-ghost use Rattle.ficus_script.specs.Line.{fault_at, led_by, IsReadingOf};
-ghost use Rattle.ficus_script.specs.Script.{IsCommandLine};
+ghost use Rattle.ficus_script.specs.Line.{fault_at, led_by, IsReadingBy, IsReadingOf};
+ghost use Rattle.ficus_script.specs.Script.{IsCommandLine, IsStepLine, SpellsStep};
 
 use crate::arguments::read_arguments;
 use crate::cut::cut_at;
 use crate::line_paths::LinePaths;
 use crate::making::command_of;
 use crate::replica::read_replica;
-use crate::verbs::is_command_of;
+use crate::verbs::{is_command_of, is_step_of};
 use crate::{Command, ScriptFault};
 use ficus_ids::Memory;
 use std::alloc::{AllocFailed, Global};
@@ -52,7 +52,7 @@ impl LineFault {
 }
 
 /// The command that the line spells. `NotCommand` comes exactly where it spells none, and `Memory` only where it spells
-/// one and memory was refused.
+/// one, which is one step of a world, and memory was refused.
 pub(crate) fn read_command(
     alloc: Global,
     line: &[u8],
@@ -76,6 +76,35 @@ pub(crate) fn is_command(line: &[u8], paths: &mut LinePaths) -> bool
     let (verb, behind) = cut_at(words, b' ');
     match read_arguments(behind, paths) {
         Some(shape) => is_command_of(by, verb, paths, &shape),
+        None => false,
+    }
+}
+
+/// The command that the line spells, which is one step of a world. `NotCommand` comes exactly where it spells none such,
+/// and `Memory` only where it spells one and memory was refused.
+pub(crate) fn read_step(
+    alloc: Global,
+    line: &[u8],
+    paths: &mut LinePaths,
+) -> Result<Command, LineFault>
+    ensures { IsReadingBy SpellsStep IsStepLine line.now result }
+{
+    let command = read_command(alloc, line, paths)?;
+    if command.is_step() {
+        Ok(command)
+    } else {
+        Err(LineFault::NotCommand)
+    }
+}
+
+/// Whether the line spells a command that is one step of a world, which is found without memory.
+pub(crate) fn is_step(line: &[u8], paths: &mut LinePaths) -> bool
+    ensures { IsTrue result ↔ IsStepLine line.now }
+{
+    let (by, words) = cut_replica(line);
+    let (verb, behind) = cut_at(words, b' ');
+    match read_arguments(behind, paths) {
+        Some(shape) => is_step_of(by, verb, paths, &shape),
         None => false,
     }
 }

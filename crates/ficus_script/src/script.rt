@@ -1,11 +1,13 @@
-ghost use Rattle.std.specs.Prelude.{◌≡◌, ◌↔◌, ◌<◌, ℕ, [], ◌∷◌, length, All, Err, IsTrue, IfOk, OnOk, IfSome, IfNone, IsErrOf};
+ghost use Rattle.std.specs.Prelude.{◌≡◌, ◌↔◌, ◌<◌, ◌≤◌, ℕ, [], ◌∷◌, length, All, Err, IsTrue, IfOk, OnOk, IfSome, IfNone, IsErrOf};
 ghost use Rattle.ficus_script.specs.Line.{AddsLine, fault_at};
-ghost use Rattle.ficus_script.specs.Script.{is_passed_over, lines_of, IsScriptLine, IsScript, IsFirstBadLine};
+ghost use Rattle.ficus_script.specs.Script.{is_passed_over, lines_of, AreLines, IsScript, IsFirstBad, IsFirstBadLine, MayStand};
+ghost use Rattle.ficus_script.specs.VolumeLine.{IsFirstBadVolumeLine, IsVolumeScript};
 
 use crate::cut::cut_at;
-use crate::line::{LineFault, is_command, read_command};
+use crate::grammar::{Commands, Grammar, VolumeLines};
+use crate::line::LineFault;
 use crate::line_paths::LinePaths;
-use crate::{Command, ScriptFault};
+use crate::{Command, ScriptFault, VolumeLine};
 use std::alloc::Global;
 
 /// The commands that the script's lines spell, in order. `BadLine` comes exactly where a line is neither passed over
@@ -15,41 +17,82 @@ pub fn read_script(alloc: Global, bytes: &[u8]) -> Result<Vec<Command>, ScriptFa
     ensures bad_line { (line : ℕ) → result ≡ Err (ScriptFault.BadLine line) → IsFirstBadLine bytes.now line }
     ensures no_line { (line : ℕ) → IsFirstBadLine bytes.now line → result ≡ Err (ScriptFault.BadLine line) }
 {
-    match read_lines(alloc, bytes) {
-        Ok(commands) => Ok(commands),
+    read_lines(alloc, bytes, &Commands {})
+}
+
+/// What the lines of a script over so many volumes ask for, in order. `BadLine` comes exactly where a line is neither
+/// passed over nor one of a volume, and names the first such line. `Memory` comes only where there is none, and memory
+/// was refused.
+pub fn read_volume_script(
+    alloc: Global,
+    bytes: &[u8],
+    volumes: u8,
+) -> Result<Vec<VolumeLine>, ScriptFault>
+    requires { 1 ≤ volumes }
+    ensures script { IfOk result (λ lines. IsVolumeScript volumes bytes.now lines.items) }
+    ensures bad_line { (line : ℕ) → result ≡ Err (ScriptFault.BadLine line)
+        → IsFirstBadVolumeLine volumes bytes.now line }
+    ensures no_line { (line : ℕ) → IsFirstBadVolumeLine volumes bytes.now line
+        → result ≡ Err (ScriptFault.BadLine line) }
+{
+    read_lines(alloc, bytes, &VolumeLines { volumes })
+}
+
+// What the lines spell, in order.
+fn read_lines<G: Grammar>(
+    alloc: Global,
+    bytes: &[u8],
+    grammar: &G,
+) -> Result<Vec<G::Line>, ScriptFault>
+    ensures script { IfOk result (λ lines. AreLines (G.spells grammar.now) bytes.now lines.items) }
+    ensures bad_line { (line : ℕ) → result ≡ Err (ScriptFault.BadLine line)
+        → IsFirstBad (MayStand (G.is_spelled grammar.now)) bytes.now line }
+    ensures no_line { (line : ℕ) → IsFirstBad (MayStand (G.is_spelled grammar.now)) bytes.now line
+        → result ≡ Err (ScriptFault.BadLine line) }
+{
+    match take_lines(alloc, bytes, grammar) {
+        Ok(lines) => Ok(lines),
         Err(ScriptFault::BadLine(line)) => Err(ScriptFault::BadLine(line)),
-        Err(ScriptFault::Memory) => Err(fault_without_memory(bytes)),
+        Err(ScriptFault::Memory) => Err(fault_without_memory(bytes, grammar)),
     }
 }
 
-// What `read_script` answers, but that memory may have been refused before a bad line was reached.
-fn read_lines(alloc: Global, bytes: &[u8]) -> Result<Vec<Command>, ScriptFault>
-    ensures script { IfOk result (λ commands. IsScript bytes.now commands.items) }
-    ensures bad_line { (line : ℕ) → result ≡ Err (ScriptFault.BadLine line) → IsFirstBadLine bytes.now line }
+// What `read_lines` answers, but that memory may have been refused before a bad line was reached.
+fn take_lines<G: Grammar>(
+    alloc: Global,
+    bytes: &[u8],
+    grammar: &G,
+) -> Result<Vec<G::Line>, ScriptFault>
+    ensures script { IfOk result (λ lines. AreLines (G.spells grammar.now) bytes.now lines.items) }
+    ensures good { OnOk result (All (MayStand (G.is_spelled grammar.now)) (lines_of bytes.now)) }
+    ensures bad_line { (line : ℕ) → result ≡ Err (ScriptFault.BadLine line)
+        → IsFirstBad (MayStand (G.is_spelled grammar.now)) bytes.now line }
 {
-    let mut commands = Vec::new(alloc);
+    let mut lines = Vec::new(alloc);
     let mut paths = LinePaths::new();
     let mut number = 0;
     let mut rest = bytes;
     while let Some((line, others)) = first_line(rest) {
         number += 1;
-        take_line(alloc, &mut commands, line, &mut paths).map_err(|fault| fault.at(number))?;
+        take_line(alloc, &mut lines, line, grammar, &mut paths).map_err(|fault| fault.at(number))?;
         rest = others;
     }
-    Ok(commands)
+    Ok(lines)
 }
 
 // What the script comes to where memory was refused.
-fn fault_without_memory(bytes: &[u8]) -> ScriptFault
-    ensures bad_line { (line : ℕ) → result ≡ ScriptFault.BadLine line → IsFirstBadLine bytes.now line }
-    ensures memory { result ≡ ScriptFault.Memory → All IsScriptLine (lines_of bytes.now) }
+fn fault_without_memory<G: Grammar>(bytes: &[u8], grammar: &G) -> ScriptFault
+    ensures bad_line { (line : ℕ) → result ≡ ScriptFault.BadLine line
+        → IsFirstBad (MayStand (G.is_spelled grammar.now)) bytes.now line }
+    ensures memory { result ≡ ScriptFault.Memory
+        → All (MayStand (G.is_spelled grammar.now)) (lines_of bytes.now) }
 {
     let mut paths = LinePaths::new();
     let mut number = 0;
     let mut rest = bytes;
     while let Some((line, others)) = first_line(rest) {
         number += 1;
-        if !is_script_line(line, &mut paths) {
+        if !may_stand(line, grammar, &mut paths) {
             return ScriptFault::BadLine(number);
         }
         rest = others;
@@ -70,28 +113,30 @@ fn first_line(bytes: &[u8]) -> Option<(&[u8], &[u8])>
     Some((line, rest.unwrap_or(&[])))
 }
 
-// Adds the command of the line, where it isn't passed over.
-fn take_line(
+// Adds what the line spells, where it isn't passed over.
+fn take_line<G: Grammar>(
     alloc: Global,
-    commands: &mut Vec<Command>,
+    lines: &mut Vec<G::Line>,
     line: &[u8],
+    grammar: &G,
     paths: &mut LinePaths,
 ) -> Result<(), LineFault>
-    ensures taken { OnOk result (AddsLine line.now commands.old.items commands.new.items) }
-    ensures not_command { IsErrOf result LineFault.NotCommand → IsScriptLine line.now → ⊥ }
-    ensures memory { IsErrOf result LineFault.Memory → IsScriptLine line.now }
+    ensures taken { OnOk result (AddsLine (G.spells grammar.now) (G.is_spelled grammar.now) line.now lines.old.items
+        lines.new.items) }
+    ensures not_command { IsErrOf result LineFault.NotCommand → MayStand (G.is_spelled grammar.now) line.now → ⊥ }
+    ensures memory { IsErrOf result LineFault.Memory → MayStand (G.is_spelled grammar.now) line.now }
 {
     if !is_passed_over(line) {
-        commands.push(read_command(alloc, line, paths)?)?;
+        lines.push(grammar.read(alloc, line, paths)?)?;
     }
     Ok(())
 }
 
-// Whether the line may stand in a script, which is found without memory.
-fn is_script_line(line: &[u8], paths: &mut LinePaths) -> bool
-    ensures { IsTrue result ↔ IsScriptLine line.now }
+// Whether the line may stand in the script, which is found without memory.
+fn may_stand<G: Grammar>(line: &[u8], grammar: &G, paths: &mut LinePaths) -> bool
+    ensures { IsTrue result ↔ MayStand (G.is_spelled grammar.now) line.now }
 {
-    is_passed_over(line) || is_command(line, paths)
+    is_passed_over(line) || grammar.has(line, paths)
 }
 
 fn is_passed_over(line: &[u8]) -> bool

@@ -5,7 +5,7 @@ ghost use Rattle.ficus_path.specs.declared.path.Path.{Path};
 ghost use Rattle.ficus_path.specs.Path.{IsNew, IsPath};
 ghost use Rattle.ficus_path.specs.Text.{quoted_text};
 ghost use Rattle.ficus_script.specs.Arguments.{AreArguments, IsReplicaNumber, arguments_of};
-ghost use Rattle.ficus_script.specs.Command.{IsCommandOf, IsSpelled, Spelling, of_none, of_replica};
+ghost use Rattle.ficus_script.specs.Command.{IsCommandOf, IsSpelled, IsSpelledStep, Spelling, of_none, of_replica};
 ghost use Rattle.ficus_script.specs.Verb.{kind_command, path_command, paths_command, text_command};
 ghost use Rattle.ficus_script.specs.Arguments.{Nothing, OnePath, PathAndKind, PathAndText, TwoPaths, OneNumber, OneOrder, TwoReplicas, Arming};
 
@@ -71,6 +71,30 @@ pub(crate) fn is_command_of(by: Option<u8>, verb: &[u8], paths: &LinePaths, behi
     }
 }
 
+/// Whether a command that is one step of a world is spelled by the verb between these, which is found without memory.
+pub(crate) fn is_step_of(by: Option<u8>, verb: &[u8], paths: &LinePaths, behind: &Shape) -> bool
+    requires replica { IfSome by IsReplicaNumber }
+    requires arguments { AreArguments (arguments_of paths.now behind.now) }
+    ensures { IsTrue result ↔
+        IsSpelledStep (record { by = by; verb = verb.now; behind = arguments_of paths.now behind.now }) }
+{
+    match (by, behind) {
+        (Some(by), Shape::Nothing) => is_step(with_nothing(by, verb)),
+        (None, Shape::OneOrder(order)) => is_step(with_order(verb, *order)),
+        _ => is_command_of(by, verb, paths, behind),
+    }
+}
+
+// Whether a command was found that is one step of a world.
+fn is_step(found: Option<Command>) -> bool
+    ensures { (spelling : Spelling) → IsCommandOf spelling found → (IsTrue result ↔ IsSpelledStep spelling) }
+{
+    match found {
+        Some(command) => command.is_step(),
+        None => false,
+    }
+}
+
 // Whether a command was found.
 fn is_one(found: Option<Command>) -> bool
     ensures { (spelling : Spelling) → IsCommandOf spelling found → (IsTrue result ↔ IsSpelled spelling) }
@@ -105,6 +129,7 @@ pub(crate) fn with_nothing(by: u8, verb: &[u8]) -> Option<Command>
             look: Look::Marks,
         }),
         _ if verb == b"collect".as_slice() => Some(Command::Collect { by }),
+        _ if verb == b"why".as_slice() => Some(Command::Why { by }),
         _ => None,
     }
 }

@@ -1,7 +1,7 @@
 ghost use Rattle.std.specs.Prelude.{◌≡◌, [], ◌∷◌, ◌++◌, codes, IfOk, OnOk};
 ghost use Rattle.ficus_path.specs.Text.{quoted_text};
 ghost use Rattle.ficus_script.specs.Answer.{answer_text_of, told_text_of, count_line, counted_lines, mark_line, name_line, tree_line};
-ghost use Rattle.ficus_script.specs.Answer.{alike_text_of, clashes_text_of, collected_text_of, id_line, orphan_line, swept_text_of, vector_text, version_line};
+ghost use Rattle.ficus_script.specs.Answer.{alike_text_of, clashes_text_of, collected_text_of, id_line, orphan_line, swept_text_of, vector_text, version_line, why_text_of};
 
 use crate::Answer;
 use crate::conflicts::{append_clash_lines, append_file_lines, append_orphan_line};
@@ -9,7 +9,7 @@ use crate::marks::append_mark_line;
 use ficus_commands::Told;
 use ficus_entry::Entry;
 use ficus_file::{Orphan, Version};
-use ficus_ids::{Id, Members, Memory};
+use ficus_ids::{Id, Listed, Members, Memory};
 use ficus_names::{Clashes, Line, shown_text};
 use ficus_path::append_text;
 use ficus_vv::Vector;
@@ -31,6 +31,7 @@ pub fn answer_text(alloc: Global, answer: &Answer) -> Result<Vec<u8>, Memory>
             entries,
             files,
         } => swept_text(alloc, *pulls, *entries, *files),
+        Answer::Why(lines) => why_text(alloc, lines.items()),
         Answer::Refused(refusal) => {
             let word = refusal.word();
             Ok(format!(in alloc; "no {word}\n")?.into_bytes())
@@ -59,6 +60,16 @@ fn swept_text(alloc: Global, pulls: u32, entries: u32, files: u32) -> Result<Vec
     ensures { IfOk result (λ text. text.items ≡ swept_text_of pulls entries files) }
 {
     Ok(format!(in alloc; "swept {pulls} {entries} {files}\n")?.into_bytes())
+}
+
+fn why_text(alloc: Global, lines: &[Listed<u8>]) -> Result<Vec<u8>, Memory>
+    ensures { IfOk result (λ text. text.items ≡ why_text_of lines.now) }
+{
+    let mut text = count_text(alloc, lines.len())?;
+    for line in lines {
+        text.extend_from_slice(line.items())?;
+    }
+    Ok(text)
 }
 
 fn told_text(alloc: Global, told: &Told) -> Result<Vec<u8>, Memory>

@@ -15,7 +15,7 @@ use Rattle.ficus_world.specs.Opening.{AreEmpty, IsFirstOccupied, Steady, fuses_i
 use Rattle.ficus_world.proofs.Disks.{fused_same}
 
 -- disks that tell what they hold do so for each command
-tells_for : {tells : Type 0} → tells → (command : Command) → TellsFor tells command
+pub tells_for : {tells : Type 0} → tells → (command : Command) → TellsFor tells command
 tells_for told (Restart by) = told
 tells_for told other = tt
 

@@ -7,7 +7,7 @@ use Rattle.ficus_keep.specs.declared.keep.Keep.{Ghosts as Keep}
 use Rattle.ficus_model.specs.Lawful.{Volume}
 use Rattle.ficus_runs.specs.ModelWorld.{ModelWorld}
 use Rattle.ficus_script.specs.declared.answer.Answer.{Answer}
-use Rattle.ficus_script.specs.declared.answer.Answer.TheVariants.{Done, Made, Mail, Collected, Told, Alike, Swept, Refused}
+use Rattle.ficus_script.specs.declared.answer.Answer.TheVariants.{Done, Made, Mail, Collected, Told, Alike, Swept, Why, Refused}
 use Rattle.ficus_script.specs.declared.command.Command.{Command}
 use Rattle.ficus_kills.specs.Trail.{Trail}
 use Rattle.ficus_serving.specs.Tally.{Tallies, is_no_refusal, is_refusal, with_answer}
@@ -26,6 +26,7 @@ one_more tally (Collected entries files) = omega arith
 one_more tally (Told told) = omega arith
 one_more tally (Alike alike) = omega arith
 one_more tally (Swept pulls entries files) = omega arith
+one_more tally (Why lines) = omega arith
 one_more tally (Refused refusal) = omega arith
 
 module _ {K D : Type 0} {keep : Keep K} {disk : Disk D} {volume : Volume} where

@@ -6,7 +6,7 @@ use Rattle.ficus_keep.specs.declared.keep.Keep.{Ghosts as Keep}
 use Rattle.ficus_model.specs.Lawful.{Volume}
 use Rattle.ficus_runs.specs.ModelWorld.{ModelWorld}
 use Rattle.ficus_script.specs.declared.answer.Answer.{Answer}
-use Rattle.ficus_script.specs.declared.answer.Answer.TheVariants.{Done, Made, Mail, Collected, Told, Alike, Swept, Refused}
+use Rattle.ficus_script.specs.declared.answer.Answer.TheVariants.{Done, Made, Mail, Collected, Told, Alike, Swept, Why, Refused}
 use Rattle.ficus_script.specs.declared.command.Command.{Command}
 use Rattle.ficus_serving.specs.Serving.{ServesWorld}
 use Rattle.ficus_serving.specs.declared.tally.Tally.{Tally}
@@ -21,6 +21,7 @@ is_refusal (Collected entries files) = false
 is_refusal (Told told) = false
 is_refusal (Alike alike) = false
 is_refusal (Swept pulls entries files) = false
+is_refusal (Why lines) = false
 is_refusal (Refused refusal) = true
 
 abbrev pub is_no_refusal : Answer → Bool

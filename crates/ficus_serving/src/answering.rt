@@ -17,14 +17,14 @@ use crate::command::carry_out;
 use crate::fault::AnsweringFault;
 use crate::put::put_all;
 use ficus_disk::{Disk, Pair};
-use ficus_keep::{Keep, KeepImages};
+use ficus_keep::Keep;
 use ficus_outside::{Link, Sink};
 use ficus_script::{Answer, Command, answer_text};
 use ficus_world::World;
 use std::alloc::Global;
 
 /// Carries out each command and puts its answer.
-pub fn answer_all<K: Sink, D: Disk, P: Keep + KeepImages + Drop, L: Link + Drop>(
+pub fn answer_all<K: Sink, D: Disk, P: Keep + Drop, L: Link + Drop>(
     alloc: Global,
     world: &mut World<P, L>,
     disks: &mut Vec<Pair<D>>,
@@ -62,7 +62,7 @@ pub fn answer_all<K: Sink, D: Disk, P: Keep + KeepImages + Drop, L: Link + Drop>
 }
 
 // Carries out one command and puts its answer.
-fn answer_one<K: Sink, D: Disk, P: Keep + KeepImages + Drop, L: Link + Drop>(
+fn answer_one<K: Sink, D: Disk, P: Keep + Drop, L: Link + Drop>(
     alloc: Global,
     world: &mut World<P, L>,
     disks: &mut Vec<Pair<D>>,
@@ -97,8 +97,12 @@ fn answer_one<K: Sink, D: Disk, P: Keep + KeepImages + Drop, L: Link + Drop>(
     put_answer(alloc, &answer, output)
 }
 
-// Puts the text of the answer.
-fn put_answer<K: Sink>(alloc: Global, answer: &Answer, output: &mut K) -> Result<(), AnsweringFault>
+/// Puts the text of the answer.
+pub fn put_answer<K: Sink>(
+    alloc: Global,
+    answer: &Answer,
+    output: &mut K,
+) -> Result<(), AnsweringFault>
     ensures put { OnOk result (K.tells → K.written output.new ≡ K.written output.old ++ answer_text_of answer.now) }
     ensures front { OnErr result (K.tells
         → PutsFront (K.written output.old) (answer_text_of answer.now) (K.written output.new)) }

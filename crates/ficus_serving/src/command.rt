@@ -10,17 +10,18 @@ ghost use Rattle.ficus_world.specs.Follows.{FollowsOn, StopsOn, TellsFor};
 ghost use Rattle.ficus_world.specs.Kills.{OthersStay, Passes};
 ghost use Rattle.ficus_world.specs.World.{WorldStandsFor};
 
+use crate::explaining::answer_why;
 use ficus_disk::{Disk, Pair};
 use ficus_ids::Memory;
-use ficus_keep::{Keep, KeepImages};
+use ficus_keep::Keep;
 use ficus_outside::Link;
 use ficus_script::{Answer, Command, Order};
 use ficus_sweep::{SweepFault, SweepReport, sweep};
 use ficus_world::World;
 use std::alloc::Global;
 
-/// Carries out one command, which is one step of the world or a sweep, and answers it.
-pub(crate) fn carry_out<D: Disk, P: Keep + KeepImages + Drop, L: Link + Drop>(
+/// Carries out one command, which is one step of the world, a sweep or why, and answers it.
+pub(crate) fn carry_out<D: Disk, P: Keep + Drop, L: Link + Drop>(
     alloc: Global,
     world: &mut World<P, L>,
     disks: &mut Vec<Pair<D>>,
@@ -48,12 +49,16 @@ pub(crate) fn carry_out<D: Disk, P: Keep + KeepImages + Drop, L: Link + Drop>(
 {
     match command {
         Command::Sweep { order } => answer_sweep(alloc, world, disks, *order),
+        Command::Why { by } => {
+            world.settled(disks);
+            answer_why(alloc, world, *by)
+        }
         _ => world.step(alloc, disks, command),
     }
 }
 
 // Sweeps, and answers the sweep.
-fn answer_sweep<D: Disk, P: Keep + KeepImages + Drop, L: Link + Drop>(
+fn answer_sweep<D: Disk, P: Keep + Drop, L: Link + Drop>(
     alloc: Global,
     world: &mut World<P, L>,
     disks: &mut Vec<Pair<D>>,

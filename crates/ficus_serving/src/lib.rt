@@ -4,11 +4,12 @@
 
 mod answering;
 mod command;
+mod explaining;
 mod fault;
 mod put;
 mod tally;
 
-pub use answering::answer_all;
+pub use answering::{answer_all, put_answer};
 pub use fault::AnsweringFault;
 pub use put::put_all;
 pub use tally::{Tally, count_all};

@@ -12,7 +12,7 @@ ghost use Rattle.ficus_world.specs.World.{WorldStandsFor};
 use crate::command::carry_out;
 use ficus_disk::{Disk, Pair};
 use ficus_ids::Memory;
-use ficus_keep::{Keep, KeepImages};
+use ficus_keep::Keep;
 use ficus_outside::Link;
 use ficus_script::{Answer, Command};
 use ficus_world::World;
@@ -39,7 +39,7 @@ impl Tally {
 }
 
 /// Carries out each command and counts its answer.
-pub fn count_all<D: Disk, P: Keep + KeepImages + Drop, L: Link + Drop>(
+pub fn count_all<D: Disk, P: Keep + Drop, L: Link + Drop>(
     alloc: Global,
     world: &mut World<P, L>,
     disks: &mut Vec<Pair<D>>,
@@ -64,7 +64,7 @@ pub fn count_all<D: Disk, P: Keep + KeepImages + Drop, L: Link + Drop>(
 }
 
 // Carries out one command and counts its answer.
-fn count_one<D: Disk, P: Keep + KeepImages + Drop, L: Link + Drop>(
+fn count_one<D: Disk, P: Keep + Drop, L: Link + Drop>(
     alloc: Global,
     world: &mut World<P, L>,
     disks: &mut Vec<Pair<D>>,

@@ -1,12 +1,11 @@
 -- What a save leaves of a slot where it is cut short.
-use Rattle.std.specs.Prelude.{◌≡◌, ◌⊎◌, ◌+◌, ℕ, Bool, true, false, List, ◌∷◌, length, drop, Some, None}
-use Rattle.ficus_slot.specs.Slot.{Saved, slot_in}
+use Rattle.std.specs.Prelude.{◌≡◌, ◌⊎◌, ℕ, Bool, true, false, List, Some, None}
+use Rattle.ficus_slot.specs.Slot.{IsSlot, Saved, slot_in}
 
--- the bytes are this slot, and its tail is closed
+-- the bytes are this slot, and its tail is closed; so it is read of them
 pub record IsNew (saved : Saved) (c : List ℕ) : Type 0 where
+  pub slot : IsSlot saved 0 c
   pub is : slot_in c ≡ Some saved
-  pub more : List ℕ
-  pub tail : drop (17 + length saved.body) c ≡ 0 ∷ more
 
 -- no slot, or the bytes from before
 abbrev pub IsOld : List ℕ → List ℕ → Type 0

@@ -1,4 +1,4 @@
-ghost use Rattle.std.specs.Prelude.{◌≡◌, ◌⊎◌, [], Some, None, is_ok, IfOk, IsErrOf, OnOk, OnErr};
+ghost use Rattle.std.specs.Prelude.{◌≡◌, ◌⊎◌, [], List, ℕ, Some, None, is_ok, IfOk, IsErrOf, OnOk, OnErr};
 ghost use Rattle.ficus_disk.specs.Crash.{Only};
 ghost use Rattle.ficus_disk.specs.Pair.{PairRose};
 ghost use Rattle.ficus_keep.specs.Fuses.{IsRegularIn, Reopens, SameFuses, StaysRegular, both_unarmed, fuses_of};
@@ -8,16 +8,18 @@ ghost use Rattle.ficus_keep.specs.Pairs.{PairLeft, PairSame, PairWithin};
 ghost use Rattle.ficus_saved.specs.Saved.{FitsImage};
 ghost use Rattle.ficus_saved.specs.declared.saved.Saved.{Saved as SavedValue};
 ghost use Rattle.ficus_stable.specs.Fuses.{DecidedByFuses};
-ghost use Rattle.ficus_stable.specs.Holds.{Holds, HoldsOneBetween, HoldsOneOf};
+ghost use Rattle.ficus_leads.specs.Holds.{Holds};
+ghost use Rattle.ficus_stable.specs.Holds.{HoldsOneBetween, HoldsOneOf};
 ghost use Rattle.ficus_stable.specs.Stable.{IsPrepared, IsReady, MayFollow};
 
 use crate::reading::read_back;
 use ficus_codec::Saved;
 use ficus_disk::{Disk, Pair};
 use ficus_faults::Failed;
+use ficus_formats::put_bytes;
 use ficus_ids::Memory;
 use ficus_image::{encode_image, put_image};
-use ficus_keep::{Keep, KeepImages, MakeFault, Opened, StoreFault, reopen};
+use ficus_keep::{Keep, MakeFault, Opened, StoreFault, Wants, reopen};
 use std::alloc::Global;
 
 /// A keeper, with the image that it saves next. Whatever stops a save, the disks hold what was saved before it, or what
@@ -25,8 +27,8 @@ use std::alloc::Global;
 #[derive(Drop)]
 pub struct Stable<K> {
     keeper: K,
-    // The image that the next commit saves, built before it.
-    image: Vec<u8>,
+    // What the next commit saves, an image or a record, built before it.
+    bytes: Vec<u8>,
 }
 
 /// What a pair of disks holds, and the keeper that saves what follows it.
@@ -36,7 +38,7 @@ pub struct Recovered<K> {
     pub saved: Saved,
 }
 
-impl<K: Keep + KeepImages + Drop> Stable<K> {
+impl<K: Keep + Drop> Stable<K> {
     /// Saves what a replica begins with on two empty disks.
     pub fn make<D: Disk>(alloc: Global, disks: &mut Pair<D>, saved: &Saved) -> Result<(), MakeFault>
         requires fits { FitsImage saved.now }
@@ -126,11 +128,17 @@ impl<K: Keep + KeepImages + Drop> Stable<K> {
         recover(alloc, keeper, &opened)
     }
 
-    /// Builds the image of what is saved next, and takes all memory for it. What the disks hold is as before, also
-    /// where memory is refused.
-    pub fn prepare<D: Disk>(&mut self, disks: &mut Pair<D>, next: &Saved) -> Result<(), Memory>
+    /// Builds what the keeper wants: the image of what is saved next, or the record that leads to it. Takes all memory
+    /// for it. What the disks hold is as before, also where memory is refused.
+    pub fn prepare<D: Disk>(
+        &mut self,
+        disks: &mut Pair<D>,
+        next: &Saved,
+        noted: &[u8],
+    ) -> Result<(), Memory>
         requires fits { FitsImage next.now }
-        ensures prepared { OnOk result (IsPrepared K.Takes K.size_of D.room self.new disks.new next.now) }
+        ensures prepared { OnOk result (IsPrepared K.wants_image K.Takes K.size_of D.room self.new disks.new next.now
+            noted.now) }
         ensures ready { D.tells → (saved : SavedValue)
             → IsReady K.kept K.fits D.seen D.may_leave self.old disks.old saved
             → IsReady K.kept K.fits D.seen D.may_leave self.new disks.new saved }
@@ -142,16 +150,20 @@ impl<K: Keep + KeepImages + Drop> Stable<K> {
         ensures steady { PairSame D.faults disks.old disks.new }
         ensures fuses { D.tells_fuse → SameFuses D.image D.fuse disks.old disks.new }
     {
-        self.image.clear();
-        put_image(&mut self.image, next)?;
-        self.keeper.prepare(disks, self.image.len() as u64)
+        self.bytes.clear();
+        match self.keeper.wants() {
+            Wants::Image => put_image(&mut self.bytes, next)?,
+            Wants::Record => put_bytes(&mut self.bytes, noted)?,
+        }
+        self.keeper.prepare(disks, self.bytes.len() as u64)
     }
 
     /// Saves what was prepared, in place of what the disks hold. Takes no memory. After one that fails nothing is
     /// promised of the keeper, and one of the two is held.
     pub fn commit<D: Disk>(&mut self, disks: &mut Pair<D>, next: &Saved) -> Result<(), Failed>
-        requires prepared { IsPrepared K.Takes K.size_of D.room self.old disks.old next.now }
-        requires follows { D.tells → MayFollow K.kept K.fits D.seen D.may_leave self.old disks.old next.now }
+        requires { (body : List ℕ)
+            × IsPrepared K.wants_image K.Takes K.size_of D.room self.old disks.old next.now body
+            × (D.tells → MayFollow K.kept K.fits D.seen D.may_leave self.old disks.old next.now body) }
         ensures ready { D.tells → OnOk result (
             IsReady K.kept K.fits D.seen D.may_leave self.new disks.new next.now) }
 
@@ -177,12 +189,12 @@ impl<K: Keep + KeepImages + Drop> Stable<K> {
             → DecidedByFuses K.kept D.image D.fuse (K.calls next.now.generation) (K.is_on_a next.now.generation)
             disks.old disks.new (is_ok result) saved next.now }
     {
-        self.keeper.commit(disks, next.generation, &self.image)
+        self.keeper.commit(disks, next.generation, &self.bytes)
     }
 }
 
 // What was opened, and its keeper.
-fn recover<K: Keep + KeepImages + Drop>(
+fn recover<K: Keep + Drop>(
     alloc: Global,
     keeper: K,
     opened: &Opened,
@@ -190,14 +202,14 @@ fn recover<K: Keep + KeepImages + Drop>(
     ensures fits { IfOk result (λ found. FitsImage found.saved) }
     ensures keeper { IfOk result (λ found. found.stable.keeper ≡ keeper) }
     ensures holds { IfOk result (λ found. Holds (Some (kept_of opened.now)) found.saved) }
-    ensures none { IsErrOf result StoreFault.NoImage → (saved : SavedValue) → FitsImage saved
-        → Holds (Some (kept_of opened.now)) saved → ⊥ }
+    ensures none { IsErrOf result StoreFault.NoImage → (saved : SavedValue) → Holds (Some (kept_of opened.now)) saved
+        → ⊥ }
     ensures never { IsErrOf result StoreFault.Failed → ⊥ }
 {
     let saved = read_back(alloc, opened)?;
     let stable = Stable {
         keeper,
-        image: Vec::new(alloc),
+        bytes: Vec::new(alloc),
     };
     Ok(Recovered { stable, saved })
 }

@@ -1,10 +1,15 @@
 // A volume that is made, saved to and opened anew over disks one call of which fails.
-ghost use Rattle.std.specs.Prelude.{◌≡◌, []};
+ghost use Rattle.std.specs.Prelude.{◌≡◌, [], IfOk};
+ghost use Rattle.ficus_saved.specs.Saved.{FitsImage};
 
-use crate::images::{FIRST, FRESH};
-use crate::saves::{holds, makes, saves};
+use crate::events::{Noted, command, event, first};
+use crate::saves::{holds, makes, saves_next};
 use ficus_disk::{Disk, FailDisk, Pair};
-use ficus_keep::{MakeFault, StoreFault};
+use ficus_ids::{Memory, Refusal};
+use ficus_journal::Journal;
+use ficus_keep::Keep;
+use ficus_replica::Replica;
+use ficus_script::Command;
 use ficus_store::TwoSlot;
 use std::alloc::Global;
 use std::test::Fail;
@@ -19,88 +24,183 @@ enum Step {
     Nothing,
 }
 
-// Makes, saves and opens anew, up to what fails.
-fn failing_step<D: Disk>(alloc: Global, disks: &mut Pair<D>) -> Result<Step, StoreFault>
+// Makes, saves what the command says, and opens anew, up to what fails.
+fn failing_step<K: Keep + Drop, D: Disk>(
+    alloc: Global,
+    disks: &mut Pair<D>,
+    command: &Command,
+    saved: &Replica,
+) -> Result<Step, Refusal>
+    requires fits { FitsImage saved.now.saved }
     requires empty_a { D.tells → D.seen disks.old.a ≡ [] }
     requires empty_b { D.tells → D.seen disks.old.b ≡ [] }
 {
-    match makes::<TwoSlot, D>(alloc, disks, &FRESH) {
-        Err(MakeFault::Failed) => return Ok(Step::Make),
-        Err(MakeFault::Memory) => return Err(StoreFault::Memory),
-        Ok(_) => {}
+    match makes::<K, D>(alloc, disks) {
+        Err(Refusal::Store) => return Ok(Step::Make),
+        made => made?,
     }
-    match saves::<TwoSlot, D>(alloc, disks, &FIRST, None) {
-        Err(StoreFault::Failed) => return Ok(Step::Open),
-        Err(fault) => return Err(fault),
+    match saves_next::<K, D>(alloc, disks, command, None) {
+        Err(Refusal::Store) => return Ok(Step::Open),
         Ok(false) => return Ok(Step::Commit),
         Ok(true) => {}
+        Err(fault) => return Err(fault),
     }
-    match holds::<TwoSlot, D>(alloc, disks, &FIRST) {
-        Err(StoreFault::Failed) => Ok(Step::Reopen),
+    match holds::<K, D>(alloc, disks, saved) {
+        Err(Refusal::Store) => Ok(Step::Reopen),
+        Ok(true) => Ok(Step::Nothing),
+        Ok(false) => Err(Refusal::Image),
         Err(fault) => Err(fault),
-        Ok(_) => Ok(Step::Nothing),
     }
 }
 
 // Whether the disks hold what they may once this failed.
-fn holds_after<D: Disk>(
+fn holds_after<K: Keep + Drop, D: Disk>(
     alloc: Global,
     disks: &mut Pair<D>,
     step: Step,
-) -> Result<bool, StoreFault> {
+    fresh: &Replica,
+    saved: &Replica,
+) -> Result<bool, Refusal>
+    requires fresh { FitsImage fresh.now.saved }
+    requires saved { FitsImage saved.now.saved }
+{
     match step {
-        Step::Make => match holds::<TwoSlot, D>(alloc, disks, &FRESH) {
-            Err(StoreFault::NoImage) => Ok(true),
+        Step::Make => match holds::<K, D>(alloc, disks, fresh) {
+            Err(Refusal::Image) => Ok(true),
             found => found,
         },
-        Step::Open => holds::<TwoSlot, D>(alloc, disks, &FRESH),
-        Step::Commit => Ok(
-            holds::<TwoSlot, D>(alloc, disks, &FRESH)?
-                || holds::<TwoSlot, D>(alloc, disks, &FIRST)?,
-        ),
-        Step::Reopen | Step::Nothing => holds::<TwoSlot, D>(alloc, disks, &FIRST),
+        Step::Open => holds::<K, D>(alloc, disks, fresh),
+        Step::Commit => {
+            Ok(holds::<K, D>(alloc, disks, fresh)? || holds::<K, D>(alloc, disks, saved)?)
+        }
+        Step::Reopen | Step::Nothing => holds::<K, D>(alloc, disks, saved),
     }
 }
 
-// Whether this fails where these calls of the disks do, and what they then hold.
-fn fails(alloc: Global, on_a: Vec<u32>, on_b: Vec<u32>, step: Step) -> Result<bool, StoreFault> {
-    let mut disks = Pair {
-        a: FailDisk::new(alloc, on_a),
-        b: FailDisk::new(alloc, on_b),
-    };
-    Ok(failing_step(alloc, &mut disks)? == step && holds_after(alloc, &mut disks, step)?)
+// What is saved, of which command, and what was there before.
+#[derive(Drop)]
+struct Work {
+    command: Command,
+    fresh: Replica,
+    saved: Replica,
 }
 
-/// The calls of `a`, from one to another, and what fails with them. The last look at the disks makes four more.
-const ON_A: [(u32, u32, Step); 4] = [
-    (1, 6, Step::Make),
-    (7, 9, Step::Open),
-    (10, 13, Step::Reopen),
-    (18, 20, Step::Nothing),
+fn day(alloc: Global) -> Result<Work, Refusal>
+    ensures fresh { IfOk result (λ made. FitsImage made.fresh.saved) }
+    ensures saved { IfOk result (λ made. FitsImage made.saved.saved) }
+{
+    let command = command(alloc, "1 mkdir /a\n")?;
+    let fresh = first(alloc)?;
+    let Noted { next: saved, .. } = event(alloc, &fresh, &command, &fresh)?;
+    Ok(Work {
+        command,
+        fresh,
+        saved,
+    })
+}
+
+// Empty disks of which one fails at this call.
+fn failing(alloc: Global, is_a: bool, call: u32) -> Result<Pair<FailDisk>, Memory>
+    ensures a { IfOk result (λ disks. ⟦<FailDisk as Disk>⟧.seen disks.a ≡ []) }
+    ensures b { IfOk result (λ disks. ⟦<FailDisk as Disk>⟧.seen disks.b ≡ []) }
+{
+    let calls = vec![in alloc; call]?;
+    let a_fails = FailDisk::new(alloc, calls);
+    let other = FailDisk::new(alloc, Vec::new(alloc));
+    Ok(if is_a {
+        Pair {
+            a: a_fails,
+            b: other,
+        }
+    } else {
+        Pair {
+            a: other,
+            b: a_fails,
+        }
+    })
+}
+
+// Whether this fails of the day, and the disks then hold what they may.
+fn fails<K: Keep + Drop, D: Disk>(
+    alloc: Global,
+    disks: &mut Pair<D>,
+    day: &Work,
+    step: Step,
+) -> Result<bool, Refusal>
+    requires fresh { FitsImage day.now.fresh.saved }
+    requires saved { FitsImage day.now.saved.saved }
+    requires empty_a { D.tells → D.seen disks.old.a ≡ [] }
+    requires empty_b { D.tells → D.seen disks.old.b ≡ [] }
+{
+    Ok(
+        failing_step::<K, D>(alloc, disks, &day.command, &day.saved)? == step
+            && holds_after::<K, D>(alloc, disks, step, &day.fresh, &day.saved)?,
+    )
+}
+
+/// The calls of a disk, from one to another, and what fails with them. The last look at the disks makes four more.
+type Row = (u32, u32, Step);
+
+/// The disks `a` and `b` of two slots, of which the first save goes to `b`.
+const SLOTS: [&[Row]; 2] = [
+    &[
+        (1, 6, Step::Make),
+        (7, 9, Step::Open),
+        (10, 13, Step::Reopen),
+        (18, 20, Step::Nothing),
+    ],
+    &[
+        (1, 3, Step::Open),
+        (4, 9, Step::Commit),
+        (10, 13, Step::Reopen),
+        (18, 20, Step::Nothing),
+    ],
 ];
 
-/// The same of `b`.
-const ON_B: [(u32, u32, Step); 4] = [
-    (1, 3, Step::Open),
-    (4, 9, Step::Commit),
-    (10, 13, Step::Reopen),
-    (18, 20, Step::Nothing),
+/// Those of records, of which it goes to `a` in four calls.
+const RECORDS: [&[Row]; 2] = [
+    &[
+        (1, 6, Step::Make),
+        (7, 9, Step::Open),
+        (10, 13, Step::Commit),
+        (14, 17, Step::Reopen),
+        (22, 24, Step::Nothing),
+    ],
+    &[
+        (1, 3, Step::Open),
+        (4, 7, Step::Reopen),
+        (12, 14, Step::Nothing),
+    ],
 ];
+
+// The first call with which something else fails than the table of one of the disks says.
+fn wrong<K: Keep + Drop>(
+    alloc: Global,
+    day: &Work,
+    is_a: bool,
+    table: &[Row],
+) -> Result<Option<u32>, Refusal>
+    requires fresh { FitsImage day.now.fresh.saved }
+    requires saved { FitsImage day.now.saved.saved }
+{
+    for (first, last, step) in table {
+        for call in *first..=*last {
+            if !fails::<K, FailDisk>(alloc, &mut failing(alloc, is_a, call)?, day, *step)? {
+                return Ok(Some(call));
+            }
+        }
+    }
+    Ok(None)
+}
 
 #[test]
 fn a_call_that_fails_leaves_the_old_or_the_new(rt: HostRuntime) -> Result<(), Fail> {
-    let alloc = rt.alloc();
-    for (first, last, step) in ON_A {
-        for call in first..=last {
-            let is = fails(alloc, vec![in alloc; call]?, Vec::new(alloc), step);
-            assert!(rt; is == Ok(true), "call {call} of a");
-        }
-    }
-    for (first, last, step) in ON_B {
-        for call in first..=last {
-            let is = fails(alloc, Vec::new(alloc), vec![in alloc; call]?, step);
-            assert!(rt; is == Ok(true), "call {call} of b");
-        }
+    let day = day(rt.alloc())?;
+    for (place, is_a) in [true, false].iter().enumerate() {
+        let slots = wrong::<TwoSlot>(rt.alloc(), &day, *is_a, SLOTS[place])?;
+        assert!(rt; slots.is_none(), "{slots:?}");
+        let records = wrong::<Journal>(rt.alloc(), &day, *is_a, RECORDS[place])?;
+        assert!(rt; records.is_none(), "{records:?}");
     }
     Ok(())
 }

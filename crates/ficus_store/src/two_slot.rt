@@ -7,7 +7,7 @@ use crate::choosing::{Choice, choose};
 use ficus_disk::{Disk, Pair};
 use ficus_faults::Failed;
 use ficus_ids::{Listed, Memory};
-use ficus_keep::{Keep, KeepImages, MakeFault, Opened, StoreFault, Wants};
+use ficus_keep::{Keep, MakeFault, Opened, StoreFault, Wants};
 use ficus_slot::{read_all, reserve_range, save_slot};
 use std::alloc::Global;
 
@@ -94,12 +94,6 @@ impl Keep for TwoSlot {
             save_slot(&mut disks.a, &mut self.buffer, shut, generation, bytes)
         }
     }
-}
-
-impl KeepImages for TwoSlot {
-    ghost use Rattle.std.specs.Prelude.{refl};
-
-    ghost only_images = { λ _. refl };
 }
 
 // The keeper of the slot in force, and what it keeps.

@@ -2,3 +2,4 @@ pub mod Text
 pub mod Summary
 pub mod Disks
 pub mod Running
+pub mod Sized

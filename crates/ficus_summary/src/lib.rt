@@ -14,3 +14,4 @@ mod world;
 pub use disks::fresh_disks;
 pub use laws::one_summary;
 pub use summary::summarize;
+pub use world::fresh_world;

@@ -8,6 +8,7 @@ use crate::running::{holdings_of, run};
 use crate::text::summary_text;
 use crate::world::fresh_world;
 use ficus_ids::{Members, Memory};
+use ficus_world::{DEFAULT_BYTES, DEFAULT_IDS};
 use std::alloc::Global;
 
 /// What the script of the seed comes to, over so many steps, for so many members: it is run in memory, on a fresh
@@ -20,7 +21,7 @@ pub fn summarize(alloc: Global, members: Members, seed: u32, steps: u32) -> Resu
 {
     let commands = generated_commands(alloc, members, seed, steps)?;
     let mut disks = fresh_disks(alloc)?;
-    let mut world = fresh_world(alloc, members, &mut disks)?;
+    let mut world = fresh_world(alloc, members, DEFAULT_IDS, DEFAULT_BYTES, 0, &mut disks)?;
     let counts = run(alloc, members, &mut world, &mut disks, &commands)?;
     let holdings = holdings_of(alloc, members, &world)?;
     summary_text(alloc, counts, &holdings)

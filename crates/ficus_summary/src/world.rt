@@ -1,9 +1,11 @@
-ghost use Rattle.std.specs.Prelude.{◌≡◌, ℕ, [], length, take, IfOk, OnOk};
+ghost use Rattle.std.specs.Prelude.{◌≡◌, ◌≤◌, ℕ, [], length, take, IfOk, OnOk};
 ghost use Rattle.ficus_ids.specs.Members.{IsCount};
 ghost use Rattle.ficus_runs.specs.Fuses.{FuseState};
-ghost use Rattle.ficus_runs.specs.Start.{default_volume, start};
-ghost use Rattle.ficus_store.specs.Slots.{IsRegular, kept_in};
-ghost use Rattle.ficus_store.specs.TwoSlot.{Fits};
+ghost use Rattle.ficus_runs.specs.Start.{start};
+ghost use Rattle.ficus_saved.specs.Limits.{byte_limit, update_limit};
+ghost use Rattle.ficus_journal.specs.Logs.{IsRegular, kept_in};
+ghost use Rattle.ficus_summary.specs.Sized.{sized};
+ghost use Rattle.ficus_journal.specs.Journal.{Fits};
 ghost use Rattle.ficus_world.specs.Disks.{AreDisksOf};
 ghost use Rattle.ficus_world.specs.Fuses.{AreRegular, AreUnarmed, FusesStand, at_rest};
 ghost use Rattle.ficus_world.specs.Opening.{AreEmpty, AreMade, Steady, fuses_in};
@@ -11,52 +13,67 @@ ghost use Rattle.ficus_world.specs.World.{WorldStandsFor};
 
 use ficus_disk::{Disk, Pair};
 use ficus_ids::{Members, Memory};
+use ficus_journal::Journal;
 use ficus_keep::Keep;
 use ficus_outside::MemLink;
-use ficus_store::TwoSlot;
-use ficus_world::{DEFAULT_BYTES, DEFAULT_IDS, World, WorldFault, what_is_made_stands};
+use ficus_world::{World, WorldFault, what_is_made_stands};
 use std::alloc::Global;
 
-/// Makes a fresh volume with the default limits on empty disks, whose fuses aren't armed, and opens it. Such disks
-/// don't fail.
-pub(crate) fn fresh_world<D: Disk>(
+/// Makes a fresh volume with these limits on empty disks, whose fuses aren't armed, and opens it, over a link that counts
+/// so many bytes as posted already. Such disks don't fail.
+pub fn fresh_world<D: Disk>(
     alloc: Global,
     members: Members,
+    ids: u32,
+    bytes: u32,
+    total: u64,
     disks: &mut Vec<Pair<D>>,
-) -> Result<World<TwoSlot, MemLink>, Memory>
+) -> Result<World<Journal, MemLink>, Memory>
     requires members { IsCount members }
+    requires ids_at_least { 1 ≤ ids }
+    requires ids_at_most { ids ≤ update_limit }
+    requires bytes { bytes ≤ byte_limit }
     requires tells { D.tells }
     requires tells_fuse { D.tells_fuse }
     requires pairs { length disks.old.items ≡ 8 }
     requires empty { AreEmpty D.seen disks.old.items members }
     requires unarmed { AreUnarmed D.fuse disks.old.items }
-    ensures stands { IfOk result (λ world. WorldStandsFor (default_volume members)
-        (start [] members 0 (take members (fuses_in D.armings disks.old.items))) world.whole) }
+    ensures stands { IfOk result (λ world. WorldStandsFor (sized members ids bytes)
+        (start [] members total (take members (fuses_in D.armings disks.old.items))) world.whole) }
     ensures unfailed { IfOk result (λ world. world.whole.post.faults ≡ 0) }
     ensures disks { IfOk result (λ world. AreDisksOf D.tells kept_in Fits D.seen D.may_leave D.armings
         world.whole.members world.stables disks.new.items) }
     ensures fuses { IfOk result (λ world. (F : ℕ → FuseState) → ((r : ℕ) → F r ≡ at_rest 0)
-        → FusesStand ⟦<TwoSlot as Keep>⟧ D.Disk F world.whole.members disks.new.items) }
+        → FusesStand ⟦<Journal as Keep>⟧ D.Disk F world.whole.members disks.new.items) }
     ensures pairs { length disks.new.items ≡ 8 }
 {
-    make(alloc, members, disks)?;
-    open(alloc, members, disks)
+    make(alloc, members, ids, bytes, disks)?;
+    open(alloc, members, ids, bytes, total, disks)
 }
 
 // Makes a fresh volume with the default limits.
-fn make<D: Disk>(alloc: Global, members: Members, disks: &mut Vec<Pair<D>>) -> Result<(), Memory>
+fn make<D: Disk>(
+    alloc: Global,
+    members: Members,
+    ids: u32,
+    bytes: u32,
+    disks: &mut Vec<Pair<D>>,
+) -> Result<(), Memory>
     requires members { IsCount members }
+    requires ids_at_least { 1 ≤ ids }
+    requires ids_at_most { ids ≤ update_limit }
+    requires bytes { bytes ≤ byte_limit }
     requires tells { D.tells }
     requires tells_fuse { D.tells_fuse }
     requires pairs { length disks.old.items ≡ 8 }
     requires empty { AreEmpty D.seen disks.old.items members }
     requires unarmed { AreUnarmed D.fuse disks.old.items }
-    ensures made { OnOk result (AreMade kept_in D.seen (default_volume members) disks.new.items) }
+    ensures made { OnOk result (AreMade kept_in D.seen (sized members ids bytes) disks.new.items) }
     ensures regular { OnOk result (AreRegular IsRegular D.seen disks.new.items members) }
     ensures unarmed { AreUnarmed D.fuse disks.new.items }
     ensures armings { Steady D.armings disks.old.items disks.new.items }
 {
-    match World::<TwoSlot, MemLink>::make(alloc, disks, members, DEFAULT_IDS, DEFAULT_BYTES) {
+    match World::<Journal, MemLink>::make(alloc, disks, members, ids, bytes) {
         Ok(()) => Ok(()),
         Err(fault) => Err(want_of_memory(fault)),
     }
@@ -66,26 +83,32 @@ fn make<D: Disk>(alloc: Global, members: Members, disks: &mut Vec<Pair<D>>) -> R
 fn open<D: Disk>(
     alloc: Global,
     members: Members,
+    ids: u32,
+    bytes: u32,
+    total: u64,
     disks: &mut Vec<Pair<D>>,
-) -> Result<World<TwoSlot, MemLink>, Memory>
+) -> Result<World<Journal, MemLink>, Memory>
     requires members { IsCount members }
+    requires ids_at_least { 1 ≤ ids }
+    requires ids_at_most { ids ≤ update_limit }
+    requires bytes { bytes ≤ byte_limit }
     requires tells { D.tells }
     requires tells_fuse { D.tells_fuse }
     requires pairs { length disks.old.items ≡ 8 }
-    requires made { AreMade kept_in D.seen (default_volume members) disks.old.items }
+    requires made { AreMade kept_in D.seen (sized members ids bytes) disks.old.items }
     requires regular { AreRegular IsRegular D.seen disks.old.items members }
     requires unarmed { AreUnarmed D.fuse disks.old.items }
-    ensures stands { IfOk result (λ world. WorldStandsFor (default_volume members)
-        (start [] members 0 (take members (fuses_in D.armings disks.old.items))) world.whole) }
+    ensures stands { IfOk result (λ world. WorldStandsFor (sized members ids bytes)
+        (start [] members total (take members (fuses_in D.armings disks.old.items))) world.whole) }
     ensures unfailed { IfOk result (λ world. world.whole.post.faults ≡ 0) }
     ensures disks { IfOk result (λ world. AreDisksOf D.tells kept_in Fits D.seen D.may_leave D.armings
         world.whole.members world.stables disks.new.items) }
     ensures fuses { IfOk result (λ world. (F : ℕ → FuseState) → ((r : ℕ) → F r ≡ at_rest 0)
-        → FusesStand ⟦<TwoSlot as Keep>⟧ D.Disk F world.whole.members disks.new.items) }
+        → FusesStand ⟦<Journal as Keep>⟧ D.Disk F world.whole.members disks.new.items) }
     ensures pairs { length disks.new.items ≡ 8 }
 {
-    what_is_made_stands::<TwoSlot, D>();
-    match World::<TwoSlot, MemLink>::open(alloc, disks, MemLink::new(alloc)) {
+    what_is_made_stands::<Journal, D>();
+    match World::<Journal, MemLink>::open(alloc, disks, MemLink::after(alloc, total)) {
         Ok(world) => Ok(world),
         Err(fault) => Err(want_of_memory(fault)),
     }

@@ -6,8 +6,7 @@ use Rattle.std.proofs.lemmas.List.{get_or-map, length-map, map_push}
 use Rattle.std.proofs.lemmas.List.Elements.{All-append, All-map, All-push}
 use Rattle.std.proofs.lemmas.List.FromFn.{length-range_with_len, get_or-range_with_len, length-map-range_with_len, map-range_with_len_more}
 use Rattle.ficus_ids.specs.Members.{IsCount}
-use Rattle.ficus_runs.specs.Run.{IsStep}
-use Rattle.ficus_script.specs.Command.{IsCommand}
+use Rattle.ficus_script.specs.Command.{IsCommand, IsStep}
 use Rattle.ficus_script.specs.declared.command.Command.{Command}
 use Rattle.ficus_script.specs.declared.command.Command.TheVariants as command
 use Rattle.ficus_runs.specs.Sweep.{SweepStep, Pulling, Collecting, Leg, Gathers, Spreads, HandsOn, Collects, command_of, leg_step, leg_steps, star_round, ring_round, sweep_steps}

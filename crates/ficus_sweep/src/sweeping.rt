@@ -12,7 +12,7 @@ use crate::fault::SweepFault;
 use crate::report::SweepReport;
 use crate::steps::steps_of;
 use ficus_disk::{Disk, Pair};
-use ficus_keep::{Keep, KeepImages};
+use ficus_keep::Keep;
 use ficus_outside::Link;
 use ficus_script::{Answer, Command, Order};
 use ficus_world::World;
@@ -20,7 +20,7 @@ use std::alloc::Global;
 
 /// All pulls of the order, and then each member collects, up to the first refusal. `Stopped` comes exactly where one of
 /// them is refused, and says how; `Memory` where memory was. After both the steps that were done stand.
-pub fn sweep<D: Disk, K: Keep + KeepImages + Drop, L: Link + Drop>(
+pub fn sweep<D: Disk, K: Keep + Drop, L: Link + Drop>(
     alloc: Global,
     world: &mut World<K, L>,
     disks: &mut Vec<Pair<D>>,
@@ -54,7 +54,7 @@ pub fn sweep<D: Disk, K: Keep + KeepImages + Drop, L: Link + Drop>(
 }
 
 // The steps, up to the first refusal.
-fn take_steps<D: Disk, K: Keep + KeepImages + Drop, L: Link + Drop>(
+fn take_steps<D: Disk, K: Keep + Drop, L: Link + Drop>(
     alloc: Global,
     world: &mut World<K, L>,
     disks: &mut Vec<Pair<D>>,
@@ -92,7 +92,7 @@ fn take_steps<D: Disk, K: Keep + KeepImages + Drop, L: Link + Drop>(
 }
 
 // One step.
-fn take_step<D: Disk, K: Keep + KeepImages + Drop, L: Link + Drop>(
+fn take_step<D: Disk, K: Keep + Drop, L: Link + Drop>(
     alloc: Global,
     world: &mut World<K, L>,
     disks: &mut Vec<Pair<D>>,
@@ -147,6 +147,7 @@ fn report_of(report: SweepReport, answer: &Answer) -> Result<SweepReport, SweepF
         | Answer::Mail(_)
         | Answer::Told(_)
         | Answer::Alike(_)
-        | Answer::Swept { .. } => Ok(report),
+        | Answer::Swept { .. }
+        | Answer::Why(_) => Ok(report),
     }
 }

@@ -9,9 +9,10 @@ use Rattle.ficus_outside.specs.declared.sink.Sink.{Ghosts as Sink}
 use Rattle.ficus_outside.specs.declared.source.Source.{Ghosts as Source}
 use Rattle.ficus_model.specs.Lawful.{Volume}
 use Rattle.ficus_model.specs.declared.event.Event.{Event}
-use Rattle.ficus_store.specs.Slots.{kept_in}
+use Rattle.ficus_journal.specs.Logs.{kept_in}
 use Rattle.ficus_top.specs.Codes.{IsCode, IsIdleCode}
-use Rattle.ficus_top.specs.Ending.{IsAnswering, IsIdle, IsInterruption, IsOfMaking, IsUntouched, TakesAsEnded}
+use Rattle.ficus_top.specs.Ending.{IsAnswering, IsIdle, IsInterruption, IsOfJoining, IsOfMaking, IsUntouched, TakesAsEnded, TakesAsEndedIn}
+use Rattle.ficus_top.specs.Grammar.{Grammar, of_commands, of_volumes}
 use Rattle.ficus_top.specs.Headline.{CarriesOutNothing}
 use Rattle.ficus_top.specs.Making.{MakesVolume, volume_of}
 use Rattle.ficus_top.specs.Modes.Init.{DoesInit, IsInitCode}
@@ -25,7 +26,8 @@ use Rattle.ficus_world.proofs.Making.{none_in_part}
 use Rattle.ficus_world.proofs.Others.{all_others_rest, others_none}
 use Rattle.ficus_top.specs.Program.{Does, EndsAsAnyMode}
 use Rattle.ficus_top.specs.Reading.{TakesUntil}
-use Rattle.ficus_top.specs.Script.{AnswersFrontOf, AnswersOf, AnswersScript, HasScript, ReadsScript}
+use Rattle.ficus_top.specs.Modes.Volumes.{AnswersVolumesFrontOf, AnswersVolumesOf, DoesVolumes, IsVolumesCode}
+use Rattle.ficus_top.specs.Script.{AnswersFrontOf, AnswersOf, AnswersScript, HasIn, ReadsIn}
 use Rattle.ficus_top.specs.Seen.{Seen, SinkFailed, SourceFailed, disks_after, disks_before, left_of, script_of}
 use Rattle.ficus_top.specs.Status.{code_of, line_of, replica_of}
 use Rattle.ficus_serving.specs.declared.fault.AnsweringFault.TheVariants as answering
@@ -35,7 +37,7 @@ use Rattle.ficus_top.specs.declared.fault.ReadingFault.TheVariants as reading
 use Rattle.ficus_top.specs.declared.status.Status.{Status}
 use Rattle.ficus_words.specs.declared.fault.WordsFault.TheVariants as word
 use Rattle.ficus_words.specs.declared.mode.Mode.{Mode}
-use Rattle.ficus_words.specs.declared.mode.Mode.TheVariants.{Init, Run, Replay, Gen}
+use Rattle.ficus_words.specs.declared.mode.Mode.TheVariants.{Init, Run, Replay, Volumes, Gen}
 use Rattle.ficus_words.specs.declared.mode.Size.{Size}
 use Rattle.ficus_world.specs.Fuses.{AreUnarmed}
 use Rattle.ficus_world.specs.Opening.{AreEmpty, AreMadeInPart, AreSynced, IsAtFault, IsFirstBad, IsFirstOccupied, IsUnfailed, Opens, SeenSame, StandsOn, Steady}
@@ -46,7 +48,7 @@ use Rattle.ficus_top.proofs.Answering.{answers_where}
 use Rattle.ficus_top.proofs.Codes.{done_of_code, idle_of_code, image_of_code, is_code, line_of_code, occupied_of_code, prefix_of_code, replica_of_code, sink_of_code, source_of_code, store_of_code, untouched_of_code, usage_of_code}
 use Rattle.ficus_top.proofs.Earlier.{not_at_fault}
 use Rattle.ficus_top.proofs.Stored.{idle_both}
-use Rattle.ficus_top.proofs.Endings.{AreUsed, IsStored, bad_line_comes, bad_line_told, complete_of_code, made_of_code, nothing_left, refusal_comes, too_long_comes, too_long_of_code, within_of_code}
+use Rattle.ficus_top.proofs.Endings.{AreUsed, Excludes, IsStored, bad_line_comes, bad_line_told, complete_of_code, excludes_commands, excludes_volumes, made_of_code, nothing_left, refusal_comes, too_long_comes, too_long_of_code, within_of_code}
 use Rattle.ficus_serving.proofs.Places.{not_occupied}
 
 -- what was seen of a source, a sink and disks
@@ -207,25 +209,27 @@ module _ {S K D Done : Type 0} (seen : Seen S K D) (ended : Result Done Fault) w
     sink_counted = facts.sink_counted;
   }
 
-  module _ (used : AreUsed ended) (read_fault : IsErrOf ended (Reading reading.Source) → SourceFailed seen)
-      (takes : TakesAsEnded (script_of seen) (left_of seen) ended) where
-    reads_of : ReadsScript seen (status_of ended)
+  module _ (grammar : Grammar) (excludes : Excludes grammar) (used : AreUsed ended)
+      (read_fault : IsErrOf ended (Reading reading.Source) → SourceFailed seen)
+      (takes : TakesAsEndedIn grammar (script_of seen) (left_of seen) ended) where
+    reads_of : ReadsIn grammar seen (status_of ended)
     reads_of = record {
-      too_long = too_long_of_code (script_of seen) (left_of seen) ended used takes;
+      too_long = too_long_of_code grammar (script_of seen) (left_of seen) ended used takes;
       too_long_comes = λ no_fault longer.
-          too_long_comes (script_of seen) (left_of seen) _ _ ended used takes read_fault no_fault longer;
-      within = within_of_code (script_of seen) (left_of seen) ended takes;
-      bad_line = bad_line_told (script_of seen) (left_of seen) ended takes;
+          too_long_comes grammar (script_of seen) (left_of seen) _ _ ended used takes read_fault no_fault longer;
+      within = within_of_code grammar (script_of seen) (left_of seen) ended takes;
+      bad_line = bad_line_told grammar (script_of seen) (left_of seen) ended takes;
       bad_line_comes = λ line no_fault within first.
-          bad_line_comes (script_of seen) (left_of seen) within _ _ no_fault ended line used takes read_fault first;
+          bad_line_comes grammar excludes (script_of seen) (left_of seen) within _ _ no_fault ended line used takes
+          read_fault first;
     }
 
     -- a script is answered, unless memory was wanted
-    script_done : IsStored ended → (IsErrOf ended (Answering answering.Sink) → SinkFailed seen) → HasScript seen
+    script_done : IsStored ended → (IsErrOf ended (Answering answering.Sink) → SinkFailed seen) → HasIn grammar seen
         → (code_of ended ≡ 0) ⊎ (code_of ended ≡ 3)
     script_done stored write_fault script =
-        complete_of_code (script_of seen) (left_of seen) script.within _ _ script.source ended script.commands _ _ used
-        takes read_fault stored write_fault script.script script.sink
+        complete_of_code grammar excludes (script_of seen) (left_of seen) script.within _ _ script.source ended
+        script.commands _ _ used takes read_fault stored write_fault script.script script.sink
 
   script_answered : (stays : Type 0) (volume : Volume) (earlier : List Event)
       → TakesAsEnded (script_of seen) (left_of seen) ended → OnOk ended (AnswersOf seen volume earlier)
@@ -238,7 +242,7 @@ module _ {S K D Done : Type 0} (seen : Seen S K D) (ended : Result Done Fault) w
       let put = prefix_of_code (λ may. AnswersFrontOf may seen volume earlier) answers_where ended idle front in
       record {
         answers = λ code.
-            (done_of_code ended code answers, nothing_left (script_of seen) (left_of seen) ended takes code);
+            (done_of_code ended code answers, nothing_left of_commands (script_of seen) (left_of seen) ended takes code);
         prefix = put.0;
         cut = put.1;
       }
@@ -392,14 +396,13 @@ module _ {S K D Done : Type 0} (seen : Seen S K D) (ended : Result Done Fault) w
       → IsFirstBad kept_in seen.disk.seen (disks_before seen) r → q ≤ r)
       → (seen.disk.tells → (r : ℕ) → IsErrOf ended (Storing (world.Store r)) → (first : Saved)
       → Opens kept_in seen.disk.seen (disks_before seen) first first 1 → r ≤ first.members)
-      → (seen.disk.tells → (volume : Volume) (H : List Event)
-      → StandsOn kept_in seen.disk.seen volume H (disks_before seen)
-      → OthersRest seen.disk volume.members (disks_before seen) (disks_after seen))
+      → (seen.disk.tells → (first : Saved) → Opens kept_in seen.disk.seen (disks_before seen) first first 1
+      → OthersRest seen.disk first.members (disks_before seen) (disks_after seen))
       → DoesRun seen (status_of ended)
   run_of any takes answers front idle image comes never never_occupied spared rests killed killed_front earlier member
       others = record {
         codes = run_code ended any.used never_occupied;
-        reads = λ tells. reads_of any.used any.read_fault (takes tells);
+        reads = λ tells. reads_of of_commands excludes_commands any.used any.read_fault (takes tells);
         image = λ tells code. image tells (replica_of ended) (image_of_code ended code);
         image_comes = λ tells r bad. refusal_comes ended (world.Image r) (comes tells r bad);
         unfailed = λ code. spared (world.Image (replica_of ended)) tt (image_of_code ended code);
@@ -413,7 +416,7 @@ module _ {S K D Done : Type 0} (seen : Seen S K D) (ended : Result Done Fault) w
         member = λ tells first opens code. member tells (replica_of ended) (store_of_code ended code) first opens;
         others = others;
         complete = λ tells told volume H stands script none.
-            script_done any.used any.read_fault (takes tells) (record {
+            script_done of_commands excludes_commands any.used any.read_fault (takes tells) (record {
               store = λ r is. not_at_fault none r (any.store_fault r is);
               image = never told volume H stands;
               occupied = never_occupied;
@@ -490,7 +493,7 @@ module _ {S K D Done : Type 0} (seen : Seen S K D) (ended : Result Done Fault) w
   replay_of size any takes answers front idle unfailing never occupied comes held spared rests partly member others =
       record {
         codes = replay_code ended any.used;
-        reads = λ tells. reads_of any.used any.read_fault (takes tells);
+        reads = λ tells. reads_of of_commands excludes_commands any.used any.read_fault (takes tells);
         makes = λ tells. makes_of size.members (occupied tells) (comes tells) (held tells) (rests tells);
         unfailed = λ codes. elim codes [
           | inl image ↦ spared (world.Image (replica_of ended)) tt (image_of_code ended image)
@@ -505,13 +508,13 @@ module _ {S K D Done : Type 0} (seen : Seen S K D) (ended : Result Done Fault) w
         member = λ tells code. member tells (replica_of ended) (store_of_code ended code);
         others = others;
         complete = λ tells told empty script none.
-            script_done any.used any.read_fault (takes tells) (record {
+            script_done of_commands excludes_commands any.used any.read_fault (takes tells) (record {
               store = λ r is. not_at_fault none r (any.store_fault r is);
               image = never told;
               occupied = λ r is. not_occupied empty (occupied told r is).0 (occupied told r is).1;
             }) any.write_fault script;
         complete_by_fuses = λ tells told fused empty unarmed script.
-            script_done any.used any.read_fault (takes tells) (record {
+            script_done of_commands excludes_commands any.used any.read_fault (takes tells) (record {
               store = unfailing fused unarmed;
               image = never told;
               occupied = λ r is. not_occupied empty (occupied told r is).0 (occupied told r is).1;
@@ -534,6 +537,104 @@ module _ {S K D Done : Type 0} (seen : Seen S K D) (ended : Result Done Fault) w
             partly = λ tells empty synced. made tells empty synced idle;
             unfailed = unfailed idle;
           }
+
+module _ {Done : Type 0} where
+  -- what joining volumes doesn't end with
+  joining_used : (ended : Result Done Fault) → IfErr ended IsOfJoining → AreUsed ended
+  joining_used (Ok done) joining = λ fault is. cc
+  joining_used (Err (Words fault)) joining = absurd joining
+  joining_used (Err (Reading fault)) joining = λ other is. cc
+  joining_used (Err (Storing fault)) joining = absurd joining
+  joining_used (Err (Answering fault)) joining = λ other is. cc
+
+  joining_stores_nothing : (ended : Result Done Fault) (fault : WorldFault) → IfErr ended IsOfJoining
+      → IsErrOf ended (Storing fault) → ⊥
+  joining_stores_nothing (Ok done) fault joining is = cc
+  joining_stores_nothing (Err (Words other)) fault joining is = joining
+  joining_stores_nothing (Err (Reading other)) fault joining is = cc
+  joining_stores_nothing (Err (Storing other)) fault joining is = joining
+  joining_stores_nothing (Err (Answering other)) fault joining is = cc
+
+  joining_code : (ended : Result Done Fault) → IfErr ended IsOfJoining → IsVolumesCode (code_of ended)
+  joining_code (Ok done) joining = inl refl
+  joining_code (Err (Words fault)) joining = absurd joining
+  joining_code (Err (Reading (reading.BadLine line))) joining = inr (inl refl)
+  joining_code (Err (Reading reading.Memory)) joining = inr (inr (inl refl))
+  joining_code (Err (Reading reading.Source)) joining = inr (inr (inr (inl refl)))
+  joining_code (Err (Reading reading.TooLong)) joining = inr (inr (inr (inr (inr refl))))
+  joining_code (Err (Storing fault)) joining = absurd joining
+  joining_code (Err (Answering answering.Memory)) joining = inr (inr (inl refl))
+  joining_code (Err (Answering answering.Sink)) joining = inr (inr (inr (inr (inl refl))))
+
+module _ {S K D Done : Type 0} (seen : Seen S K D) (ended : Result Done Fault) (joining : IfErr ended IsOfJoining)
+    (untouched : seen.disks.new ≡ seen.disks.old)
+    (read_fault : IsErrOf ended (Reading reading.Source) → SourceFailed seen)
+    (read_fault_comes : seen.source.faults seen.input.old < seen.source.faults seen.input.new
+    → IsErrOf ended (Reading reading.Source))
+    (write_fault : IsErrOf ended (Answering answering.Sink) → SinkFailed seen)
+    (write_fault_comes : seen.sink.faults seen.output.old < seen.sink.faults seen.output.new
+    → IsErrOf ended (Answering answering.Sink))
+    (idle : IfErr ended (λ fault. IsIdle fault → seen.output.new ≡ seen.output.old))
+    (source_counted : seen.source.faults seen.input.old ≤ seen.source.faults seen.input.new)
+    (sink_counted : seen.sink.faults seen.output.old ≤ seen.sink.faults seen.output.new) where
+  unarmed_still : Steady seen.disk.armings (disks_before seen) (disks_after seen)
+  unarmed_still =
+      subst (λ (disks : Vec (Pair D) Global). Steady seen.disk.armings (disks_before seen) (vec_items disks))
+      (sym untouched) (steady_none seen.disk.armings (disks_before seen))
+
+  if_any : {P : Type 0} (Q : Fault → Type 0) → P → (result : Result Done Fault) → IfErr result (λ fault. Q fault → P)
+  if_any Q holds (Ok done) = tt
+  if_any Q holds (Err fault) = λ is. holds
+
+  any_joined : EndedAsAny seen ended
+  any_joined = record {
+    used = joining_used ended joining;
+    read_fault = read_fault;
+    read_fault_comes = read_fault_comes;
+    write_fault = write_fault;
+    write_fault_comes = write_fault_comes;
+    store_fault = λ r is. absurd (joining_stores_nothing ended (world.Store r) joining is);
+    idle = idle;
+    unarmed = if_any IsIdle unarmed_still ended;
+    untouched = if_any IsUntouched untouched ended;
+    pairs = unarmed_still.count;
+    source_counted = source_counted;
+    sink_counted = sink_counted;
+  }
+
+  pub joined_ends : EndsAsAnyMode seen (status_of ended)
+  joined_ends = any_of seen ended any_joined
+
+  pub volumes_of : (size : Size) (count : ℕ)
+      → (seen.source.tells → TakesAsEndedIn (of_volumes count) (script_of seen) (left_of seen) ended)
+      → (seen.source.tells → OnOk ended (AnswersVolumesOf seen size count))
+      → (seen.source.tells → IfErr ended (λ fault. IsAnswering fault → AnswersVolumesFrontOf seen size count))
+      → DoesVolumes size count seen (status_of ended)
+  volumes_of size count takes answers front = record {
+    codes = joining_code ended joining;
+    reads = λ tells.
+        reads_of seen ended (of_volumes count) (excludes_volumes count) any_joined.used read_fault (takes tells);
+    untouched = untouched;
+    answers = λ tells code. (
+      done_of_code ended code (answers tells),
+      nothing_left (of_volumes count) (script_of seen) (left_of seen) ended (takes tells) code,
+    );
+    prefix = λ tells. (put tells).0;
+    cut = λ tells. (put tells).1;
+    complete = λ tells script.
+        script_done seen ended (of_volumes count) (excludes_volumes count) any_joined.used read_fault (takes tells)
+        (record {
+          store = λ r is. joining_stores_nothing ended (world.Store r) joining is;
+          image = λ r is. joining_stores_nothing ended (world.Image r) joining is;
+          occupied = λ r is. joining_stores_nothing ended (world.Occupied r) joining is;
+        }) write_fault script;
+  }
+    where
+      put : seen.source.tells → (code_of ended ≡ 5 → AnswersVolumesFrontOf seen size count)
+          × (code_of ended ≡ 3 → (seen.output.new ≡ seen.output.old) ⊎ AnswersVolumesFrontOf seen size count)
+      put tells =
+          prefix_of_code (λ may. AnswersVolumesFrontOf seen size count) (λ may other further same. same) ended idle
+          (front tells)
 
 -- where memory was refused before anything was asked of the outside, all is as each mode does
 module _ {S K D : Type 0} (seen : Seen S K D) (unread : seen.input.new ≡ seen.input.old)
@@ -608,7 +709,7 @@ module _ {S K D : Type 0} (seen : Seen S K D) (unread : seen.input.new ≡ seen.
       (λ tells r is. absurd (cc is)) (λ tells r bad. inr tt) (λ tells volume H stands r is. cc) (λ r is. cc)
       (λ fault unfailed is. unfailed_now) (λ idle. rests_now) (λ tells told. tt) (λ tells told is. absurd is)
       (λ tells q r is bad. absurd (cc is)) (λ tells r is first opens. absurd (cc is))
-      (λ tells volume H stands. all_others_rest seen.disk volume.members (disks_before seen) (disks_after seen) rests_now)
+      (λ tells first opens. all_others_rest seen.disk first.members (disks_before seen) (disks_after seen) rests_now)
   nothing_done (Replay size) =
       replay_of seen unread_end size any (λ tells. takes) (λ tells told. tt)
       (λ tells told is. absurd is) (λ idle. record { put = silent; unarmed = unarmed; besides = tt })
@@ -618,6 +719,16 @@ module _ {S K D : Type 0} (seen : Seen S K D) (unread : seen.input.new ≡ seen.
       none_in_part kept_in seen.disk (volume_of size) (disks_before seen) (disks_after seen) rests_now empty synced)
       (λ tells r is. absurd (cc is))
       (λ tells. all_others_rest seen.disk size.members (disks_before seen) (disks_after seen) rests_now)
+  nothing_done (Volumes size count) = record {
+    codes = inr (inr (inl refl));
+    reads = λ tells.
+        reads_of seen unread_end (of_volumes count) (excludes_volumes count) any.used (λ is. absurd (cc is)) takes;
+    untouched = untouched;
+    answers = λ tells code. absurd (cc code);
+    prefix = λ tells code. absurd (cc code);
+    cut = λ tells code. inl silent;
+    complete = λ tells script. inr refl;
+  }
   nothing_done (Gen members seed steps) = record {
     codes = inr (inl refl);
     unread = unread;

@@ -16,3 +16,4 @@ pub mod Stored
 pub mod WordLaws
 pub mod Kills
 pub mod KilledRuns
+pub mod Joined

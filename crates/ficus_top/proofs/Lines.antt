@@ -1,11 +1,15 @@
 -- A script has no more lines, and no more commands, than bytes.
-use Rattle.std.proofs.Common.{ℕ, ◌+◌, ◌≤◌, ◌==◌, List, [], ◌∷◌, length, ap, inl, inr, arith, length-append}
-use Rattle.std.specs.List.{onto_first, filter}
+use Rattle.std.proofs.Common.{◌≡◌, ℕ, suc, ◌+◌, ◌≤◌, ◌==◌, List, [], ◌∷◌, length, refl, ap, inl, inr, arith, length-append}
+use Rattle.std.specs.List.{All, AllByRecursion, AllZip, onto_first, filter}
 use Rattle.std.proofs.lemmas.Bool.{cases_Bool}
 use Rattle.std.proofs.lemmas.List.{length-map}
+use Rattle.std.proofs.lemmas.List.Elements.{All-from_recursion}
 use Rattle.ficus_script.specs.declared.command.Command.{Command}
 use Rattle.ficus_script.specs.Command.{command_text}
-use Rattle.ficus_script.specs.Script.{lines_of, is_kept, IsScript, IsFirstBadLine}
+use Rattle.ficus_script.specs.Script.{lines_of, is_kept, IsScript, IsFirstBad}
+use Rattle.ficus_script.specs.VolumeLine.{IsVolumeScript, SpellsLine}
+use Rattle.ficus_script.specs.declared.volume_line.VolumeLine.{VolumeLine}
+use Rattle.ficus_graft.specs.Runs.{IsLineOf}
 
 length-onto_first : (byte : ℕ) (lines : List (List ℕ)) → length (onto_first byte lines) ≤ length lines + 1
 length-onto_first byte [] = omega arith
@@ -39,8 +43,41 @@ commands_within bytes commands script =
           command_text,
     )
 
-pub bad_line_within : (bytes : List ℕ) (number : ℕ) → IsFirstBadLine bytes number → number ≤ length bytes
-bad_line_within bytes number first =
+-- there is one line for each that is kept
+same_length : {A B : Type 0} (R : A → B → Type 0) (xs : List A) (ys : List B) → AllZip R xs ys → length xs ≡ length ys
+same_length R [] [] zip = refl
+same_length R [] (y ∷ ys) zip = absurd zip
+same_length R (x ∷ xs) [] zip = absurd zip
+same_length R (x ∷ xs) (y ∷ ys) zip = ap suc (same_length R xs ys zip.1)
+
+pub volume_lines_within : (volumes : ℕ) (bytes : List ℕ) (lines : List VolumeLine) → IsVolumeScript volumes bytes lines
+    → length lines ≤ length bytes
+volume_lines_within volumes bytes lines script =
+    omega (
+      arith,
+      lines_within bytes,
+      kept_within (lines_of bytes),
+      same_length (SpellsLine volumes) lines (filter is_kept (lines_of bytes)) script,
+    )
+
+-- each is one of a volume
+each_line : (volumes : ℕ) (lines : List VolumeLine) (texts : List (List ℕ)) → AllZip (SpellsLine volumes) lines texts
+    → AllByRecursion (IsLineOf volumes) lines
+each_line volumes [] texts zip = tt
+each_line volumes (line ∷ lines) [] zip = absurd zip
+each_line volumes (line ∷ lines) (text ∷ texts) zip = (
+  record { volume = zip.0.among; command = zip.0.command; step = zip.0.step },
+  each_line volumes lines texts zip.1,
+)
+
+pub are_lines_of : (volumes : ℕ) (bytes : List ℕ) (lines : List VolumeLine) → IsVolumeScript volumes bytes lines
+    → All (IsLineOf volumes) lines
+are_lines_of volumes bytes lines script =
+    All-from_recursion (IsLineOf volumes) lines (each_line volumes lines (filter is_kept (lines_of bytes)) script)
+
+pub bad_line_within : (may : List ℕ → Type 0) (bytes : List ℕ) (number : ℕ) → IsFirstBad may bytes number
+    → number ≤ length bytes
+bad_line_within may bytes number first =
     omega (
       arith,
       lines_within bytes,

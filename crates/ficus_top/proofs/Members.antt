@@ -188,6 +188,7 @@ module _ (members : ℕ) where
     does_among (command.Sweep order) W =
         first_among _ _ W (sweeps_among (sweep_steps order volume.members) none_swept W)
         (λ swept V. by_rule_among _ V)
+    does_among (command.Why by) W = member_first by _ W (λ here up. by_rule_among _ W)
 
 -- in a run no disk of another than its members failed
 pub run_spares : {volume : Volume} {members : ℕ} {old new : ModelWorld} {commands : List Command}

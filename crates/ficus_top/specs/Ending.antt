@@ -1,25 +1,27 @@
 -- What is known of a run by how it ended.
 use Rattle.std.specs.Prelude.{◌≡◌, List, ℕ, Result, Ok, Err}
-use Rattle.ficus_script.specs.declared.command.Command.{Command}
-use Rattle.ficus_script.specs.Script.{IsScript}
-use Rattle.ficus_top.specs.Reading.{TakesAll, TakesUntil}
+use Rattle.ficus_top.specs.Grammar.{Grammar, of_commands}
+use Rattle.ficus_top.specs.Reading.{TakesAll, TakesUntilIn}
 use Rattle.ficus_top.specs.declared.fault.Fault.{Fault}
 use Rattle.ficus_top.specs.declared.fault.Fault.TheVariants.{Words, Reading, Storing, Answering}
 use Rattle.ficus_world.specs.declared.opening.WorldFault.TheVariants.{Memory, Store, Image, Occupied}
 
--- all that the source had was taken, and it was a script
-pub record TakesScript (old new : List ℕ) : Type 0 where
+-- all that the source had was taken, and it was a script of this grammar
+pub record TakesScriptIn (grammar : Grammar) (old new : List ℕ) : Type 0 where
   pub all : TakesAll old new
-  pub commands : List Command
-  pub read : IsScript old commands
+  pub commands : List grammar.Line
+  pub read : grammar.IsOf old commands
 
 -- what a run took from a source that tells
+abbrev pub TakesAsEndedIn : Grammar → {Done : Type 0} → List ℕ → List ℕ → Result Done Fault → Type 0
+TakesAsEndedIn grammar old new (Ok done) = TakesScriptIn grammar old new
+TakesAsEndedIn grammar old new (Err (Words fault)) = new ≡ old
+TakesAsEndedIn grammar old new (Err (Reading fault)) = TakesUntilIn grammar old new fault
+TakesAsEndedIn grammar old new (Err (Storing fault)) = TakesScriptIn grammar old new
+TakesAsEndedIn grammar old new (Err (Answering fault)) = TakesScriptIn grammar old new
+
 abbrev pub TakesAsEnded : {Done : Type 0} → List ℕ → List ℕ → Result Done Fault → Type 0
-TakesAsEnded old new (Ok done) = TakesScript old new
-TakesAsEnded old new (Err (Words fault)) = new ≡ old
-TakesAsEnded old new (Err (Reading fault)) = TakesUntil old new fault
-TakesAsEnded old new (Err (Storing fault)) = TakesScript old new
-TakesAsEnded old new (Err (Answering fault)) = TakesScript old new
+TakesAsEnded old new ended = TakesAsEndedIn of_commands old new ended
 
 -- the fault came while commands were answered
 abbrev pub IsAnswering : Fault → Type 0
@@ -71,3 +73,10 @@ IsOfMaking (Storing (Store r)) = Unit {0}
 IsOfMaking (Storing (Image r)) = ⊥
 IsOfMaking (Storing (Occupied r)) = Unit {0}
 IsOfMaking (Answering fault) = ⊥
+
+-- the fault is one of a script that is read, or of lines that are answered
+abbrev pub IsOfJoining : Fault → Type 0
+IsOfJoining (Words fault) = ⊥
+IsOfJoining (Reading fault) = Unit {0}
+IsOfJoining (Storing fault) = ⊥
+IsOfJoining (Answering fault) = Unit {0}

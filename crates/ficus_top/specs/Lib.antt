@@ -1,4 +1,5 @@
 pub mod Words
+pub mod Grammar
 pub mod Outside
 pub mod Ends
 pub mod Seen

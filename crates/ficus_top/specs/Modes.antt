@@ -3,3 +3,4 @@ pub mod Init
 pub mod Run
 pub mod Replay
 pub mod Gen
+pub mod Volumes

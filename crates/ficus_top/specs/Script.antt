@@ -2,9 +2,8 @@
 use Rattle.std.specs.Prelude.{◌≡◌, ◌⊎◌, ◌↔◌, ℕ, ◌+◌, ◌<◌, ◌≤◌, List, [], length, ⊤}
 use Rattle.ficus_model.specs.Lawful.{Volume}
 use Rattle.ficus_model.specs.declared.event.Event.{Event}
-use Rattle.ficus_script.specs.declared.command.Command.{Command}
-use Rattle.ficus_script.specs.Script.{IsScript, IsFirstBadLine}
 use Rattle.ficus_top.specs.Codes.{IsBadLineCode, IsReadCode}
+use Rattle.ficus_top.specs.Grammar.{Grammar, of_commands}
 use Rattle.ficus_top.specs.Headline.{Answers, AnswersFront, AreFusesAtRest, CarriesOutNothing}
 use Rattle.ficus_top.specs.Outside.{GivesCount}
 use Rattle.ficus_serving.specs.Serving.{script_limit}
@@ -15,14 +14,17 @@ module _ {S K D : Type 0} where
   -- Code 8 comes exactly where the source gave a byte more than a script may have; and wherever it has one more, unless
   -- it failed or memory was wanted. Code 2 names the first line that may stand in no script, and comes wherever there
   -- is one in a script that isn't too long, with the same exceptions.
-  pub record ReadsScript (seen : Seen S K D) (status : Status) : Type 0 where
+  pub record ReadsIn (grammar : Grammar) (seen : Seen S K D) (status : Status) : Type 0 where
     pub too_long : (status.code ≡ 8) ↔ GivesCount (script_of seen) (script_limit + 1) (left_of seen)
     pub too_long_comes : (SourceFailed seen → ⊥) → script_limit < length (script_of seen)
         → (status.code ≡ 8) ⊎ (status.code ≡ 3)
     pub within : IsReadCode status.code → length (script_of seen) ≤ script_limit
-    pub bad_line : status.code ≡ 2 → IsFirstBadLine (script_of seen) status.line
+    pub bad_line : status.code ≡ 2 → grammar.IsFirstBad (script_of seen) status.line
     pub bad_line_comes : (line : ℕ) → (SourceFailed seen → ⊥) → length (script_of seen) ≤ script_limit
-        → IsFirstBadLine (script_of seen) line → IsBadLineCode line status.code status.line
+        → grammar.IsFirstBad (script_of seen) line → IsBadLineCode line status.code status.line
+
+  abbrev pub ReadsScript : Seen S K D → Status → Type 0
+  ReadsScript seen status = ReadsIn of_commands seen status
 
   -- behind this earlier history the script was answered, or the first ones of its commands
   abbrev pub AnswersOf : Seen S K D → Volume → List Event → Type 0
@@ -49,10 +51,13 @@ module _ {S K D : Type 0} where
         (disks_after seen)
         ⊎ AnswersFrontOf ⊤ seen volume earlier
 
-  -- the source has a script, and neither the source nor the sink has failed
-  pub record HasScript (seen : Seen S K D) : Type 0 where
+  -- the source has a script of this grammar, and neither the source nor the sink has failed
+  pub record HasIn (grammar : Grammar) (seen : Seen S K D) : Type 0 where
     pub within : length (script_of seen) ≤ script_limit
-    pub commands : List Command
-    pub script : IsScript (script_of seen) commands
+    pub commands : List grammar.Line
+    pub script : grammar.IsOf (script_of seen) commands
     pub source : SourceFailed seen → ⊥
     pub sink : SinkFailed seen → ⊥
+
+  abbrev pub HasScript : Seen S K D → Type 0
+  HasScript seen = HasIn of_commands seen

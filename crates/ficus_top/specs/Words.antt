@@ -4,7 +4,7 @@ use Rattle.std.specs.declared.alloc.Global.{Global}
 use Rattle.ficus_words.specs.Grammar.{Text}
 use Rattle.ficus_words.specs.Mode.{AreWords}
 use Rattle.ficus_words.specs.declared.mode.Mode.{Mode}
-use Rattle.ficus_words.specs.declared.mode.Mode.TheVariants.{Init, Run, Replay, Gen}
+use Rattle.ficus_words.specs.declared.mode.Mode.TheVariants.{Init, Run, Replay, Volumes, Gen}
 
 -- the words as bytes
 abbrev pub texts : List (String Global) → List Text
@@ -15,6 +15,7 @@ abbrev pub root_in : Mode → Option Text
 root_in (Init size root) = Some root
 root_in (Run root) = Some root
 root_in (Replay size) = None
+root_in (Volumes size count) = None
 root_in (Gen members seed steps) = None
 
 -- the words are those of a mode whose volume lies here, or is to lie here

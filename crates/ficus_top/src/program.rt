@@ -8,6 +8,7 @@ ghost use Rattle.ficus_top.specs.Program.{Does, DoesIn, FitsMode};
 ghost use Rattle.ficus_top.specs.Words.{texts};
 
 use crate::fault::Fault;
+use crate::joining::join;
 use crate::making::init;
 use crate::running::{replay, run};
 use crate::status::Status;
@@ -21,7 +22,8 @@ use std::alloc::Global;
 ///
 /// `init` makes a fresh volume on them. `run` reads the whole script from the source, opens the volume, and then
 /// answers each command on the sink. `replay` reads the script, makes a fresh volume, opens it and answers the
-/// commands. `gen` makes a script from a number, runs it on disks of its own in memory, and puts a summary.
+/// commands. `volumes` reads the script, makes fresh volumes on disks of its own in memory, and answers the lines over
+/// them. `gen` makes a script from a number, runs it on disks of its own in memory, and puts a summary.
 ///
 /// The codes, in the order in which they are tested: 1, the words aren't those of a mode; 4, the source failed;
 /// 8, it gave more bytes than a script has; 2, a line is no command, and the first such line is named; 6, a disk of the
@@ -102,6 +104,7 @@ fn carry_out<S: Source, K: Sink, D: Disk>(
         Mode::Init { size, .. } => Status::of(init(alloc, *size, disks)),
         Mode::Run { .. } => Status::of(run(alloc, input, output, disks)),
         Mode::Replay { size } => Status::of(replay(alloc, *size, input, output, disks)),
+        Mode::Volumes { size, count } => Status::of(join(alloc, *size, *count, input, output)),
         Mode::Gen {
             members,
             seed,

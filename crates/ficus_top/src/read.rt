@@ -1,14 +1,18 @@
-ghost use Rattle.std.specs.Prelude.{◌≡◌, ◌↔◌, ◌+◌, ◌<◌, ◌≤◌, [], length, take, All, IfOk, OnOk, OnErr, IfErr, IsErrOf, IsTrue};
+ghost use Rattle.std.specs.Prelude.{◌≡◌, ◌↔◌, ◌+◌, ◌<◌, ◌≤◌, ℕ, [], length, take, All, IfOk, OnOk, OnErr, IfErr, IsErrOf, IsTrue};
 ghost use Rattle.ficus_faults.specs.Faults.{Rose};
+ghost use Rattle.ficus_graft.specs.Crossing.{AreFew};
+ghost use Rattle.ficus_graft.specs.Runs.{IsLineOf};
 ghost use Rattle.ficus_script.specs.Command.{IsCommand};
 ghost use Rattle.ficus_script.specs.Script.{IsScript};
+ghost use Rattle.ficus_script.specs.VolumeLine.{IsVolumeScript};
+ghost use Rattle.ficus_top.specs.Grammar.{of_volumes};
 ghost use Rattle.ficus_top.specs.Outside.{Gives, GivesBelow};
 ghost use Rattle.ficus_serving.specs.Serving.{script_limit};
-ghost use Rattle.ficus_top.specs.Reading.{TakesAll, TakesUntil};
+ghost use Rattle.ficus_top.specs.Reading.{TakesAll, TakesUntil, TakesUntilIn};
 
 use crate::fault::ReadingFault;
 use ficus_outside::{Failed, Source};
-use ficus_script::{Command, ScriptFault, read_script};
+use ficus_script::{Command, ScriptFault, VolumeLine, read_script, read_volume_script};
 use std::alloc::Global;
 
 /// The most bytes of a script.
@@ -36,10 +40,36 @@ pub(crate) fn read_commands<S: Source>(
     }
 }
 
+/// Takes the whole script from the source, and reads its lines over so many volumes.
+pub(crate) fn read_volume_lines<S: Source>(
+    alloc: Global,
+    input: &mut S,
+    volumes: u8,
+) -> Result<Vec<VolumeLine>, ReadingFault>
+    requires few { AreFew volumes }
+    ensures each { IfOk result (λ lines. All (IsLineOf volumes) lines.items) }
+    ensures count { IfOk result (λ lines. length lines.items ≤ script_limit) }
+    ensures script { S.tells → IfOk result (λ lines.
+        TakesAll (S.left input.old) (S.left input.new) × IsVolumeScript volumes (S.left input.old) lines.items) }
+    ensures until { S.tells
+        → IfErr result (TakesUntilIn (of_volumes volumes) (S.left input.old) (S.left input.new)) }
+    ensures failed { IsErrOf result ReadingFault.Source → Rose (S.faults input.old) (S.faults input.new) }
+    ensures told { S.faults input.old < S.faults input.new → IsErrOf result ReadingFault.Source }
+    ensures counted { S.faults input.old ≤ S.faults input.new }
+{
+    let bytes = read_bytes(alloc, input)?;
+    match read_volume_script(alloc, &bytes, volumes) {
+        Ok(lines) => Ok(lines),
+        Err(ScriptFault::BadLine(line)) => Err(ReadingFault::BadLine(line as u32)),
+        Err(ScriptFault::Memory) => Err(ReadingFault::Memory),
+    }
+}
+
 // Takes all bytes of the source, where they are no more than a script may have.
 fn read_bytes<S: Source>(alloc: Global, input: &mut S) -> Result<Vec<u8>, ReadingFault>
     ensures limit { IfOk result (λ bytes. length bytes.items ≤ script_limit) }
     ensures all { S.tells → IfOk result (λ bytes. (S.left input.old ≡ bytes.items) × (S.left input.new ≡ [])) }
+    ensures no_line { (line : ℕ) → IsErrOf result (ReadingFault.BadLine line) → ⊥ }
     ensures until { S.tells → IfErr result (TakesUntil (S.left input.old) (S.left input.new)) }
     ensures failed { IsErrOf result ReadingFault.Source → Rose (S.faults input.old) (S.faults input.new) }
     ensures told { S.faults input.old < S.faults input.new → IsErrOf result ReadingFault.Source }

@@ -6,8 +6,8 @@ ghost use Rattle.ficus_runs.specs.ModelWorld.{ModelWorld};
 ghost use Rattle.ficus_runs.specs.Start.{start};
 ghost use Rattle.ficus_saved.specs.declared.saved.Saved.{Saved as SavedValue};
 ghost use Rattle.ficus_script.specs.Command.{IsCommand};
-ghost use Rattle.ficus_store.specs.Slots.{kept_in};
-ghost use Rattle.ficus_store.specs.TwoSlot.{Fits};
+ghost use Rattle.ficus_journal.specs.Logs.{kept_in};
+ghost use Rattle.ficus_journal.specs.Journal.{Fits};
 ghost use Rattle.ficus_top.specs.Ending.{IsAnswering, IsIdle, IsInterruption, IsOfRunning, IsUntouched, TakesAsEnded};
 ghost use Rattle.ficus_top.specs.Ends.{AllUp, Ends, EndsFront, StandNow};
 ghost use Rattle.ficus_top.specs.Killed.{EndsFrontKilled, EndsFrontOn, EndsKilled, EndsOn, KilledAnswers, KilledAnswersFront};
@@ -27,10 +27,11 @@ use crate::fault::{Fault, ReadingFault};
 use crate::making::make;
 use crate::read::read_commands;
 use ficus_disk::{Disk, Pair};
+use ficus_journal::Journal;
+use ficus_keep::Keep;
 use ficus_outside::{MemLink, Sink, Source};
 use ficus_script::Command;
 use ficus_serving::{AnsweringFault, answer_all};
-use ficus_store::{Keep, TwoSlot};
 use ficus_words::Size;
 use ficus_world::{World, WorldFault, disks_stand, pending_events_may_come};
 use std::alloc::Global;
@@ -85,9 +86,8 @@ pub(crate) fn run<S: Source, K: Sink, D: Disk>(
         → IsFirstBad kept_in D.seen disks.old.items r → q ≤ r }
     ensures member { D.tells → (r : ℕ) → IsErrOf result (Fault.Storing (WorldFault.Store r)) → (first : SavedValue)
         → Opens kept_in D.seen disks.old.items first first 1 → r ≤ first.members }
-    ensures others { D.tells → (volume : Volume) (H : List EventValue)
-        → StandsOn kept_in D.seen volume H disks.old.items
-        → OthersRest D.Disk volume.members disks.old.items disks.new.items }
+    ensures others { D.tells → (first : SavedValue) → Opens kept_in D.seen disks.old.items first first 1
+        → OthersRest D.Disk first.members disks.old.items disks.new.items }
     ensures never_occupied { (r : ℕ) → IsErrOf result (Fault.Storing (WorldFault.Occupied r)) → ⊥ }
     ensures spared { (fault : WorldFaultValue) → IsUnfailed fault → IsErrOf result (Fault.Storing fault)
         → Steady D.faults disks.old.items disks.new.items }
@@ -221,9 +221,8 @@ fn run_on<K: Sink, D: Disk>(
         → IsFirstBad kept_in D.seen disks.old.items r → q ≤ r }
     ensures member { D.tells → (r : ℕ) → IsErrOf result (Fault.Storing (WorldFault.Store r)) → (first : SavedValue)
         → Opens kept_in D.seen disks.old.items first first 1 → r ≤ first.members }
-    ensures others { D.tells → (volume : Volume) (H : List EventValue)
-        → StandsOn kept_in D.seen volume H disks.old.items
-        → OthersRest D.Disk volume.members disks.old.items disks.new.items }
+    ensures others { D.tells → (first : SavedValue) → Opens kept_in D.seen disks.old.items first first 1
+        → OthersRest D.Disk first.members disks.old.items disks.new.items }
     ensures unfailing { D.tells_fuse → AreUnarmed D.fuse disks.old.items → (r : ℕ)
         → IsErrOf result (Fault.Storing (WorldFault.Store r)) → ⊥ }
     ensures spared { (fault : WorldFaultValue) → IsUnfailed fault → IsErrOf result (Fault.Storing fault)
@@ -235,7 +234,7 @@ fn run_on<K: Sink, D: Disk>(
         → IsErrOf result (Fault.Answering AnsweringFault.Sink) }
     ensures counted { K.faults output.old ≤ K.faults output.new }
 {
-    let mut world = World::<TwoSlot, MemLink>::open(alloc, disks, MemLink::new(alloc))?;
+    let mut world = World::<Journal, MemLink>::open(alloc, disks, MemLink::new(alloc))?;
     answer_on(alloc, &mut world, disks, commands, output)?;
     Ok(())
 }
@@ -243,7 +242,7 @@ fn run_on<K: Sink, D: Disk>(
 // Answers the commands over a world that was just opened, and over its disks.
 fn answer_on<K: Sink, D: Disk>(
     alloc: Global,
-    world: &mut World<TwoSlot, MemLink>,
+    world: &mut World<Journal, MemLink>,
     disks: &mut Vec<Pair<D>>,
     commands: &[Command],
     output: &mut K,
@@ -257,22 +256,22 @@ fn answer_on<K: Sink, D: Disk>(
     requires unfailed { world.old.whole.post.faults ≡ 0 }
     ensures answers { D.tells → OnOk result ((volume : Volume) (W : ModelWorld)
         → WorldStandsFor volume W world.old.whole
-        → AllUp W → Ends K.tells D.Disk (StandNow ⟦<TwoSlot as Keep>⟧ D.Disk world.old.whole disks.old.items) volume W
+        → AllUp W → Ends K.tells D.Disk (StandNow ⟦<Journal as Keep>⟧ D.Disk world.old.whole disks.old.items) volume W
         commands.now
         (K.written output.old) (K.written output.new) disks.old.items disks.new.items) }
     ensures prefix { D.tells → IfErr result (λ fault. (volume : Volume) (W : ModelWorld)
         → WorldStandsFor volume W world.old.whole
         → AllUp W → EndsFront K.tells (fault ≡ AnsweringFault.Memory) D.Disk
-        (StandNow ⟦<TwoSlot as Keep>⟧ D.Disk world.old.whole disks.old.items) volume W commands.now
+        (StandNow ⟦<Journal as Keep>⟧ D.Disk world.old.whole disks.old.items) volume W commands.now
         (K.written output.old) (K.written output.new) disks.old.items disks.new.items) }
     ensures runs { D.tells → OnOk result ((volume : Volume) (W : ModelWorld)
         → WorldStandsFor volume W world.old.whole
-        → AllUp W → EndsOn K.tells D.Disk (StandNow ⟦<TwoSlot as Keep>⟧ D.Disk world.old.whole disks.old.items) volume
+        → AllUp W → EndsOn K.tells D.Disk (StandNow ⟦<Journal as Keep>⟧ D.Disk world.old.whole disks.old.items) volume
         W commands.now (K.written output.old) (K.written output.new) disks.old.items disks.new.items) }
     ensures front_runs { D.tells → IfErr result (λ fault. (volume : Volume) (W : ModelWorld)
         → WorldStandsFor volume W world.old.whole
         → AllUp W → EndsFrontOn K.tells (fault ≡ AnsweringFault.Memory) D.Disk
-        (StandNow ⟦<TwoSlot as Keep>⟧ D.Disk world.old.whole disks.old.items) volume W commands.now
+        (StandNow ⟦<Journal as Keep>⟧ D.Disk world.old.whole disks.old.items) volume W commands.now
         (K.written output.old) (K.written output.new) disks.old.items disks.new.items) }
     ensures others { OthersStay (length world.old.whole.members) disks.old.items disks.new.items }
     ensures pairs { length disks.new.items ≡ length disks.old.items }

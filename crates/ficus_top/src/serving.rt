@@ -14,7 +14,7 @@ ghost use Rattle.ficus_world.specs.World.{WorldStandsFor, event_limit, most_even
 use crate::fault::Fault;
 use crate::status::Status;
 use ficus_disk::{Disk, Pair};
-use ficus_keep::{Keep, KeepImages};
+use ficus_keep::Keep;
 use ficus_outside::{Link, Sink};
 use ficus_script::Command;
 use ficus_serving::answer_all;
@@ -24,7 +24,7 @@ use std::alloc::Global;
 /// Answers the commands in order over the disks of the world: each answer's text is put after its command was carried
 /// out, and what it did is on the disks, and before the next one. Ends with code 0; 3, for want of memory; or 5, where
 /// the sink fails.
-pub fn serve<K: Sink, D: Disk, P: Keep + KeepImages + Drop, L: Link + Drop>(
+pub fn serve<K: Sink, D: Disk, P: Keep + Drop, L: Link + Drop>(
     alloc: Global,
     world: &mut World<P, L>,
     disks: &mut Vec<Pair<D>>,

@@ -29,6 +29,6 @@ fn root_in(alloc: Global, mode: &Mode) -> Result<Option<String>, Memory>
         Mode::Init { root, .. } | Mode::Run { root } => {
             Ok(Some(String::from_str(alloc, root.text())?))
         }
-        Mode::Replay { .. } | Mode::Gen { .. } => Ok(None),
+        Mode::Replay { .. } | Mode::Volumes { .. } | Mode::Gen { .. } => Ok(None),
     }
 }

@@ -6,17 +6,17 @@ ghost use Rattle.ficus_world.specs.Disks.{AreDisksOf};
 use crate::disks::pairs;
 use ficus_disk::{Disk, FailDisk, Pair};
 use ficus_ids::Members;
-use ficus_keep::{Keep, KeepImages};
+use ficus_journal::Journal;
+use ficus_keep::Keep;
 use ficus_outside::{FailLink, Link, MemLink, MemSink};
 use ficus_script::read_script;
-use ficus_store::TwoSlot;
 use ficus_top::serve;
 use ficus_world::{DEFAULT_BYTES, DEFAULT_IDS, World};
 use std::alloc::Global;
 use std::test::Fail;
 
 // Whether the world answers the script so.
-fn serves_so<P: Keep + KeepImages + Drop, L: Link + Drop, D: Disk>(
+fn serves_so<P: Keep + Drop, L: Link + Drop, D: Disk>(
     alloc: Global,
     world: &mut World<P, L>,
     disks: &mut Vec<Pair<D>>,
@@ -50,7 +50,7 @@ fn answer_so<L: Link + Drop>(
     if disks.len() != 8 {
         return Err("eight pairs of disks".into());
     }
-    let opened = World::<TwoSlot, L>::open(alloc, &mut disks, link);
+    let opened = World::<Journal, L>::open(alloc, &mut disks, link);
     let mut world = opened.map_err(|_| "no world was opened")?;
     if disks.len() != 8 {
         return Err("eight pairs of disks".into());
@@ -66,7 +66,7 @@ fn made(alloc: Global, members: Members) -> Result<Vec<Pair<FailDisk>>, Fail>
     if disks.len() != 8 {
         return Err("eight pairs of disks".into());
     }
-    let is_made = World::<TwoSlot, MemLink>::make(
+    let is_made = World::<Journal, MemLink>::make(
         alloc,
         &mut disks,
         members,

@@ -47,10 +47,8 @@ pull 2 1
 2 ls /
     ok 0";
 
-// What becomes of a save, of which so many calls pass, with each pick. It makes six.
-const STOPS: [[&str; 4]; 7] = [
-    [LOST, LOST, LOST, LOST],
-    [LOST, LOST, LOST, LOST],
+// What becomes of the save of a record, of which so many calls pass, with each pick. It makes four.
+const STOPS: [[&str; 4]; 5] = [
     [LOST, LOST, LOST, LOST],
     [LOST, LOST, LOST, LOST],
     [LOST, FOUND, FOUND, LOST],

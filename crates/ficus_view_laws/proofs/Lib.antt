@@ -4,3 +4,4 @@ pub mod Knowledge
 pub mod Objects
 pub mod CutOff
 pub mod Collecting
+pub mod States

@@ -1,16 +1,21 @@
 -- The laws of what is shown and of what a collection leaves, as the law functions state them.
-use Rattle.std.specs.Prelude.{◌≡◌, ◌⊎◌, ℕ, List, [], ◌∷◌, ◌++◌}
+use Rattle.std.specs.Prelude.{◌≡◌, ◌⊎◌, ℕ, List, [], ◌∷◌, ◌++◌, Option}
 use Rattle.ficus_ids.specs.Members.{IsMember}
 use Rattle.ficus_ids.specs.declared.id.Id.{Id}
 use Rattle.ficus_ids.specs.declared.kind.Kind.{Kind}
 use Rattle.ficus_model.specs.declared.event.Event.{Event}
-use Rattle.ficus_model.specs.declared.event.Event.TheVariants.{Collect}
+use Rattle.ficus_model.specs.declared.event.Event.TheVariants.{Accept, Collect}
+use Rattle.ficus_model.specs.Events.{through}
 use Rattle.ficus_model.specs.Held.{Touches, IsDropped, IsHeldEntry, IsHeldObject}
 use Rattle.ficus_model.specs.Known.{Knows}
 use Rattle.ficus_model.specs.Lawful.{Volume, IsLawful}
 use Rattle.ficus_model.specs.Live.{ModelEntry, IsBound, IsRemoved}
 use Rattle.ficus_model.specs.View.{IsDetached, IsOrphan}
+use Rattle.ficus_entry.specs.declared.entry.State.{State}
+use Rattle.ficus_recon_dir.specs.Table.{Merges}
+use Rattle.ficus_removal_laws.specs.Laws.{IsAnswer}
 use Rattle.ficus_removal_laws.specs.Marks.{IsMarked, IsTwoFull}
+use Rattle.ficus_merge_laws.specs.States.{StandsAs}
 
 -- a live entry of a detached directory leads to the object
 pub record LiesInDetached (H : List Event) (U : ℕ → Type 0) (object : Id) : Type 0 where
@@ -82,3 +87,17 @@ abbrev pub RemovedIsMarked : Type 0
 RemovedIsMarked = (volume : Volume) (H : List Event) (replica : ℕ) (entry : ModelEntry) → IsLawful volume H →
     IsHeldEntry volume.members H replica entry → IsRemoved H (Knows H replica) entry.id →
     HasMarks volume.members H replica entry.id
+
+-- an identifier stands at a member in one state: absent, alive, or removed with one pair of sets
+abbrev pub StandsOnce : Type 0
+StandsOnce = (members : ℕ) (H : List Event) (replica : ℕ) (id : Id) (one other : Option State) →
+    IsMember members replica → StandsAs members H replica id one → StandsAs members H replica id other → one ≡ other
+
+-- so what an Accept leaves under it is what the merge table makes of what stood at the replica, and at the server when
+-- it served, and nothing else
+abbrev pub AcceptLeavesOne : Type 0
+AcceptLeavesOne = (volume : Volume) (H : List Event) (replica served server : ℕ) (id : Id)
+    (mine theirs one other : Option State) → IsAnswer volume H replica served server →
+    StandsAs volume.members H replica id mine → StandsAs volume.members (through served H) server id theirs →
+    Merges replica volume.members mine theirs one →
+    StandsAs volume.members (H ++ Accept replica served ∷ []) replica id other → one ≡ other

@@ -1,5 +1,5 @@
 //! The laws of what a replica shows and holds that go beyond single events: where detached directories lie, what is left
-//! after a collection, and that a replica marks what it holds removed.
+//! after a collection, that a replica marks what it holds removed, and in which one state each entry stands.
 //!
 //! A law is the contract of a function with an empty body. Its lemmas stand in `proofs/`, for the proofs of
 //! the crates above.
@@ -11,4 +11,4 @@ mod marked;
 
 pub use collections::{collections_leave_what_is_needed, second_collections_give_nothing};
 pub use detached::detached_lie_in_detached;
-pub use marked::removed_are_marked;
+pub use marked::{one_state, removed_are_marked};

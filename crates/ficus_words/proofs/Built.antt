@@ -32,7 +32,8 @@ the_place name index = shaped name None (Some index)
 
 abbrev pub the_rules : List Rule
 the_rules = the_place (codes "mode") 1 ∷ the_place (codes "root") 2 ∷ the_option (codes "members") ∷ the_option (codes "ids")
-    ∷ the_option (codes "bytes") ∷ the_option (codes "seed") ∷ the_option (codes "steps") ∷ []
+    ∷ the_option (codes "bytes") ∷ the_option (codes "seed") ∷ the_option (codes "steps")
+    ∷ the_option (codes "volumes") ∷ []
 
 abbrev pub the_shape : Shape
 the_shape = (built ficus_app).top
@@ -68,10 +69,14 @@ names_option name is =
           | inl e ↦ goes (codes "bytes") (same (codes "bytes") e) (refl, record { long = Some (codes "bytes"); index = None; found = refl })
           | inr fewer ↦ elim (or_cases (bytes_eq (codes "seed") name) _ fewer) [
             | inl e ↦ goes (codes "seed") (same (codes "seed") e) (refl, record { long = Some (codes "seed"); index = None; found = refl })
-            | inr last ↦ elim (or_cases (bytes_eq (codes "steps") name) _ last) [
+            | inr few ↦ elim (or_cases (bytes_eq (codes "steps") name) _ few) [
               | inl e ↦ goes (codes "steps") (same (codes "steps") e)
                   (refl, record { long = Some (codes "steps"); index = None; found = refl })
-              | inr none ↦ absurd (true≢false (sym none))
+              | inr last ↦ elim (or_cases (bytes_eq (codes "volumes") name) _ last) [
+                | inl e ↦ goes (codes "volumes") (same (codes "volumes") e)
+                    (refl, record { long = Some (codes "volumes"); index = None; found = refl })
+                | inr none ↦ absurd (true≢false (sym none))
+              ]
             ]
           ]
         ]
@@ -85,7 +90,8 @@ names_nothing name is =
     let d = or_parts (bytes_eq (codes "bytes") name) _ b.1 in
     let e = or_parts (bytes_eq (codes "seed") name) _ d.1 in
     let f = or_parts (bytes_eq (codes "steps") name) _ e.1 in
-    rw (a.0, b.0, d.0, e.0, f.0) refl
+    let g = or_parts (bytes_eq (codes "volumes") name) _ f.1 in
+    rw (a.0, b.0, d.0, e.0, f.0, g.0) refl
 
 pub mode_known : IsKnown (codes "mode")
 mode_known = record { long = None; index = Some 1; found = refl }

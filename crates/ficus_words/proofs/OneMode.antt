@@ -10,7 +10,7 @@ use Rattle.ficus_words.specs.Given.{Texts, texts_of, IsNumber, IsNumberOrMost}
 use Rattle.ficus_words.specs.Mode.{IsSize, AsksFor, AreWords, AreNoWords, IsReadingOf}
 use Rattle.ficus_words.proofs.Spelling.{spelled_of}
 use Rattle.ficus_words.specs.declared.mode.Mode.{Mode}
-use Rattle.ficus_words.specs.declared.mode.Mode.TheVariants.{Init, Run, Replay, Gen}
+use Rattle.ficus_words.specs.declared.mode.Mode.TheVariants.{Init, Run, Replay, Volumes, Gen}
 use Rattle.ficus_words.specs.declared.mode.Size.{Size}
 
 same_text : {text : Option Text} (one other : Text) → text ≡ Some one → text ≡ Some other → one ≡ other
@@ -42,12 +42,14 @@ abbrev word_of : Mode → Text
 word_of (Init size root) = codes "init"
 word_of (Run root) = codes "run"
 word_of (Replay size) = codes "replay"
+word_of (Volumes size count) = codes "volumes"
 word_of (Gen members seed steps) = codes "gen"
 
 asks_by_word : (texts : Texts) (mode : Mode) → AsksFor texts mode → texts.mode ≡ Some (word_of mode)
 asks_by_word texts (Init size root) is = is.mode
 asks_by_word texts (Run root) is = is.mode
 asks_by_word texts (Replay size) is = is.mode
+asks_by_word texts (Volumes size count) is = is.mode
 asks_by_word texts (Gen members seed steps) is = is.mode
 
 one_asked : (texts : Texts) (mode other : Mode) → AsksFor texts mode → AsksFor texts other → mode ≡ other
@@ -55,6 +57,9 @@ one_asked texts (Init size root) (Init same folder) is also = λ i. Init (same_s
     (same_text root folder is.folder.is also.folder.is i)
 one_asked texts (Run root) (Run folder) is also = ap (λ (t : Text). Run t) (same_text root folder is.folder.is also.folder.is)
 one_asked texts (Replay size) (Replay same) is also = ap (λ (s : Size). Replay s) (same_size texts size same is.sized also.sized)
+one_asked texts (Volumes size count) (Volumes same number) is also = λ i. Volumes
+    (same_size texts size same is.sized also.sized i)
+    (same_number (omega arith) is.counted also.counted i)
 one_asked texts (Gen members seed steps) (Gen count from over) is also = λ i. Gen
     (same_number (omega arith) is.count also.count i)
     (same_number (omega arith) is.from_seed also.from_seed i)
@@ -65,7 +70,7 @@ one_asked texts mode other is also =
     cc
 
 -- words give one list of uses
-one_uses : {words : List Text} {uses others : List Use} → Gives words uses → Gives words others → uses ≡ others
+pub one_uses : {words : List Text} {uses others : List Use} → Gives words uses → Gives words others → uses ≡ others
 one_uses {words} {uses} {others} is also =
     let same : Some uses ≡ Some others = sym (spelled_of is.spelled) ∙ spelled_of also.spelled in cc
 

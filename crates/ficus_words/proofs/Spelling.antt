@@ -49,16 +49,17 @@ of_is_option name is =
 
 -- a fact of each name of an option
 each_option : (P : Text → Type 0) → P (codes "members") → P (codes "ids") → P (codes "bytes") → P (codes "seed") →
-    P (codes "steps") → (name : Text) → Contains option_names name → P name
-each_option P members ids bytes seed steps name (at, within, is) = subst P is (go at within)
+    P (codes "steps") → P (codes "volumes") → (name : Text) → Contains option_names name → P name
+each_option P members ids bytes seed steps volumes name (at, within, is) = subst P is (go at within)
   where
-    go : (k : ℕ) → k < 5 → P (get_or option_names k name)
+    go : (k : ℕ) → k < 6 → P (get_or option_names k name)
     go zero lt = members
     go (suc zero) lt = ids
     go (suc (suc zero)) lt = bytes
     go (suc (suc (suc zero))) lt = seed
     go (suc (suc (suc (suc zero)))) lt = steps
-    go (suc (suc (suc (suc (suc k))))) lt = absurd (omega (arith, lt))
+    go (suc (suc (suc (suc (suc zero))))) lt = volumes
+    go (suc (suc (suc (suc (suc (suc k)))))) lt = absurd (omega (arith, lt))
 
 -- how the words of an option look to the lexer
 record IsOptionWord (name : Text) : Type 0 where
@@ -69,6 +70,7 @@ record IsOptionWord (name : Text) : Type 0 where
 
 option_word : (name : Text) → Contains option_names name → IsOptionWord name
 option_word = each_option IsOptionWord
+    (record { no_end = refl; apart = refl; no_joined_end = λ v. refl; joined = λ v. refl })
     (record { no_end = refl; apart = refl; no_joined_end = λ v. refl; joined = λ v. refl })
     (record { no_end = refl; apart = refl; no_joined_end = λ v. refl; joined = λ v. refl })
     (record { no_end = refl; apart = refl; no_joined_end = λ v. refl; joined = λ v. refl })

@@ -262,7 +262,31 @@ HaveNoDefaults [] = ⊤
 HaveNoDefaults (a ∷ rules) = ((is_empty a.defaults ≡ true) × (a.defaults ≡ [])) × HaveNoDefaults rules
 
 pub none_by_default : HaveNoDefaults the_rules
-none_by_default = ((refl, refl), ((refl, refl), ((refl, refl), ((refl, refl), ((refl, refl), ((refl, refl), ((refl, refl), tt)))))))
+none_by_default = (
+  (refl, refl),
+  (
+    (refl, refl),
+    (
+      (refl, refl),
+      (
+        (refl, refl),
+        (
+          (refl, refl),
+          (
+            (refl, refl),
+            (
+              (refl, refl),
+              (
+                (refl, refl),
+                tt,
+              ),
+            ),
+          ),
+        ),
+      ),
+    ),
+  ),
+)
 
 pub kept_without : (held : List Row) (a : Rule) → a.defaults ≡ [] → with_default held a ≡ held
 kept_without held a empty = ap (λ (d : List Text). cond (has_row a.id held) held (default_rows a.id (reading_by a) d held)) empty

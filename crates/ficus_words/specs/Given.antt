@@ -19,6 +19,7 @@ pub record Texts : Type 0 where
   pub bytes : Option Text
   pub seed : Option Text
   pub steps : Option Text
+  pub volumes : Option Text
 
 abbrev pub texts_of : List Use → Texts
 texts_of uses = record {
@@ -29,6 +30,7 @@ texts_of uses = record {
   bytes = value_of (codes "bytes") uses;
   seed = value_of (codes "seed") uses;
   steps = value_of (codes "steps") uses;
+  volumes = value_of (codes "volumes") uses;
 }
 
 abbrev pub given_texts : Given → Texts
@@ -40,6 +42,7 @@ given_texts given = record {
   bytes = option_map (λ text. text.now) given.bytes;
   seed = option_map (λ text. text.now) given.seed;
   steps = option_map (λ text. text.now) given.steps;
+  volumes = option_map (λ text. text.now) given.volumes;
 }
 
 -- there is this text, and it isn't empty

@@ -11,7 +11,8 @@ Use = Text × Text
 
 -- the names of the options
 abbrev pub option_names : List Text
-option_names = codes "members" ∷ codes "ids" ∷ codes "bytes" ∷ codes "seed" ∷ codes "steps" ∷ []
+option_names =
+    codes "members" ∷ codes "ids" ∷ codes "bytes" ∷ codes "seed" ∷ codes "steps" ∷ codes "volumes" ∷ []
 
 -- the names of the places for values that stand alone, in order
 abbrev pub place_names : List Text

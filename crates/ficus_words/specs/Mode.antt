@@ -3,7 +3,7 @@ use Rattle.std.specs.Prelude.{◌≡◌, ℕ, List, Some, None, codes, Result, O
 use Rattle.ficus_words.specs.Grammar.{Text, Use, Gives}
 use Rattle.ficus_words.specs.Given.{Texts, texts_of, IsNumber, IsNumberOrMost, IsSomeText}
 use Rattle.ficus_words.specs.declared.mode.Mode.{Mode}
-use Rattle.ficus_words.specs.declared.mode.Mode.TheVariants.{Init, Run, Replay, Gen}
+use Rattle.ficus_words.specs.declared.mode.Mode.TheVariants.{Init, Run, Replay, Volumes, Gen}
 use Rattle.ficus_words.specs.declared.mode.Size.{Size}
 use Rattle.ficus_words.specs.declared.fault.WordsFault.{WordsFault}
 use Rattle.ficus_words.specs.declared.fault.WordsFault.TheVariants.{Usage, Memory}
@@ -19,6 +19,12 @@ pub record HasNoLimit (texts : Texts) : Type 0 where
   pub ids : texts.ids ≡ None
   pub bytes : texts.bytes ≡ None
 
+-- nothing is given of how large volumes are, and of how many there are
+pub record HasNoSize (texts : Texts) : Type 0 where
+  pub members : texts.members ≡ None
+  pub volumes : texts.volumes ≡ None
+  pub limits : HasNoLimit texts
+
 -- nothing to make a script from is given
 pub record HasNoScript (texts : Texts) : Type 0 where
   pub seed : texts.seed ≡ None
@@ -29,18 +35,26 @@ pub record IsInit (texts : Texts) (size : Size) (root : Text) : Type 0 where
   pub mode : texts.mode ≡ Some (codes "init")
   pub sized : IsSize texts size
   pub folder : IsSomeText texts.root root
+  pub no_volumes : texts.volumes ≡ None
   pub no_script : HasNoScript texts
 
 pub record IsRun (texts : Texts) (root : Text) : Type 0 where
   pub mode : texts.mode ≡ Some (codes "run")
   pub folder : IsSomeText texts.root root
-  pub no_members : texts.members ≡ None
-  pub no_limit : HasNoLimit texts
+  pub no_size : HasNoSize texts
   pub no_script : HasNoScript texts
 
 pub record IsReplay (texts : Texts) (size : Size) : Type 0 where
   pub mode : texts.mode ≡ Some (codes "replay")
   pub sized : IsSize texts size
+  pub no_folder : texts.root ≡ None
+  pub no_volumes : texts.volumes ≡ None
+  pub no_script : HasNoScript texts
+
+pub record IsVolumes (texts : Texts) (size : Size) (count : ℕ) : Type 0 where
+  pub mode : texts.mode ≡ Some (codes "volumes")
+  pub sized : IsSize texts size
+  pub counted : IsNumber 1 4 texts.volumes count
   pub no_folder : texts.root ≡ None
   pub no_script : HasNoScript texts
 
@@ -50,6 +64,7 @@ pub record IsGen (texts : Texts) (members seed steps : ℕ) : Type 0 where
   pub from_seed : IsNumber 0 2147483647 texts.seed seed
   pub over_steps : IsNumber 0 5000 texts.steps steps
   pub no_folder : texts.root ≡ None
+  pub no_volumes : texts.volumes ≡ None
   pub no_limit : HasNoLimit texts
 
 -- the texts ask for this mode
@@ -57,6 +72,7 @@ abbrev pub AsksFor : Texts → Mode → Type 0
 AsksFor texts (Init size root) = IsInit texts size root
 AsksFor texts (Run root) = IsRun texts root
 AsksFor texts (Replay size) = IsReplay texts size
+AsksFor texts (Volumes size count) = IsVolumes texts size count
 AsksFor texts (Gen members seed steps) = IsGen texts members seed steps
 
 -- the mode that the texts ask for, `Usage` where they ask for none, or memory was refused

@@ -19,6 +19,7 @@ pub(crate) struct Given<'a> {
     pub(crate) bytes: Option<&'a str>,
     pub(crate) seed: Option<&'a str>,
     pub(crate) steps: Option<&'a str>,
+    pub(crate) volumes: Option<&'a str>,
 }
 
 /// What the words give, the program's name first. `Usage` comes exactly where they are none of the grammar.
@@ -37,6 +38,7 @@ pub(crate) fn read_given<'a>(alloc: Global, words: &'a [String]) -> Result<Given
             bytes: found.get_str("bytes"),
             seed: found.get_str("seed"),
             steps: found.get_str("steps"),
+            volumes: found.get_str("volumes"),
         }),
         Err(error) => Err(fault_of(&error)),
     }

@@ -11,7 +11,7 @@ mod reading;
 mod root;
 
 pub use fault::WordsFault;
-pub use laws::one_mode;
+pub use laws::{one_mode, one_use};
 pub use mode::{Mode, Size};
 pub use reading::read_words;
 pub use root::Root;

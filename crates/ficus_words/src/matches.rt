@@ -5,7 +5,7 @@ ghost use Rattle.ficus_words.specs.Clap.{ficus_app, option_rule};
 use clap::{Arg, ArgMatches, Command, Error};
 use std::alloc::Global;
 
-/// What `clap` finds in the words by one simple command: two places, five options, and no help.
+/// What `clap` finds in the words by one simple command: two places, six options, and no help.
 pub(crate) fn matches_in<'a>(alloc: Global, words: &'a [String]) -> Result<ArgMatches<'a>, Error>
     ensures fails { FailsBy (fault_of ficus_app (map string_bytes words.entry.now)) result }
     ensures rows { IfOk result
@@ -20,7 +20,8 @@ pub(crate) fn matches_in<'a>(alloc: Global, words: &'a [String]) -> Result<ArgMa
         .arg(option(alloc, "ids"))?
         .arg(option(alloc, "bytes"))?
         .arg(option(alloc, "seed"))?
-        .arg(option(alloc, "steps"))?;
+        .arg(option(alloc, "steps"))?
+        .arg(option(alloc, "volumes"))?;
     command.try_get_matches_from(words)
 }
 

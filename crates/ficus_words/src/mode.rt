@@ -1,6 +1,6 @@
 ghost use Rattle.std.specs.Prelude.{◌≡◌, ◌↔◌, Some, codes, ok_or, IsTrue, IfSome, IfNone};
 ghost use Rattle.ficus_words.specs.Given.{given_texts};
-ghost use Rattle.ficus_words.specs.Mode.{HasNoLimit, HasNoScript, IsReadingOf, IsSize};
+ghost use Rattle.ficus_words.specs.Mode.{HasNoLimit, HasNoScript, HasNoSize, IsReadingOf, IsSize};
 ghost use Rattle.ficus_words.specs.declared.fault.WordsFault.TheVariants.{Usage};
 ghost use Rattle.ficus_words.specs.declared.mode.Size.{Size as SizeValue};
 
@@ -36,6 +36,12 @@ pub enum Mode {
     Replay {
         size: Size,
     },
+    /// `volumes --members N --volumes V [--ids I] [--bytes B]`: to run a script on 1 to 4 fresh volumes of one size in
+    /// memory, which are joined where names lead from one to another.
+    Volumes {
+        size: Size,
+        count: u8,
+    },
     /// `gen --members N --seed S --steps T`: to run a script that follows from a seed, below 2^31, over at most 5,000
     /// steps, and to tell what it came to.
     Gen {
@@ -53,6 +59,7 @@ pub(crate) fn read_mode(alloc: Global, given: &Given<'_>) -> Result<Mode, WordsF
         Some(mode) if mode == "init" => read_init(alloc, given),
         Some(mode) if mode == "run" => read_run(alloc, given),
         Some(mode) if mode == "replay" => read_replay(given).ok_or(WordsFault::Usage),
+        Some(mode) if mode == "volumes" => read_volumes(given).ok_or(WordsFault::Usage),
         Some(mode) if mode == "gen" => read_gen(given).ok_or(WordsFault::Usage),
         _ => Err(WordsFault::Usage),
     }
@@ -62,7 +69,7 @@ fn read_init(alloc: Global, given: &Given<'_>) -> Result<Mode, WordsFault>
     requires { (given_texts given.now).mode ≡ Some (codes "init") }
     ensures { IsReadingOf (given_texts given.now) result }
 {
-    if !has_no_script(given) {
+    if given.volumes.is_some() || !has_no_script(given) {
         return Err(WordsFault::Usage);
     }
     let Some(size) = read_size(given) else {
@@ -76,7 +83,7 @@ fn read_run(alloc: Global, given: &Given<'_>) -> Result<Mode, WordsFault>
     requires { (given_texts given.now).mode ≡ Some (codes "run") }
     ensures { IsReadingOf (given_texts given.now) result }
 {
-    if given.members.is_some() || !has_no_limit(given) || !has_no_script(given) {
+    if !has_no_size(given) || !has_no_script(given) {
         return Err(WordsFault::Usage);
     }
     let root = read_root(alloc, given.root)?;
@@ -87,18 +94,33 @@ fn read_replay(given: &Given<'_>) -> Option<Mode>
     requires { (given_texts given.now).mode ≡ Some (codes "replay") }
     ensures { IsReadingOf (given_texts given.now) (ok_or result Usage) }
 {
-    if given.root.is_some() || !has_no_script(given) {
+    if given.root.is_some() || given.volumes.is_some() || !has_no_script(given) {
         return None;
     }
     let size = read_size(given)?;
     Some(Mode::Replay { size })
 }
 
+fn read_volumes(given: &Given<'_>) -> Option<Mode>
+    requires { (given_texts given.now).mode ≡ Some (codes "volumes") }
+    ensures { IsReadingOf (given_texts given.now) (ok_or result Usage) }
+{
+    if given.root.is_some() || !has_no_script(given) {
+        return None;
+    }
+    let size = read_size(given)?;
+    let count = number_in(given.volumes, 1, 4)?;
+    Some(Mode::Volumes {
+        size,
+        count: count as u8,
+    })
+}
+
 fn read_gen(given: &Given<'_>) -> Option<Mode>
     requires { (given_texts given.now).mode ≡ Some (codes "gen") }
     ensures { IsReadingOf (given_texts given.now) (ok_or result Usage) }
 {
-    if given.root.is_some() || !has_no_limit(given) {
+    if given.root.is_some() || given.volumes.is_some() || !has_no_limit(given) {
         return None;
     }
     let members = read_members(given.members)?;
@@ -129,6 +151,12 @@ fn has_no_limit(given: &Given<'_>) -> bool
     ensures { IsTrue result ↔ HasNoLimit (given_texts given.now) }
 {
     given.ids.is_none() && given.bytes.is_none()
+}
+
+fn has_no_size(given: &Given<'_>) -> bool
+    ensures { IsTrue result ↔ HasNoSize (given_texts given.now) }
+{
+    given.members.is_none() && given.volumes.is_none() && has_no_limit(given)
 }
 
 fn has_no_script(given: &Given<'_>) -> bool

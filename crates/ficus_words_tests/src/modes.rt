@@ -10,7 +10,7 @@ struct Row {
     lines: &'static [&'static str],
 }
 
-const ROWS: [Row; 17] = [
+const ROWS: [Row; 19] = [
     Row {
         mode: "replay 2 100000 4194304",
         lines: &[
@@ -78,6 +78,17 @@ const ROWS: [Row; 17] = [
     Row {
         mode: "gen 8 2147483647 5000",
         lines: &["ficus gen --members 8 --seed 2147483647 --steps 5000"],
+    },
+    Row {
+        mode: "volumes 2 100000 4194304 over 4",
+        lines: &[
+            "ficus volumes --members 2 --volumes 4",
+            "ficus --volumes=4 volumes --members=2",
+        ],
+    },
+    Row {
+        mode: "volumes 3 7 9 over 1",
+        lines: &["ficus volumes --volumes 1 --ids=7 --members 3 --bytes 9"],
     },
     Row {
         mode: "init 2 100000 4194304 replay",
@@ -151,6 +162,18 @@ const ROWS: [Row; 17] = [
             "ficus gen --members 2 --seed 1 --steps 1 --ids 5",
             "ficus gen --members 2 --seed 1 --steps 1 --bytes 5",
             "ficus gen --members 2 --seed 1 --steps 1 --seed 1",
+            "ficus gen --members 2 --seed 1 --steps 1 --volumes 1",
+            "ficus replay --members 2 --volumes 1",
+            "ficus init --members 2 --volumes 1 vol",
+            "ficus run vol --volumes 1",
+            "ficus volumes --members 2",
+            "ficus volumes --volumes 2",
+            "ficus volumes --members 2 --volumes 0",
+            "ficus volumes --members 2 --volumes 5",
+            "ficus volumes --members 2 --volumes 02",
+            "ficus volumes --members 2 --volumes 2 vol",
+            "ficus volumes --members 2 --volumes 2 --seed 1",
+            "ficus volumes --members 2 --volumes 2 --volumes 2",
         ],
     },
 ];
@@ -186,6 +209,10 @@ fn mode_shown(alloc: Global, mode: &Mode) -> Result<String, AllocError> {
         Mode::Replay { size } => {
             let size = size_shown(alloc, *size)?;
             format!(in alloc; "replay {size}")
+        }
+        Mode::Volumes { size, count } => {
+            let size = size_shown(alloc, *size)?;
+            format!(in alloc; "volumes {size} over {count}")
         }
         Mode::Gen {
             members,

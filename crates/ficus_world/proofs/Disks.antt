@@ -10,6 +10,7 @@ use Rattle.ficus_ids.specs.Members.{IsMember}
 use Rattle.ficus_keep.specs.Kept.{Kept, found_in}
 use Rattle.ficus_keep.specs.Pairs.{PairSame, PairWithin}
 use Rattle.ficus_saved.specs.declared.saved.Saved.{Saved}
+use Rattle.ficus_leads.proofs.Led.{held_at}
 use Rattle.ficus_stable.specs.Holds.{HoldsOneOf}
 use Rattle.ficus_stable.specs.Stable.{IsReady}
 use Rattle.ficus_stable.specs.declared.stable.Stable.{Stable}
@@ -237,7 +238,7 @@ module _ {K D : Type 0} (kept : List ℕ → List ℕ → Option Kept) (fits : K
     each = λ a b left_a left_b.
         let same : kept a b ≡ found_in kept seen pair
         = ap₂ kept (ready.settled.synced_a a left_a) (ready.settled.synced_b b left_b) in
-        inl (record { is = same ∙ ready.holds.is });
+        inl (held_at _ _ saved same ready.holds);
   }
 
   -- what becomes of a pair that a crash leaves no more of, and that stays ready

@@ -67,16 +67,16 @@ use Rattle.ficus_world.proofs.Pending.{comes_now, pending_comes}
 use Rattle.ficus_world.proofs.Standing.{Comes, member_of, member_from, member_stands, standing_of, fuses_of, fuses_stand, raise, replica_stands, up_in, up_from, saved_stands, unsaved_stands, unopened_stands, reopened_stands, found_reopened_stands}
 
 module _ (volume : Volume) (W : ModelWorld) (old : Whole) (stands : WorldStandsFor volume W old) where
-  at_member : (by : ℕ) (member : Member) → IsNumbered old.members by member → member.state ≡ state.Up
+  pub at_member : (by : ℕ) (member : Member) → IsNumbered old.members by member → member.state ≡ state.Up
       → AtMember volume by W (Ok tt) (unchanged W)
   at_member by member is up =
       Goes (Says (member_of volume W old stands by is.member, refl))
       (Says (up_in volume W old stands by member is up, refl))
 
-  at_none : (by : ℕ) → (IsMember (length old.members) by → ⊥) → AtMember volume by W (Err refusal.Member) (unchanged W)
+  pub at_none : (by : ℕ) → (IsMember (length old.members) by → ⊥) → AtMember volume by W (Err refusal.Member) (unchanged W)
   at_none by none = Ends (Says (inl ((λ member. none (member_from volume W old stands by member)), refl)))
 
-  at_down : (by : ℕ) (member : Member) → IsNumbered old.members by member → (member.state ≡ state.Up → ⊥)
+  pub at_down : (by : ℕ) (member : Member) → IsNumbered old.members by member → (member.state ≡ state.Up → ⊥)
       → AtMember volume by W (Err refusal.Down) (unchanged W)
   at_down by member is down =
       Goes (Says (member_of volume W old stands by is.member, refl))
@@ -362,7 +362,7 @@ module _ (volume : Volume) (W : ModelWorld) (old : Whole) (stands : WorldStandsF
 
   -- nothing refuses a member that is up
   module _ (by : ℕ) (up : IsUp by W) (member : IsMember volume.members by) where
-    at_refused : (refusal : Refusal) (left : Effect ModelWorld) → AtMember volume by W (Err refusal) left → ⊥
+    pub at_refused : (refusal : Refusal) (left : Effect ModelWorld) → AtMember volume by W (Err refusal) left → ⊥
     at_refused refusal left (Ends (Says (inl refused))) = refused.0 member
     at_refused refusal left (Ends (Says (inr nothing))) = nothing.1
     at_refused refusal left (Goes (Says is) (Says (inl refused))) = refused.0 up
@@ -438,6 +438,7 @@ module _ (volume : Volume) (W : ModelWorld) (old : Whole) (stands : WorldStandsF
   wanted (command.Restart by) member = member_of volume W old stands by member
   wanted (command.Stop by calls pick) none = none
   wanted (command.Sweep order) none = absurd none
+  wanted (command.Why by) none = absurd none
 
 -- where the command may want memory by what the members hold, it may by what has happened
 pub follow_wanted : (volume : Volume) (W : ModelWorld) (old : Whole) → WorldStandsFor volume W old
@@ -523,6 +524,7 @@ module _ (tells : Type 0) (told : tells) (volume : Volume) where
   follow_command disks_tell (command.Stop by calls pick) disks_told =
       λ W old stands. follow_stop volume W old stands tells disks_tell by calls pick
   follow_command disks_tell (command.Sweep order) disks_told = λ W old stands result left none. absurd none
+  follow_command disks_tell (command.Why by) disks_told = λ W old stands result left none. absurd none
 
   -- where memory is refused
   cut_command : (command : Command) → CutLifts volume (CutShort tells command) (DoesPart volume command)
@@ -536,6 +538,7 @@ module _ (tells : Type 0) (told : tells) (volume : Volume) where
   cut_command (command.Restart by) = nothing_lifts volume
   cut_command (command.Stop by calls pick) = nothing_lifts volume
   cut_command (command.Sweep order) = λ W old stands left none. absurd none
+  cut_command (command.Why by) = λ W old stands left none. absurd none
 
 -- whatever a command does to the world, it does to what the world stands for
 pub follow : (tells disks_tell : Type 0) (told : tells) (volume : Volume) (W : ModelWorld) (old : Whole)

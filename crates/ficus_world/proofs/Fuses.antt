@@ -10,10 +10,11 @@ use Rattle.ficus_keep.specs.Fuses.{Fuses, Reopens, SameFuses, StaysRegular, IsRe
 use Rattle.ficus_keep.specs.Kept.{Kept, found_in}
 use Rattle.ficus_keep.specs.Pairs.{PairWithin}
 use Rattle.ficus_keep.specs.declared.keep.Keep.{Ghosts as Keep}
-use Rattle.ficus_saved.specs.Saved.{FitsImage}
 use Rattle.ficus_saved.specs.declared.saved.Saved.{Saved}
 use Rattle.ficus_stable.specs.Fuses.{DecidedByFuses}
-use Rattle.ficus_stable.specs.Holds.{Holds}
+use Rattle.ficus_image.specs.Image.{image_bytes}
+use Rattle.ficus_leads.specs.Holds.{Holds, OneHeld}
+use Rattle.ficus_leads.proofs.Led.{held_generation}
 use Rattle.ficus_runs.specs.Fuses.{FuseState, FusesAllow, FusesAllowAll, Keeping, after_arming, after_failing, after_outcome, after_outcomes, after_saving, next_calls, next_fuse, with_fuses}
 use Rattle.ficus_runs.specs.Numbered.{IsNumbered}
 use Rattle.ficus_runs.specs.Outcome.{Outcome, IsArmed, IsFound, IsOpened, IsSaved, SaveFails}
@@ -48,14 +49,17 @@ others_as_were F by state r differs = rw (ne_eqb by r differs)
 here_so : (F : ℕ → FuseState) (by : ℕ) (state : FuseState) → with_fuses F by state by ≡ state
 here_so F by state = rw (eq-eqb by by refl)
 
-abbrev generation_in : Option Kept → ℕ
-generation_in None = 0
-generation_in (Some kept) = kept.generation
-
 -- two things that are held are of one generation
 pub same_generation : (found : Option Kept) (m n : Saved) → Holds found m → Holds found n
     → m.generation ≡ n.generation
-same_generation found m n holds also = ap generation_in (sym holds.is ∙ also.is)
+same_generation found m n holds also =
+    let kept : Kept = record {
+      generation = holds.base.generation;
+      image = image_bytes holds.base;
+      records = holds.records;
+    } in
+    sym (held_generation kept m (subst (λ k. Holds k m) holds.is holds))
+    ∙ held_generation kept n (subst (λ k. Holds k n) holds.is also)
 
 module _ {K D : Type 0} {keep : Keep K} {disk : Disk D} where
   -- nothing is allowed always
@@ -343,18 +347,12 @@ module _ {K D : Type 0} (keep : Keep K) (disk : Disk D) where
   }
 
   -- what is read of it is what its fuses say
-  module _ (one : (found : Option Kept) (m n : Saved) → FitsImage m → FitsImage n → Holds found m → Holds found n
-      → m ≡ n) (count events by : ℕ) (was : Member) (sound : IsSoundMember count events by was) (found : Option Kept)
-      (read : Saved) (fits : FitsImage read) (holds : Holds found read) (read_at : IsReadAt was (Ok read)) where
+  module _ (held_once : OneHeld) (was : Member) (found : Option Kept) (read : Saved) (holds : Holds found read)
+      (read_at : IsReadAt was (Ok read)) where
     either_read : (pending : Pending) → was.state ≡ Down (Some pending) → (will_find : Bool)
         → Holds found (if will_find then pending.replica.saved else was.replica.saved) → IsReadBy will_find was read
-    either_read pending down true held = (
-      pending,
-      down,
-      one found read pending.replica.saved fits
-          (subst (IsPendingSound count events by was.replica) down sound.pending).0.fits holds held,
-    )
-    either_read pending down false held = one found read was.replica.saved fits sound.replica.fits holds held
+    either_read pending down true held = (pending, down, held_once found read pending.replica.saved holds held)
+    either_read pending down false held = held_once found read was.replica.saved holds held
 
     read_as_found : (state : FuseState) (fuses : Fuses) (now : MemberState) → was.state ≡ now
         → StandsSo state fuses found was.replica.saved now → IsReadBy state.will_find was read
@@ -363,21 +361,18 @@ module _ {K D : Type 0} (keep : Keep K) (disk : Disk D) where
         (elim read_at [ inl same ↦ same | inr (pending, down, same) ↦ absurd (cc) ])
     read_as_found state fuses (Down None) down so =
         subst (λ will_find. IsReadBy will_find was read) (sym so.1)
-        (one found read was.replica.saved fits sound.replica.fits holds so.0)
+        (held_once found read was.replica.saved holds so.0)
     read_as_found state fuses (Down (Some pending)) down so = either_read pending down state.will_find so
 
-  pub fuses_read : (one : (found : Option Kept) (m n : Saved) → FitsImage m → FitsImage n → Holds found m
-      → Holds found n → m ≡ n) (count events by : ℕ) (members : List Member) (x : List (Pair D)) (was : Member)
-      (pair now : Pair D) (read : Saved) (F : ℕ → FuseState) → IsNumbered members by was → IsNumbered x by pair
-      → IsSoundMember count events by was → FitsImage read → Holds (found_in keep.kept disk.seen now) read
-      → IsReadAt was (Ok read) → PairWithin disk.may_leave pair now
+  pub fuses_read : OneHeld → (by : ℕ) (members : List Member) (x : List (Pair D)) (was : Member) (pair now : Pair D)
+      (read : Saved) (F : ℕ → FuseState) → IsNumbered members by was → IsNumbered x by pair
+      → Holds (found_in keep.kept disk.seen now) read → IsReadAt was (Ok read) → PairWithin disk.may_leave pair now
       → Reopens disk.seen disk.image disk.fuse pair now → FusesStand keep disk F members x
       → IsReadBy (F by).will_find was read × FusesStand keep disk (with_fuses F by (at_rest read.generation))
       (slice_set members (by - 1) (restarted was read)) (slice_set x (by - 1) now)
-  fuses_read one count events by members x was pair now read F is is_pair sound fits holds read_at within reopens
-      stand =
+  fuses_read held_once by members x was pair now read F is is_pair holds read_at within reopens stand =
       let stands = stand.each by was pair is is_pair in (
-        read_as_found one count events by was sound (found_again keep.kept disk.image disk.fuse pair) read fits
+        read_as_found held_once was (found_again keep.kept disk.image disk.fuse pair) read
             (subst (λ found. Holds found read) (ap₂ keep.kept reopens.a reopens.b) holds) read_at (F by)
             (fuses_of disk.fuse pair) was.state refl stands.so,
         fuses_set by (at_rest read.generation) (restarted was read) now is_pair.member.at_least stand

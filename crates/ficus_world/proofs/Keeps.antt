@@ -22,8 +22,8 @@ module _ (old : Whole) (by : ℕ) (next : Pending) (members : List Member) (even
       → members ≡ slice_set old.members (by - 1) (record was { state = Down (Some next) })
 
   -- the world is one still
-  pub kept_world : {T E : Type 0} (result : Result T E) (was : Member) → IsNumbered old.members by was
-      → was.state ≡ Up → IsSoundNext (length old.members) (length old.events) by was.replica next.replica
+  pub kept_world : {T E : Type 0} {noted : List ℕ} (result : Result T E) (was : Member) → IsNumbered old.members by was
+      → was.state ≡ Up → IsSoundNext (length old.members) (length old.events) by noted was.replica next.replica
       → IsWorld old → OnOk result Held → OnOk result (events ≡ old.events ++ next.event ∷ []) → OnErr result PutDown
       → OnErr result (events ≡ old.events) → IsWorld (whole_of members events old.post)
   kept_world (Ok done) was is up sound world held stored down kept =

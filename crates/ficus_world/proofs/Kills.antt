@@ -12,7 +12,9 @@ use Rattle.ficus_keep.specs.Pairs.{PairWithin}
 use Rattle.ficus_keep.specs.declared.keep.Keep.{Ghosts as Keep}
 use Rattle.ficus_keep.proofs.Moments.{joined, spans_call, spans_none}
 use Rattle.ficus_saved.specs.declared.saved.Saved.{Saved}
-use Rattle.ficus_stable.specs.Holds.{Holds, HoldsOneOf}
+use Rattle.ficus_leads.specs.Holds.{Holds}
+use Rattle.ficus_leads.proofs.Led.{held_at}
+use Rattle.ficus_stable.specs.Holds.{HoldsOneOf}
 use Rattle.ficus_stable.specs.declared.stable.Stable.{Stable}
 use Rattle.ficus_runs.specs.Numbered.{IsNumbered}
 use Rattle.ficus_world.specs.declared.member.Member.{Member}
@@ -262,9 +264,9 @@ module _ {K D : Type 0} (keep : Keep K) (disk : Disk D) where
       → HoldsFor keep.kept keep.fits disk.seen disk.may_leave stable pair saved state
       → HoldsOneOf keep.kept disk.may_leave pair (Some saved) (Some (latest saved state))
   holds_latest stable pair saved Up ready = record {
-    each = λ a b left_a left_b. inl (record {
-      is = ap₂ keep.kept (ready.settled.synced_a a left_a) (ready.settled.synced_b b left_b) ∙ ready.holds.is;
-    });
+    each = λ a b left_a left_b.
+        inl (held_at _ _ saved (ap₂ keep.kept (ready.settled.synced_a a left_a) (ready.settled.synced_b b left_b))
+        ready.holds);
   }
   holds_latest stable pair saved (Down None) holds = holds
   holds_latest stable pair saved (Down (Some pending)) holds = holds

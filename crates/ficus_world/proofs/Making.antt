@@ -8,7 +8,9 @@ use Rattle.ficus_ids.specs.Members.{IsMember}
 use Rattle.ficus_keep.specs.Kept.{Kept, found_in}
 use Rattle.ficus_model.specs.Lawful.{Volume}
 use Rattle.ficus_replica.specs.SavedOf.{fresh_saved}
-use Rattle.ficus_stable.specs.Holds.{Holds, HoldsOneOf}
+use Rattle.ficus_leads.specs.Holds.{Holds}
+use Rattle.ficus_leads.proofs.Led.{held_at}
+use Rattle.ficus_stable.specs.Holds.{HoldsOneOf}
 use Rattle.ficus_runs.specs.Numbered.{IsNumbered}
 use Rattle.ficus_world.specs.Kills.{AllRest}
 use Rattle.ficus_world.specs.Opening.{AreEmpty, AreMade, AreMadeInPart, AreSynced, IsEmptyPair, IsFirstOccupied, IsFoundFault, Steady}
@@ -185,7 +187,7 @@ module _ {D : Type 0} (kept : List ℕ → List ℕ → Option Kept) (seen : D �
       | inr (differs, here) ↦
           let only = all.each r pair here member.at_most in
           let made = so.made r pair here (omega (arith, below)) in
-          record { is = ap₂ kept (only.a a left_a) (only.b b left_b) ∙ made.is }
+          held_at _ _ _ (ap₂ kept (only.a a left_a) (only.b b left_b)) made
     ];
     there = λ pair at member. elim (set_at new before (before + 1) after pair at) [
       | inl (number, is) ↦
@@ -231,7 +233,7 @@ made_rests kept disk volume mid new made synced rests = record {
       let within = (rests.each r was.0 pair was.1 at).within in
       let only = synced.each r was.0 was.1 member.at_most in
       let holds = made.each r was.0 was.1 member in
-      record { is = ap₂ kept (only.a a (within.a a left_a)) (only.b b (within.b b left_b)) ∙ holds.is };
+      held_at _ _ _ (ap₂ kept (only.a a (within.a a left_a)) (only.b b (within.b b left_b))) holds;
   there = λ pair at member. absurd (omega (arith, member.at_most));
   behind = λ r pair at member above a b left_a left_b. absurd (omega (arith, above, member.at_most));
 }

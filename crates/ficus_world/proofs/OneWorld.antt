@@ -10,6 +10,7 @@ use Rattle.ficus_model.specs.Lawful.{Volume, IsLawful}
 use Rattle.ficus_replica.proofs.Standing.{replica_once}
 use Rattle.ficus_wire.specs.Message.{message_bytes}
 use Rattle.ficus_wire.specs.declared.message.Message.{Message}
+use Rattle.ficus_why_runs.specs.Row.{lowered, run_of}
 use Rattle.ficus_runs.specs.Message.{IsMessageAt}
 use Rattle.ficus_runs.specs.ModelWorld.{ModelWorld, Standing}
 use Rattle.ficus_runs.specs.ModelWorld as model
@@ -25,17 +26,7 @@ use Rattle.ficus_run_laws.proofs.Numbers.{number_read, number_once, number_exist
 use Rattle.ficus_world.proofs.Pending.{comes_now}
 use Rattle.ficus_world.proofs.Standing.{fuses_of, fuses_stand, member_stands, raise, replica_stands, standing_of}
 
--- the event with its positions as they were before they were raised
-lowered : ℕ → Event → Event
-lowered n (Update by op) = Update by op
-lowered n (Ask by to) = Ask by to
-lowered n (Serve by ask) = Serve by (ask - n)
-lowered n (Accept by serve) = Accept by (serve - n)
-lowered n (Collect by) = Collect by
-lowered n (Restart by) = Restart by
-
 lowered_again : (n : ℕ) (event : Event) → lowered n (raised n event) ≡ event
-unfolding lowered
 lowered_again n (Update by op) = refl
 lowered_again n (Ask by to) = refl
 lowered_again n (Serve by ask) = let same : ask + n - n ≡ ask = omega arith in ap (Serve by) same
@@ -49,8 +40,7 @@ all_lowered n (event ∷ events) =
     ap₂ (λ (first : Event) (rest : List Event). first ∷ rest) (lowered_again n event) (all_lowered n events)
 
 -- the stored events follow from the history and from how many are before them
-stored_from : (events H : List Event) (part : IsLastPart events H) →
-    events ≡ map (lowered (length part.earlier)) (drop (length part.earlier) H)
+pub stored_from : (events H : List Event) (part : IsLastPart events H) → events ≡ run_of (length part.earlier) H
 stored_from events H part =
     let n = length part.earlier in
     sym (all_lowered n events)
@@ -61,7 +51,7 @@ stored_once : (H one other : List Event) → IsLastPart one H → IsLastPart oth
 stored_once H one other part part_too same =
     let before : length part.earlier ≡ length part_too.earlier =
     omega (arith, length_part one H part, length_part other H part_too) in
-    stored_from one H part ∙ ap (λ n. map (lowered n) (drop n H)) before ∙ sym (stored_from other H part_too)
+    stored_from one H part ∙ ap (λ n. run_of n H) before ∙ sym (stored_from other H part_too)
 
 -- lists of one length with the same at each number are one
 pub same_list : {A : Type 0} (one other : List A) → length one ≡ length other →

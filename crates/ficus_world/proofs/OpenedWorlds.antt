@@ -21,7 +21,7 @@ use Rattle.ficus_replica.specs.declared.replica.Replica.{Replica}
 use Rattle.ficus_saved.specs.Limits.{byte_limit, update_limit}
 use Rattle.ficus_saved.specs.Saved.{FitsImage}
 use Rattle.ficus_saved.specs.declared.saved.Saved.{Saved}
-use Rattle.ficus_stable.specs.Holds.{Holds}
+use Rattle.ficus_leads.specs.Holds.{Holds, OneHeld}
 use Rattle.ficus_runs.specs.ModelWorld.{Standing}
 use Rattle.ficus_runs.specs.ModelWorld as model
 use Rattle.ficus_runs.specs.Numbered.{IsNumbered}
@@ -35,7 +35,7 @@ use Rattle.ficus_world.specs.declared.member.Member.{Member}
 use Rattle.ficus_world.specs.declared.member.MemberState.{MemberState}
 use Rattle.ficus_world.specs.declared.member.MemberState.TheVariants.{Up}
 use Rattle.ficus_run_laws.proofs.Numbers.{number_exists}
-use Rattle.ficus_world.proofs.Openings.{holds_same, one_held, opens_of, opens_same}
+use Rattle.ficus_world.proofs.Openings.{holds_same, opens_of, opens_same}
 use Rattle.ficus_run_laws.proofs.Starts.{restarts_more, restarts_raised, start_lawful}
 use Rattle.ficus_world.proofs.Steadies.{steady_back}
 
@@ -152,12 +152,12 @@ module _ {D : Type 0} (kept : List ℕ → List ℕ → Option Kept) (seen : D �
       bad.bad first.saved keeps.saved opens_first (opens_kept r one.0 pair.0 pair.1 first keeps)
 
   -- what a member saves whose disks hold it is what it saves after the history
-  pub saved_is : (r : ℕ) (pair : Pair D) (saved : Saved) → IsNumbered disks r pair → IsMember volume.members r
-      → FitsImage saved → Holds (found_in kept seen pair) saved → IsSavedOf volume H r saved
-  saved_is r pair saved at member fits holds =
+  pub saved_is : OneHeld → (r : ℕ) (pair : Pair D) (saved : Saved) → IsNumbered disks r pair
+      → IsMember volume.members r → Holds (found_in kept seen pair) saved → IsSavedOf volume H r saved
+  saved_is held_once r pair saved at member holds =
       let keeps = on.keeps.each r pair at member in
       subst (λ (s : Saved). IsSavedOf volume H r s)
-      (one_held (found_in kept seen pair) keeps.saved saved keeps.fits fits keeps.holds holds) keeps.is
+      (held_once (found_in kept seen pair) keeps.saved saved keeps.holds holds) keeps.is
 
 -- a member that waits for no answer stands for the history with the restarts
 module _ (volume : Volume) (H : List Event) (r : ℕ) (replica : Replica) (is : IsSavedOf volume H r replica.saved)
@@ -230,7 +230,7 @@ module _ {K D : Type 0} (tells : Type 0) (kept : List ℕ → List ℕ → Optio
     (fits : K → List ℕ → List ℕ → Type 0) (seen : D → List ℕ) (may_leave : D → List ℕ → Type 0)
     (armings : D → Option ℕ) (world : Whole) where
   -- what was opened on disks that stand for a history stands for it with the restarts
-  pub opened_stands : (volume : Volume) (H : List Event) (old now : List (Pair D)) (total : ℕ) → tells
+  pub opened_stands : OneHeld → (volume : Volume) (H : List Event) (old now : List (Pair D)) (total : ℕ) → tells
       → StandsOn kept seen volume H old → length old ≡ 8 → Steady seen old now → Steady armings old now
       → AreOpened world.members → IsCount (length world.members)
       → ((first : Member) → IsNumbered world.members 1 first → first.replica.saved.members ≡ length world.members)
@@ -240,7 +240,7 @@ module _ {K D : Type 0} (tells : Type 0) (kept : List ℕ → List ℕ → Optio
       → member.fused ≡ are_fused armings pair)
       → world.events ≡ restarts (length world.members) → IsEmpty world.post → world.post.total ≡ total
       → WorldStandsFor volume (start H volume.members total (take volume.members (fuses_in armings old))) world
-  opened_stands volume H old now total told on eight same unarmed opened count counted held fused events empty total_is =
+  opened_stands held_once volume H old now total told on eight same unarmed opened count counted held fused events empty total_is =
       record {
         count = on.count;
         members = as_many;
@@ -257,6 +257,7 @@ module _ {K D : Type 0} (tells : Type 0) (kept : List ℕ → List ℕ → Optio
               ∙ ap (λ (l : List Event). map (raised (length H)) l)
               (sym (events ∙ ap (λ n. restarts n) as_many)));
         };
+        began = refl;
         each = each;
         total = total_is;
         posted = sym (ap (λ (l : List ℕ). length l) empty.behind);
@@ -281,8 +282,7 @@ module _ {K D : Type 0} (tells : Type 0) (kept : List ℕ → List ℕ → Optio
       is_of r member at numbered =
           let was = was_of r (record { at_least = numbered.at_least; at_most = omega (arith, numbered.at_most, few) }) in
           let now_is = number_exists now r (subst (λ n. IsMember n r) (sym same.count) was.1.member) in
-          saved_is kept seen volume H old on r was.0 member.replica.saved was.1 numbered
-          (opened.each r first.0 member first.1 at).fits
+          saved_is kept seen volume H old on held_once r was.0 member.replica.saved was.1 numbered
           (holds_same kept seen was.0 now_is.0 member.replica.saved (same.each r was.0 now_is.0 was.1 now_is.1)
           (held r member now_is.0 at now_is.1))
 

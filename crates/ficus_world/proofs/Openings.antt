@@ -1,16 +1,16 @@
 -- The disks of one member after the other are opened.
-use Rattle.std.proofs.Common.{◌≡◌, ℕ, ◌+◌, ◌<◌, ◌≤◌, Bool, false, List, [], ◌∷◌, ◌++◌, length, Option, Some, None, refl, sym, ap, ap₂, subst, ◌∙◌, inl, inr, ◌⊎◌, arith}
+use Rattle.std.proofs.Common.{◌≡◌, ℕ, ◌+◌, ◌<◌, ◌≤◌, Bool, false, List, [], ◌∷◌, ◌++◌, length, Option, refl, sym, ap, ap₂, subst, ◌∙◌, inl, inr, ◌⊎◌, arith}
 use Rattle.std.specs.Prelude.{◌↔◌, slice_set, IsTrue}
 use Rattle.std.proofs.lemmas.Bool.{cases_lt}
 use Rattle.std.proofs.lemmas.List.{length_push}
 use Rattle.ficus_disk.specs.declared.pair.Pair.{Pair}
 use Rattle.ficus_ids.specs.Members.{IsMember}
-use Rattle.ficus_image.proofs.Images.{unique-image}
 use Rattle.ficus_keep.specs.Kept.{Kept, found_in}
 use Rattle.ficus_keep.specs.Pairs.{PairSame}
 use Rattle.ficus_saved.specs.Saved.{FitsImage}
 use Rattle.ficus_saved.specs.declared.saved.Saved.{Saved}
-use Rattle.ficus_stable.specs.Holds.{Holds}
+use Rattle.ficus_leads.specs.Holds.{Holds, OneHeld}
+use Rattle.ficus_leads.proofs.Led.{held_at}
 use Rattle.ficus_stable.specs.Stable.{IsReady}
 use Rattle.ficus_stable.specs.declared.stable.Stable.{Stable}
 use Rattle.ficus_runs.specs.Numbered.{IsNumbered}
@@ -20,15 +20,6 @@ use Rattle.ficus_world.specs.declared.member.Member.{Member}
 use Rattle.ficus_world.specs.declared.member.MemberState.{MemberState}
 use Rattle.ficus_run_laws.proofs.Numbers.{number_once, number_read, number_exists, number_more, number_cases}
 use Rattle.ficus_world.proofs.Steadies.{set_at, steady_back}
-
-abbrev image_in : Option Kept → List ℕ
-image_in None = []
-image_in (Some kept) = kept.image
-
--- what was found holds one thing at most
-pub one_held : (found : Option Kept) (m n : Saved) → FitsImage m → FitsImage n → Holds found m → Holds found n → m ≡ n
-one_held found m n fits also holds same =
-    (unique-image.one m n [] [] fits also (ap (λ z. image_in z ++ []) (sym holds.is ∙ same.is))).0
 
 -- the first of some
 pub first_of : (member : Member) (members : List Member) → IsNumbered (member ∷ members) 1 member
@@ -144,7 +135,7 @@ module _ {K D : Type 0} (tells : Type 0) (kept : List ℕ → List ℕ → Optio
 module _ {D : Type 0} (kept : List ℕ → List ℕ → Option Kept) (seen : D → List ℕ) where
   pub holds_same : (one two : Pair D) (saved : Saved) → PairSame seen one two → Holds (found_in kept seen two) saved
       → Holds (found_in kept seen one) saved
-  holds_same one two saved same holds = record { is = ap₂ kept (sym same.a) (sym same.b) ∙ holds.is }
+  holds_same one two saved same holds = held_at _ _ saved (ap₂ kept (sym same.a) (sym same.b)) holds
 
   -- what holds in what is read holds while that stays
   pub opens_same : (one two : List (Pair D)) (first saved : Saved) (r : ℕ) → Steady seen one two
@@ -156,7 +147,7 @@ module _ {D : Type 0} (kept : List ℕ → List ℕ → Option Kept) (seen : D �
         pair = now.0;
         is = now.1;
         fits = opens.fits;
-        holds = record { is = ap₂ kept same.a same.b ∙ opens.holds.is };
+        holds = held_at _ _ saved (ap₂ kept same.a same.b) opens.holds;
         may = opens.may;
       }
 
@@ -184,22 +175,22 @@ module _ {D : Type 0} (kept : List ℕ → List ℕ → Option Kept) (seen : D �
         record { pair = pair.0; is = pair.1; fits = so.fits; holds = held r member pair.0 at pair.1; may = so.may }
 
     -- what the first disks hold is what the first member saves
-    pub first_is : (first : Saved) (member : Member) → IsNumbered members 1 member
+    pub first_is : OneHeld → (first : Saved) (member : Member) → IsNumbered members 1 member
         → Opens kept seen disks first first 1 → first ≡ member.replica.saved
-    first_is first member one opens =
-        one_held (found_in kept seen opens.pair) first member.replica.saved opens.fits
-        (opened.each 1 member member one one).fits opens.holds (held 1 member opens.pair one opens.is)
+    first_is held_once first member one opens =
+        held_once (found_in kept seen opens.pair) first member.replica.saved opens.holds
+        (held 1 member opens.pair one opens.is)
 
     -- with what was read no world is opened
-    module _ (number : ℕ) (before : Pair D) (read : Saved) (at : IsNumbered disks number before)
-        (fits : FitsImage read) (holds : Holds (found_in kept seen before) read)
+    module _ (held_once : OneHeld) (number : ℕ) (before : Pair D) (read : Saved) (at : IsNumbered disks number before)
+        (holds : Holds (found_in kept seen before) read)
         (next : number ≡ length members + 1) (answer : Bool) (refused : answer ≡ false)
         (alone : members ≡ [] → IsTrue answer ↔ MayOpen read read number)
         (behind : (first : Member) → IsNumbered members 1 first
         → IsTrue answer ↔ MayOpen first.replica.saved read number) where
       read_is : (first saved : Saved) → Opens kept seen disks first saved number → saved ≡ read
       read_is first saved opens =
-          one_held (found_in kept seen before) saved read opens.fits fits
+          held_once (found_in kept seen before) saved read
           (subst (λ (p : Pair D). Holds (found_in kept seen p) saved) (number_once opens.is at) opens.holds) holds
 
       pub none_may : IsBad kept seen disks number
@@ -207,7 +198,7 @@ module _ {D : Type 0} (kept : List ℕ → List ℕ → Option Kept) (seen : D �
         | inl some ↦
             let one = number_exists members 1 (record { at_least = omega arith; at_most = omega (arith, some) }) in
             let may =
-            subst (λ (f : Saved). MayOpen f saved number) (first_is first one.0 one.1 opens_first) opens.may in
+            subst (λ (f : Saved). MayOpen f saved number) (first_is held_once first one.0 one.1 opens_first) opens.may in
             is_false answer _ refused (behind one.0 one.1)
             (subst (λ (s : Saved). MayOpen one.0.replica.saved s number) (read_is first saved opens) may)
         | inr none ↦
@@ -230,14 +221,14 @@ module _ {D : Type 0} (kept : List ℕ → List ℕ → Option Kept) (seen : D �
   }
 
   -- the next ones are, behind those of members that were opened
-  pub first_bad_more : (old now : List (Pair D)) (members : List Member) (before count : ℕ) → Steady seen old now
+  pub first_bad_more : OneHeld → (old now : List (Pair D)) (members : List Member) (before count : ℕ) → Steady seen old now
       → AreOpened members
       → ((r : ℕ) (member : Member) (pair : Pair D) → IsNumbered members r member → IsNumbered now r pair
       → Holds (found_in kept seen pair) member.replica.saved)
       → length members ≡ before → 1 ≤ before → before < count → before ≤ length now
       → ((first : Member) → IsNumbered members 1 first → first.replica.saved.members ≡ count)
       → IsBad kept seen now (before + 1) → IsFirstBad kept seen old (before + 1)
-  first_bad_more old now members before count steady opened held counted some below within says bad =
+  first_bad_more held_once old now members before count steady opened held counted some below within says bad =
       let one =
       number_exists members 1 (record { at_least = omega arith; at_most = omega (arith, some, counted) }) in
       let says_one = says one.0 one.1 in
@@ -246,7 +237,7 @@ module _ {D : Type 0} (kept : List ℕ → List ℕ → Option Kept) (seen : D �
         some = omega arith;
         member = λ first opens.
             let is =
-            first_is members now opened held first one.0 one.1 (opens_same old now first first 1 steady opens) in
+            first_is members now opened held held_once first one.0 one.1 (opens_same old now first first 1 steady opens) in
             let as_many = ap (λ (s : Saved). s.members) is in
             omega (arith, as_many, says_one, below);
         bad = bad_same old now (before + 1) steady bad;
@@ -273,13 +264,13 @@ module _ {D : Type 0} (kept : List ℕ → List ℕ → Option Kept) (seen : D �
       → Holds (found_in kept seen pair) member.replica.saved)
       (counted : length members ≡ before) (some : 1 ≤ before) (below : before < count) (within : before ≤ length now)
       (says : (first : Member) → IsNumbered members 1 first → first.replica.saved.members ≡ count) where
-    pub next_named : (first : Saved) → Opens kept seen old first first 1 → before + 1 ≤ first.members
-    next_named first opens =
+    pub next_named : OneHeld → (first : Saved) → Opens kept seen old first first 1 → before + 1 ≤ first.members
+    next_named held_once first opens =
         let one =
         number_exists members 1 (record { at_least = omega arith; at_most = omega (arith, some, counted) }) in
         let says_one = says one.0 one.1 in
         let is =
-        first_is members now opened held first one.0 one.1 (opens_same old now first first 1 steady opens) in
+        first_is members now opened held held_once first one.0 one.1 (opens_same old now first first 1 steady opens) in
         let as_many = ap (λ (s : Saved). s.members) is in
         omega (arith, as_many, says_one, below)
 

@@ -11,7 +11,9 @@ use Rattle.ficus_keep.specs.declared.fault.StoreFault.{StoreFault}
 use Rattle.ficus_keep.specs.declared.fault.StoreFault.TheVariants.{Failed, Memory, NoImage}
 use Rattle.ficus_saved.specs.Saved.{FitsImage}
 use Rattle.ficus_saved.specs.declared.saved.Saved.{Saved}
-use Rattle.ficus_stable.specs.Holds.{Holds, HoldsOneOf}
+use Rattle.ficus_leads.specs.Holds.{Holds, OneHeld}
+use Rattle.ficus_leads.proofs.Led.{held_at}
+use Rattle.ficus_stable.specs.Holds.{HoldsOneOf}
 use Rattle.ficus_stable.specs.Stable.{IsReady}
 use Rattle.ficus_stable.specs.declared.stable.Stable.{Stable}
 use Rattle.ficus_runs.specs.Numbered.{IsNumbered}
@@ -166,7 +168,7 @@ module _ {K D : Type 0} (tells : Type 0) (kept : List ℕ → List ℕ → Optio
       → PairWithin may_leave pair now_pair → IsReady kept fits seen may_leave stable pair saved
       → IsReady kept fits seen may_leave stable now_pair saved
   ready_seen stable pair now_pair saved same within ready = record {
-    holds = record { is = ap₂ kept same.a same.b ∙ ready.holds.is };
+    holds = held_at _ _ saved (ap₂ kept same.a same.b) ready.holds;
     settled = record {
       holds = subst (λ (bytes : List ℕ). fits stable.keeper bytes (seen now_pair.b)) (sym same.a)
           (subst (λ (bytes : List ℕ). fits stable.keeper (seen pair.a) bytes) (sym same.b) ready.settled.holds);
@@ -266,7 +268,7 @@ module _ {K D : Type 0} (tells : Type 0) (kept : List ℕ → List ℕ → Optio
   held_again Up saved stable pair now_pair left holds =
       let same_a = holds.settled.synced_a (seen now_pair.a) left.a in
       let same_b = holds.settled.synced_b (seen now_pair.b) left.b in
-      inl (record { is = ap₂ kept same_a same_b ∙ holds.holds.is })
+      inl (held_at _ _ saved (ap₂ kept same_a same_b) holds.holds)
   held_again (Down None) saved stable pair now_pair left holds =
       elim (holds.each (seen now_pair.a) (seen now_pair.b) left.a left.b) [ inl one ↦ inl one | inr one ↦ inl one ]
   held_again (Down (Some pending)) saved stable pair now_pair left holds =
@@ -281,20 +283,18 @@ module _ {K D : Type 0} (tells : Type 0) (kept : List ℕ → List ℕ → Optio
       let pending_sound = subst (λ z. IsPendingSound count events r member.replica z) down sound.pending in
       pending_sound.0.fits
 
-  module _ (one : (found : Option Kept) (m n : Saved) → FitsImage m → FitsImage n → Holds found m → Holds found n
-      → m ≡ n) (count events by : ℕ) (was : Member) (sound : IsSoundMember count events by was) (stable : Stable K)
+  module _ (held_once : OneHeld) (count events by : ℕ) (was : Member) (sound : IsSoundMember count events by was) (stable : Stable K)
       (pair now_pair : Pair D) (left : PairLeft seen may_leave pair now_pair)
       (holds : HoldsFor kept fits seen may_leave stable pair was.replica.saved was.state) where
     -- what is read of a sound member is what it had, or what is pending
-    pub read_is : (read : Saved) → FitsImage read → Holds (found_in kept seen now_pair) read → IsReadAt was (Ok read)
-    read_is read read_fits found =
+    pub read_is : (read : Saved) → Holds (found_in kept seen now_pair) read → IsReadAt was (Ok read)
+    read_is read found =
         elim (held_again was.state was.replica.saved stable pair now_pair left holds) [
-          | inl held ↦ inl (one (found_in kept seen now_pair) read was.replica.saved read_fits sound.replica.fits found held)
+          | inl held ↦ inl (held_once (found_in kept seen now_pair) read was.replica.saved found held)
           | inr held ↦ inr (
             held.0,
             held.1,
-            one (found_in kept seen now_pair) read held.0.replica.saved read_fits
-                (pending_fits count events by was held.0 held.1 sound) found held.2,
+            held_once (found_in kept seen now_pair) read held.0.replica.saved found held.2,
           )
         ]
 

@@ -12,7 +12,7 @@ use Rattle.ficus_model.specs.declared.event.Event.TheVariants as event
 use Rattle.ficus_replica.specs.declared.replica.Replica.{Replica}
 use Rattle.ficus_replica.specs.Accept.{AcceptGives}
 use Rattle.ficus_script.specs.declared.answer.Answer.{Answer}
-use Rattle.ficus_wire.specs.Message.{message_bytes, message_of, messages_of}
+use Rattle.ficus_wire.specs.Message.{message_bytes, messages_of}
 use Rattle.ficus_wire.specs.declared.message.Letter.{Letter}
 use Rattle.ficus_wire.specs.declared.message.Message.{Message}
 use Rattle.ficus_wire.specs.declared.message.Message.TheVariants as message
@@ -145,7 +145,7 @@ module _ (tells : Type 0) (old : Whole) (number : ℕ) where
   -- what was fetched is read
   pub fetched_read : (bytes : List ℕ) → AreFetched tells old.post.posts number bytes → (result : Result Letter Refusal)
       → OrMemory (λ given. Reads (length old.members) bytes (messages_of given)) result
-      → Carried (λ given. FetchesMail tells number old (messages_of given)) result old
+      → Carried (FetchesMail tells number old) (messages_of result) old
   fetched_read bytes fetched (Ok m) is = record { outcomes = IsDone ∷ []; does = Read fetched is }
   fetched_read bytes fetched (Err refusal.Memory) is = record { outcomes = []; does = tt }
   fetched_read bytes fetched (Err refusal.BadMessage) is = record { outcomes = IsDone ∷ []; does = NotRead fetched is }
@@ -153,21 +153,13 @@ module _ (tells : Type 0) (old : Whole) (number : ℕ) where
 
   pub fetch_failed : (post : Outbox) → IsMember (length old.post.posts) number → (r : Refusal)
       → ((r ≢ refusal.Memory) → (r ≡ refusal.Link) × HasFailed old.post post)
-      → Carried (λ (given : Result Letter Refusal). FetchesMail tells number old (messages_of given)) (Err r)
-      (with_post old post)
+      → Carried (FetchesMail tells number old) (Err r) (with_post old post)
   fetch_failed post some refusal.Memory failed = record { outcomes = []; does = tt }
   fetch_failed post some refusal.Link failed = record {
     outcomes = LinkFails ∷ [];
     does = NotFetched some (failed (λ e. cc)).1;
   }
   fetch_failed post some r failed = let e = (failed (λ e. cc)).0 in absurd (cc)
-
-  -- where no letter is given no message is
-  pub no_letter : (new : Whole) (r : Refusal)
-      → Carried (λ (given : Result Letter Refusal). FetchesMail tells number old (messages_of given)) (Err r) new
-      → Carried (FetchesMail tells number old) (Err r) new
-  no_letter new refusal.Memory is = record { outcomes = []; does = tt }
-  no_letter new r is = record { outcomes = is.outcomes; does = is.does }
 
 -- an answer that isn't taken leaves the world as it was
 module _ (old : Whole) (came : Delivery) (entries : List Entry) (files : List FileReplica) (was : Member)
@@ -186,34 +178,26 @@ pub taker_down : (old : Whole) (came : Delivery) (entries : List Entry) (files :
 taker_down old came entries files r left some (FindsNoneAt none) = absurd (none some)
 taker_down old came entries files r left some (FindsDown is down) = AskerIsDown is down
 
--- the message that a letter is was fetched
-pub a_letter : (tells : Type 0) (old : Whole) (number : ℕ) (new : Whole) (letter : Letter)
-    → Carried (λ (given : Result Letter Refusal). FetchesMail tells number old (messages_of given)) (Ok letter) new
-    → Carried (FetchesMail tells number old) (Ok (message_of letter)) new
-a_letter tells old number new letter is = record { outcomes = is.outcomes; does = is.does }
-
 module _ {K D : Type 0} (tells : Type 0) {keep : Keep K} {disk : Disk D} (number : ℕ) (old : Whole)
     (x : List (Pair D)) where
   -- a give that ends at its fetch
   pub give_unfetched : (r : Refusal) (new : Whole) → new.members ≡ old.members
-      → Carried (λ (given : Result Letter Refusal). FetchesMail tells number old (messages_of given)) (Err r) new
+      → Carried (FetchesMail tells number old) (Err r) new
       → CarriedOn keep disk (GivesMessage tells number) (Err r) old new x x
   give_unfetched r new same is =
       carried_first (FetchesMail tells number) (HandlesMessage tells number) old r new x x
-      (quiet_carried (FetchesMail tells number) (Err r) old new x (λ left is. fetches_quiet is) same
-      (no_letter tells old number new r is))
+      (quiet_carried (FetchesMail tells number) (Err r) old new x (λ left is. fetches_quiet is) same is)
 
-  module _ (middle : Whole) (letter : Letter) (same : middle.members ≡ old.members)
-      (is : Carried (λ (given : Result Letter Refusal). FetchesMail tells number old (messages_of given)) (Ok letter)
-      middle) where
+  module _ (middle : Whole) (message : Message) (same : middle.members ≡ old.members)
+      (is : Carried (FetchesMail tells number old) (Ok message) middle) where
     -- what is fetched is handled by its receiver
     pub give_handled : (result : Result Answer Refusal) (new : Whole) (y : List (Pair D))
-        → CarriedOn keep disk (HandlesMessage tells number (message_of letter)) result middle new x y
+        → CarriedOn keep disk (HandlesMessage tells number message) result middle new x y
         → CarriedOn keep disk (GivesMessage tells number) result old new x y
     give_handled result new y handles =
         carried_then (FetchesMail tells number) (HandlesMessage tells number) old middle new x x y result
-        (quiet_carried (FetchesMail tells number) (Ok (message_of letter)) old middle x (λ left is. fetches_quiet is)
-        same (a_letter tells old number middle letter is)) handles
+        (quiet_carried (FetchesMail tells number) (Ok message) old middle x (λ left is. fetches_quiet is) same is)
+        handles
 
 -- the serving of an ask leaves the disks as they are
 pub serves_carried : {K D : Type 0} (tells : Type 0) {keep : Keep K} {disk : Disk D} (came : Delivery)

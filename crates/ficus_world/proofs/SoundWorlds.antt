@@ -7,16 +7,12 @@ use Rattle.ficus_ids.specs.declared.refusal.Refusal.{Refusal}
 use Rattle.ficus_model.specs.declared.event.Event.{Event}
 use Rattle.ficus_saved.specs.Saved.{FitsImage}
 use Rattle.ficus_saved.specs.declared.saved.Saved.{Saved}
-use Rattle.ficus_replica.specs.declared.replica.Next.{Next}
+use Rattle.ficus_leads.specs.Holds.{Leads}
+use Rattle.ficus_leads.proofs.Led.{led_next}
+use Rattle.ficus_record.specs.declared.record.Record.{Record}
+use Rattle.ficus_record.specs.declared.record.Record.TheVariants.{Accept, Ask, Change, Collect}
+use Rattle.ficus_replica.specs.Makes.{Makes}
 use Rattle.ficus_replica.specs.declared.replica.Replica.{Replica}
-use Rattle.ficus_entry.specs.declared.entry.Entry.{Entry}
-use Rattle.ficus_file.specs.declared.file.FileReplica.{FileReplica}
-use Rattle.ficus_replica.specs.Accept.{Accepted}
-use Rattle.ficus_replica.specs.Ask.{AskGives}
-use Rattle.ficus_replica.specs.Collect.{CollectGives}
-use Rattle.ficus_replica.specs.declared.collect.Collected.{Collected}
-use Rattle.ficus_commands.specs.declared.change.Change.{Change}
-use Rattle.ficus_replica.specs.Change.{Changed}
 use Rattle.ficus_runs.specs.Numbered.{IsNumbered}
 use Rattle.ficus_world.specs.declared.member.Member.{Member}
 use Rattle.ficus_world.specs.declared.member.MemberState.{MemberState}
@@ -59,18 +55,19 @@ still_sound count events r replica (Down (Some pending)) is = is
 
 module _ {count events r : ℕ} {was : Member} where
   -- a member that is up and saves an event of its own is sound, whether its save is done
-  pub held_sound : {replica : Replica} → was.state ≡ Up → IsSoundNext count events r was.replica replica
+  pub held_sound : {noted : List ℕ} {replica : Replica} → was.state ≡ Up
+      → IsSoundNext count events r noted was.replica replica
       → IsSoundMember count (events + 1) r (record was { replica = replica })
-  held_sound {replica} up next = record {
+  held_sound {replica = replica} up next = record {
     replica = next.sound;
     pending = subst (IsPendingSound count (events + 1) r replica) (sym up) tt;
   }
 
   -- or not
-  pub put_down_sound : {pending : Pending} → IsSoundMember count events r was
-      → IsSoundNext count events r was.replica pending.replica
+  pub put_down_sound : {noted : List ℕ} {pending : Pending} → IsSoundMember count events r was
+      → IsSoundNext count events r noted was.replica pending.replica
       → IsSoundMember count events r (record was { state = Down (Some pending) })
-  put_down_sound sound next = record { replica = sound.replica; pending = (next.sound, next.above) }
+  put_down_sound sound next = record { replica = sound.replica; pending = (next.sound, led_next _ _ _ next.leads) }
 
   -- a member that stays down is sound
   pub keep_down_sound : IsSoundMember count events r was
@@ -156,61 +153,25 @@ module _ (old : Whole) (world : IsWorld old) where
       subst (λ (p : Outbox). (length p.posts ≡ length p.behind) × (length p.posts ≤ p.total)) (sym failed.same)
       (world.counted, world.few)
 
--- what a change makes of a sound replica is sound
-pub changed_sound : {count events r : ℕ} {old : Replica} {change : Change} {next : Next} → IsSound count events r old →
-    Changed old change next → FitsImage next.replica.saved → IsSoundNext count events r old next.replica
-changed_sound sound changed fits =
-    let saved = changed.applied.saved in
+-- an event of its own leaves a replica the same member of as many
+made_same : (old new : Saved) (noted : Record) → Makes old noted new → (new.me ≡ old.me) × (new.members ≡ old.members)
+made_same old new (Change op) makes = (ap (λ (s : Saved). s.me) makes.saved, ap (λ (s : Saved). s.members) makes.saved)
+made_same old new Ask makes = (ap (λ (s : Saved). s.me) makes, ap (λ (s : Saved). s.members) makes)
+made_same old new (Accept entries files) makes =
+    (ap (λ (s : Saved). s.me) makes.saved, ap (λ (s : Saved). s.members) makes.saved)
+made_same old new Collect makes = (ap (λ (s : Saved). s.me) makes.saved, ap (λ (s : Saved). s.members) makes.saved)
+
+-- what it makes of a sound replica is sound
+pub noted_sound : {count events r : ℕ} {noted : List ℕ} {old new : Replica} → IsSound count events r old
+    → Leads noted old.saved new.saved → IsSoundNext count events r noted old new
+noted_sound {noted = noted} {old = old} {new = new} sound leads =
+    let same = made_same old.saved new.saved leads.noted leads.step.makes in
     record {
       sound = record {
-        me = ap (λ (s : Saved). s.me) saved ∙ sound.me;
-        members = ap (λ (s : Saved). s.members) saved ∙ sound.members;
-        fits = fits;
-        generation = omega (arith, ap (λ (s : Saved). s.generation) saved, sound.generation);
+        me = same.0 ∙ sound.me;
+        members = same.1 ∙ sound.members;
+        fits = leads.step.fits;
+        generation = omega (arith, led_next noted old.saved new.saved leads, sound.generation);
       };
-      above = ap (λ (s : Saved). s.generation) saved;
-    }
-
--- and so is what an ask makes of it, and the taking of an answer
-pub asked_sound : {count events r to : ℕ} {old new : Replica} → IsSound count events r old → AskGives old to new
-    → FitsImage new.saved → IsSoundNext count events r old new
-asked_sound sound asks fits = record {
-  sound = record {
-    me = ap (λ (x : Replica). x.saved.me) asks ∙ sound.me;
-    members = ap (λ (x : Replica). x.saved.members) asks ∙ sound.members;
-    fits = fits;
-    generation = omega (arith, ap (λ (x : Replica). x.saved.generation) asks, sound.generation);
-  };
-  above = ap (λ (x : Replica). x.saved.generation) asks;
-}
-
-pub accepted_sound : {count events r from number : ℕ} {entries : List Entry} {files : List FileReplica}
-    {old new : Replica} →
-    IsSound count events r old → Accepted old from number entries files new → FitsImage new.saved →
-    IsSoundNext count events r old new
-accepted_sound sound accepted fits =
-    let is = accepted.replica in
-    record {
-      sound = record {
-        me = ap (λ (x : Replica). x.saved.me) is ∙ sound.me;
-        members = ap (λ (x : Replica). x.saved.members) is ∙ sound.members;
-        fits = fits;
-        generation = omega (arith, ap (λ (x : Replica). x.saved.generation) is, sound.generation);
-      };
-      above = ap (λ (x : Replica). x.saved.generation) is;
-    }
-
--- and so is what a collection leaves of it
-pub collected_sound : {count events r : ℕ} {old : Replica} {given : Collected} → IsSound count events r old
-    → CollectGives old given → FitsImage given.replica.saved → IsSoundNext count events r old given.replica
-collected_sound sound gives fits =
-    let is = gives.is in
-    record {
-      sound = record {
-        me = ap (λ (x : Collected). x.replica.saved.me) is ∙ sound.me;
-        members = ap (λ (x : Collected). x.replica.saved.members) is ∙ sound.members;
-        fits = fits;
-        generation = omega (arith, ap (λ (x : Collected). x.replica.saved.generation) is, sound.generation);
-      };
-      above = ap (λ (x : Collected). x.replica.saved.generation) is;
+      leads = leads;
     }

@@ -9,7 +9,7 @@ use Rattle.ficus_saved.specs.Saved.{FitsImage}
 use Rattle.ficus_replica.specs.declared.replica.Replica.{Replica}
 use Rattle.ficus_replica.specs.SavedOf.{StandsFor}
 use Rattle.ficus_stable.specs.declared.stable.Stable.{Stable}
-use Rattle.ficus_stable.specs.Holds.{Holds}
+use Rattle.ficus_leads.specs.Holds.{Holds}
 use Rattle.ficus_stable.specs.Stable.{IsReady}
 use Rattle.ficus_runs.specs.ModelWorld.{ModelWorld, Standing}
 use Rattle.ficus_runs.specs.ModelWorld as model

@@ -128,6 +128,7 @@ module _ (volume : Volume) (W : ModelWorld) (old : Whole) (stands : WorldStandsF
       earlier = stands.stored.earlier;
       is = part_more old.events W.events stands.stored stored event raises;
     };
+    began = stands.began;
     each = each;
     total = stands.total;
     posted = stands.posted;
@@ -147,6 +148,7 @@ module _ (volume : Volume) (W : ModelWorld) (old : Whole) (stands : WorldStandsF
     fuses = stands.fuses;
     lawful = stands.lawful;
     stored = stands.stored;
+    began = stands.began;
     each = each;
     total = stands.total;
     posted = stands.posted;
@@ -312,6 +314,7 @@ module _ (volume : Volume) (W : ModelWorld) (old : Whole) (stands : WorldStandsF
         fuses = stands.fuses;
         lawful = stands.lawful;
         stored = stands.stored;
+        began = stands.began;
         each = stands.each;
         total = stands.total;
         posted = stands.posted;
@@ -369,6 +372,7 @@ module _ (volume : Volume) (W : ModelWorld) (old : Whole) (stands : WorldStandsF
       fuses = stands.fuses;
       lawful = stands.lawful;
       stored = stands.stored;
+      began = stands.began;
       each = stands.each;
       total = omega (arith, stands.total, sent.total, sized);
       posted =

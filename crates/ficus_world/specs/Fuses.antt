@@ -7,7 +7,7 @@ use Rattle.ficus_keep.specs.Fuses.{Fuses, IsRegularIn, StaysRegular, both_unarme
 use Rattle.ficus_keep.specs.Kept.{Kept}
 use Rattle.ficus_keep.specs.declared.keep.Keep.{Ghosts as Keep}
 use Rattle.ficus_saved.specs.declared.saved.Saved.{Saved}
-use Rattle.ficus_stable.specs.Holds.{Holds}
+use Rattle.ficus_leads.specs.Holds.{Holds}
 use Rattle.ficus_runs.specs.Fuses.{FuseState, FusesAllowAll, Keeping, after_outcomes}
 use Rattle.ficus_runs.specs.Numbered.{IsNumbered}
 use Rattle.ficus_runs.specs.Outcome.{Outcome}

@@ -11,7 +11,8 @@ use Rattle.ficus_keep.specs.declared.keep.Keep.{Ghosts as Keep}
 use Rattle.ficus_saved.specs.declared.saved.Saved.{Saved}
 use Rattle.ficus_script.specs.declared.answer.Answer.{Answer}
 use Rattle.ficus_script.specs.declared.command.Command.{Command}
-use Rattle.ficus_stable.specs.Holds.{Holds, HoldsOneBetween, HoldsOneOf}
+use Rattle.ficus_leads.specs.Holds.{Holds}
+use Rattle.ficus_stable.specs.Holds.{HoldsOneBetween, HoldsOneOf}
 use Rattle.ficus_runs.specs.Numbered.{IsNumbered}
 use Rattle.ficus_runs.specs.Outcome.{Outcome}
 use Rattle.ficus_world.specs.declared.member.Member.{Member}

@@ -28,7 +28,7 @@ use Rattle.ficus_script.specs.declared.command.Command.TheVariants as command
 use Rattle.ficus_script.specs.declared.answer.Answer.{Answer}
 use Rattle.ficus_script.specs.declared.answer.Answer.TheVariants as answer
 use Rattle.ficus_script.specs.declared.answer.Answer.TheVariants.{Done, Mail}
-use Rattle.ficus_wire.specs.Message.{FitsMessage, message_bytes}
+use Rattle.ficus_wire.specs.Message.{FitsMessage, message_bytes, message_of}
 use Rattle.ficus_wire.specs.declared.message.Message.{Message}
 use Rattle.ficus_wire.specs.declared.message.Message.TheVariants as message
 use Rattle.ficus_runs.specs.Actions.{GivesOnly}
@@ -40,6 +40,7 @@ use Rattle.ficus_runs.specs.Outcome.{Outcome, IsDone, LinkFails, IsSaved, SaveFa
 use Rattle.ficus_runs.specs.Peers.{ArePeers}
 use Rattle.ficus_runs.specs.Sequence.{Action, First, ByRule, Cut, CutFirst, Effect, NothingDone, unchanged}
 use Rattle.ficus_world.specs.declared.exchange.Delivery.{Delivery}
+use Rattle.ficus_world.specs.declared.exchange.Fetched.{Fetched}
 use Rattle.ficus_world.specs.declared.member.Member.{Member}
 use Rattle.ficus_world.specs.declared.member.MemberState.{MemberState}
 use Rattle.ficus_world.specs.declared.member.MemberState.TheVariants as state
@@ -187,6 +188,11 @@ pub data FetchesMail (tells : Type 0) (number : ℕ) (old : Whole) :
       → IsSpelled (length old.members) bytes m
       → FetchesMail tells number old (Ok m) (record { outcomes = IsDone ∷ []; after = old })
 
+-- the message that was fetched
+abbrev pub fetched_message : {E : Type 0} → Result Fetched E → Result Message E
+fetched_message (Ok came) = Ok (message_of came.letter)
+fetched_message (Err refused) = Err refused
+
 -- what the member answers to the ask of this number: its tables
 abbrev pub answer_of : Delivery → Member → Message
 answer_of came peer = message.Answer came.to came.from came.ask peer.replica.saved.entries peer.replica.saved.files
@@ -326,7 +332,7 @@ abbrev pub TablesCompare : Compared → WholeAction Answer
 TablesCompare both =
     ByRule (λ world. AlikeAnswer (tables_view both.one.replica.saved) (tables_view both.other.replica.saved))
 
--- what each command does to a world, action by action; one that is no step of a world does nothing
+-- what each command does to a world, action by action; one that is no step of a world comes to nothing at all
 abbrev pub CarriesOut : Type 0 → Type 0 → Command → WholeAction Answer
 CarriesOut tells disks_tell (command.Change by change) =
     First (FindsUp by) (λ member. First (TablesDecide member change) (KeepsUpdate by member))
@@ -341,6 +347,7 @@ CarriesOut tells disks_tell (command.Alike by other) = First (FindsPeers by othe
 CarriesOut tells disks_tell (command.Restart by) = First (FindsMember by) (Reopens disks_tell by)
 CarriesOut tells disks_tell (command.Stop by calls pick) = First (FindsUp by) (ArmsDisks by calls pick)
 CarriesOut tells disks_tell (command.Sweep order) = λ old result left. ⊥
+CarriesOut tells disks_tell (command.Why by) = λ old result left. ⊥
 
 -- a member that is up may want memory for what it holds
 pub record IsWantedBy (old : Whole) (by : ℕ) (may : Member → Type 0) : Type 0 where
@@ -372,6 +379,7 @@ TablesMayWantMemory old (command.Alike by other) = ArePeersUp old by other
 TablesMayWantMemory old (command.Restart by) = IsMember (length old.members) by
 TablesMayWantMemory old (command.Stop by calls pick) = ⊥
 TablesMayWantMemory old (command.Sweep order) = ⊥
+TablesMayWantMemory old (command.Why by) = ⊥
 
 -- what each command leaves where memory is refused on the way: the world as it was; but a pull keeps its ask, and its
 -- first give
@@ -381,6 +389,7 @@ CutShort tells (command.Pull by to) =
     (λ peers. CutFirst (KeepsAsk tells by to) NothingDone
     (λ number. CutFirst (GivesMessage tells number) NothingDone (λ given. NothingDone)))
 CutShort tells (command.Sweep order) = λ old left. ⊥
+CutShort tells (command.Why by) = λ old left. ⊥
 CutShort tells other = NothingDone
 
 -- one command: what became of all that it asked of the outside, its answer, and the world after it

@@ -13,7 +13,8 @@ use Rattle.ficus_model.specs.Lawful.{Volume, IsLawful}
 use Rattle.ficus_replica.specs.SavedOf.{fresh_saved}
 use Rattle.ficus_saved.specs.Saved.{FitsImage}
 use Rattle.ficus_saved.specs.declared.saved.Saved.{Saved}
-use Rattle.ficus_stable.specs.Holds.{Holds, HoldsOneOf}
+use Rattle.ficus_leads.specs.Holds.{Holds}
+use Rattle.ficus_stable.specs.Holds.{HoldsOneOf}
 use Rattle.ficus_runs.specs.Numbered.{IsNumbered}
 use Rattle.ficus_world.specs.declared.member.Member.{Member}
 use Rattle.ficus_world.specs.declared.member.MemberState.TheVariants.{Up}

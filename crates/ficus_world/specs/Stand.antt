@@ -9,7 +9,7 @@ use Rattle.ficus_model.specs.Lawful.{IsLawful, MayCome, Volume}
 use Rattle.ficus_replica.specs.SavedOf.{IsSavedOf}
 use Rattle.ficus_saved.specs.Saved.{FitsImage}
 use Rattle.ficus_saved.specs.declared.saved.Saved.{Saved}
-use Rattle.ficus_stable.specs.Holds.{Holds}
+use Rattle.ficus_leads.specs.Holds.{Holds}
 use Rattle.ficus_runs.specs.ModelWorld.{ModelWorld, Standing, Up, Down}
 use Rattle.ficus_runs.specs.Numbered.{IsNumbered}
 use Rattle.ficus_world.specs.World.{AreOthers}

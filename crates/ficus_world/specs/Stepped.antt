@@ -7,7 +7,6 @@ use Rattle.ficus_keep.specs.declared.keep.Keep.{Ghosts as Keep}
 use Rattle.ficus_rules.specs.Rule.{UnlessMemoryWhere}
 use Rattle.ficus_script.specs.declared.answer.Answer.{Answer}
 use Rattle.ficus_script.specs.declared.command.Command.{Command}
-use Rattle.ficus_script.specs.declared.command.Command.TheVariants as command
 use Rattle.ficus_runs.specs.Answers.{OrMemory}
 use Rattle.ficus_runs.specs.Outcome.{Outcome}
 use Rattle.ficus_world.specs.Disks.{DisksFollow}
@@ -46,16 +45,3 @@ pub record CutOn {K D : Type 0} (tells : Type 0) (keep : Keep K) (disk : Disk D)
   pub cut : CutShort tells command old (record { outcomes = outcomes; after = new })
   pub disks : DisksFollow disk.faults disk.armings outcomes old_disks new_disks
   pub fuses : FusesPermit keep disk outcomes old.members old_disks
-
--- the command asks only for what is shown
-abbrev pub OnlyLooks : Command → Type 0
-OnlyLooks (command.Change by change) = ⊥
-OnlyLooks (command.Look by look) = Unit {0}
-OnlyLooks (command.Collect by) = ⊥
-OnlyLooks (command.Ask by to) = ⊥
-OnlyLooks (command.Give mail) = ⊥
-OnlyLooks (command.Pull by to) = ⊥
-OnlyLooks (command.Alike by other) = Unit {0}
-OnlyLooks (command.Restart by) = ⊥
-OnlyLooks (command.Stop by calls pick) = ⊥
-OnlyLooks (command.Sweep order) = ⊥

@@ -5,6 +5,7 @@ use Rattle.ficus_model.specs.declared.event.Event.{Event}
 use Rattle.ficus_model.specs.Events.{actor, raised}
 use Rattle.ficus_model.specs.Lawful.{Volume, IsLawful}
 use Rattle.ficus_saved.specs.Saved.{FitsImage}
+use Rattle.ficus_leads.specs.Holds.{Leads}
 use Rattle.ficus_replica.specs.declared.replica.Replica.{Replica}
 use Rattle.ficus_replica.specs.SavedOf.{StandsFor, StandsAfter}
 use Rattle.ficus_wire.specs.declared.message.Message.{Message}
@@ -126,9 +127,10 @@ pub record IsPosted (volume : Volume) (W : ModelWorld) (number position : ℕ) (
   pub is : IsMessageAt volume W.events position message
   pub spelled : IsSpelled volume.members bytes message
 
--- The world stands for one of the model: what happened there is lawful, and ends with the stored events; there are as
--- many members, 2 to 8, and each stands as the model says; as many bytes and messages were posted, each of them the
--- spelling of the message behind its position, which is the stored one, raised as the stored events are.
+-- The world stands for one of the model: what happened there is lawful, and ends with the stored events, which are
+-- those of the run; there are as many members, 2 to 8, and each stands as the model says; as many bytes and messages
+-- were posted, each of them the spelling of the message behind its position, which is the stored one, raised as the
+-- stored events are.
 pub record WorldStandsFor (volume : Volume) (W : ModelWorld) (world : Whole) : Type 0 where
   pub count : IsCount volume.members
   pub members : length world.members ≡ volume.members
@@ -136,6 +138,7 @@ pub record WorldStandsFor (volume : Volume) (W : ModelWorld) (world : Whole) : T
   pub fuses : length W.fused ≡ volume.members
   pub lawful : IsLawful volume W.events
   pub stored : IsLastPart world.events W.events
+  pub began : length stored.earlier ≡ W.earlier
   pub each : (r : ℕ) (member : Member) (modelled : Standing) (fused : Bool) → IsNumbered world.members r member
       → IsNumbered W.standings r modelled → IsNumbered W.fused r fused
       → MemberStandsFor volume W.events (length stored.earlier) r member modelled fused
@@ -145,7 +148,7 @@ pub record WorldStandsFor (volume : Volume) (W : ModelWorld) (world : Whole) : T
   pub mail : (number place : ℕ) (bytes : List ℕ) → IsNumbered world.post.behind number place
       → IsNumbered world.post.posts number bytes → IsPosted volume W number (place + length stored.earlier) bytes
 
--- what a member is after an event of its own: it has saved once more than before
-pub record IsSoundNext (count events r : ℕ) (was next : Replica) : Type 0 where
+-- what a member is after an event of its own: what is noted of the event leads to what it saves then
+pub record IsSoundNext (count events r : ℕ) (noted : List ℕ) (was next : Replica) : Type 0 where
   pub sound : IsSound count (events + 1) r next
-  pub above : next.saved.generation ≡ was.saved.generation + 1
+  pub leads : Leads noted was.saved next.saved

@@ -1,6 +1,7 @@
 ghost use Rattle.std.specs.Prelude.{◌≡◌, ◌≢◌, ◌+◌, ◌<◌, ◌≤◌, [], Err, List, length, IfErr, IfOk, OnErr, OnOk, IsErrOf};
 ghost use Rattle.ficus_ids.specs.Members.{IsMember};
 ghost use Rattle.ficus_ids.specs.declared.refusal.Refusal.TheVariants.{LinkFull as IsFull, Memory as OutOfMemory};
+ghost use Rattle.ficus_codec.specs.Formats.{tables_bytes};
 ghost use Rattle.ficus_saved.specs.Saved.{FitsImage};
 ghost use Rattle.ficus_saved.specs.Tables.{FitsTables};
 ghost use Rattle.ficus_wire.specs.Message.{FitsMessage, IsRoute, message_of, messages_of, way};
@@ -11,7 +12,7 @@ ghost use Rattle.ficus_runs.specs.Peers.{ArePeers};
 ghost use Rattle.ficus_runs.specs.Sequence.{unchanged};
 ghost use Rattle.ficus_world.specs.Disks.{AreDisksOf, Carried, CarriedOn, DisksComeTo, IsPreparedAt, StaysOn};
 ghost use Rattle.ficus_world.specs.Post.{HasRoom};
-ghost use Rattle.ficus_world.specs.Moves.{FetchesMail, GivesMessage, GivesNextMessage, IsAsking};
+ghost use Rattle.ficus_world.specs.Moves.{FetchesMail, GivesMessage, GivesNextMessage, IsAsking, fetched_message};
 ghost use Rattle.ficus_world.specs.Moves.{IsServing, KeepsAsk, ServesAsk, TakesAnswer, answer_of, ask_of, bytes_in};
 ghost use Rattle.ficus_world.specs.World.{IsSoundNext, IsUpIn, event_limit, most_events};
 ghost use Rattle.ficus_world.specs.declared.member.Member.{Member as MemberValue};
@@ -27,13 +28,14 @@ use ficus_disk::{Disk, Pair};
 use ficus_entry::Entry;
 use ficus_file::FileReplica;
 use ficus_ids::{Members, Memory, Refusal};
-use ficus_keep::{Keep, KeepImages};
+use ficus_keep::Keep;
 use ficus_model::{Event, History};
 use ficus_outside::Link;
+use ficus_record::{Record, encode_accept, encode_record};
 use ficus_replica::Replica;
 use ficus_script::Answer;
 use ficus_stable::Stable;
-use ficus_wire::{Letter, Message, WireFault, encode, read_letter};
+use ficus_wire::{Letter, Message, WireFault, encode, read_letter, tables_in};
 use std::alloc::Global;
 
 /// What is known of a message that came: its number, from whom to whom it goes, and the number of its ask.
@@ -45,14 +47,22 @@ pub(crate) struct Delivery {
     pub(crate) ask: u64,
 }
 
-// What a member holds once it has asked, and its message.
+// What a member holds once it has asked, its message, and what is noted of its ask.
 #[derive(Drop)]
 struct Asking {
     replica: Replica,
     message: Vec<u8>,
+    noted: Vec<u8>,
 }
 
-impl<K: Keep + KeepImages + Drop, L: Link + Drop> World<K, L> {
+/// A message that came, as it is read, and its bytes.
+#[derive(Drop)]
+pub(crate) struct Fetched {
+    pub(crate) letter: Letter,
+    pub(crate) bytes: Vec<u8>,
+}
+
+impl<K: Keep + Drop, L: Link + Drop> World<K, L> {
     /// Asks for the state of another member. Gives the number of the message. All memory is taken before anything
     /// changes.
     pub(crate) fn ask<D: Disk>(
@@ -105,7 +115,8 @@ impl<K: Keep + KeepImages + Drop, L: Link + Drop> World<K, L> {
         ensures disks { AreDisksOf D.tells K.kept K.fits D.seen D.may_leave D.armings self.new.whole.members
             self.new.stables disks.new.items }
     {
-        match self.group.fetch(alloc, mail)? {
+        let Fetched { letter, bytes } = self.group.fetch(alloc, mail)?;
+        match letter {
             Letter::Ask { from, to, number } => {
                 let came = Delivery {
                     number: mail,
@@ -128,7 +139,8 @@ impl<K: Keep + KeepImages + Drop, L: Link + Drop> World<K, L> {
                     to,
                     ask: number,
                 };
-                self.take(alloc, disks, came, entries.items(), files.items())
+                let tables = tables_in(&bytes);
+                self.take(alloc, disks, came, entries.items(), files.items(), tables)
             }
         }
     }
@@ -166,7 +178,7 @@ impl<K: Keep + KeepImages + Drop, L: Link + Drop> World<K, L> {
         }
     }
 
-    // Takes what was served, or refuses it. All memory is taken before anything changes.
+    // Takes what was served, in rows and as these are spelled, or refuses it. All memory is taken before anything changes.
     fn take<D: Disk>(
         &mut self,
         alloc: Global,
@@ -174,6 +186,7 @@ impl<K: Keep + KeepImages + Drop, L: Link + Drop> World<K, L> {
         came: Delivery,
         entries: &[Entry],
         files: &[FileReplica],
+        tables: &[u8],
     ) -> Result<Answer, Refusal>
         requires room { length self.old.whole.events < event_limit + most_events }
         requires pairs { length self.old.whole.members ≤ length disks.old.items }
@@ -182,6 +195,7 @@ impl<K: Keep + KeepImages + Drop, L: Link + Drop> World<K, L> {
         requires mail { IsMember (length self.old.whole.post.behind) came.number }
         requires to { IsMember (length self.old.whole.members) came.to }
         requires tables { FitsTables (length self.old.whole.members) entries.now files.now }
+        requires spelled { tables.now ≡ tables_bytes (length self.old.whole.members) entries.now files.now }
         ensures takes { CarriedOn K.Keep D.Disk (TakesAnswer came entries.now files.now) result self.old.whole
             self.new.whole disks.old.items disks.new.items }
         ensures grows { length self.new.whole.events ≤ length self.old.whole.events + 1 }
@@ -195,11 +209,12 @@ impl<K: Keep + KeepImages + Drop, L: Link + Drop> World<K, L> {
         let serve = self.group.post.place(came.number);
         let replica = &self.group.up(came.to)?.replica;
         let taken = replica.accept_rows(alloc, came.from, came.ask, entries, files)?;
+        let noted = encode_accept(alloc, tables)?;
         let next = Pending {
             replica: taken,
             event: Event::Accept { by: came.to, serve },
         };
-        self.save(disks, came.to, next)?;
+        self.save(disks, came.to, next, &noted)?;
         Ok(Answer::Done)
     }
 }
@@ -209,7 +224,8 @@ impl<L: Link + Drop> Group<L> {
     fn asking(&self, alloc: Global, by: u8, to: u8) -> Result<Asking, Refusal>
         requires room { length self.now.events < event_limit }
         ensures asks { IfOk result (λ asking. (was : MemberValue) × IsAsking self.now by to was asking.replica
-            × IsSoundNext (length self.now.members) (length self.now.events) by was.replica asking.replica) }
+            × IsSoundNext (length self.now.members) (length self.now.events) by asking.noted.items was.replica
+            asking.replica) }
         ensures message { IfOk result (λ asking. asking.message.items
             ≡ bytes_in self.now (ask_of by to asking.replica)) }
         ensures refused { IfErr result (λ refusal. refusal ≢ OutOfMemory
@@ -230,11 +246,16 @@ impl<L: Link + Drop> Group<L> {
             number: replica.saved.generation,
         };
         let message = encode(alloc, &ask, self.count())?;
-        Ok(Asking { replica, message })
+        let noted = encode_record(alloc, &Record::Ask, self.count())?;
+        Ok(Asking {
+            replica,
+            message,
+            noted,
+        })
     }
 
     // Saves a member that has asked, and posts its message. All memory is taken before anything changes.
-    fn send_asking<K: Keep + KeepImages + Drop, D: Disk>(
+    fn send_asking<K: Keep + Drop, D: Disk>(
         &mut self,
         stables: &mut Vec<Stable<K>>,
         disks: &mut Vec<Pair<D>>,
@@ -248,7 +269,8 @@ impl<L: Link + Drop> Group<L> {
         requires disks { AreDisksOf D.tells K.kept K.fits D.seen D.may_leave D.armings self.old.members
             stables.old.items disks.old.items }
         requires asking { (was : MemberValue) × IsAsking self.old by to was asking.replica
-            × IsSoundNext (length self.old.members) (length self.old.events) by was.replica asking.replica }
+            × IsSoundNext (length self.old.members) (length self.old.events) by asking.noted.items was.replica
+            asking.replica }
         requires message { asking.message.items ≡ bytes_in self.old (ask_of by to asking.replica) }
         ensures asks { CarriedOn K.Keep D.Disk (KeepsAsk L.tells by to) result self.old self.new disks.old.items
             disks.new.items }
@@ -270,7 +292,11 @@ impl<L: Link + Drop> Group<L> {
             &asking,
         )?;
         let place = self.history.len();
-        let Asking { replica, message } = asking;
+        let Asking {
+            replica,
+            message,
+            ..
+        } = asking;
         let next = Pending {
             replica,
             event: Event::Ask { by, to },
@@ -287,11 +313,12 @@ impl<L: Link + Drop> Group<L> {
     }
 
     // Fetches a message, and reads it.
-    fn fetch(&mut self, alloc: Global, mail: u32) -> Result<Letter, Refusal>
-        ensures fetches { Carried (λ given. FetchesMail L.tells mail self.old (messages_of given)) result self.new }
+    fn fetch(&mut self, alloc: Global, mail: u32) -> Result<Fetched, Refusal>
+        ensures fetches { Carried (FetchesMail L.tells mail self.old) (fetched_message result) self.new }
         ensures wants { IsErrOf result OutOfMemory → IsMember (length self.old.post.posts) mail }
         ensures there { OnOk result (IsMember (length self.old.post.posts) mail) }
-        ensures fits { IfOk result (λ letter. FitsMessage (length self.new.members) (message_of letter)) }
+        ensures fits { IfOk result (λ came. FitsMessage (length self.new.members) (message_of came.letter)) }
+        ensures spelled { IfOk result (λ came. came.bytes.items ≡ bytes_in self.new (message_of came.letter)) }
         ensures behind { OnOk result (IsMember (length self.new.post.behind) mail) }
         ensures same { OnOk result (self.new ≡ self.old) }
         ensures stored { self.new.events ≡ self.old.events }
@@ -302,7 +329,8 @@ impl<L: Link + Drop> Group<L> {
             return Err(Refusal::NoMail);
         }
         let bytes = self.post.fetch(mail)?;
-        read(alloc, &bytes, self.count())
+        let letter = read(alloc, &bytes, self.count())?;
+        Ok(Fetched { letter, bytes })
     }
 
     // Serves an ask with what the member holds. All memory is taken before anything changes.
@@ -351,7 +379,7 @@ impl<L: Link + Drop> Group<L> {
 }
 
 // Looks whether what was asked may be posted, and takes all memory for that, and for what the asker saves.
-fn make_ready<K: Keep + KeepImages + Drop, L: Link + Drop, D: Disk>(
+fn make_ready<K: Keep + Drop, L: Link + Drop, D: Disk>(
     history: &mut History,
     post: &mut Post<L>,
     stables: &mut Vec<Stable<K>>,
@@ -364,8 +392,8 @@ fn make_ready<K: Keep + KeepImages + Drop, L: Link + Drop, D: Disk>(
     requires fits { FitsImage asking.now.replica.saved }
     ensures room { OnOk result (1 ≤ history.new.room) }
     ensures post_room { OnOk result (HasRoom post.new) }
-    ensures prepared { OnOk result (IsPreparedAt K.Takes K.size_of D.room stables.new.items disks.new.items by
-        asking.now.replica.saved) }
+    ensures prepared { OnOk result (IsPreparedAt K.wants_image K.Takes K.size_of D.room stables.new.items
+        disks.new.items by asking.now.replica.saved asking.now.noted.items) }
     ensures small { OnOk result (post.old.now.total + length asking.now.message.items ≤ total_limit) }
     ensures full { OnErr result (result ≢ Err OutOfMemory → (result ≡ Err IsFull)
         × (post.old.now.total + length asking.now.message.items ≤ total_limit → ⊥)) }
@@ -384,7 +412,7 @@ fn make_ready<K: Keep + KeepImages + Drop, L: Link + Drop, D: Disk>(
     }
     history.reserve(1)?;
     post.make_room()?;
-    prepare_at(stables, disks, by, &asking.replica.saved)?;
+    prepare_at(stables, disks, by, &asking.replica.saved, &asking.noted)?;
     Ok(())
 }
 

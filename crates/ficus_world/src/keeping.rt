@@ -1,5 +1,6 @@
-ghost use Rattle.std.specs.Prelude.{◌≡◌, ◌⊎◌, ◌+◌, ◌-◌, ◌<◌, ◌≤◌, ◌++◌, ◌∷◌, [], Err, Some, length, IfErr, slice_set, IfOk, OnErr, OnOk, IsErrOf};
+ghost use Rattle.std.specs.Prelude.{◌≡◌, ◌⊎◌, ◌+◌, ◌-◌, ◌<◌, ◌≤◌, ◌++◌, ◌∷◌, [], ℕ, Err, List, Some, length, IfErr, slice_set, IfOk, OnErr, OnOk, IsErrOf};
 ghost use Rattle.ficus_ids.specs.Members.{IsMember};
+ghost use Rattle.ficus_leads.specs.Holds.{Leads};
 ghost use Rattle.ficus_ids.specs.declared.refusal.Refusal.TheVariants.{Memory as OutOfMemory, Store as StoreFailed};
 ghost use Rattle.ficus_runs.specs.Numbered.{IsNumbered};
 ghost use Rattle.ficus_runs.specs.Outcome.{IsSaved, SaveFails};
@@ -18,19 +19,20 @@ use crate::saving::{commit_at, prepare_at};
 use ficus_disk::{Disk, Pair};
 use ficus_faults::Failed;
 use ficus_ids::Refusal;
-use ficus_keep::{Keep, KeepImages};
+use ficus_keep::Keep;
 use ficus_model::History;
 use ficus_outside::Link;
 use ficus_stable::Stable;
 
-impl<K: Keep + KeepImages + Drop, L: Link + Drop> World<K, L> {
-    /// Saves what a member that is up is after an event of its own, and stores the event. All memory is taken before
-    /// anything changes. Where the disks fail, the member is down, and the event is pending.
+impl<K: Keep + Drop, L: Link + Drop> World<K, L> {
+    /// Saves what a member that is up is after an event of its own, of which this is noted, and stores the event. All
+    /// memory is taken before anything changes. Where the disks fail, the member is down, and the event is pending.
     pub(crate) fn save<D: Disk>(
         &mut self,
         disks: &mut Vec<Pair<D>>,
         by: u8,
         next: Pending,
+        noted: &[u8],
     ) -> Result<(), Refusal>
         requires room { length self.old.whole.events < event_limit + most_events }
         requires pairs { length self.old.whole.members ≤ length disks.old.items }
@@ -38,7 +40,8 @@ impl<K: Keep + KeepImages + Drop, L: Link + Drop> World<K, L> {
             self.old.stables disks.old.items }
         requires up { IsUpIn self.old.whole by }
         requires next { (was : MemberValue) → IsNumbered self.old.whole.members by was
-            → IsSoundNext (length self.old.whole.members) (length self.old.whole.events) by was.replica next.replica }
+            → IsSoundNext (length self.old.whole.members) (length self.old.whole.events) by noted.now was.replica
+            next.replica }
         ensures saved { OnOk result ((was : MemberValue) → IsNumbered self.old.whole.members by was
             → self.new.whole ≡ advanced self.old.whole by was next.replica next.event) }
         ensures followed { OnOk result (DisksComeTo K.Keep D.Disk (IsSaved by ∷ []) self.old.whole.members
@@ -54,18 +57,19 @@ impl<K: Keep + KeepImages + Drop, L: Link + Drop> World<K, L> {
         ensures disks { AreDisksOf D.tells K.kept K.fits D.seen D.may_leave D.armings self.new.whole.members
             self.new.stables disks.new.items }
     {
-        self.group.save(&mut self.stables, disks, by, next)
+        self.group.save(&mut self.stables, disks, by, next, noted)
     }
 }
 
 impl<L: Link + Drop> Group<L> {
     // The same, over the stables of the members.
-    fn save<K: Keep + KeepImages + Drop, D: Disk>(
+    fn save<K: Keep + Drop, D: Disk>(
         &mut self,
         stables: &mut Vec<Stable<K>>,
         disks: &mut Vec<Pair<D>>,
         by: u8,
         next: Pending,
+        noted: &[u8],
     ) -> Result<(), Refusal>
         requires room { length self.old.events < event_limit + most_events }
         requires stables { length stables.old.items ≡ length self.old.members }
@@ -74,7 +78,7 @@ impl<L: Link + Drop> Group<L> {
             stables.old.items disks.old.items }
         requires up { IsUpIn self.old by }
         requires next { (was : MemberValue) → IsNumbered self.old.members by was
-            → IsSoundNext (length self.old.members) (length self.old.events) by was.replica next.replica }
+            → IsSoundNext (length self.old.members) (length self.old.events) by noted.now was.replica next.replica }
         ensures saved { OnOk result ((was : MemberValue) → IsNumbered self.old.members by was
             → self.new ≡ advanced self.old by was next.replica next.event) }
         ensures followed { OnOk result (DisksComeTo K.Keep D.Disk (IsSaved by ∷ []) self.old.members self.new.members
@@ -93,7 +97,7 @@ impl<L: Link + Drop> Group<L> {
             stables.new.items disks.new.items }
     {
         self.history.reserve(1)?;
-        prepare_at(stables, disks, by, &next.replica.saved)?;
+        prepare_at(stables, disks, by, &next.replica.saved, noted)?;
         keep(
             &mut self.members,
             &mut self.history,
@@ -106,7 +110,7 @@ impl<L: Link + Drop> Group<L> {
 }
 
 /// Saves what was prepared, and stores its event; or the member is down, and it is pending. Takes no memory.
-pub(crate) fn keep<K: Keep + KeepImages + Drop, D: Disk>(
+pub(crate) fn keep<K: Keep + Drop, D: Disk>(
     members: &mut Vec<Member>,
     history: &mut History,
     stables: &mut Vec<Stable<K>>,
@@ -118,10 +122,10 @@ pub(crate) fn keep<K: Keep + KeepImages + Drop, D: Disk>(
     requires stable { IsMember (length stables.old.items) by }
     requires pair { IsMember (length disks.old.items) by }
     requires up { (was : MemberValue) → IsNumbered members.old.items by was → was.state ≡ IsUp }
-    requires above { (was : MemberValue) → IsNumbered members.old.items by was
-        → next.replica.saved.generation ≡ was.replica.saved.generation + 1 }
-    requires prepared { IsPreparedAt K.Takes K.size_of D.room stables.old.items disks.old.items by
-        next.replica.saved }
+    requires prepared { (body : List ℕ)
+        × IsPreparedAt K.wants_image K.Takes K.size_of D.room stables.old.items disks.old.items by next.replica.saved
+        body × ((was : MemberValue) → IsNumbered members.old.items by was
+        → Leads body was.replica.saved next.replica.saved) }
     requires room { 1 ≤ history.old.room }
     requires few { length history.old.events < event_limit + most_events }
     requires disks { AreDisksOf D.tells K.kept K.fits D.seen D.may_leave D.armings members.old.items stables.old.items

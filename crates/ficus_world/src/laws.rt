@@ -14,7 +14,7 @@ ghost use Rattle.ficus_world.specs.declared.member.Member.{Member as MemberValue
 
 use crate::World;
 use ficus_disk::{Disk, Pair};
-use ficus_keep::{Keep, KeepImages};
+use ficus_keep::Keep;
 use ficus_outside::Link;
 
 /// A world of the model has one world that stands for it, has so many of its events stored, and whose link has failed
@@ -44,7 +44,7 @@ pub fn pending_events_may_come()
 {}
 
 /// The disks of a world stand for what it stands for.
-pub fn disks_stand<K: Keep + KeepImages + Drop, L: Link + Drop, D: Disk>(
+pub fn disks_stand<K: Keep + Drop, L: Link + Drop, D: Disk>(
     world: &World<K, L>,
     disks: &Vec<Pair<D>>,
 )

@@ -11,7 +11,8 @@ ghost use Rattle.ficus_replica.specs.SavedOf.{fresh_saved};
 ghost use Rattle.ficus_saved.specs.Limits.{byte_limit, update_limit};
 ghost use Rattle.ficus_saved.specs.Saved.{FitsImage};
 ghost use Rattle.ficus_saved.specs.declared.saved.Saved.{Saved as SavedValue};
-ghost use Rattle.ficus_stable.specs.Holds.{Holds, HoldsOneOf};
+ghost use Rattle.ficus_leads.specs.Holds.{Holds};
+ghost use Rattle.ficus_stable.specs.Holds.{HoldsOneOf};
 ghost use Rattle.ficus_stable.specs.Stable.{IsReady};
 ghost use Rattle.ficus_runs.specs.Numbered.{IsNumbered};
 ghost use Rattle.ficus_runs.specs.Start.{restarts, start};
@@ -31,12 +32,12 @@ use crate::post::Post;
 use ficus_disk::{Disk, Pair};
 use ficus_faults::Failed;
 use ficus_ids::{Members, Memory};
-use ficus_keep::{Keep, KeepImages, MakeFault, StoreFault};
+use ficus_keep::{Keep, MakeFault, StoreFault};
 use ficus_model::{Event, History};
 use ficus_outside::Link;
 use ficus_replica::Replica;
 use ficus_saved::Saved;
-use ficus_stable::{Recovered, Stable};
+use ficus_stable::{Recovered, Stable, one_saved};
 use std::alloc::Global;
 use thiserror::Error;
 
@@ -69,12 +70,12 @@ impl From<Memory> for WorldFault {
 
 // The members that were opened, and the keepers of what they save.
 #[derive(Drop)]
-struct Opened<K: Keep + KeepImages + Drop> {
+struct Opened<K: Keep + Drop> {
     members: Vec<Member>,
     stables: Vec<Stable<K>>,
 }
 
-impl<K: Keep + KeepImages + Drop, L: Link + Drop> World<K, L> {
+impl<K: Keep + Drop, L: Link + Drop> World<K, L> {
     /// Makes a fresh volume on the disks: for each member what it saves before anything has happened.
     ///
     /// `Store` comes only where a disk of that replica failed; `Occupied` exactly where none failed when asked for its
@@ -143,6 +144,9 @@ impl<K: Keep + KeepImages + Drop, L: Link + Drop> World<K, L> {
         requires pairs { length disks.old.items ≡ 8 }
         requires link { L.posts link ≡ [] }
         ensures members { IfOk result (λ world. IsCount (length world.whole.members)) }
+        // There are as many members as the first of them says.
+        ensures counted { D.tells → IfOk result (λ world. (first : SavedValue)
+            → Opens K.kept D.seen disks.old.items first first 1 → length world.whole.members ≡ first.members) }
         ensures events { IfOk result (λ world. world.whole.events ≡ restarts (length world.whole.members)) }
         ensures faults { IfOk result (λ world. world.whole.post.faults ≡ L.faults link) }
         ensures disks { IfOk result (λ world. AreDisksOf D.tells K.kept K.fits D.seen D.may_leave D.armings
@@ -185,6 +189,7 @@ impl<K: Keep + KeepImages + Drop, L: Link + Drop> World<K, L> {
             AreRegular K.Regular D.seen disks.old.items (length world.whole.members) → (F : ℕ → FuseState)
             → AreAtRest F world.whole.members → FusesStand K.Keep D.Disk F world.whole.members disks.new.items) }
     {
+        one_saved();
         let Opened { members, stables } = open_all(alloc, disks)?;
         let count = members[0].replica.saved.members;
         let group = Group {
@@ -277,7 +282,7 @@ fn is_empty<D: Disk>(pair: &mut Pair<D>) -> Result<bool, Failed>
 }
 
 // Makes each member.
-fn make_all<K: Keep + KeepImages + Drop, D: Disk>(
+fn make_all<K: Keep + Drop, D: Disk>(
     alloc: Global,
     disks: &mut Vec<Pair<D>>,
     members: Members,
@@ -316,7 +321,7 @@ fn make_all<K: Keep + KeepImages + Drop, D: Disk>(
 }
 
 // Makes one member.
-fn make_one<K: Keep + KeepImages + Drop, D: Disk>(
+fn make_one<K: Keep + Drop, D: Disk>(
     alloc: Global,
     pair: &mut Pair<D>,
     me: u8,
@@ -354,7 +359,7 @@ fn make_one<K: Keep + KeepImages + Drop, D: Disk>(
 }
 
 // Opens the disks of each member, as many as the first one says.
-fn open_all<K: Keep + KeepImages + Drop, D: Disk>(
+fn open_all<K: Keep + Drop, D: Disk>(
     alloc: Global,
     disks: &mut Vec<Pair<D>>,
 ) -> Result<Opened<K>, WorldFault>
@@ -385,6 +390,7 @@ fn open_all<K: Keep + KeepImages + Drop, D: Disk>(
     ensures armings { Steady D.armings disks.old.items disks.new.items }
     ensures unfailing { D.tells_fuse → Unfailing D.fuse result disks.old.items disks.new.items }
 {
+    one_saved();
     let mut opened = none_opened(alloc)?;
     open_next(alloc, &mut opened, disks, 1)?;
     let count = opened.members[0].replica.saved.members.count();
@@ -395,7 +401,7 @@ fn open_all<K: Keep + KeepImages + Drop, D: Disk>(
 }
 
 // Room for all members.
-fn none_opened<K: Keep + KeepImages + Drop>(alloc: Global) -> Result<Opened<K>, Memory>
+fn none_opened<K: Keep + Drop>(alloc: Global) -> Result<Opened<K>, Memory>
     ensures members { IfOk result (λ opened. opened.members.items ≡ []) }
     ensures stables { IfOk result (λ opened. opened.stables.items ≡ []) }
 {
@@ -406,7 +412,7 @@ fn none_opened<K: Keep + KeepImages + Drop>(alloc: Global) -> Result<Opened<K>, 
 }
 
 // Opens the disks of the next member.
-fn open_next<K: Keep + KeepImages + Drop, D: Disk>(
+fn open_next<K: Keep + Drop, D: Disk>(
     alloc: Global,
     opened: &mut Opened<K>,
     disks: &mut Vec<Pair<D>>,
@@ -441,6 +447,7 @@ fn open_next<K: Keep + KeepImages + Drop, D: Disk>(
     let index = usize::from(number) - 1;
     let Recovered { stable, saved } = open_one(alloc, &mut disks[index], number)?;
     if !may_open_behind(&opened.members, &saved, number) {
+        one_saved();
         return Err(WorldFault::Image(number));
     }
     let fused = is_fused(&disks[index]);
@@ -461,7 +468,7 @@ fn may_open_behind(members: &[Member], saved: &Saved, number: u8) -> bool
 }
 
 // What the disks of one member hold.
-fn open_one<K: Keep + KeepImages + Drop, D: Disk>(
+fn open_one<K: Keep + Drop, D: Disk>(
     alloc: Global,
     pair: &mut Pair<D>,
     number: u8,
@@ -513,7 +520,7 @@ fn is_fused<D: Disk>(pair: &Pair<D>) -> bool
 }
 
 // Enters a member that is up.
-fn enter<K: Keep + KeepImages + Drop>(
+fn enter<K: Keep + Drop>(
     opened: &mut Opened<K>,
     stable: Stable<K>,
     saved: Saved,
@@ -546,7 +553,7 @@ fn restart_all(alloc: Global, members: Members) -> Result<History, Memory>
 }
 
 /// The law that what was made stands for the history without events. It does nothing when it runs.
-pub fn what_is_made_stands<K: Keep + KeepImages + Drop, D: Disk>()
+pub fn what_is_made_stands<K: Keep + Drop, D: Disk>()
     ensures { (volume : Volume) (disks : List (PairValue D)) → IsCount volume.members → 1 ≤ volume.ids
         → volume.ids ≤ update_limit → volume.bytes ≤ byte_limit → AreMade K.kept D.seen volume disks
         → StandsOn K.kept D.seen volume [] disks }

@@ -15,14 +15,14 @@ use crate::member::{Member, Rising, keep_down, rise};
 use crate::saving::reopen_at;
 use ficus_disk::{Disk, Pair};
 use ficus_ids::Refusal;
-use ficus_keep::{Keep, KeepImages, StoreFault};
+use ficus_keep::{Keep, StoreFault};
 use ficus_model::{Event, History};
 use ficus_outside::Link;
 use ficus_saved::Saved;
 use ficus_script::Answer;
 use std::alloc::Global;
 
-impl<K: Keep + KeepImages + Drop, L: Link + Drop> World<K, L> {
+impl<K: Keep + Drop, L: Link + Drop> World<K, L> {
     /// Restarts a member: its disks are opened again, and what they hold decides whether what was pending has happened.
     /// It no longer waits for an answer. All memory is taken before anything changes.
     pub(crate) fn restart<D: Disk>(

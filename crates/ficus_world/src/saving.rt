@@ -20,23 +20,24 @@ ghost use Rattle.ficus_world.specs.Kills.{AreLeft, RestsAt, SavesOn};
 use ficus_disk::{Disk, Pair};
 use ficus_faults::Failed;
 use ficus_ids::Memory;
-use ficus_keep::{Keep, KeepImages, StoreFault};
+use ficus_keep::{Keep, StoreFault};
 use ficus_saved::Saved;
 use ficus_stable::{Stable, one_saved};
 use std::alloc::Global;
 
-/// Takes all memory for what a member saves next. What the disks hold is as before, also where memory is refused.
-pub(crate) fn prepare_at<K: Keep + KeepImages + Drop, D: Disk>(
+/// Takes all memory for what a member saves next, by what is noted of its event. What the disks hold is as before, also where memory is refused.
+pub(crate) fn prepare_at<K: Keep + Drop, D: Disk>(
     stables: &mut Vec<Stable<K>>,
     disks: &mut Vec<Pair<D>>,
     by: u8,
     next: &Saved,
+    noted: &[u8],
 ) -> Result<(), Memory>
     requires member { IsMember (length stables.old.items) by }
     requires pair { IsMember (length disks.old.items) by }
     requires fits { FitsImage next.now }
-    ensures prepared { OnOk result (IsPreparedAt K.Takes K.size_of D.room stables.new.items disks.new.items by
-        next.now) }
+    ensures prepared { OnOk result (IsPreparedAt K.wants_image K.Takes K.size_of D.room stables.new.items
+        disks.new.items by next.now noted.now) }
     ensures disks { (members : List MemberValue)
         → AreDisksOf D.tells K.kept K.fits D.seen D.may_leave D.armings members stables.old.items disks.old.items
         → AreDisksOf D.tells K.kept K.fits D.seen D.may_leave D.armings members stables.new.items disks.new.items }
@@ -46,11 +47,11 @@ pub(crate) fn prepare_at<K: Keep + KeepImages + Drop, D: Disk>(
     ensures count { length stables.new.items ≡ length stables.old.items }
 {
     let index = by as usize - 1;
-    stables[index].prepare(&mut disks[index], next)
+    stables[index].prepare(&mut disks[index], next, noted)
 }
 
 /// Saves what was prepared. Takes no memory.
-pub(crate) fn commit_at<K: Keep + KeepImages + Drop, D: Disk>(
+pub(crate) fn commit_at<K: Keep + Drop, D: Disk>(
     stables: &mut Vec<Stable<K>>,
     disks: &mut Vec<Pair<D>>,
     by: u8,
@@ -58,9 +59,10 @@ pub(crate) fn commit_at<K: Keep + KeepImages + Drop, D: Disk>(
 ) -> Result<(), Failed>
     requires member { IsMember (length stables.old.items) by }
     requires pair { IsMember (length disks.old.items) by }
-    requires prepared { IsPreparedAt K.Takes K.size_of D.room stables.old.items disks.old.items by next.now }
-    requires follows { D.tells → (stable : StableValue K) (pair : PairValue D) → IsNumbered stables.old.items by stable
-        → IsNumbered disks.old.items by pair → MayFollow K.kept K.fits D.seen D.may_leave stable pair next.now }
+    requires prepared { (body : List ℕ)
+        × IsPreparedAt K.wants_image K.Takes K.size_of D.room stables.old.items disks.old.items by next.now body
+        × (D.tells → (stable : StableValue K) (pair : PairValue D) → IsNumbered stables.old.items by stable
+        → IsNumbered disks.old.items by pair → MayFollow K.kept K.fits D.seen D.may_leave stable pair next.now body) }
     ensures disks { (old new : List MemberValue) → SavesAt by next.now result old new
         → AreDisksOf D.tells K.kept K.fits D.seen D.may_leave D.armings old stables.old.items disks.old.items
         → AreDisksOf D.tells K.kept K.fits D.seen D.may_leave D.armings new stables.new.items disks.new.items }
@@ -77,7 +79,7 @@ pub(crate) fn commit_at<K: Keep + KeepImages + Drop, D: Disk>(
 }
 
 /// Opens the disks of a member again, and reads what they then hold.
-pub(crate) fn reopen_at<K: Keep + KeepImages + Drop, D: Disk>(
+pub(crate) fn reopen_at<K: Keep + Drop, D: Disk>(
     alloc: Global,
     stables: &mut Vec<Stable<K>>,
     disks: &mut Vec<Pair<D>>,
@@ -122,7 +124,7 @@ pub(crate) fn reopen_at<K: Keep + KeepImages + Drop, D: Disk>(
 }
 
 /// Arms both disks of a member that has a fuse on both. What they hold is as before.
-pub(crate) fn arm_at<K: Keep + KeepImages + Drop, D: Disk>(
+pub(crate) fn arm_at<K: Keep + Drop, D: Disk>(
     disks: &mut Vec<Pair<D>>,
     by: u8,
     calls: u32,

@@ -3,10 +3,10 @@ ghost use Rattle.ficus_world.specs.Kills.{IsSettled};
 
 use crate::World;
 use ficus_disk::{Disk, Pair};
-use ficus_keep::{Keep, KeepImages};
+use ficus_keep::Keep;
 use ficus_outside::Link;
 
-impl<K: Keep + KeepImages + Drop, L: Link + Drop> World<K, L> {
+impl<K: Keep + Drop, L: Link + Drop> World<K, L> {
     /// The law that whatever a crash leaves of a world's disks holds what each member has saved, or what is pending. It
     /// does nothing when it runs.
     pub fn settled<D: Disk>(&self, disks: &Vec<Pair<D>>)

@@ -11,25 +11,26 @@ use crate::saving::arm_at;
 use ficus_commands::{Change, Look};
 use ficus_disk::{Disk, Pair};
 use ficus_ids::{Id, Memory, Refusal};
-use ficus_keep::{Keep, KeepImages};
+use ficus_keep::Keep;
 use ficus_model::{Event, Op};
 use ficus_outside::Link;
+use ficus_record::{Record, encode_change, encode_record};
 use ficus_script::{Answer, Command};
 use std::alloc::Global;
 
-impl<K: Keep + KeepImages + Drop, L: Link + Drop> World<K, L> {
+impl<K: Keep + Drop, L: Link + Drop> World<K, L> {
     ghost use Rattle.ficus_model.specs.Lawful.{Volume};
     ghost use Rattle.ficus_commands.specs.Change.{HasFitPaths};
-    ghost use Rattle.ficus_script.specs.Command.{IsCommand};
+    ghost use Rattle.ficus_script.specs.Command.{IsCommand, IsStep};
     ghost use Rattle.ficus_script.specs.declared.command.Command.TheVariants.{Alike as Compares, Change as Changes, Collect as Collects, Look as Looks, Pull as Pulls, Restart as Restarts, Stop as StopsDisks};
     ghost use Rattle.ficus_runs.specs.ModelWorld.{ModelWorld};
-    ghost use Rattle.ficus_runs.specs.Run.{CommandMayWantMemory, IsStep};
+    ghost use Rattle.ficus_runs.specs.Run.{CommandMayWantMemory, OnlyLooks};
     ghost use Rattle.ficus_world.specs.Follows.{FollowsOn, StopsOn, TellsFor};
-    ghost use Rattle.ficus_world.specs.Stepped.{ComesTo, CutOn, LookComesTo, OnlyLooks, Stepped};
+    ghost use Rattle.ficus_world.specs.Stepped.{ComesTo, CutOn, LookComesTo, Stepped};
     ghost use Rattle.ficus_world.specs.Moves.{HasCollected};
     ghost use Rattle.ficus_world.specs.World.{WorldStandsFor};
 
-    /// Carries out one command that is no sweep, and answers it. What a member saves is on its disks before it is
+    /// Carries out one command that is one step, and answers it. What a member saves is on its disks before it is
     /// answered; where they fail, the answer is `Store`, the member is down, and what it would have saved is pending until
     /// it is restarted. After `Memory` the world is as before, but that a pull keeps what it has done: its ask, and the
     /// serving of it.
@@ -128,6 +129,7 @@ impl<K: Keep + KeepImages + Drop, L: Link + Drop> World<K, L> {
             Command::Restart { by } => self.restart(alloc, disks, *by),
             Command::Stop { by, calls, pick } => self.stop(disks, *by, *calls, *pick),
             Command::Sweep { .. } => unreachable!(),
+            Command::Why { .. } => unreachable!(),
         }
     }
 
@@ -157,11 +159,12 @@ impl<K: Keep + KeepImages + Drop, L: Link + Drop> World<K, L> {
         let number = replica.next_id();
         let next = replica.change(alloc, change)?;
         let answer = answer(number, &next.op);
+        let noted = encode_change(alloc, &next.op)?;
         let next = Pending {
             replica: next.replica,
             event: Event::Update { by, op: next.op },
         };
-        self.save(disks, by, next)?;
+        self.save(disks, by, next, &noted)?;
         Ok(answer)
     }
 
@@ -197,11 +200,12 @@ impl<K: Keep + KeepImages + Drop, L: Link + Drop> World<K, L> {
             entries: collected.entries,
             files: collected.files,
         };
+        let noted = encode_record(alloc, &Record::Collect, self.members())?;
         let next = Pending {
             replica: collected.replica,
             event: Event::Collect { by },
         };
-        self.save(disks, by, next)?;
+        self.save(disks, by, next, &noted)?;
         Ok(answer)
     }
 

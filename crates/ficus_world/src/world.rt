@@ -2,7 +2,7 @@ ghost use Rattle.std.specs.Prelude.{◌≡◌, ◌↔◌, length, IsSome, IfSome
 
 use crate::group::Group;
 use ficus_ids::Members;
-use ficus_keep::{Keep, KeepImages};
+use ficus_keep::Keep;
 use ficus_model::History;
 use ficus_outside::Link;
 use ficus_replica::Replica;
@@ -20,12 +20,12 @@ pub const DEFAULT_BYTES: u32 = BYTE_LIMIT;
 /// behind each posted message, and for each member the keeper of what it saves. A world's disks are handed to its
 /// calls.
 #[derive(Drop)]
-pub struct World<K: Keep + KeepImages + Drop, L: Link + Drop> {
+pub struct World<K: Keep + Drop, L: Link + Drop> {
     pub(crate) group: Group<L>,
     pub(crate) stables: Vec<Stable<K>>,
 }
 
-impl<K: Keep + KeepImages + Drop, L: Link + Drop> Model for World<K, L> {
+impl<K: Keep + Drop, L: Link + Drop> Model for World<K, L> {
     ghost use Rattle.std.specs.Prelude.{◌≡◌, length};
     ghost use Rattle.ficus_world.specs.World.{Backed};
 
@@ -39,7 +39,7 @@ impl<K: Keep + KeepImages + Drop, L: Link + Drop> Model for World<K, L> {
     ghost invariant = { λ w. length w.stables.items ≡ length w.group.members };
 }
 
-impl<K: Keep + KeepImages + Drop, L: Link + Drop> World<K, L> {
+impl<K: Keep + Drop, L: Link + Drop> World<K, L> {
     ghost use Rattle.ficus_world.specs.World.{IsReplica, IsUpIn};
 
     /// The events of this run.

@@ -3,7 +3,7 @@ use Rattle.std.specs.Prelude.{◌≡◌, ◌≢◌, ◌⊎◌, ◌≤◌, ℕ, L
 use Rattle.ficus_model.specs.Lawful.{Volume}
 use Rattle.ficus_model.specs.declared.event.Event.{Event}
 use Rattle.ficus_saved.specs.declared.saved.Saved.{Saved}
-use Rattle.ficus_store.specs.Slots.{kept_in}
+use Rattle.ficus_journal.specs.Logs.{kept_in}
 use Rattle.ficus_world.specs.Kills.{AllRest, OthersRest}
 use Rattle.ficus_world.specs.Opening.{AreSynced, IsFirstBad, Opens, SeenSame, StandsOn, Steady}
 use Rattle.ficus_top.specs.Codes.{IsIdleCode, IsRefusalCode}
@@ -31,8 +31,8 @@ pub record StaysUnopened {S K D : Type 0} (seen : Seen S K D) (status : Status) 
 -- replica whose disks are those of no world, and comes wherever there is one, unless a fault comes before; no disk has
 -- failed then, and it doesn't come over disks that stand for a lawful history. Code 6 names a member, and none behind
 -- the first replica whose disks are those of no world. Where no command was carried out nothing is written. A script is
--- answered over disks that stand for a lawful history, unless the outside fails or memory is wanted; then nothing is
--- written on the pairs of no member. Where nothing was unsynced at first, what a kill at any moment leaves is known.
+-- answered over disks that stand for a lawful history, unless the outside fails or memory is wanted. On the pairs of no
+-- member nothing is written in any case. Where nothing was unsynced at first, what a kill at any moment leaves is known.
 pub record DoesRun {S K D : Type 0} (seen : Seen S K D) (status : Status) : Type 0 where
   pub codes : IsRunCode status.code
   pub reads : seen.source.tells → ReadsScript seen status
@@ -47,9 +47,8 @@ pub record DoesRun {S K D : Type 0} (seen : Seen S K D) (status : Status) : Type
       → status.code ≡ 6 → status.replica ≤ r
   pub member : seen.disk.tells → (first : Saved) → Opens kept_in seen.disk.seen (disks_before seen) first first 1
       → status.code ≡ 6 → status.replica ≤ first.members
-  pub others : seen.disk.tells → (volume : Volume) (H : List Event)
-      → StandsOn kept_in seen.disk.seen volume H (disks_before seen)
-      → OthersRest seen.disk volume.members (disks_before seen) (disks_after seen)
+  pub others : seen.disk.tells → (first : Saved) → Opens kept_in seen.disk.seen (disks_before seen) first first 1
+      → OthersRest seen.disk first.members (disks_before seen) (disks_after seen)
   pub answers : seen.source.tells → seen.disk.tells → (volume : Volume) (H : List Event)
       → StandsOn kept_in seen.disk.seen volume H (disks_before seen)
       → AnswersScript seen status (StaysUnopened seen status) volume H

@@ -1,5 +1,4 @@
-use Rattle.std.proofs.Common.{◌≡◌, ℕ, ◌-◌, List, ◌∷◌, sym, subst}
-use Rattle.std.specs.Prelude.{drop, length, take}
+use Rattle.std.proofs.Common.{ℕ, List, sym, subst}
 use Rattle.std.proofs.lemmas.Result.{err_from_is_err_and}
 use Rattle.ficus_leads.specs.Holds.{Leads}
 use Rattle.ficus_leads.proofs.Splitting.{IsLedTo, first_and_rest, next_leads, one_more_led, same_fault}

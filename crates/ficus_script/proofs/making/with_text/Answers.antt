@@ -1,4 +1,5 @@
 use Rattle.std.proofs.lemmas.Result.{err_from_is_err_and}
+use Rattle.ficus_script.proofs.CommandLaws.{spelled_step}
 use Rattle.ficus_script.proofs.making.with_text.Goals as goal
 
 pub returns-in_default : goal.returns-in_default
@@ -10,13 +11,13 @@ pub returns-in_err-path : goal.returns-in_err-path
 returns-in_err-path c =
     let fault = err_from_is_err_and c.from_residual.result c.from_residual.ensures.1 in
     let is = c.in-Some.ensures c.args.by c.args.path.now c.requires.text.0 c.requires.replica c.requires.path in
-    rw (fault.1, fault.2, c.requires.text.1) (_, is.0, is.1)
+    rw (fault.1, fault.2, c.requires.text.1) (spelled_step _ (λ may. may) (_, is.0, is.1))
 
 pub returns-in_err-text : goal.returns-in_err-text
 returns-in_err-text c =
     let fault = err_from_is_err_and c.from_residual-in_err-text.result c.from_residual-in_err-text.ensures.1 in
     let is = c.in-Some.ensures c.args.by c.args.path.now c.requires.text.0 c.requires.replica c.requires.path in
-    rw (fault.1, fault.2, c.requires.text.1) (_, is.0, is.1)
+    rw (fault.1, fault.2, c.requires.text.1) (spelled_step _ (λ may. may) (_, is.0, is.1))
 
 pub returns : goal.returns
 returns c =

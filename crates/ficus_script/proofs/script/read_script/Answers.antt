@@ -1,16 +1,8 @@
-use Rattle.std.proofs.Common.{Err, refl, ap}
-use Rattle.ficus_script.proofs.ScriptLaws.{fault_is, no_bad_line, one_bad_line}
-use Rattle.ficus_script.specs.declared.fault.ScriptFault.TheVariants.{BadLine}
+use Rattle.std.proofs.lemmas.Result.{IfOk-weaker}
+use Rattle.ficus_script.proofs.ScriptLaws.{script_of}
 use Rattle.ficus_script.proofs.script.read_script.Goals as goal
 
-pub returns-in-Ok-clause-no_line : goal.returns-in-Ok-clause-no_line
-returns-in-Ok-clause-no_line c = λ line first. absurd (no_bad_line _ _ line c.in-Ok.ensures.script first)
-
-pub returns-in-Err-BadLine-clause-no_line : goal.returns-in-Err-BadLine-clause-no_line
-returns-in-Err-BadLine-clause-no_line c = λ line first.
-    let named = rw c.in-Err-BadLine.field-0-is at c.in-Err-BadLine.ensures.bad_line in
-    ap (λ number. Err (BadLine number)) (one_bad_line _ _ line (named c.in-Err-BadLine.line refl) first)
-
-pub returns-in-Err-Memory-clause-no_line : goal.returns-in-Err-Memory-clause-no_line
-returns-in-Err-Memory-clause-no_line c = λ line first.
-    ap Err (fault_is _ _ line c.fault_without_memory.ensures.bad_line c.fault_without_memory.ensures.memory first)
+pub returns-clause-script : goal.returns-clause-script
+returns-clause-script c =
+    IfOk-weaker c.read_lines.result _ _ (λ commands lines. script_of c.args.bytes.now commands.items lines)
+    c.read_lines.ensures.script

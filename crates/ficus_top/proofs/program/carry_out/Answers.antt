@@ -3,7 +3,7 @@ use Rattle.ficus_words.specs.declared.mode.Mode.{Mode}
 use Rattle.ficus_top.specs.Program.{DoesIn}
 use Rattle.ficus_top.specs.Seen.{Seen}
 use Rattle.ficus_top.specs.declared.status.Status.{Status}
-use Rattle.ficus_top.proofs.Doing.{EndedAsAny, any_of, armed_nothing, init_ends, init_of, put_nothing, replay_of, run_of, seen_of, status_of}
+use Rattle.ficus_top.proofs.Doing.{EndedAsAny, any_of, armed_nothing, init_ends, init_of, joined_ends, put_nothing, replay_of, run_of, seen_of, status_of, volumes_of}
 use Rattle.ficus_top.proofs.program.carry_out.Goals as goal
 
 -- what is done in this mode is told by the status
@@ -76,4 +76,18 @@ returns-in-Replay g c =
           c.replay.ensures.occupied c.replay.ensures.occupied_comes c.replay.ensures.held c.replay.ensures.spared
           c.replay.ensures.rests c.replay.ensures.partly c.replay.ensures.member c.replay.ensures.others;
       ends = any_of seen c.replay.result any;
+    })
+
+pub returns-in-Volumes : goal.returns-in-Volumes
+returns-in-Volumes g c =
+    let seen = seen_of g.S.Source c.args.input.now c.join.new.input g.K.Sink c.args.output.now c.join.new.output
+    g.D.Disk
+    c.args.disks.now c.args.disks.now in
+    let ended = c.join.ensures in
+    in_mode seen (status_of c.join.result) c.in-Volumes.is c.of-in-Volumes.ensures (record {
+      does = volumes_of seen c.join.result ended.kinds refl ended.read_fault ended.read_fault_comes ended.write_fault
+          ended.write_fault_comes ended.idle ended.source_counted ended.sink_counted c.in-Volumes.size
+          c.in-Volumes.count ended.takes ended.answers ended.prefix;
+      ends = joined_ends seen c.join.result ended.kinds refl ended.read_fault ended.read_fault_comes ended.write_fault
+          ended.write_fault_comes ended.idle ended.source_counted ended.sink_counted;
     })

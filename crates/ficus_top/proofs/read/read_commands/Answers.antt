@@ -1,4 +1,5 @@
 use Rattle.std.proofs.Common.{Err, ap, arith}
+use Rattle.ficus_script.specs.Script.{IsScriptLine}
 use Rattle.ficus_top.proofs.Lines.{commands_within, bad_line_within}
 use Rattle.ficus_top.proofs.read.read_commands.Goals as goal
 
@@ -14,4 +15,4 @@ pub overflow_cast-result : goal.overflow_cast-result
 overflow_cast-result g c =
     let line = c.in-Err-BadLine.line in
     let bad = c.in-Err-BadLine.ensures.bad_line line (ap Err c.in-Err-BadLine.field-0-is) in
-    omega (arith, bad_line_within c.deref.result.now line bad, c.in_ok-bytes.ensures.limit)
+    omega (arith, bad_line_within IsScriptLine c.deref.result.now line bad, c.in_ok-bytes.ensures.limit)

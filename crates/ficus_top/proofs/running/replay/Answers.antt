@@ -1,12 +1,13 @@
-use Rattle.std.proofs.Common.{[], ◌∙◌, arith}
+use Rattle.std.proofs.Common.{[], subst, ◌∙◌, arith}
 use Rattle.std.proofs.lemmas.Result.{IfErr-weaker, err_from_is_err_and, on_ok_weaker}
 use Rattle.ficus_world.specs.declared.opening.WorldFault.TheVariants.{Occupied, Store}
+use Rattle.ficus_world.specs.Kills.{OthersRest}
 use Rattle.ficus_world.proofs.Kills.{all_rest_none}
 use Rattle.ficus_world.proofs.Making.{made_rests, none_in_part}
 use Rattle.ficus_world.proofs.OpenedWorlds.{first_opens}
 use Rattle.ficus_world.proofs.Others.{all_others_rest, others_rest_then, stay_rests}
 use Rattle.ficus_world.proofs.Steadies.{fault_behind, steady_none, steady_trans}
-use Rattle.ficus_store.specs.Slots.{kept_in}
+use Rattle.ficus_journal.specs.Logs.{kept_in}
 use Rattle.ficus_top.specs.Making.{volume_of}
 use Rattle.ficus_top.proofs.Answering.{answers_of, front_of}
 use Rattle.ficus_top.proofs.Earlier.{ends_since, front_since}
@@ -151,4 +152,8 @@ returns-clause-others g c = λ tells.
     others_rest_then g.D.Disk c.args.size.members g.met.D.Disk.left_earlier c.args.disks.now.items
     c.make.new.disks.items c.run_on.new.disks.items
     (stay_rests g.D.Disk c.args.size.members c.args.disks.now.items c.make.new.disks.items c.make.ensures.others)
-    (c.run_on.ensures.others tells (volume_of c.args.size) [] (c.in_ok-make.ensures.made tells))
+    (let first =
+    first_opens kept_in g.D.Disk.seen (volume_of c.args.size) [] c.make.new.disks.items (c.in_ok-make.ensures.made tells)
+    (omega (arith, c.requires.pairs, c.make.ensures.unarmed.count)) in
+    subst (λ n. OthersRest g.D.Disk n c.make.new.disks.items c.run_on.new.disks.items) first.2
+    (c.run_on.ensures.others tells first.0 first.1))

@@ -35,6 +35,6 @@ returns-in_err-commands-clause-rests g c =
     rw given.1 (λ idle. all_rest_none g.D.Disk c.args.disks.now.items)
 
 pub returns-in_err-commands-clause-others : goal.returns-in_err-commands-clause-others
-returns-in_err-commands-clause-others g c = λ told volume H on.
-    all_others_rest g.D.Disk volume.members c.args.disks.now.items c.args.disks.now.items
+returns-in_err-commands-clause-others g c = λ told first opens.
+    all_others_rest g.D.Disk first.members c.args.disks.now.items c.args.disks.now.items
     (all_rest_none g.D.Disk c.args.disks.now.items)

@@ -14,7 +14,7 @@ use Rattle.ficus_top.proofs.Ends.{ends_behind, front_ends_behind, front_ends_whe
 use Rattle.ficus_top.proofs.Resting.{rests_open}
 use Rattle.ficus_top.proofs.Stored.{handed_on, told_on}
 use Rattle.ficus_kills.proofs.Opening.{opened_neighbours}
-use Rattle.ficus_store.specs.Slots.{kept_in}
+use Rattle.ficus_journal.specs.Logs.{kept_in}
 use Rattle.ficus_top.specs.Headline.{fuses_of}
 use Rattle.ficus_top.proofs.Kills.{front_killed_from, killed_from}
 use Rattle.ficus_top.proofs.running.run_on.Goals as goal
@@ -122,21 +122,21 @@ returns-in_err-world-clause-member g c = λ tells r is.
     (handed_on c.open.result c.from_residual.result _ _ c.in_err-world.was given.1 given.2 (Store r) is)
 
 pub returns-in_err-world-clause-others : goal.returns-in_err-world-clause-others
-returns-in_err-world-clause-others g c = λ told volume H on.
-    all_others_rest g.D.Disk volume.members c.args.disks.now.items c.open.new.disks.items c.open.ensures.rests
+returns-in_err-world-clause-others g c = λ told first opens.
+    all_others_rest g.D.Disk first.members c.args.disks.now.items c.open.new.disks.items c.open.ensures.rests
 
 pub returns-in_err-answer_on-clause-others : goal.returns-in_err-answer_on-clause-others
-returns-in_err-answer_on-clause-others g c = λ told volume H on.
-    let stands = opened_stands H _ c.new.ensures.total (c.in_ok-world.ensures.stands told volume H on) in
-    stay_rests g.D.Disk volume.members c.args.disks.now.items c.answer_on.new.disks.items
-    (subst (λ n. OthersStay n c.args.disks.now.items c.answer_on.new.disks.items) stands.members
+returns-in_err-answer_on-clause-others g c = λ told first opens.
+    stay_rests g.D.Disk first.members c.args.disks.now.items c.answer_on.new.disks.items
+    (subst (λ n. OthersStay n c.args.disks.now.items c.answer_on.new.disks.items)
+    (c.in_ok-world.ensures.counted told first opens)
     (others_then (length c.in_ok-world.world.whole.members) c.args.disks.now.items c.open.new.disks.items
     c.answer_on.new.disks.items c.in_ok-world.ensures.others c.answer_on.ensures.others))
 
 pub returns-clause-others : goal.returns-clause-others
-returns-clause-others g c = λ told volume H on.
-    let stands = opened_stands H _ c.new.ensures.total (c.in_ok-world.ensures.stands told volume H on) in
-    stay_rests g.D.Disk volume.members c.args.disks.now.items c.answer_on.new.disks.items
-    (subst (λ n. OthersStay n c.args.disks.now.items c.answer_on.new.disks.items) stands.members
+returns-clause-others g c = λ told first opens.
+    stay_rests g.D.Disk first.members c.args.disks.now.items c.answer_on.new.disks.items
+    (subst (λ n. OthersStay n c.args.disks.now.items c.answer_on.new.disks.items)
+    (c.in_ok-world.ensures.counted told first opens)
     (others_then (length c.in_ok-world.world.whole.members) c.args.disks.now.items c.open.new.disks.items
     c.answer_on.new.disks.items c.in_ok-world.ensures.others c.answer_on.ensures.others))

@@ -4,8 +4,9 @@ use Rattle.ficus_words.specs.Given.{Texts, texts_of}
 use Rattle.ficus_words.proofs.given.read_given.Goals as goal
 
 same_texts : (one other : Texts) → one.mode ≡ other.mode → one.root ≡ other.root → one.members ≡ other.members →
-    one.ids ≡ other.ids → one.bytes ≡ other.bytes → one.seed ≡ other.seed → one.steps ≡ other.steps → one ≡ other
-same_texts one other mode root members ids bytes seed steps = λ i. record {
+    one.ids ≡ other.ids → one.bytes ≡ other.bytes → one.seed ≡ other.seed → one.steps ≡ other.steps →
+    one.volumes ≡ other.volumes → one ≡ other
+same_texts one other mode root members ids bytes seed steps volumes = λ i. record {
   mode = mode i;
   root = root i;
   members = members i;
@@ -13,6 +14,7 @@ same_texts one other mode root members ids bytes seed steps = λ i. record {
   bytes = bytes i;
   seed = seed i;
   steps = steps i;
+  volumes = volumes i;
 }
 
 pub returns-in-Ok-clause-given : goal.returns-in-Ok-clause-given
@@ -30,7 +32,8 @@ returns-in-Ok-clause-given c =
           (c.get_str-in-Ok-3.ensures ∙ value_found m words got.0 (codes "ids") rows got.1.1)
           (c.get_str-in-Ok-4.ensures ∙ value_found m words got.0 (codes "bytes") rows got.1.1)
           (c.get_str-in-Ok-5.ensures ∙ value_found m words got.0 (codes "seed") rows got.1.1)
-          (c.get_str-in-Ok-6.ensures ∙ value_found m words got.0 (codes "steps") rows got.1.1),
+          (c.get_str-in-Ok-6.ensures ∙ value_found m words got.0 (codes "steps") rows got.1.1)
+          (c.get_str-in-Ok-7.ensures ∙ value_found m words got.0 (codes "volumes") rows got.1.1),
     )
 
 pub returns-in-Err-clause-usage : goal.returns-in-Err-clause-usage

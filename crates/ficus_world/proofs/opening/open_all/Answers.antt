@@ -79,7 +79,7 @@ returns-in_err-open_next-2-clause-image g c = λ tells r is.
     (c.loop-before.invariant.stables ∙ sym c.loop-before.invariant.counted) c.loop-before.invariant.opened
     c.loop-before.invariant.disks tells in
     subst (IsFirstBad g.K.Keep.kept g.D.Disk.seen c.args.disks.now.items) (sym bad.0)
-    (first_bad_more g.K.Keep.kept g.D.Disk.seen c.args.disks.now.items c.loop-before.disks.items
+    (first_bad_more g.K.Keep.kept g.D.Disk.seen c.one_saved.ensures c.args.disks.now.items c.loop-before.disks.items
     c.loop-before.opened.members.items c.loop-before.before c.count-count.result
     (c.loop-before.invariant.same tells) c.loop-before.invariant.opened held c.loop-before.invariant.counted
     c.loop-before.auto.before c.loop-before-test.true
@@ -295,7 +295,7 @@ returns-in_err-open_next-2-clause-member g c = λ tells r is first opens.
     (c.loop-before.invariant.same tells) c.loop-before.invariant.opened held c.loop-before.invariant.counted
     c.loop-before.auto.before c.loop-before-test.true
     (omega (arith, c.loop-before-test.true, c.loop-before.invariant.faults.count, c.requires.pairs, c.count-count.ensures.value, c.count-count.ensures.valid.at_most))
-    c.loop-before.invariant.says first opens in
+    c.loop-before.invariant.says c.one_saved.ensures first opens in
     omega (arith, named, within)
 
 pub returns-in_err-open_next-2-clause-earlier : goal.returns-in_err-open_next-2-clause-earlier

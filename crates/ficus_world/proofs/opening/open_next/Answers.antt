@@ -5,12 +5,12 @@ use Rattle.std.proofs.lemmas.Result.{err_from_is_err_and}
 use Rattle.ficus_disk.specs.declared.pair.Pair.{Pair}
 use Rattle.ficus_runs.specs.Numbered.{IsNumbered}
 use Rattle.ficus_world.specs.Disks.{are_fused}
-use Rattle.ficus_world.specs.Opening.{IsBad}
+use Rattle.ficus_world.specs.Opening.{IsAtFault, IsBad}
 use Rattle.ficus_world.specs.declared.member.Member.{Member as MemberValue}
-use Rattle.ficus_world.specs.declared.opening.WorldFault.TheVariants.{Store}
+use Rattle.ficus_world.specs.declared.opening.WorldFault.TheVariants.{Image, Store}
 use Rattle.ficus_world.proofs.Faults.{handed_on, same_err, same_image}
-use Rattle.ficus_world.proofs.Openings.{disks_more, held_of, holds_same, none_may, one_more, opened_more}
-use Rattle.ficus_world.proofs.Steadies.{number_at, steady_one}
+use Rattle.ficus_world.proofs.Openings.{disks_more, held_of, holds_same, none_held, none_may, one_more, opened_more}
+use Rattle.ficus_world.proofs.Steadies.{fault_set, number_at, steady_none, steady_one}
 use Rattle.ficus_world.proofs.Unarmed.{unfailing_set}
 use Rattle.ficus_world.proofs.Kills.{all_rest_one}
 use Rattle.ficus_world.proofs.Others.{others_one}
@@ -35,7 +35,7 @@ returns-then-not-may_open_behind-clause-image g c = λ tells r is.
     (c.open_one.ensures.same tells) (c.in_ok-stable.ensures.ready tells).holds in
     let bad =
     none_may g.K.Keep.kept g.D.Disk.seen c.args.opened.now.members.items c.args.disks.now.items c.requires.opened held
-    c.args.number c.index_mut.result.now c.in_ok-stable.field-0.saved at c.in_ok-stable.ensures.fits holds c.requires.next
+    c.one_saved.ensures c.args.number c.index_mut.result.now c.in_ok-stable.field-0.saved at holds c.requires.next
     c.may_open_behind.result c.if-not-may_open_behind.true
     (λ none. c.may_open_behind.ensures.first (c.deref.ensures.value ∙ none))
     (λ first one. c.may_open_behind.ensures.behind first
@@ -214,3 +214,60 @@ returns-in_err-stable-clause-named g c = λ r is.
     (c.open_one.ensures.failed r
     (handed_on c.open_one.result c.from_residual.result given.0 c.in_err-stable.field-0.0 (Store r) c.in_err-stable.was
     given.1 given.2 is)).0
+
+pub returns-in_err-stable-clause-image : goal.returns-in_err-stable-clause-image
+returns-in_err-stable-clause-image g c = λ tells r is.
+    let given = err_from_is_err_and c.from_residual.result c.from_residual.ensures.1 in
+    let index : c.from-index.result - 1 + 1 ≡ c.args.number =
+    omega (arith, c.from-index.ensures, c.requires.pair.at_least) in
+    let at = subst (λ k. IsNumbered c.args.disks.now.items k c.index_mut.result.now) index
+    (number_at c.args.disks.now.items (c.from-index.result - 1) c.index_mut.result.now
+    (omega (arith, c.from-index.ensures, c.requires.pair.at_least, c.requires.pair.at_most)) c.index_mut.ensures.value)
+    in
+    let found = c.open_one.ensures.image tells r
+    (handed_on c.open_one.result c.from_residual.result given.0 c.in_err-stable.field-0.0 (Image r) c.in_err-stable.was
+    given.1 given.2 is) in (
+      found.0,
+      subst (IsBad g.K.Keep.kept g.D.Disk.seen c.args.disks.now.items) (sym found.0)
+          (none_held g.K.Keep.kept g.D.Disk.seen c.args.disks.now.items c.args.number c.index_mut.result.now at found.1),
+    )
+
+pub returns-in_err-stable-clause-failed : goal.returns-in_err-stable-clause-failed
+returns-in_err-stable-clause-failed g c = λ r is.
+    let given = err_from_is_err_and c.from_residual.result c.from_residual.ensures.1 in
+    let at = number_at c.args.disks.now.items (c.from-index.result - 1) c.index_mut.result.now
+    (omega (arith, c.from-index.ensures, c.requires.pair.at_least, c.requires.pair.at_most)) c.index_mut.ensures.value
+    in
+    let failed = c.open_one.ensures.failed r
+    (handed_on c.open_one.result c.from_residual.result given.0 c.in_err-stable.field-0.0 (Store r) c.in_err-stable.was
+    given.1 given.2 is) in
+    let same = failed.0 in
+    let number : c.from-index.result - 1 + 1 ≡ r =
+    omega (arith, same, c.from-index.ensures, c.requires.pair.at_least) in
+    subst (IsAtFault g.D.Disk.faults c.args.disks.now.items _) number
+    (fault_set g.D.Disk.faults c.args.disks.now.items c.args.disks.now.items (c.from-index.result - 1)
+    c.index_mut.result.now c.open_one.new.pair (steady_none g.D.Disk.faults c.args.disks.now.items) at failed.1)
+
+pub returns-in_err-stable-clause-same : goal.returns-in_err-stable-clause-same
+returns-in_err-stable-clause-same g c = λ tells.
+    steady_one g.D.Disk.seen c.args.disks.now.items (c.from-index.result - 1) c.index_mut.result.now c.open_one.new.pair
+    (omega (arith, c.from-index.ensures, c.requires.pair.at_least, c.requires.pair.at_most)) c.index_mut.ensures.value
+    (c.open_one.ensures.same tells)
+
+pub returns-in_err-stable-clause-armings : goal.returns-in_err-stable-clause-armings
+returns-in_err-stable-clause-armings g c =
+    steady_one g.D.Disk.armings c.args.disks.now.items (c.from-index.result - 1) c.index_mut.result.now
+    c.open_one.new.pair (omega (arith, c.from-index.ensures, c.requires.pair.at_least, c.requires.pair.at_most))
+    c.index_mut.ensures.value c.open_one.ensures.armings
+
+pub returns-in_err-stable-clause-unfailing : goal.returns-in_err-stable-clause-unfailing
+returns-in_err-stable-clause-unfailing g c = λ fused.
+    let given = err_from_is_err_and c.from_residual.result c.from_residual.ensures.1 in
+    let at = number_at c.args.disks.now.items (c.from-index.result - 1) c.index_mut.result.now
+    (omega (arith, c.from-index.ensures, c.requires.pair.at_least, c.requires.pair.at_most)) c.index_mut.ensures.value
+    in
+    unfailing_set g.D.Disk.fuse c.open_one.result c.from_residual.result c.args.disks.now.items c.args.disks.now.items
+    (c.from-index.result - 1) c.index_mut.result.now c.open_one.new.pair (λ none. none) at
+    (c.open_one.ensures.unfailing fused)
+    (λ r is. handed_on c.open_one.result c.from_residual.result given.0 c.in_err-stable.field-0.0 (Store r)
+    c.in_err-stable.was given.1 given.2 is)

@@ -1,7 +1,8 @@
 use Rattle.std.proofs.Common.{◌+◌, sym, refl, ap, ◌∙◌}
 use Rattle.std.proofs.lemmas.Result.{on_err_weaker}
 use Rattle.ficus_keep.specs.Kept.{found_in}
-use Rattle.ficus_stable.specs.Holds.{Holds}
+use Rattle.ficus_leads.specs.Holds.{Holds}
+use Rattle.ficus_leads.proofs.Led.{led_next}
 use Rattle.ficus_world.proofs.Disks.{follows_at}
 use Rattle.ficus_run_laws.proofs.Numbers.{number_read}
 use Rattle.ficus_world.proofs.Fuses.{fuses_saved, same_generation}
@@ -18,21 +19,16 @@ returns-clause-disks g c old new saves are =
     c.args.next.now c.commit.result _ _ _ _ is_stable is_pair c.commit.ensures.armings c.commit.ensures.ready
     c.commit.ensures.crash saves are
 
-pub commit-requires-clause-prepared : goal.commit-requires-clause-prepared
-commit-requires-clause-prepared g c =
+pub commit-requires : goal.commit-requires
+commit-requires g c =
     let is_stable = number_read c.args.stables.now.items c.args.by c.index_mut.result.now _ c.requires.member
     (sym c.index_mut.ensures.value) in
     let is_pair = number_read c.args.disks.now.items c.args.by c.index_mut-2.result.now _ c.requires.pair
-    (sym c.index_mut-2.ensures.value) in
-    c.requires.prepared.each _ _ is_stable is_pair
-
-pub commit-requires-clause-follows : goal.commit-requires-clause-follows
-commit-requires-clause-follows g c told =
-    let is_stable = number_read c.args.stables.now.items c.args.by c.index_mut.result.now _ c.requires.member
-    (sym c.index_mut.ensures.value) in
-    let is_pair = number_read c.args.disks.now.items c.args.by c.index_mut-2.result.now _ c.requires.pair
-    (sym c.index_mut-2.ensures.value) in
-    c.requires.follows told _ _ is_stable is_pair
+    (sym c.index_mut-2.ensures.value) in (
+      c.requires.prepared.0,
+      c.requires.prepared.1.each _ _ is_stable is_pair,
+      λ told. c.requires.prepared.2 told _ _ is_stable is_pair,
+    )
 
 pub returns-clause-saved : goal.returns-clause-saved
 returns-clause-saved g c =
@@ -61,8 +57,8 @@ returns-clause-fuses g c old new saves are =
     ((are.each c.args.by saves.was _ _ saves.is is_stable is_pair).holds told)).holds in
     fuses_saved g.K.Keep g.D.Disk c.args.by c.args.next.now c.index_mut-2.result.now c.commit.new.disks is_pair
     g.met.D.Disk.seen_may_be_left c.commit.ensures.regular c.commit.result saves
-    (λ told. let follows = c.requires.follows told _ _ is_stable is_pair in
-    follows.above ∙ ap (λ n. n + 1) (same_generation _ follows.saved saves.was.replica.saved follows.ready.holds
+    (λ told. let follows = c.requires.prepared.2 told _ _ is_stable is_pair in
+    led_next _ _ _ follows.leads ∙ ap (λ n. n + 1) (same_generation _ follows.saved saves.was.replica.saved follows.ready.holds
     (holds told)))
     (λ fused told regular. c.commit.ensures.by_fuse fused told regular saves.was.replica.saved (holds told))
 

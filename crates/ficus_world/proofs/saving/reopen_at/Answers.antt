@@ -17,7 +17,7 @@ returns-in-Ok-clause-read g c told count events members was is sound are =
     let of = are.each c.args.by was stable.0 c.index_mut.result.now is stable.1 is_pair in
     read_is g.D.Disk.tells g.K.Keep.kept g.K.Keep.fits g.D.Disk.seen g.D.Disk.may_leave g.D.Disk.armings
     c.one_saved.ensures count events c.args.by was sound stable.0 c.index_mut.result.now c.reopen.new.disks
-    (c.reopen.ensures.left told) (of.holds told) c.in-Ok.found.saved c.in-Ok.ensures.fits
+    (c.reopen.ensures.left told) (of.holds told) c.in-Ok.found.saved
     (let ready = c.in-Ok.ensures.ready told in ready.holds)
 
 pub returns-in-Ok-clause-disks : goal.returns-in-Ok-clause-disks
@@ -77,11 +77,11 @@ returns-in-Ok-clause-by_fuse g c fused told count events members was F is sound 
     (sym c.index_mut.ensures.value) in
     let of = are.each c.args.by was stable.0 c.index_mut.result.now is stable.1 is_pair in
     let held = (c.in-Ok.ensures.ready told).holds in
-    fuses_read g.K.Keep g.D.Disk c.one_saved.ensures count events c.args.by members c.args.disks.now.items was
-    c.index_mut.result.now c.reopen.new.disks c.in-Ok.found.saved F is is_pair sound c.in-Ok.ensures.fits held
+    fuses_read g.K.Keep g.D.Disk c.one_saved.ensures c.args.by members c.args.disks.now.items was
+    c.index_mut.result.now c.reopen.new.disks c.in-Ok.found.saved F is is_pair held
     (read_is g.D.Disk.tells g.K.Keep.kept g.K.Keep.fits g.D.Disk.seen g.D.Disk.may_leave g.D.Disk.armings
     c.one_saved.ensures count events c.args.by was sound stable.0 c.index_mut.result.now c.reopen.new.disks
-    (c.reopen.ensures.left told) (of.holds told) c.in-Ok.found.saved c.in-Ok.ensures.fits held)
+    (c.reopen.ensures.left told) (of.holds told) c.in-Ok.found.saved held)
     c.reopen.ensures.crash (c.reopen.ensures.by_fuse fused told) stand
 
 pub returns-in-Ok-clause-rests : goal.returns-in-Ok-clause-rests

@@ -1,9 +1,10 @@
 use Rattle.std.proofs.Common.{ap, ◌∙◌, arith}
+use Rattle.ficus_record.specs.declared.record.Record.TheVariants.{Ask}
 use Rattle.ficus_wire.specs.Message.{message_bytes}
 use Rattle.ficus_world.specs.Moves.{ask_of}
 use Rattle.ficus_world.specs.Moves.KeepsAsk.{AskerDown, NoPeers}
 use Rattle.ficus_world.proofs.Moved.{not_so}
-use Rattle.ficus_world.proofs.SoundWorlds.{asked_sound}
+use Rattle.ficus_world.proofs.SoundWorlds.{noted_sound}
 use Rattle.ficus_world.proofs.group.Group.asking.Goals as goal
 
 pub returns-then-not-are_peers-clause-refused : goal.returns-then-not-are_peers-clause-refused
@@ -31,7 +32,11 @@ returns-clause-asks g c =
           number = omega (arith, c.in_ok-replica.ensures.fits.generation);
         };
       },
-      asked_sound c.member-member.ensures.sound.replica c.in_ok-replica.ensures.gives c.in_ok-replica.ensures.fits,
+      noted_sound {noted = c.in_ok-noted.noted.items} c.member-member.ensures.sound.replica (record {
+        noted = Ask;
+        is = c.in_ok-noted.ensures;
+        step = c.in_ok-replica.ensures.noted;
+      }),
     )
 
 pub returns-clause-message : goal.returns-clause-message

@@ -1,6 +1,7 @@
 use Rattle.std.proofs.Common.{refl, ◌∙◌, arith}
 use Rattle.std.proofs.lemmas.Result.{on_ok_weaker}
-use Rattle.ficus_world.specs.World.{whole_of}
+use Rattle.ficus_runs.specs.Numbered.{IsNumbered}
+use Rattle.ficus_world.specs.World.{Whole, whole_of}
 use Rattle.ficus_world.proofs.Fuses.{comes_then}
 use Rattle.ficus_world.proofs.Sending.{as_reserved}
 use Rattle.ficus_world.proofs.Keeps.{kept_advanced, kept_count, kept_downed, kept_world}
@@ -93,3 +94,10 @@ returns-clause-touches g c =
 
 pub returns-in_err-reserve-clause-touches : goal.returns-in_err-reserve-clause-touches
 returns-in_err-reserve-clause-touches g c = TouchesNone
+
+pub keep-requires-clause-prepared : goal.keep-requires-clause-prepared
+keep-requires-clause-prepared g c = (
+  c.args.noted.now,
+  c.in_ok-prepare_at.ensures.prepared,
+  λ was is. (c.requires.next was (subst (λ (w : Whole). IsNumbered w.members c.args.by was) c.self.view_is is)).leads,
+)

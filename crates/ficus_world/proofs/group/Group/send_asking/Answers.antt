@@ -2,7 +2,9 @@ use Rattle.std.proofs.Common.{◌≡◌, ◌-◌, ◌≤◌, Err, Some, List, �
 use Rattle.std.proofs.lemmas.List.{length-set, length_push}
 use Rattle.std.proofs.lemmas.Result.{err_from_is_err_and}
 use Rattle.ficus_model.specs.declared.event.Event.TheVariants.{Ask}
+use Rattle.ficus_leads.specs.Holds.{Leads}
 use Rattle.ficus_runs.specs.Numbered.{IsNumbered}
+use Rattle.ficus_run_laws.proofs.Numbers.{number_once}
 use Rattle.ficus_world.specs.declared.member.Member.{Member}
 use Rattle.ficus_world.specs.Disks.{CarriedOn}
 use Rattle.ficus_world.specs.Moves.{HasRoomFor, IsAsking, KeepsAsk, advanced, ask_of, bytes_in, downed, pending_of, with_post}
@@ -41,7 +43,7 @@ returns-in_err-make_ready-clause-asks g c =
     let y = c.make_ready.new.disks.items in
     let old = whole_of c.self.inside.members.items c.self.inside.history.events c.self.inside.post.now in
     let asking = subst (λ (w : Whole). (was : Member) × IsAsking w by to was c.args.asking.replica
-    × IsSoundNext (length w.members) (length w.events) by was.replica c.args.asking.replica) (sym c.self.view_is)
+    × IsSoundNext (length w.members) (length w.events) by c.args.asking.noted.items was.replica c.args.asking.replica) (sym c.self.view_is)
     c.requires.asking in
     let message = subst (λ (w : Whole). c.args.asking.message.items ≡ bytes_in w (ask_of by to c.args.asking.replica))
     (sym c.self.view_is) c.requires.message in
@@ -79,7 +81,7 @@ invariant_of-self-in_err-keep g c =
     let by = c.args.by in
     let old = whole_of c.self.inside.members.items c.self.inside.history.events c.self.inside.post.now in
     let asking = subst (λ (w : Whole). (was : Member) × IsAsking w by c.args.to was c.args.asking.replica
-    × IsSoundNext (length w.members) (length w.events) by was.replica c.args.asking.replica) (sym c.self.view_is)
+    × IsSoundNext (length w.members) (length w.events) by c.args.asking.noted.items was.replica c.args.asking.replica) (sym c.self.view_is)
     c.requires.asking in
     let was = asking.0 in
     let world : IsWorld old = c.self.invariant in
@@ -100,7 +102,7 @@ returns-in_err-keep-clause-asks g c =
     let z = c.keep.new.disks.items in
     let old = whole_of c.self.inside.members.items c.self.inside.history.events c.self.inside.post.now in
     let asking = subst (λ (w : Whole). (was : Member) × IsAsking w by to was c.args.asking.replica
-    × IsSoundNext (length w.members) (length w.events) by was.replica c.args.asking.replica) (sym c.self.view_is)
+    × IsSoundNext (length w.members) (length w.events) by c.args.asking.noted.items was.replica c.args.asking.replica) (sym c.self.view_is)
     c.requires.asking in
     let message = subst (λ (w : Whole). c.args.asking.message.items ≡ bytes_in w (ask_of by to c.args.asking.replica))
     (sym c.self.view_is) c.requires.message in
@@ -128,7 +130,7 @@ invariant_of-self-2 g c =
     let asked = c.args.asking.replica in
     let old = whole_of c.self.inside.members.items c.self.inside.history.events c.self.inside.post.now in
     let asking = subst (λ (w : Whole). (was : Member) × IsAsking w by to was asked
-    × IsSoundNext (length w.members) (length w.events) by was.replica asked) (sym c.self.view_is)
+    × IsSoundNext (length w.members) (length w.events) by c.args.asking.noted.items was.replica asked) (sym c.self.view_is)
     c.requires.asking in
     let message = subst (λ (w : Whole). c.args.asking.message.items ≡ bytes_in w (ask_of by to asked))
     (sym c.self.view_is) c.requires.message in
@@ -156,7 +158,7 @@ returns-clause-asks g c =
     let z = c.keep.new.disks.items in
     let old = whole_of c.self.inside.members.items c.self.inside.history.events c.self.inside.post.now in
     let asking = subst (λ (w : Whole). (was : Member) × IsAsking w by to was asked
-    × IsSoundNext (length w.members) (length w.events) by was.replica asked) (sym c.self.view_is)
+    × IsSoundNext (length w.members) (length w.events) by c.args.asking.noted.items was.replica asked) (sym c.self.view_is)
     c.requires.asking in
     let message = subst (λ (w : Whole). c.args.asking.message.items ≡ bytes_in w (ask_of by to asked))
     (sym c.self.view_is) c.requires.message in
@@ -212,3 +214,14 @@ returns-clause-touches g c =
     rw (← c.self.view_is)
     (WritesOne (rests_then_writes g.K.Keep g.D.Disk c.args.by g.met.D.Disk.only_now g.met.D.Disk.seen_may_be_left
     g.met.D.Disk.left_now g.met.D.Disk.left_earlier before stable c.make_ready.ensures.rests writes))
+
+pub keep-requires-clause-prepared : goal.keep-requires-clause-prepared
+keep-requires-clause-prepared g c =
+    let asking = subst (λ (w : Whole). (was : Member) × IsAsking w c.args.by c.args.to was c.args.asking.replica
+    × IsSoundNext (length w.members) (length w.events) c.args.by c.args.asking.noted.items was.replica
+    c.args.asking.replica) (sym c.self.view_is) c.requires.asking in (
+      c.args.asking.noted.items,
+      c.in_ok-make_ready.ensures.prepared,
+      λ was is. subst (λ (m : Member). Leads c.args.asking.noted.items m.replica.saved c.args.asking.replica.saved)
+          (number_once asking.1.is is) asking.2.leads,
+    )

@@ -1,12 +1,16 @@
-use Rattle.std.proofs.Common.{Err, subst}
+use Rattle.std.proofs.Common.{Err, length, subst, ◌∙◌}
 use Rattle.std.proofs.lemmas.Result.{err_from_is_err_and}
 use Rattle.ficus_model.specs.declared.event.Event.TheVariants.{Update}
 use Rattle.ficus_answers.proofs.Sound.{may_where_given}
+use Rattle.ficus_record.specs.declared.record.Record.TheVariants.{Change}
 use Rattle.ficus_script.specs.declared.command.Command.TheVariants.{Change as Changes}
 use Rattle.ficus_runs.specs.Numbered.{IsNumbered}
 use Rattle.ficus_runs.specs.Sequence.{unchanged}
 use Rattle.ficus_world.specs.Moves.{CarriesOut, FindsUp, TablesMayWantMemory, pending_of}
-use Rattle.ficus_world.specs.World.{Whole}
+use Rattle.ficus_world.specs.World.{IsSoundMember, IsSoundNext, Whole}
+use Rattle.ficus_world.specs.declared.member.Member.{Member}
+use Rattle.ficus_run_laws.proofs.Numbers.{number_once}
+use Rattle.ficus_world.proofs.SoundWorlds.{noted_sound}
 use Rattle.ficus_world.proofs.Carrying.{advanced_events, advanced_members, comes_to, refused_events, refused_members, save_refused, saved_done, whole_is}
 use Rattle.ficus_world.proofs.Moved.{change_moves, change_pends, change_refused, comes_to_none, up_ends}
 use Rattle.ficus_world.specs.Kills.Touches.{TouchesNone}
@@ -118,3 +122,41 @@ returns-in_err-save-clause-touches g c = c.save.ensures.touches
 
 pub returns-clause-touches : goal.returns-clause-touches
 returns-clause-touches g c = c.save.ensures.touches
+
+pub returns-in_err-noted-clause-moves : goal.returns-in_err-noted-clause-moves
+returns-in_err-noted-clause-moves g c =
+    let residual = c.from_residual-in_err-noted in
+    let wanted = err_from_is_err_and residual.result residual.ensures.1 in
+    let old = c.args.self.now.whole in
+    let was = c.in_ok-replica.field-0.now in
+    let is = subst (λ (w : Whole). IsNumbered w.members c.args.by was) (whole_is c.self.view_is) c.in_ok-replica.ensures.is in
+    let may : TablesMayWantMemory old (Changes c.args.by c.args.change.now) = record {
+      member = was;
+      is = is;
+      up = c.in_ok-replica.ensures.up;
+      so = may_where_given c.in_ok-replica.ensures.sound.replica.fits c.args.change.now c.in_ok-next.next.op
+          c.in_ok-next.ensures.gives.answer;
+    } in
+    rw (wanted.1, wanted.2)
+    (comes_to_none g.L.Link.tells g.K.Keep g.D.Disk old (Changes c.args.by c.args.change.now) _ c.args.disks.now.items
+    may)
+
+pub returns-in_err-noted-clause-touches : goal.returns-in_err-noted-clause-touches
+returns-in_err-noted-clause-touches g c = TouchesNone
+
+pub save-requires-clause-next : goal.save-requires-clause-next
+save-requires-clause-next g c = λ was is.
+    let old = c.args.self.now.whole in
+    let next = c.in_ok-next.next in
+    let found = c.in_ok-replica.field-0.now in
+    let there = subst (λ (w : Whole). IsNumbered w.members c.args.by found) (whole_is c.self.view_is)
+    c.in_ok-replica.ensures.is in
+    let sound = subst (λ (w : Whole). IsSoundMember (length w.members) (length w.events) c.args.by found)
+    (whole_is c.self.view_is) c.in_ok-replica.ensures.sound in
+    subst (λ (m : Member). IsSoundNext (length old.members) (length old.events) c.args.by c.deref.result.now m.replica
+    next.replica) (number_once there is)
+    (noted_sound {noted = c.deref.result.now} sound.replica (record {
+      noted = Change next.op;
+      is = c.deref.ensures.value ∙ c.in_ok-noted.ensures found.replica.saved.members;
+      step = c.in_ok-next.ensures.noted;
+    }))

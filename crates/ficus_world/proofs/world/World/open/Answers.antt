@@ -11,7 +11,8 @@ use Rattle.ficus_world.proofs.Bad.{image_comes, none_bad_where_read}
 use Rattle.ficus_world.proofs.Faults.{handed_on}
 use Rattle.ficus_run_laws.proofs.Numbers.{number_exists}
 use Rattle.ficus_world.proofs.OpenedWorlds.{empty_post, never_bad, opened_read, opened_stands, opened_world}
-use Rattle.ficus_world.proofs.Openings.{held_of}
+use Rattle.ficus_saved.specs.declared.saved.Saved.{Saved}
+use Rattle.ficus_world.proofs.Openings.{first_is, held_of, opens_same}
 use Rattle.ficus_world.proofs.Steadies.{number_at}
 use Rattle.ficus_world.proofs.Unarmed.{fuses_at_rest, unfailing_behind, unfailing_none}
 use Rattle.ficus_world.proofs.world.World.open.Goals as goal
@@ -51,8 +52,8 @@ returns-clause-opened g c = λ tells.
 pub returns-clause-stands : goal.returns-clause-stands
 returns-clause-stands g c = λ tells volume H on.
     opened_stands g.D.Disk.tells g.K.Keep.kept g.K.Keep.fits g.D.Disk.seen g.D.Disk.may_leave g.D.Disk.armings
-    (whole_of c.in_ok-members.field-0.members.items c.in_ok-restart_all.field-0.events c.new.result.now) volume H
-    c.args.disks.now.items c.open_all.new.disks.items (g.L.Link.total c.args.link) tells on c.requires.pairs
+    (whole_of c.in_ok-members.field-0.members.items c.in_ok-restart_all.field-0.events c.new.result.now)
+    c.one_saved.ensures volume H c.args.disks.now.items c.open_all.new.disks.items (g.L.Link.total c.args.link) tells on c.requires.pairs
     (c.open_all.ensures.same tells) c.open_all.ensures.armings c.in_ok-members.ensures.opened
     c.in_ok-members.ensures.count c.in_ok-members.ensures.counted
     (held_of g.D.Disk.tells g.K.Keep.kept g.K.Keep.fits g.D.Disk.seen g.D.Disk.may_leave g.D.Disk.armings
@@ -150,3 +151,20 @@ returns-in_err-members-clause-earlier g c = λ tells q r is.
     c.open_all.ensures.earlier tells q r
     (handed_on c.open_all.result c.from_residual.result given.0 c.in_err-members.field-0.0 (Store q)
     c.in_err-members.was given.1 given.2 is)
+
+pub returns-clause-counted : goal.returns-clause-counted
+returns-clause-counted g c = λ tells first opens.
+    let members = c.in_ok-members.field-0.members.items in
+    let one =
+    number_exists members 1
+    (record { at_least = omega arith; at_most = omega (arith, c.in_ok-members.ensures.count.at_least) }) in
+    let held =
+    held_of g.D.Disk.tells g.K.Keep.kept g.K.Keep.fits g.D.Disk.seen g.D.Disk.may_leave g.D.Disk.armings members
+    c.in_ok-members.field-0.stables.items c.open_all.new.disks.items c.in_ok-members.ensures.stables
+    c.in_ok-members.ensures.opened c.in_ok-members.ensures.disks tells in
+    let is =
+    first_is g.K.Keep.kept g.D.Disk.seen members c.open_all.new.disks.items c.in_ok-members.ensures.opened held
+    c.one_saved.ensures first one.0 one.1
+    (opens_same g.K.Keep.kept g.D.Disk.seen c.args.disks.now.items c.open_all.new.disks.items first first 1
+    (c.open_all.ensures.same tells) opens) in
+    sym (c.in_ok-members.ensures.counted one.0 one.1) ∙ ap (λ (s : Saved). s.members) (sym is)

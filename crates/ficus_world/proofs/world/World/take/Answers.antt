@@ -1,12 +1,18 @@
-use Rattle.std.proofs.Common.{Err, Ok, subst}
+use Rattle.std.proofs.Common.{◌≡◌, Err, Ok, length, subst, sym, ◌∙◌}
 use Rattle.std.proofs.lemmas.Result.{err_from_is_err_and}
+use Rattle.ficus_codec.specs.Formats.{tables_bytes}
+use Rattle.ficus_ids.specs.declared.refusal.Refusal.TheVariants.{Memory}
 use Rattle.ficus_model.specs.declared.event.Event.TheVariants.{Accept}
+use Rattle.ficus_record.specs.declared.record.Record.TheVariants.{Accept as AcceptOf}
 use Rattle.ficus_script.specs.declared.answer.Answer.TheVariants.{Done}
 use Rattle.ficus_runs.specs.Numbered.{IsNumbered}
 use Rattle.ficus_runs.specs.Sequence.{unchanged}
 use Rattle.ficus_world.specs.Moves.{FindsUp, TakesAnswer, advanced, pending_of, saved}
 use Rattle.ficus_world.specs.Moves.TakesAnswer.{Takes, TakesNot}
-use Rattle.ficus_world.specs.World.{Whole}
+use Rattle.ficus_world.specs.World.{IsSoundMember, IsSoundNext, Whole}
+use Rattle.ficus_world.specs.declared.member.Member.{Member}
+use Rattle.ficus_run_laws.proofs.Numbers.{number_once}
+use Rattle.ficus_world.proofs.SoundWorlds.{noted_sound}
 use Rattle.ficus_world.proofs.Carrying.{advanced_events, advanced_members, carried_none, carried_saved, refused_events, refused_members, save_refused, whole_is}
 use Rattle.ficus_world.proofs.Sending.{take_refused, taker_down}
 use Rattle.ficus_world.specs.Kills.Touches.{TouchesNone}
@@ -121,3 +127,33 @@ returns-in_err-save-clause-touches g c = c.save.ensures.touches
 
 pub returns-clause-touches : goal.returns-clause-touches
 returns-clause-touches g c = c.save.ensures.touches
+
+pub returns-in_err-noted-clause-takes : goal.returns-in_err-noted-clause-takes
+returns-in_err-noted-clause-takes g c =
+    let wanted = err_from_is_err_and c.from_residual-in_err-noted.result c.from_residual-in_err-noted.ensures.1 in
+    rw (wanted.1, wanted.2)
+    (carried_none (TakesAnswer c.args.came c.args.entries.now c.args.files.now) (Err Memory) c.args.self.now.whole
+    c.args.disks.now.items tt)
+
+pub returns-in_err-noted-clause-touches : goal.returns-in_err-noted-clause-touches
+returns-in_err-noted-clause-touches g c = TouchesNone
+
+pub save-requires-clause-next : goal.save-requires-clause-next
+save-requires-clause-next g c = λ was is.
+    let old = c.args.self.now.whole in
+    let to = c.args.came.to in
+    let found = c.in_ok-replica.field-0.now in
+    let there = subst (λ (w : Whole). IsNumbered w.members to found) (whole_is c.self.view_is)
+    c.in_ok-replica.ensures.is in
+    let sound = subst (λ (w : Whole). IsSoundMember (length w.members) (length w.events) to found)
+    (whole_is c.self.view_is) c.in_ok-replica.ensures.sound in
+    let counted = subst (λ n. c.args.tables.now ≡ tables_bytes n c.args.entries.now c.args.files.now)
+    (sym sound.replica.members) c.requires.spelled in
+    subst (λ (m : Member). IsSoundNext (length old.members) (length old.events) to c.deref.result.now m.replica
+    c.in_ok-taken.taken) (number_once there is)
+    (noted_sound {noted = c.deref.result.now} sound.replica (record {
+      noted = AcceptOf c.args.entries.now c.args.files.now;
+      is = c.deref.ensures.value ∙ c.in_ok-noted.ensures found.replica.saved.members c.args.entries.now c.args.files.now
+          counted;
+      step = c.in_ok-taken.ensures.noted;
+    }))

@@ -1,2 +1,0 @@
-mod Backing
-pub mod Decided

@@ -1,4 +1,0 @@
-use Rattle.ficus_stable_records.proofs.laws.one_saved.Goals as goal
-
-pub returns : goal.returns
-returns c = c.one_led.ensures.held

@@ -1,4 +1,0 @@
-pub mod Fuses
-pub mod Holds
-pub mod Reading
-pub mod Stable

@@ -1,0 +1,57 @@
+ghost use Rattle.std.specs.Prelude.{◌<◌, ◌≤◌, ◌≡◌, IfErr, IsErrOf, OnOk};
+ghost use Rattle.ficus_faults.specs.Faults.{Rose};
+ghost use Rattle.ficus_graft.specs.Crossing.{AreFew};
+ghost use Rattle.ficus_top.specs.Ending.{IsAnswering, IsIdle, IsOfJoining, TakesAsEndedIn};
+ghost use Rattle.ficus_top.specs.Grammar.{of_volumes};
+ghost use Rattle.ficus_top.specs.Making.{FitsSize, volume_of};
+ghost use Rattle.ficus_top.specs.Modes.Volumes.{AnswersVolumes, AnswersVolumesFront};
+
+use crate::fault::{Fault, ReadingFault};
+use crate::read::read_volume_lines;
+use ficus_grafted::answer_fresh;
+use ficus_outside::{Sink, Source};
+use ficus_serving::AnsweringFault;
+use ficus_words::Size;
+use std::alloc::Global;
+
+/// Reads the script, makes so many fresh volumes of this size in memory, and answers the lines over them.
+pub(crate) fn join<S: Source, K: Sink>(
+    alloc: Global,
+    size: Size,
+    count: u8,
+    input: &mut S,
+    output: &mut K,
+) -> Result<(), Fault>
+    requires size { FitsSize size }
+    requires few { AreFew count }
+    ensures kinds { IfErr result IsOfJoining }
+    ensures takes { S.tells → TakesAsEndedIn (of_volumes count) (S.left input.old) (S.left input.new) result }
+    ensures answers { S.tells → OnOk result (AnswersVolumes K.tells (volume_of size) count (S.left input.old)
+        (K.written output.old) (K.written output.new)) }
+    ensures prefix { S.tells → IfErr result (λ fault. IsAnswering fault
+        → AnswersVolumesFront K.tells (volume_of size) count (S.left input.old) (K.written output.old)
+        (K.written output.new)) }
+    ensures idle { IfErr result (λ fault. IsIdle fault → output.new ≡ output.old) }
+    ensures read_fault { IsErrOf result (Fault.Reading ReadingFault.Source)
+        → Rose (S.faults input.old) (S.faults input.new) }
+    ensures read_fault_comes { S.faults input.old < S.faults input.new
+        → IsErrOf result (Fault.Reading ReadingFault.Source) }
+    ensures write_fault { IsErrOf result (Fault.Answering AnsweringFault.Sink)
+        → Rose (K.faults output.old) (K.faults output.new) }
+    ensures write_fault_comes { K.faults output.old < K.faults output.new
+        → IsErrOf result (Fault.Answering AnsweringFault.Sink) }
+    ensures source_counted { S.faults input.old ≤ S.faults input.new }
+    ensures sink_counted { K.faults output.old ≤ K.faults output.new }
+{
+    let lines = read_volume_lines(alloc, input, count)?;
+    answer_fresh(
+        alloc,
+        size.members,
+        size.ids,
+        size.bytes,
+        count,
+        &lines,
+        output,
+    )?;
+    Ok(())
+}
