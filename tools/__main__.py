@@ -18,7 +18,7 @@ TOOLS = {"shell": "shell", "echo": "echo", "import": "importing", "export": "exp
 
 # The modes of the program over the folder of a volume, and its options, each of which takes a value.
 MAKE = "init"
-IN_FOLDERS = (MAKE, "run")
+IN_FOLDERS = (MAKE, "run", "check")
 OPTIONS = ("--members", "--ids", "--bytes", "--seed", "--steps")
 
 

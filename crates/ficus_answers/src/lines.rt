@@ -1,4 +1,4 @@
-ghost use Rattle.std.specs.Prelude.{◌≡◌, ◌++◌, List, map, All, OnOk};
+ghost use Rattle.std.specs.Prelude.{◌≡◌, ◌++◌, List, All, OnOk};
 ghost use Rattle.ficus_saved.specs.Saved.{FitsImage};
 ghost use Rattle.ficus_names.specs.declared.listing.Line.{Line as LineValue};
 ghost use Rattle.ficus_rules.specs.Lines.{AreLinesOf, TellsObject};

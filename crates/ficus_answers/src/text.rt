@@ -1,6 +1,4 @@
-ghost use Rattle.std.specs.Prelude.{◌≢◌};
 ghost use Rattle.ficus_saved.specs.Saved.{FitsImage};
-ghost use Rattle.ficus_ids.specs.declared.kind.Kind.TheVariants.{Dir};
 ghost use Rattle.ficus_rules.specs.Text.{IsTextOf};
 ghost use Rattle.ficus_answers.specs.Files.{IsFileIn};
 ghost use Rattle.ficus_answers.specs.View.{tables_view};

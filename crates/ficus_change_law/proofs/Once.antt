@@ -19,7 +19,7 @@ use Rattle.ficus_file.specs.Files.{AreFiles, id_of}
 use Rattle.ficus_file.specs.declared.file.FileReplica.{FileReplica}
 use Rattle.ficus_file.specs.declared.version.Version.{Version}
 use Rattle.ficus_model.specs.declared.event.Op.{Op}
-use Rattle.ficus_model.specs.declared.event.Op.TheVariants.{Make, Link, Remove, Move, Write, Settle, Resolve, Adopt, Discard}
+use Rattle.ficus_model.specs.declared.event.Op.TheVariants.{Make, Remove, Write, Settle, Resolve, Discard}
 use Rattle.ficus_model.specs.Live.{removed_by}
 use Rattle.ficus_model.specs.Versions.{bytes_of}
 use Rattle.ficus_saved.specs.Saved.{FitsImage, IsFileOfPast}
@@ -121,11 +121,7 @@ writes_or_not number (Resolve file bytes) object = elim (same_id_or_not object f
   | inl same ↦ inl (bytes, subst (λ (o : Id). Writes number (Resolve file bytes) o bytes) (sym same) ByResolve)
   | inr differs ↦ inr (λ again writes. differs (resolve_is writes))
 ]
-writes_or_not number (Link dir name target) object = inr (λ bytes writes. elim writes [ ])
-writes_or_not number (Remove entries target) object = inr (λ bytes writes. elim writes [ ])
-writes_or_not number (Move entries dir name target) object = inr (λ bytes writes. elim writes [ ])
-writes_or_not number (Adopt file dir name) object = inr (λ bytes writes. elim writes [ ])
-writes_or_not number (Discard file) object = inr (λ bytes writes. elim writes [ ])
+writes_or_not number op object = inr (λ bytes writes. elim writes [ ])
 
 remove_is : {entries : List Id} {target object : Id} → GivesUp (Remove entries target) object → object ≡ target
 remove_is ByRemove = refl
@@ -142,13 +138,7 @@ gives_up_or_not (Discard file) object = elim (same_id_or_not object file) [
   | inl same ↦ inl (subst (λ (o : Id). GivesUp (Discard file) o) (sym same) ByDiscard)
   | inr differs ↦ inr (λ gives. differs (discard_is gives))
 ]
-gives_up_or_not (Make dir name kind) object = inr (λ gives. elim gives [ ])
-gives_up_or_not (Link dir name target) object = inr (λ gives. elim gives [ ])
-gives_up_or_not (Move entries dir name target) object = inr (λ gives. elim gives [ ])
-gives_up_or_not (Write file bytes) object = inr (λ gives. elim gives [ ])
-gives_up_or_not (Settle file bytes) object = inr (λ gives. elim gives [ ])
-gives_up_or_not (Resolve file bytes) object = inr (λ gives. elim gives [ ])
-gives_up_or_not (Adopt file dir name) object = inr (λ gives. elim gives [ ])
+gives_up_or_not op object = inr (λ gives. elim gives [ ])
 
 -- an object becomes one object
 object_once : (by : ℕ) (number : Id) (op : Op) (o a b : KeptObject) → IsObjectStepped by number op o a
@@ -172,14 +162,7 @@ make_kind {kind = kind} is = ap (kind_or kind) is
   where
     kind_or : Kind → Op → Kind
     kind_or other (Make dir name kind) = kind
-    kind_or other (Link dir name target) = other
-    kind_or other (Remove entries target) = other
-    kind_or other (Move entries dir name target) = other
-    kind_or other (Write file bytes) = other
-    kind_or other (Settle file bytes) = other
-    kind_or other (Resolve file bytes) = other
-    kind_or other (Adopt file dir name) = other
-    kind_or other (Discard file) = other
+    kind_or other op = other
 
 made_once : (by : ℕ) (number : Id) (op : Op) (a b : KeptObject) → IsObjectMade by number op a
     → IsObjectMade by number op b → a ≡ b

@@ -1,13 +1,13 @@
-ghost use Rattle.std.specs.Prelude.{◌≡◌, ◌↔◌, ◌++◌, IsTrue, IfErr, OnErr, OnOk};
+ghost use Rattle.std.specs.Prelude.{◌≡◌, ◌↔◌, ◌++◌, length, IsTrue, IfErr, IfSome, OnErr, OnOk};
 ghost use Rattle.ficus_ids.specs.Name.{IsName};
-ghost use Rattle.ficus_formats.specs.Format.{Keeps, Reads};
+ghost use Rattle.ficus_formats.specs.Format.{Begins, Keeps, Reads, byte, id as id_format};
 ghost use Rattle.ficus_codec.specs.Formats.{name, marks, dead, state, state_bytes, entry, entry_fields};
 ghost use Rattle.ficus_codec.specs.FormatsUnique.{unique-entry};
 ghost use Rattle.ficus_saved.specs.Tables.{IsIssuable, MayHoldEntries, FitsState, FitsEntry};
 
 use crate::UPDATE_LIMIT;
 use ficus_entry::{Entry, State};
-use ficus_formats::{ReadFault, Reader, RowSpelling, Spelling, put_id, put_short_string, put_u8};
+use ficus_formats::{ReadFault, Reader, RowSpelling, Spelling, put_bytes};
 use ficus_ids::{ATTIC, Id, Marks, Members, Memory, Name, NameFault, ROOT};
 use std::alloc::Global;
 
@@ -84,16 +84,99 @@ fn read_state(reader: &mut Reader<'_>, members: Members) -> Result<State, ReadFa
     }
 }
 
-fn put_state(out: &mut Vec<u8>, value: State) -> Result<(), Memory>
-    ensures put { OnOk result (out.new.items ≡ out.old.items ++ state_bytes value) }
+// Passes an identifier, if its spelling stands in front.
+pub(crate) fn passes_id(reader: &mut Reader<'_>, id: Id) -> bool
+    ensures { IsTrue result → Begins id_format reader.old id reader.new }
+{
+    match reader.id() {
+        Ok(read) => read == id,
+        Err(_) => false,
+    }
+}
+
+// Passes a name, if its spelling stands in front.
+fn passes_name(reader: &mut Reader<'_>, value: &Name) -> bool
+    ensures { IsTrue result → Begins name reader.old value.now reader.new }
+{
+    match reader.short_string() {
+        Ok(read) => read == value.bytes(),
+        Err(_) => false,
+    }
+}
+
+// Passes a state, if its spelling stands in front.
+fn passes_state(reader: &mut Reader<'_>, value: State, members: Members) -> bool
+    ensures { IsTrue result → Begins (state members) reader.old value reader.new }
+{
+    match read_state(reader, members) {
+        Ok(read) => read == value,
+        Err(_) => false,
+    }
+}
+
+// Passes the fields of an entry, if their spelling stands in front.
+fn passes_fields(reader: &mut Reader<'_>, entry: &Entry, members: Members) -> bool
+    ensures { IsTrue result → Begins (entry_fields members) reader.old entry.now reader.new }
+{
+    passes_id(reader, entry.id)
+        && passes_id(reader, entry.dir)
+        && passes_name(reader, &entry.name)
+        && passes_id(reader, entry.target)
+        && passes_state(reader, entry.state, members)
+}
+
+/// What is left behind the spelling of the entry, where that stands in front.
+pub(crate) fn entry_behind<'a>(
+    value: &Entry,
+    reader: &Reader<'a>,
+    members: Members,
+) -> Option<Reader<'a>>
+    ensures { IfSome result (Begins (entry members) reader.now value.now) }
+{
+    let mut rest = reader.again();
+    if passes_fields(&mut rest, value, members) && fits_entry(value, members) {
+        Some(rest)
+    } else {
+        None
+    }
+}
+
+// What stands before the name's bytes: the identifier, the directory, and how long the name is.
+fn entry_head(entry: &Entry) -> [u8; 11]
+    ensures { result ≡ id_format.spell entry.now.id ++ (id_format.spell entry.now.dir ++ byte.spell (length entry.now.name)) }
+{
+    let [id_1, id_2, id_3, id_4] = entry.id.number.to_be_bytes();
+    let [dir_1, dir_2, dir_3, dir_4] = entry.dir.number.to_be_bytes();
+    let length = entry.name.bytes().len() as u8;
+    [
+        entry.id.replica,
+        id_1,
+        id_2,
+        id_3,
+        id_4,
+        entry.dir.replica,
+        dir_1,
+        dir_2,
+        dir_3,
+        dir_4,
+        length,
+    ]
+}
+
+// Appends what stands behind the name.
+fn put_tail(out: &mut Vec<u8>, target: Id, state: State) -> Result<(), Memory>
+    ensures put { OnOk result (out.new.items ≡ out.old.items ++ (id_format.spell target ++ state_bytes state)) }
     ensures kept { OnErr result (Keeps out.old.items out.new.items) }
 {
-    match value {
-        State::Live => put_u8(out, 0),
+    let [first, second, third, fourth] = target.number.to_be_bytes();
+    match state {
+        State::Live => put_bytes(out, &[target.replica, first, second, third, fourth, 0]),
         State::Dead { one, two } => {
-            put_u8(out, 1)?;
-            put_u8(out, one.bits())?;
-            put_u8(out, two.bits())
+            let (one, two) = (one.bits(), two.bits());
+            put_bytes(
+                out,
+                &[target.replica, first, second, third, fourth, 1, one, two],
+            )
         }
     }
 }
@@ -112,8 +195,8 @@ fn read_fields(reader: &mut Reader<'_>, members: Members) -> Result<Entry, ReadF
     })
 }
 
-// An entry that may stand in tables.
-fn read_entry(reader: &mut Reader<'_>, members: Members) -> Result<Entry, ReadFault>
+/// An entry that may stand in tables.
+pub(crate) fn read_entry(reader: &mut Reader<'_>, members: Members) -> Result<Entry, ReadFault>
     ensures reads { Reads (entry members) reader.old result reader.new }
     ensures unspelled { IfErr result (λ fault. fault ≡ ReadFault.Unspelled) }
 {
@@ -143,11 +226,9 @@ impl Spelling for EntrySpelling {
     }
 
     fn put(&self, out: &mut Vec<u8>, value: &Entry) -> Result<(), Memory> {
-        put_id(out, value.id)?;
-        put_id(out, value.dir)?;
-        put_short_string(out, value.name.bytes())?;
-        put_id(out, value.target)?;
-        put_state(out, value.state)?;
+        put_bytes(out, &entry_head(value))?;
+        put_bytes(out, value.name.bytes())?;
+        put_tail(out, value.target, value.state)?;
         Ok(())
     }
 }

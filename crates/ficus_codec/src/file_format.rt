@@ -1,18 +1,19 @@
-ghost use Rattle.std.specs.Prelude.{◌≡◌, ◌↔◌, ◌++◌, ◌∷◌, [], All, Contains, IsTrue, IfErr, OnErr, OnOk};
+ghost use Rattle.std.specs.Prelude.{◌≡◌, ◌↔◌, ◌++◌, ◌∷◌, [], length, map, All, Contains, IsTrue, IfErr, IfSome, OnErr, OnOk};
 ghost use Rattle.ficus_file.specs.Version.{AreCurrent};
 ghost use Rattle.ficus_file.specs.declared.version.Version.{Version as VersionValue};
-ghost use Rattle.ficus_formats.specs.Format.{Keeps, Reads};
+ghost use Rattle.std.specs.Int.{w32, to_be_bytes};
+ghost use Rattle.ficus_vv.specs.Vector.{in_order};
+ghost use Rattle.ficus_formats.specs.Format.{Begins, Keeps, Reads, byte, id as id_format, times};
 ghost use Rattle.ficus_codec.specs.Checks.{MayPrecede, IsBare, IsWhole};
-ghost use Rattle.ficus_codec.specs.Formats.{kind, kind_number, count, counts, content, version, version_fields, versions, file, file_fields};
+ghost use Rattle.ficus_codec.specs.Formats.{kind, kind as kind_format, kind_number, count, counts, content, version, version_fields, versions, file, file_fields};
 ghost use Rattle.ficus_codec.specs.FormatsUnique.{unique-version, unique-file};
 ghost use Rattle.ficus_saved.specs.Tables.{FitsCounts, FitsVersion, FitsFile};
 
-use crate::entry_format::is_issuable;
+use crate::entry_format::{is_issuable, passes_id};
 use crate::{FILE_LIMIT, UPDATE_LIMIT};
 use ficus_file::{FileReplica, Version, Versions};
 use ficus_formats::{
-    ReadFault, Reader, RowSpelling, Spelling, put_id, put_long_string, put_run, put_u8, put_u32,
-    read_run,
+    ReadFault, Reader, RowSpelling, Spelling, put_bytes, put_long_string, put_run, read_run,
 };
 use ficus_ids::{Id, Kind, Listed, Members, Memory};
 use ficus_vv::{Standing, Vector};
@@ -64,14 +65,29 @@ fn read_counts(reader: &mut Reader<'_>, members: Members) -> Result<Vector, Read
     Ok(Vector::from_counts(counts))
 }
 
+// The counts of all eight, each in four bytes.
+fn counts_of(vector: Vector) -> [[u8; 4]; 8]
+    ensures { result ≡ map (to_be_bytes w32) (in_order vector) }
+{
+    [
+        vector.count(1).to_be_bytes(),
+        vector.count(2).to_be_bytes(),
+        vector.count(3).to_be_bytes(),
+        vector.count(4).to_be_bytes(),
+        vector.count(5).to_be_bytes(),
+        vector.count(6).to_be_bytes(),
+        vector.count(7).to_be_bytes(),
+        vector.count(8).to_be_bytes(),
+    ]
+}
+
 fn put_counts(out: &mut Vec<u8>, vector: Vector, members: Members) -> Result<(), Memory>
     ensures put { OnOk result (out.new.items ≡ out.old.items ++ (counts members).spell vector) }
     ensures kept { OnErr result (Keeps out.old.items out.new.items) }
 {
-    for index in 0..members.count() {
-        put_u32(out, vector.count(index + 1))?;
-    }
-    Ok(())
+    let all = counts_of(vector);
+    let counted = &all[..usize::from(members.count())];
+    put_bytes(out, counted.as_flattened())
 }
 
 fn read_content(alloc: Global, reader: &mut Reader<'_>) -> Result<Listed<u8>, ReadFault>
@@ -198,6 +214,107 @@ fn read_fields(
     })
 }
 
+// Passes a kind, if its spelling stands in front.
+fn passes_kind(reader: &mut Reader<'_>, value: Kind) -> bool
+    ensures { IsTrue result → Begins kind reader.old value reader.new }
+{
+    match read_kind(reader) {
+        Ok(read) => read == value,
+        Err(_) => false,
+    }
+}
+
+// Passes the counts of a vector, if their spelling stands in front.
+fn passes_counts(reader: &mut Reader<'_>, value: Vector, members: Members) -> bool
+    ensures { IsTrue result → Begins (counts members) reader.old value reader.new }
+{
+    match read_counts(reader, members) {
+        Ok(read) => read == value,
+        Err(_) => false,
+    }
+}
+
+// Passes the bytes of a version, if their spelling stands in front.
+fn passes_content(reader: &mut Reader<'_>, value: &[u8]) -> bool
+    ensures { IsTrue result → Begins content reader.old value.now reader.new }
+{
+    match reader.long_string() {
+        Ok(read) => read.len() <= FILE_LIMIT && read == value,
+        Err(_) => false,
+    }
+}
+
+// Passes a version, if its spelling stands in front.
+fn passes_version(reader: &mut Reader<'_>, value: &Version, members: Members) -> bool
+    ensures { IsTrue result → Begins (version members) reader.old value.now reader.new }
+{
+    passes_counts(reader, value.vector, members) && passes_content(reader, value.bytes.items())
+}
+
+// Passes these versions, if their spellings stand in front.
+fn passes_run(reader: &mut Reader<'_>, values: &[Version], members: Members) -> bool
+    ensures { IsTrue result → Begins (times (length values.now) (version members)) reader.old values.now reader.new }
+{
+    for value in values {
+        if !passes_version(reader, value, members) {
+            return false;
+        }
+    }
+    true
+}
+
+// Passes versions behind their count, if their spelling stands in front.
+fn passes_versions(reader: &mut Reader<'_>, values: &[Version], members: Members) -> bool
+    ensures { IsTrue result → Begins (versions members) reader.old values.now reader.new }
+{
+    match reader.byte() {
+        Ok(count) => usize::from(count) == values.len() && passes_run(reader, values, members),
+        Err(_) => false,
+    }
+}
+
+// Passes the fields of a file, if their spelling stands in front.
+fn passes_fields(reader: &mut Reader<'_>, file: &FileReplica, members: Members) -> bool
+    ensures { IsTrue result → Begins (file_fields members) reader.old file.now reader.new }
+{
+    passes_id(reader, file.id)
+        && passes_kind(reader, file.kind)
+        && passes_versions(reader, file.versions.items(), members)
+        && passes_counts(reader, file.covered, members)
+}
+
+/// What is left behind the spelling of the file, where that stands in front.
+pub(crate) fn file_behind<'a>(
+    value: &FileReplica,
+    reader: &Reader<'a>,
+    members: Members,
+) -> Option<Reader<'a>>
+    ensures { IfSome result (Begins (file members) reader.now value.now) }
+{
+    let mut rest = reader.again();
+    if passes_fields(&mut rest, value, members) && fits_file(value, members) {
+        Some(rest)
+    } else {
+        None
+    }
+}
+
+// What stands before the versions: the identifier, the kind, and how many versions there are.
+fn file_head(id: Id, kind: Kind, count: u8) -> [u8; 7]
+    ensures { result ≡ id_format.spell id ++ (kind_format.spell kind ++ byte.spell count) }
+{
+    let [first, second, third, fourth] = id.number.to_be_bytes();
+    [
+        id.replica,
+        first,
+        second,
+        third,
+        fourth,
+        number_of(kind),
+        count,
+    ]
+}
+
 /// How files are spelled in a volume of so many members.
 #[derive(Drop)]
 pub(crate) struct FileSpelling {
@@ -223,9 +340,7 @@ impl Spelling for FileSpelling {
     fn put(&self, out: &mut Vec<u8>, value: &FileReplica) -> Result<(), Memory> {
         let members = self.members;
         let versions = value.versions.items();
-        put_id(out, value.id)?;
-        put_u8(out, number_of(value.kind))?;
-        put_u8(out, versions.len() as u8)?;
+        put_bytes(out, &file_head(value.id, value.kind, versions.len() as u8))?;
         put_run(&VersionSpelling { members }, out, versions)?;
         put_counts(out, value.covered, members)
     }

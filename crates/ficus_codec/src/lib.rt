@@ -3,6 +3,7 @@
 
 mod entry_format;
 mod file_format;
+mod known;
 mod tables;
 mod take_fault;
 
@@ -14,5 +15,6 @@ pub use ficus_formats::{
 };
 pub use ficus_saved::{BYTE_LIMIT, FILE_LIMIT, Saved, UPDATE_LIMIT};
 pub use file_format::read_kind;
-pub use tables::{one_tables, put_tables, read_all_lists, read_lists, read_tables, take_tables};
+pub use known::Known;
+pub use tables::{one_tables, put_tables, read_all_rows, read_rows, read_tables, take_tables};
 pub use take_fault::TakeFault;

@@ -1,5 +1,5 @@
-//! The laws of single commands over worlds of the model: what only looks changes nothing, what was known and is alive was
-//! alive before, a second collection is answered with nothing, and where changes want memory.
+//! The laws of single commands over worlds of the model: what only looks changes nothing, what was known and is alive
+//! was alive before, a second collection is answered with nothing, and where changes want memory.
 //!
 //! A law is the contract of a function with an empty body. Its lemmas stand in `proofs/`, for the proofs of
 //! the crates above.

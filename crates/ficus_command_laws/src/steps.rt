@@ -10,8 +10,8 @@ pub fn second_collects_nothing()
     ensures { SecondCollectsNothing }
 {}
 
-/// Nothing removed returns: what a member had heard of before some commands and has alive after them it had alive before
-/// them.
+/// Nothing removed returns: what a member had heard of before some commands and has alive after them it had alive
+/// before them.
 pub fn what_is_alive_was_alive()
     ensures { WasAlive }
 {}

@@ -3,8 +3,8 @@ use Rattle.ficus_path.specs.Path.{IsEntry, IsNew}
 use Rattle.ficus_commands.specs.declared.change.Change.{Change}
 use Rattle.ficus_commands.specs.declared.change.Change.TheVariants.{MkDir, Create, Write, Settle, Resolve, Rm, Ln, Mv, Adopt, Discard}
 
--- each path is of the sort that the change takes there: a name to be given is a new path, the entry to be removed, linked
--- or moved is the path of an entry, and a file to be written may be at any path
+-- each path is of the sort that the change takes there: a name to be given is a new path, the entry to be removed,
+-- linked or moved is the path of an entry, and a file to be written may be at any path
 abbrev pub HasFitPaths : Change → Type 0
 HasFitPaths (MkDir path) = IsNew path
 HasFitPaths (Create path kind) = IsNew path

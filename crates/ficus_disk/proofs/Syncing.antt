@@ -1,6 +1,6 @@
 -- What lies outside the range that was written, and what a sync of that range makes.
-use Rattle.std.proofs.Common.{◌≡◌, ◌⊎◌, inl, inr, ℕ, ◌+◌, ◌-◌, ◌<◌, ◌≤◌, max, true, List, length, get_or, take, drop, refl, sym, ◌∙◌, ap, subst, arith, length-take, length-drop, replicate}
-use Rattle.std.proofs.lemmas.List.{get_or-take, get_or-drop, get_or-replicate, length-replicate, get_or_past, ext_get_or}
+use Rattle.std.proofs.Common.{◌≡◌, ◌⊎◌, inl, inr, ℕ, ◌+◌, ◌-◌, ◌<◌, ◌≤◌, max, true, List, ◌++◌, length, get_or, take, drop, refl, sym, ◌∙◌, ap, subst, arith, length-take, length-drop, replicate}
+use Rattle.std.proofs.lemmas.List.{get_or-take, get_or-drop, get_or-replicate, length-replicate, replicate-append-replicate, get_or_past, ext_get_or}
 use Rattle.std.proofs.lemmas.Bool.{cases_lt}
 use Rattle.ficus_disk.specs.Bytes.{patch}
 use Rattle.ficus_disk.specs.Crash.{Within}
@@ -55,17 +55,67 @@ module _ (from upto at n : ℕ) (marks new : List Mark) (clean : IsCleanBut from
     ]);
   }
 
+clean_at : (from upto : ℕ) (marks : List Mark) → IsCleanBut from upto marks → (k : ℕ) → (k < from) ⊎ (upto ≤ k)
+    → get_or marks k Clean ≡ Clean
+clean_at from upto marks clean k (inl less) = clean_of (get_or marks k Clean) (clean.before k less)
+clean_at from upto marks clean k (inr far) = clean_of (get_or marks k Clean) (clean.behind k far)
+
+-- what was marked is cleared
+module _ (from upto : ℕ) (marks : List Mark) (clean : IsCleanBut from upto marks) (rises : from ≤ upto)
+    (within : upto ≤ length marks) where
+  cleared : patch marks from (replicate (upto - from) Clean) ≡ replicate (length marks) Clean
+  cleared =
+      let le : from ≤ length marks = omega arith in
+      let reps = length-replicate (upto - from) Clean in
+      let long = length-patch marks (replicate (upto - from) Clean) from le in
+      let all = length-replicate (length marks) Clean in
+      ext_get_or Clean (patch marks from (replicate (upto - from) Clean)) (replicate (length marks) Clean)
+      (omega (arith, long, reps, all))
+      (λ k less. clean_place k le (omega (arith, long, reps)) (cases_lt k from))
+    where
+      clean_behind : (k : ℕ) → from ≤ length marks → from ≤ k → (k < upto) ⊎ (upto ≤ k)
+          → get_or (patch marks from (replicate (upto - from) Clean)) k Clean ≡ Clean
+      clean_behind k le far (inl inside) =
+          get_or-patch_inside marks (replicate (upto - from) Clean) from k Clean le far
+          (omega (arith, length-replicate (upto - from) Clean))
+          ∙ get_or-replicate (upto - from) (k - from) Clean Clean (omega arith)
+      clean_behind k le far (inr past) =
+          get_or-patch_after marks (replicate (upto - from) Clean) from k Clean le
+          (omega (arith, length-replicate (upto - from) Clean))
+          ∙ clean_at from upto marks clean k (inr past)
+
+      clean_place : (k : ℕ) → from ≤ length marks → k < length marks → (k < from) ⊎ (from ≤ k)
+          → get_or (patch marks from (replicate (upto - from) Clean)) k Clean
+          ≡ get_or (replicate (length marks) Clean) k Clean
+      clean_place k le here (inl less) =
+          get_or-patch_before marks (replicate (upto - from) Clean) from k Clean le less
+          ∙ clean_at from upto marks clean k (inl less)
+          ∙ sym (get_or-replicate (length marks) k Clean Clean here)
+      clean_place k le here (inr far) =
+          clean_behind k le far (cases_lt k upto) ∙ sym (get_or-replicate (length marks) k Clean Clean here)
+
+  -- and there are so many clean marks
+  pub all_cleared : (count : ℕ) (middle new : List Mark) → length marks ≤ count
+      → middle ≡ patch marks from (replicate (upto - from) Clean)
+      → new ≡ middle ++ replicate (count - length middle) Clean → new ≡ replicate count Clean
+  all_cleared count middle new more is behind =
+      let front : middle ≡ replicate (length marks) Clean = is ∙ cleared in
+      let long : length middle ≡ length marks = ap length front ∙ length-replicate (length marks) Clean in
+      behind
+      ∙ (λ i. front i ++ replicate (count - long i) Clean)
+      ∙ replicate-append-replicate (length marks) (count - length marks) Clean
+      ∙ ap (λ (n : ℕ). replicate n Clean) (omega arith)
+
 -- the range is synced
 module _ (held : Held) (from upto : ℕ) (marked : IsMarked held) (clean : IsCleanBut from upto held.marks)
     (rises : from ≤ upto) (within : upto ≤ length held.bytes) where
-  clean_at : (k : ℕ) → (k < from) ⊎ (upto ≤ k) → get_or held.marks k Clean ≡ Clean
-  clean_at k (inl less) = clean_of (get_or held.marks k Clean) (clean.before k less)
-  clean_at k (inr far) = clean_of (get_or held.marks k Clean) (clean.behind k far)
+  abbrev was_synced : (k : ℕ) → (k < from) ⊎ (upto ≤ k) → get_or held.marks k Clean ≡ Clean
+  was_synced = clean_at from upto held.marks clean
 
   pub starts_within : from ≤ length held.synced
   starts_within = elim (cases_lt (length held.synced) from) [
     | inl less ↦
-        let at = marked.clean (length held.synced) (omega arith) (clean_at (length held.synced) (inl less)) in
+        let at = marked.clean (length held.synced) (omega arith) (was_synced (length held.synced) (inl less)) in
         absurd (omega (arith, at.0))
     | inr far ↦ far
   ]
@@ -73,7 +123,7 @@ module _ (held : Held) (from upto : ℕ) (marked : IsMarked held) (clean : IsCle
   ends_within : max (length held.synced) upto ≡ length held.bytes
   ends_within = elim (cases_lt upto (length held.bytes)) [
     | inl less ↦
-        let last = marked.clean (length held.bytes - 1) (omega arith) (clean_at (length held.bytes - 1) (inr (omega arith))) in
+        let last = marked.clean (length held.bytes - 1) (omega arith) (was_synced (length held.bytes - 1) (inr (omega arith))) in
         omega (arith, last.0, marked.no_shorter)
     | inr far ↦ omega (arith, marked.no_shorter)
   ]
@@ -99,51 +149,21 @@ module _ (held : Held) (from upto : ℕ) (marked : IsMarked held) (clean : IsCle
           ∙ ap (λ (i : ℕ). get_or held.bytes i 0) (let e : from + (k - from) ≡ k = omega arith in e)
       behind k here far (inr past) =
           get_or-patch_after held.synced slice from k 0 starts_within (omega (arith, length-slice))
-          ∙ sym (marked.clean k here (clean_at k (inr past))).1
+          ∙ sym (marked.clean k here (was_synced k (inr past))).1
 
       at_place : (k : ℕ) → k < length held.bytes → (k < from) ⊎ (from ≤ k)
           → get_or (patch held.synced from slice) k 0 ≡ get_or held.bytes k 0
       at_place k here (inl less) =
           get_or-patch_before held.synced slice from k 0 starts_within less
-          ∙ sym (marked.clean k here (clean_at k (inl less))).1
+          ∙ sym (marked.clean k here (was_synced k (inl less))).1
       at_place k here (inr far) = behind k here far (cases_lt k upto)
-
-  pub marks_is : patch held.marks from (replicate (upto - from) Clean) ≡ replicate (length held.bytes) Clean
-  marks_is =
-      let le : from ≤ length held.marks = omega (arith, marked.each) in
-      let reps = length-replicate (upto - from) Clean in
-      let long = length-patch held.marks (replicate (upto - from) Clean) from le in
-      let all = length-replicate (length held.bytes) Clean in
-      ext_get_or Clean (patch held.marks from (replicate (upto - from) Clean)) (replicate (length held.bytes) Clean)
-      (omega (arith, long, reps, all, marked.each))
-      (λ k less. clean_place k le (omega (arith, long, reps, marked.each)) (cases_lt k from))
-    where
-      clean_behind : (k : ℕ) → from ≤ length held.marks → from ≤ k → (k < upto) ⊎ (upto ≤ k)
-          → get_or (patch held.marks from (replicate (upto - from) Clean)) k Clean ≡ Clean
-      clean_behind k le far (inl inside) =
-          get_or-patch_inside held.marks (replicate (upto - from) Clean) from k Clean le far
-          (omega (arith, length-replicate (upto - from) Clean))
-          ∙ get_or-replicate (upto - from) (k - from) Clean Clean (omega arith)
-      clean_behind k le far (inr past) =
-          get_or-patch_after held.marks (replicate (upto - from) Clean) from k Clean le
-          (omega (arith, length-replicate (upto - from) Clean))
-          ∙ clean_at k (inr past)
-
-      clean_place : (k : ℕ) → from ≤ length held.marks → k < length held.bytes → (k < from) ⊎ (from ≤ k)
-          → get_or (patch held.marks from (replicate (upto - from) Clean)) k Clean
-          ≡ get_or (replicate (length held.bytes) Clean) k Clean
-      clean_place k le here (inl less) =
-          get_or-patch_before held.marks (replicate (upto - from) Clean) from k Clean le less ∙ clean_at k (inl less)
-          ∙ sym (get_or-replicate (length held.bytes) k Clean Clean here)
-      clean_place k le here (inr far) =
-          clean_behind k le far (cases_lt k upto) ∙ sym (get_or-replicate (length held.bytes) k Clean Clean here)
 
   -- so all is synced
   pub syncs : (synced : List ℕ) (marks : List Mark) → synced ≡ patch held.synced from slice
-      → marks ≡ patch held.marks from (replicate (upto - from) Clean)
+      → marks ≡ replicate (length held.bytes) Clean
       → (let new : Held = record { synced = synced; marks = marks; bytes = held.bytes } in new ≡ settled held.bytes)
-  syncs synced marks copied cleared =
-      λ i. record { synced = (copied ∙ synced_is) i; marks = (cleared ∙ marks_is) i; bytes = held.bytes }
+  syncs synced marks copied all_clear =
+      λ i. record { synced = (copied ∙ synced_is) i; marks = all_clear i; bytes = held.bytes }
 
 -- what stands there might have been left before
 pub within_settled : (held : Held) → IsMarked held → Within (Leaves held) (Leaves (settled held.bytes))

@@ -1,5 +1,7 @@
 -- Lists of directory entries.
-use Rattle.std.specs.Prelude.{List, Option}
+use Rattle.std.specs.Prelude.{◌≡◌, List, Option, All}
+use Rattle.std.specs.declared.cmp.Ordering.TheVariants.{Less}
+use Rattle.ficus_ids.specs.Id.{id_cmp}
 use Rattle.ficus_ids.specs.declared.id.Id.{Id}
 use Rattle.ficus_ids.specs.Rising.{IsRisingBy, HoldsBy, HoldsUnderBy, Adds, PutsBy, ReplacesBy}
 use Rattle.ficus_entry.specs.declared.entry.Entry.{Entry}
@@ -7,6 +9,10 @@ use Rattle.ficus_entry.specs.declared.entry.Entry.{Entry}
 -- the identifiers rise strictly
 abbrev pub IsRising : List Entry → Type 0
 IsRising entries = IsRisingBy (λ entry. entry.id) entries
+
+-- the identifier is above those of all entries
+abbrev pub IsAboveAll : List Entry → Id → Type 0
+IsAboveAll entries id = All (λ entry. id_cmp entry.id id ≡ Less) entries
 
 -- some entry of the list has the identifier
 abbrev pub Holds : List Entry → Id → Type 0

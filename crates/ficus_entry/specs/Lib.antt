@@ -3,3 +3,4 @@ pub mod Inside
 pub mod Kill
 pub mod Place
 pub mod SortLaws
+pub mod Run

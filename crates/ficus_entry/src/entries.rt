@@ -1,8 +1,8 @@
-ghost use Rattle.std.specs.Prelude.{◌≡◌, ◌↔◌, ◌≤◌, ◌<◌, ◌==◌, [], length, slice_get, List, Some, IsTrue, IfOk, OnOk, OnErr};
+ghost use Rattle.std.specs.Prelude.{◌≡◌, ◌↔◌, ◌≤◌, ◌<◌, ◌==◌, [], ◌∷◌, ◌++◌, length, slice_get, List, Some, IsTrue, IfOk, OnOk, OnErr};
 ghost use Rattle.std.specs.Option.{option_copied};
 ghost use Rattle.ficus_ids.specs.Rising.{LeavesOutBy};
 ghost use Rattle.ficus_entry.specs.declared.entry.Entry.{Entry as EntryValue};
-ghost use Rattle.ficus_entry.specs.Entry.{IsRising, Holds, HoldsUnder, AddsEntry, PutsEntry};
+ghost use Rattle.ficus_entry.specs.Entry.{IsRising, IsAboveAll, Holds, HoldsUnder, AddsEntry, PutsEntry};
 ghost use Rattle.ficus_entry.specs.Kill.{HoldsLive, NoneIsLive, IsKilled};
 ghost use Rattle.ficus_entry.specs.Place.{AreNoted};
 
@@ -53,7 +53,15 @@ impl Entries {
         ensures { IfOk result (λ built. built ≡ entries.now) }
     {
         let rows = shared(alloc, entries)?;
-        let table = Table::of(alloc, &rows)?;
+        Entries::of_rows(alloc, &rows)
+    }
+
+    /// These entries, which other lists may share and whose identifiers rise strictly.
+    pub fn of_rows(alloc: Global, rows: &[SharedEntry]) -> Result<Entries, Memory>
+        requires { IsRising rows.now }
+        ensures { IfOk result (λ built. built ≡ rows.now) }
+    {
+        let table = Table::of(alloc, rows)?;
         Entries::indexed(table)
     }
 
@@ -98,6 +106,16 @@ impl Entries {
         }
     }
 
+    /// The entries in order, for other lists to share.
+    pub fn rows(&self) -> Result<Vec<SharedEntry>, Memory>
+        ensures same { IfOk result (λ rows. rows.items ≡ self.now) }
+        ensures rising { IsRising self.now }
+    {
+        // Tells that the identifiers rise.
+        let _count = self.len();
+        self.table.rows()
+    }
+
     /// The same entries once more, with memory from where these have theirs.
     pub fn copy(&self) -> Result<Entries, Memory>
         ensures { IfOk result (λ entries. entries ≡ self.now) }
@@ -115,6 +133,22 @@ impl Entries {
         ensures rising { IsRising self.new }
     {
         self.put(entry)
+    }
+
+    /// Adds an entry behind all others: its identifier is above theirs. After `Memory` the entries are as before.
+    pub fn append(&mut self, entry: Entry) -> Result<(), Memory>
+        requires { IsAboveAll self.old entry.id }
+        ensures appended { OnOk result (self.new ≡ self.old ++ entry ∷ []) }
+        ensures kept { OnErr result (self.new ≡ self.old) }
+        ensures rising { IsRising self.new }
+    {
+        // Tells that the identifiers rise.
+        let _count = self.len();
+        let index = self.index_more(&entry)?;
+        let shared = SharedEntry::of(self.allocator(), entry)?;
+        self.table.append(shared)?;
+        self.index = index;
+        Ok(())
     }
 
     /// Adds an entry, in place of the one with its identifier if there is one. After `Memory` the entries are as
@@ -215,6 +249,14 @@ impl Entries {
             index = index.without(alloc, entry.note())?;
         }
         Ok(index)
+    }
+
+    // The index of the entries with this one behind them.
+    fn index_more(&self, entry: &Entry) -> Result<Index, Memory>
+        ensures { IfOk result (AreNoted (self.now ++ entry.now ∷ [])) }
+    {
+        let folded = self.folded()?;
+        noting(self.allocator(), &folded, entry)
     }
 
     // The index of the entries with this one, in place of the one with its identifier if there is one.

@@ -32,6 +32,15 @@ impl<'a> InOrder<'a> {
         Ok(InOrder { rows })
     }
 
+    /// Entries that stand in no list, for lists to share, whose identifiers rise strictly.
+    pub fn of_rows(alloc: Global, rows: &'a [SharedEntry]) -> Result<InOrder<'a>, Memory>
+        requires { IsRising rows.now }
+        ensures { IfOk result (λ in_order. in_order ≡ rows.now) }
+    {
+        let rows = ficus_table::InOrder::of_rows(alloc, rows)?;
+        Ok(InOrder { rows })
+    }
+
     /// How many entries there are.
     pub fn len(&self) -> usize
         ensures value { result ≡ length self.now }

@@ -11,6 +11,7 @@ mod laws;
 mod note;
 mod replacing;
 mod row;
+mod run;
 
 pub use entries::Entries;
 pub use entry::{Entry, State};
@@ -19,3 +20,4 @@ pub use inside::Leading;
 pub use kill_laws::only_its_own;
 pub use laws::{one_entry, same_entries};
 pub use row::SharedEntry;
+pub use run::{EntriesRun, Run};

@@ -2,7 +2,7 @@
 use Rattle.std.specs.Prelude.{◌≡◌, ◌≢◌, ℕ, ◌<◌, List, [], ◌∷◌, Contains}
 use Rattle.ficus_ids.specs.declared.id.Id.{Id}
 use Rattle.ficus_ids.specs.declared.kind.Kind.{Kind}
-use Rattle.ficus_ids.specs.declared.kind.Kind.TheVariants.{Dir, Plain, Lines, Max, Keep}
+use Rattle.ficus_ids.specs.declared.kind.Kind.TheVariants.{Dir}
 use Rattle.ficus_vv.specs.Vector.{no_counts, count_of, join, bump, Covers}
 use Rattle.ficus_file.specs.declared.file.FileReplica.{FileReplica}
 use Rattle.ficus_file.specs.declared.version.Version.{Version}
@@ -20,10 +20,7 @@ over_all by bytes versions = record { vector = bump by (join_all versions); byte
 -- what is there at first: of a directory nothing, and of a file one version without bytes
 abbrev pub first_versions : Kind → ℕ → List Version
 first_versions Dir by = []
-first_versions Plain by = over_all by [] [] ∷ []
-first_versions Lines by = over_all by [] [] ∷ []
-first_versions Max by = over_all by [] [] ∷ []
-first_versions Keep by = over_all by [] [] ∷ []
+first_versions kind by = over_all by [] [] ∷ []
 
 -- the file or directory that a replica makes
 abbrev pub made_file : Id → Kind → ℕ → FileReplica

@@ -3,7 +3,7 @@ use Rattle.std.specs.Prelude.{◌≢◌, ℕ, List, [], ◌∷◌}
 use Rattle.std.proofs.Common.{refl, arith}
 use Rattle.ficus_ids.specs.declared.id.Id.{Id}
 use Rattle.ficus_ids.specs.declared.kind.Kind.{Kind}
-use Rattle.ficus_ids.specs.declared.kind.Kind.TheVariants.{Dir, Plain, Lines, Max, Keep}
+use Rattle.ficus_ids.specs.declared.kind.Kind.TheVariants.{Dir}
 use Rattle.ficus_file.specs.declared.file.FileReplica.{FileReplica}
 use Rattle.ficus_file.specs.declared.version.Version.{Version}
 use Rattle.ficus_file.specs.Version.{AreCurrent}
@@ -20,10 +20,7 @@ one_current version = record {
 
 pub made_well_formed : (id : Id) (kind : Kind) (by : ℕ) → IsWellFormed (made_file id kind by)
 made_well_formed id Dir by = record { directory = λ _. refl; current = λ other. absurd (other refl) }
-made_well_formed id Plain by = record { directory = λ is. absurd cc; current = λ _. one_current (over_all by [] []) }
-made_well_formed id Lines by = record { directory = λ is. absurd cc; current = λ _. one_current (over_all by [] []) }
-made_well_formed id Max by = record { directory = λ is. absurd cc; current = λ _. one_current (over_all by [] []) }
-made_well_formed id Keep by = record { directory = λ is. absurd cc; current = λ _. one_current (over_all by [] []) }
+made_well_formed id kind by = record { directory = λ is. absurd cc; current = λ _. one_current (over_all by [] []) }
 
 pub advanced_well_formed : (by : ℕ) (bytes : List ℕ) (file : FileReplica) → file.kind ≢ Dir →
     IsWellFormed (advanced by bytes file)

@@ -50,7 +50,15 @@ impl Files {
         ensures { IfOk result (λ held. held ≡ files.items) }
     {
         let rows = rows_of(alloc, files)?;
-        let table = Table::of(alloc, &rows)?;
+        Files::of_rows(alloc, &rows)
+    }
+
+    /// These files, which others may share and whose identifiers rise strictly.
+    pub fn of_rows(alloc: Global, rows: &[SharedFile]) -> Result<Files, Memory>
+        requires { AreFiles rows.now }
+        ensures { IfOk result (λ held. held ≡ rows.now) }
+    {
+        let table = Table::of(alloc, rows)?;
         Ok(Files { table })
     }
 
@@ -94,6 +102,14 @@ impl Files {
         ensures files { AreFiles self.now }
     {
         self.table.in_order()
+    }
+
+    /// The files in order, for others to share: who takes one in shares with these what is behind it.
+    pub fn rows(&self) -> Result<Vec<SharedFile>, Memory>
+        ensures same { IfOk result (λ rows. rows.items ≡ self.now) }
+        ensures files { AreFiles self.now }
+    {
+        self.table.rows()
     }
 
     /// Adds a file whose identifier no file has. After `Memory` the files are as before.

@@ -19,8 +19,8 @@ use std::rt::Files;
 ///
 /// Nothing is touched before the first call. A file that the system says isn't there has size 0; its `sync` and `again`
 /// make nothing and answer `Ok`, and its first `write` makes it, with the folders that are missing. Each of these, and
-/// the one above them, is synced with the file at the next `sync`, and the folder of a file that was there at the first.
-/// Any other refusal of the system is a fault, and so is the end of the file within a read.
+/// the one above them, is synced with the file at the next `sync`, and the folder of a file that was there at the
+/// first. Any other refusal of the system is a fault, and so is the end of the file within a read.
 #[derive(Drop)]
 pub struct SystemDisk<S: System + Drop> {
     file: StoredFile<S>,
@@ -53,10 +53,33 @@ impl<R: Files + Clone + Drop> SystemDisk<Runtime<R>> {
           told = [];
         } }
     {
+        SystemDisk::over(Runtime::new(rt), path)
+    }
+}
+
+impl<S: System + Drop> SystemDisk<S> {
+    /// The file at `path` of this system, in its own terms, with no fault counted.
+    pub fn over(system: S, path: String) -> SystemDisk<S>
+        ensures { result ≡ record {
+          path = string_bytes path;
+          faults = 0;
+          is_open = false;
+          unsynced = 1;
+          told = S.told system;
+        } }
+    {
         SystemDisk {
-            file: StoredFile::new(Runtime::new(rt), path),
+            file: StoredFile::new(system, path),
             faults: Faults::new(),
         }
+    }
+
+    /// The system. The file, where it was opened, is closed.
+    pub fn into_inner(self) -> S
+        ensures { S.told result ≡ self.told }
+    {
+        let SystemDisk { file, .. } = self;
+        file.into_system()
     }
 }
 

@@ -33,6 +33,15 @@ impl<S: System + Drop> StoredFile<S> {
         }
     }
 
+    /// The system, once the file is closed.
+    pub(crate) fn into_system(self) -> S
+        ensures { result ≡ self.system }
+    {
+        let StoredFile { file, system, .. } = self;
+        drop(file);
+        system
+    }
+
     /// How many bytes it has, and 0 where it is missing.
     pub(crate) fn size(&mut self) -> io::Result<u64>
         ensures place { self.new.path ≡ self.old.path }

@@ -81,7 +81,8 @@ pub struct Runtime<R: Files + Clone + Drop> {
 }
 
 impl<R: Files + Clone + Drop> Runtime<R> {
-    pub(crate) fn new(rt: R) -> Runtime<R> {
+    /// The runtime's files.
+    pub fn new(rt: R) -> Runtime<R> {
         Runtime { rt }
     }
 }

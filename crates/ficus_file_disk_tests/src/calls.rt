@@ -1,7 +1,6 @@
 // Calls of a disk with what each answers.
 use ficus_disk::{Disk, Failed};
-use ficus_file_disk::FileDisk;
-use std::rt::Files;
+use ficus_file_disk::{System, SystemDisk};
 
 /// A call, and what it answers.
 #[derive(Clone, Copy, PartialEq)]
@@ -16,7 +15,7 @@ pub enum Call {
 
 impl Call {
     /// The same call with the answer that the disk gives now.
-    pub fn made<R: Files + Clone + Drop>(self, disk: &mut FileDisk<R>) -> Call {
+    pub fn made<S: System + Drop>(self, disk: &mut SystemDisk<S>) -> Call {
         match self {
             Call::Size(_) => Call::Size(disk.size()),
             Call::Read(at, _) => {

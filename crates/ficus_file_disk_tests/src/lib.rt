@@ -6,7 +6,12 @@
 mod calls;
 #[cfg(test)]
 mod files;
+mod note;
 #[cfg(test)]
 mod noted;
 #[cfg(test)]
 mod system;
+#[cfg(test)]
+mod telling;
+#[cfg(test)]
+mod told;

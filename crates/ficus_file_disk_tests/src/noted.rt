@@ -1,12 +1,12 @@
 // Disks over a system that notes what is made and synced, and whose calls fail in turn.
 use crate::calls::Call;
 use crate::system::System;
-use ficus_file_disk::FileDisk;
+use ficus_file_disk::{FileDisk, System as Asked, SystemDisk};
 use std::alloc::{AllocError, Global};
 use std::test::Fail;
 
 /// Calls that make a file, and what they give.
-const MAKING: [Call; 10] = [
+pub const MAKING: [Call; 10] = [
     Call::Size(Ok(0)),
     Call::Sync(Ok(())),
     Call::Again(Ok(())),
@@ -46,14 +46,14 @@ synced vol/1/a
 ";
 
 /// More calls of the system than these calls make.
-const MOST: u32 = 64;
+pub const MOST: u32 = 64;
 
 /// The call of the system whose failure is no fault: whether `vol/1` is there after all, once the system has said that
 /// it can't be made before `vol` is.
 const ASKED: u32 = 9;
 
 // How often the call fails before it is answered, at most once. None where another answer comes.
-fn failures(call: Call, disk: &mut FileDisk<System>) -> Option<u32> {
+fn failures<S: Asked + Drop>(call: Call, disk: &mut SystemDisk<S>) -> Option<u32> {
     let answered = call.made(disk);
     if answered == call {
         Some(0)
@@ -64,8 +64,8 @@ fn failures(call: Call, disk: &mut FileDisk<System>) -> Option<u32> {
     }
 }
 
-// How many of the calls fail at first. None where another answer comes.
-fn all_failures(calls: &[Call], disk: &mut FileDisk<System>) -> Option<u32> {
+/// How many of the calls fail at first. None where another answer comes.
+pub fn all_failures<S: Asked + Drop>(calls: &[Call], disk: &mut SystemDisk<S>) -> Option<u32> {
     let mut count = 0u32;
     for call in calls {
         count = count.saturating_add(failures(*call, disk)?);

@@ -8,7 +8,7 @@ use Rattle.ficus_ids.specs.declared.id.TheConstants.{ROOT, ATTIC}
 use Rattle.ficus_model.specs.declared.event.Event.{Event}
 use Rattle.ficus_model.specs.declared.event.Event.TheVariants.{Update}
 use Rattle.ficus_model.specs.declared.event.Op.{Op}
-use Rattle.ficus_model.specs.declared.event.Op.TheVariants.{Make, Link, Remove, Move, Write, Settle, Resolve, Adopt, Discard}
+use Rattle.ficus_model.specs.declared.event.Op.TheVariants.{Make, Link, Move, Adopt, Discard}
 use Rattle.ficus_model.specs.Events.{before}
 use Rattle.ficus_model.specs.Known.{Knows}
 use Rattle.ficus_model.specs.Live.{ModelEntry, entry_of, entered_by, IsBound}
@@ -93,12 +93,8 @@ module _ {H : List Event} {U : ℕ → Type 0} {object : Id} (no_root : object �
       entry_alive enters place.parent.reached inl touches
   enters_alive number (Link dir name target) entry may enters touches =
       entry_alive enters may.place.parent.reached (alive_as (bound_alive may.named.bound)) touches
-  enters_alive number (Remove entries target) entry may enters touches = absurd (enters_none entry enters)
   enters_alive number (Move entries dir name target) entry may enters touches =
       entry_alive enters may.place.parent.reached (alive_as (names_alive may.names)) touches
-  enters_alive number (Write file bytes) entry may enters touches = absurd (enters_none entry enters)
-  enters_alive number (Settle file bytes) entry may enters touches = absurd (enters_none entry enters)
-  enters_alive number (Resolve file bytes) entry may enters touches = absurd (enters_none entry enters)
   enters_alive number (Adopt file dir name) entry may enters touches =
       entry_alive enters may.place.parent.reached (alive_as (orphan_alive may.orphan)) touches
   enters_alive number (Discard file) entry may enters touches = discards touches
@@ -109,6 +105,7 @@ module _ {H : List Event} {U : ℕ → Type 0} {object : Id} (no_root : object �
       discards : Touches entry object → (number ≡ object) ⊎ IsAlive H U object
       discards (inl leads) = alive_as (orphan_alive may.orphan) (ap (λ (found : ModelEntry). found.target) is ∙ leads)
       discards (inr in_dir) = absurd (no_attic (sym (ap (λ (found : ModelEntry). found.dir) is ∙ in_dir)))
+  enters_alive number op entry may enters touches = absurd (enters_none entry enters)
 
 -- an update of a lawful history that uses an object makes it, or its replica saw the object alive before
 pub user_sees : (volume : Volume) (H : List Event) (object : Id) (position : ℕ) → IsLawful volume H →

@@ -55,6 +55,13 @@ impl<'a> Reader<'a> {
         self.rest
     }
 
+    /// The same bytes once more, to be read by themselves.
+    pub fn again(&self) -> Reader<'a>
+        ensures { result ≡ self.now }
+    {
+        Reader { rest: self.rest }
+    }
+
     /// The next bytes, as many as said, or `None` exactly where fewer are left.
     pub fn front(&mut self, count: usize) -> Option<&'a [u8]>
         ensures some { IfSome result (λ front. (length front.now ≡ count) × (self.old ≡ front.now ++ self.new)) }

@@ -1,5 +1,5 @@
-//! What a collection gives up: the removed entries of which everybody is known to know that all know, and the files thus
-//! left.
+//! What a collection gives up: the removed entries of which everybody is known to know that all know, and the files
+//! thus left.
 #![tactic(auto)]
 
 mod known;

@@ -50,7 +50,8 @@ pub record EachRuns {K D : Type 0} (told : Type 0) (keep : Keep K) (disk : Disk 
     (old new : List (Backed K)) (old_disks new_disks : Disks D) : Type 0 where
   pub count : length new ≡ length old
   pub lists : length new_disks ≡ length old_disks
-  pub each : told → (v : ℕ) (volume : Volume) (W : ModelWorld) (world next : Backed K) (pairs later : Vec (Pair D) Global)
+  pub each : told → (v : ℕ) (volume : Volume) (W : ModelWorld) (world next : Backed K)
+      (pairs later : Vec (Pair D) Global)
       → IsNumbered old v world → IsNumbered new v next → IsNumbered old_disks v pairs → IsNumbered new_disks v later
       → WorldStandsFor volume W world.whole
       → RunsOn keep disk volume W world.whole (commands_to v sent) (answers_to v sent) next.whole (vec_items pairs)
@@ -102,7 +103,8 @@ abbrev pub MayBeCut : {K D : Type 0} → Type 0 → Keep K → Disk D → ℕ �
 MayBeCut told keep disk v command old new old_disks new_disks =
     ((new ≡ old) × (new_disks ≡ old_disks)) ⊎ IsCutShort told keep disk v command old new old_disks new_disks
 
--- The paths of the line were followed, by looks of which none was refused, and its command was cut short where they end.
+-- The paths of the line were followed, by looks of which none was refused, and its command was cut short where they
+-- end.
 pub record LineIsCut {K D : Type 0} (told : Type 0) (keep : Keep K) (disk : Disk D) (line : VolumeLine)
     (old new : List (Backed K)) (old_disks new_disks : Disks D) : Type 0 where
   pub passed : List Sent
@@ -137,8 +139,8 @@ pub record AreHeld {K D : Type 0} (keep : Keep K) (disk : Disk D) (worlds : List
   pub each : (v : ℕ) (world : Backed K) (pairs : Vec (Pair D) Global) → IsNumbered worlds v world
       → IsNumbered disks v pairs → IsHeld keep disk world (vec_items pairs)
 
--- The lines have these answers, by what was sent for them, and each volume has run what was sent to it. Over a sink that
--- tells, the texts of the answers were put, in order, and nothing else.
+-- The lines have these answers, by what was sent for them, and each volume has run what was sent to it. Over a sink
+-- that tells, the texts of the answers were put, in order, and nothing else.
 pub record AnswersLines {K D : Type 0} (tells told : Type 0) (keep : Keep K) (disk : Disk D) (lines : List VolumeLine)
     (old new : List (Backed K)) (old_disks new_disks : Disks D) (was now : List ℕ) : Type 0 where
   pub sent : List Sent

@@ -15,8 +15,8 @@ use ficus_serving::{AnsweringFault, put_answer};
 use std::alloc::Global;
 
 /// Answers each line and puts its answer, before the next one. `Sink` comes where the sink failed, and always where it
-/// counted a fault; `Memory` where memory was refused. Then some first lines were answered, of which the last answer may be
-/// put in part; or all of theirs were put, and the next line's command was cut short.
+/// counted a fault; `Memory` where memory was refused. Then some first lines were answered, of which the last answer
+/// may be put in part; or all of theirs were put, and the next line's command was cut short.
 pub fn answer_lines<S: Sink, D: Disk, K: Keep + Drop, L: Link + Drop>(
     alloc: Global,
     volumes: &mut Volumes<K, L>,

@@ -1,5 +1,5 @@
-//! Several volumes that are joined where names lead from one to another: the paths of a line are followed through them by
-//! looks, and its command is carried out in the volume where they end. No program uses it yet.
+//! Several volumes that are joined where names lead from one to another: the paths of a line are followed through them
+//! by looks, and its command is carried out in the volume where they end. No program uses it yet.
 #![tactic(auto)]
 
 mod answering;

@@ -28,9 +28,9 @@ use ficus_world::World;
 use std::alloc::Global;
 use std::marker::Model;
 
-/// Several volumes, 1 to 4, numbered from 1, each a world of its own. A part `%V` of a path leads to the root of volume V,
-/// if there is one of this number: the directory under that name is looked at, and nothing more is asked of it. The disks
-/// are lent to each call.
+/// Several volumes, 1 to 4, numbered from 1, each a world of its own. A part `%V` of a path leads to the root of volume
+/// V, if there is one of this number: the directory under that name is looked at, and nothing more is asked of it. The
+/// disks are lent to each call.
 #[derive(Drop)]
 pub struct Volumes<K: Keep + Drop, L: Link + Drop> {
     worlds: Vec<World<K, L>>,
@@ -67,14 +67,14 @@ impl<K: Keep + Drop, L: Link + Drop> Volumes<K, L> {
     }
 
     /// Answers one line. Its paths are followed from its volume on, the first path first: at each part that leads to a
-    /// volume the directory there is looked at, and the path goes on from the root of that volume. The last part of a path
-    /// that names an entry, or is new, leads nowhere. The first look that is refused ends the line with its refusal. Where
-    /// the paths end in different volumes, nothing more is done, and the answer is the refusal `Crossing`. Else the command
-    /// is carried out in the volume where they end, with what is left of its paths; one without a path, in the line's
-    /// volume. Only the volume to which something was sent last may change.
+    /// volume the directory there is looked at, and the path goes on from the root of that volume. The last part of a
+    /// path that names an entry, or is new, leads nowhere. The first look that is refused ends the line with its
+    /// refusal. Where the paths end in different volumes, nothing more is done, and the answer is the refusal
+    /// `Crossing`. Else the command is carried out in the volume where they end, with what is left of its paths; one
+    /// without a path, in the line's volume. Only the volume to which something was sent last may change.
     ///
-    /// `Memory` comes where memory was refused. Then nothing has changed; or the paths were followed, and the command has
-    /// done in its volume what one leaves that is cut short.
+    /// `Memory` comes where memory was refused. Then nothing has changed; or the paths were followed, and the command
+    /// has done in its volume what one leaves that is cut short.
     pub fn step<D: Disk>(
         &mut self,
         alloc: Global,

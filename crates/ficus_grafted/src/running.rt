@@ -17,9 +17,9 @@ use ficus_script::VolumeLine;
 use ficus_serving::AnsweringFault;
 use std::alloc::Global;
 
-/// Answers the lines over so many fresh volumes in memory, each with so many members and these limits. `Sink` comes where
-/// the sink failed, and always where it counted a fault; `Memory` where memory was refused. Then some first lines were
-/// answered, of which the last answer may be put in part. The volumes are given up with the call.
+/// Answers the lines over so many fresh volumes in memory, each with so many members and these limits. `Sink` comes
+/// where the sink failed, and always where it counted a fault; `Memory` where memory was refused. Then some first lines
+/// were answered, of which the last answer may be put in part. The volumes are given up with the call.
 pub fn answer_fresh<S: Sink>(
     alloc: Global,
     members: Members,

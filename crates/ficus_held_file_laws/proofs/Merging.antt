@@ -5,12 +5,9 @@ use Rattle.std.specs.Prelude.{Contains}
 use Rattle.ficus_ids.specs.ListLaws.{into_map, from_map}
 use Rattle.ficus_ids.specs.RisingLaws.{held_or_not}
 use Rattle.ficus_ids.specs.declared.id.Id.{Id}
-use Rattle.ficus_ids.specs.declared.kind.Kind.{Kind}
-use Rattle.ficus_ids.specs.declared.kind.Kind.TheVariants.{Dir, Plain, Lines, Max, Keep}
 use Rattle.ficus_vv.specs.Vector.{count_of}
 use Rattle.ficus_entry.specs.declared.entry.Entry.{Entry}
 use Rattle.ficus_file.specs.Files.{id_of, AreFiles, Holds, HoldsUnder}
-use Rattle.ficus_file.specs.File.{IsWellFormed}
 use Rattle.ficus_file.specs.declared.file.FileReplica.{FileReplica}
 use Rattle.ficus_model.specs.declared.event.Event.{Event}
 use Rattle.ficus_model.specs.declared.event.Event.TheVariants.{Accept}
@@ -23,7 +20,7 @@ use Rattle.ficus_laws.proofs.Issued.{made_once}
 use Rattle.ficus_laws.proofs.Positions.{agree_before, at_from_before}
 use Rattle.ficus_laws.proofs.Updates.{agree_update}
 use Rattle.ficus_recon_file.specs.Merge.{CanMerge, Fit, IsMergedFile, IsTaken, AreMergedFiles}
-use Rattle.ficus_recon_file.specs.Versions.{AreOrdered}
+use Rattle.ficus_recon_file.proofs.Current.{ordered_of}
 use Rattle.ficus_removal_laws.specs.Laws.{IsAnswer}
 use Rattle.ficus_removal_laws.proofs.Answering.{lawful_there}
 use Rattle.ficus_held_laws.specs.Objects.{KeptObject, HasObject, IsObjectMerged, IsOfBoth, IsOnlyOf, IsTaken as IsTakenObject, HasMerged, AreObjectsMerged}
@@ -36,16 +33,6 @@ use Rattle.ficus_file_laws.proofs.Taking.{lists_agree, few_merged}
 use Rattle.ficus_held_file_laws.specs.Tables.{object_of, objects_of, AreHeldEntries, AreHeldFiles}
 use Rattle.ficus_held_file_laws.specs.Laws.{AreTouched}
 use Rattle.ficus_held_file_laws.proofs.Files.{object_held, held_object, kept_file, versions_held}
-
--- the versions of a file that may be held are in order
-pub well_ordered : (file : FileReplica) → (kind : Kind) → file.kind ≡ kind → IsWellFormed file →
-    AreOrdered file.versions
-well_ordered file Dir is well =
-    subst AreOrdered (sym (well.directory is)) (λ i j d before within. absurd (omega arith))
-well_ordered file Plain is well = (well.current (λ dir. cc)).ordered
-well_ordered file Lines is well = (well.current (λ dir. cc)).ordered
-well_ordered file Max is well = (well.current (λ dir. cc)).ordered
-well_ordered file Keep is well = (well.current (λ dir. cc)).ordered
 
 -- In each of these an answer is taken. The lists are the files of the replica and of the server.
 module _ (volume : Volume) (H : List Event) (replica served server : ℕ)
@@ -225,7 +212,7 @@ module _ (volume : Volume) (H : List Event) (replica served server : ℕ)
         AreFiles both → AreHeldFiles volume.members (H ++ Accept replica served ∷ []) replica both
     files_merged held are = record {
       rising = are.rising;
-      ordered = λ file inside. well_ordered file file.kind refl (are.each file inside).well_formed;
+      ordered = λ file inside. ordered_of file (are.each file inside).well_formed;
       kept = objects_merged volume H replica served server entries (objects_of mine) (objects_of theirs)
           (objects_of both) answer held.kept here.kept there.kept objects_merge;
     }

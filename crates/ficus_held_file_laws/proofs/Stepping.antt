@@ -6,7 +6,7 @@ use Rattle.ficus_ids.specs.ListLaws.{into_map, from_map}
 use Rattle.ficus_ids.specs.RisingLaws.{one_item}
 use Rattle.ficus_ids.specs.declared.id.Id.{Id}
 use Rattle.ficus_ids.specs.declared.kind.Kind.{Kind}
-use Rattle.ficus_ids.specs.declared.kind.Kind.TheVariants.{Dir, Plain, Lines, Max, Keep}
+use Rattle.ficus_ids.specs.declared.kind.Kind.TheVariants.{Dir}
 use Rattle.ficus_ids.specs.Rising.{Adds}
 use Rattle.ficus_vv.specs.VectorLaws.{count_of-none}
 use Rattle.ficus_file.specs.File.{made_file, first_versions, advanced, covered_file}
@@ -51,10 +51,7 @@ made_gives_up gives_up = elim gives_up [ ]
 module _ {by : ℕ} (one : 1 ≤ by) (most : by ≤ 8) where
   first_counted : (kind : Kind) → items_of (first_versions kind by) ≡ first_items by kind
   first_counted Dir = refl
-  first_counted Plain = written_counts by [] [] one most
-  first_counted Lines = written_counts by [] [] one most
-  first_counted Max = written_counts by [] [] one most
-  first_counted Keep = written_counts by [] [] one most
+  first_counted kind = written_counts by [] [] one most
 
   module _ (number dir : Id) (name : List ℕ) (kind : Kind) (files after : List FileReplica)
       (none : Holds files number → ⊥) (adds : Adds files after (made_file number kind by)) where

@@ -7,9 +7,9 @@ pub fn tables_are_one()
 {}
 
 /// What tables show is what the history shows: the live entries; each removed one that is held, with the members that
-/// are known to know of its removal and those that are known to know that all know; each object with a live name and each
-/// orphan, with its kind, its versions, and whether one of them is uncovered. No number in them is of an update that
-/// hasn't been made.
+/// are known to know of its removal and those that are known to know that all know; each object with a live name and
+/// each orphan, with its kind, its versions, and whether one of them is uncovered. No number in them is of an update
+/// that hasn't been made.
 pub fn tables_show_history()
     ensures live { LiveEntriesAreListed }
     ensures removed { RemovedEntriesAreListed }

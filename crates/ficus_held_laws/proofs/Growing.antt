@@ -2,7 +2,7 @@
 use Rattle.std.proofs.Common.{◌≡◌, ◌⊎◌, ℕ, List, [], ◌∷◌, ◌++◌, Some, refl, sym, ◌∙◌, subst, inl, inr, arith}
 use Rattle.ficus_ids.specs.declared.id.Id.{Id}
 use Rattle.ficus_ids.specs.declared.kind.Kind.{Kind}
-use Rattle.ficus_ids.specs.declared.kind.Kind.TheVariants.{Dir, Plain, Lines, Max, Keep}
+use Rattle.ficus_ids.specs.declared.kind.Kind.TheVariants.{Dir}
 use Rattle.ficus_model.specs.declared.event.Event.{Event}
 use Rattle.ficus_model.specs.declared.event.Event.TheVariants.{Update}
 use Rattle.ficus_model.specs.declared.event.Op.{Op}
@@ -99,10 +99,7 @@ module _ (volume : Volume) (H : List Event) (replica : ℕ) (lawful : IsLawful v
     made_shown Dir = (are_shown_kept H (Update replica (Make dir name Dir)) replica
         (other_back H replica (Make dir name Dir) (none_is (next_number replica H)))).0
         (none_shown volume H replica lawful)
-    made_shown Plain = make_shown volume H replica lawful dir name Plain (λ is. cc)
-    made_shown Lines = make_shown volume H replica lawful dir name Lines (λ is. cc)
-    made_shown Max = make_shown volume H replica lawful dir name Max (λ is. cc)
-    made_shown Keep = make_shown volume H replica lawful dir name Keep (λ is. cc)
+    made_shown kind = make_shown volume H replica lawful dir name kind (λ is. cc)
 
     made_kept : (object : KeptObject) → object.id ≡ next_number replica H →
         object.versions ≡ first_versions replica object.kind → object.cover ≡ (λ by. 0) →

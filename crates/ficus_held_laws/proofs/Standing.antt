@@ -2,7 +2,7 @@
 use Rattle.std.proofs.Common.{◌≡◌, ◌≢◌, ◌↔◌, ◌⊎◌, ℕ, Bool, true, false, List, [], ◌∷◌, ◌++◌, Some, None, Option, refl, sym, ap, ap₂, subst, inl, inr}
 use Rattle.std.specs.Prelude.{IsTrue, Contains}
 use Rattle.ficus_ids.specs.IdLaws.{same_id_or_not}
-use Rattle.ficus_ids.specs.ListLaws.{here, there, here_or_there, not_inside_none}
+use Rattle.ficus_ids.specs.ListLaws.{there, contained_or_not}
 use Rattle.ficus_ids.specs.Marks.{has}
 use Rattle.ficus_ids.specs.MarksLaws.{same_marks}
 use Rattle.ficus_ids.specs.Members.{IsMember}
@@ -11,7 +11,7 @@ use Rattle.ficus_entry.specs.declared.entry.Entry.{Entry as Kept}
 use Rattle.ficus_entry.specs.declared.entry.State.{State}
 use Rattle.ficus_entry.specs.declared.entry.State.TheVariants.{Live, Dead}
 use Rattle.ficus_model.specs.declared.event.Event.{Event}
-use Rattle.ficus_model.specs.declared.event.Event.TheVariants.{Update, Ask, Serve, Accept, Collect, Restart}
+use Rattle.ficus_model.specs.declared.event.Event.TheVariants.{Update, Collect}
 use Rattle.ficus_model.specs.Events.{actor}
 use Rattle.ficus_model.specs.Known.{Knows}
 use Rattle.ficus_model.specs.Live.{ModelEntry, IsEntered, IsRemoved}
@@ -30,17 +30,7 @@ use Rattle.ficus_held_laws.specs.Entries.{IsKeptEntry, IsIdle, place_of}
 
 -- an identifier is in a list, or it isn't
 pub inside_decided : (ids : List Id) (id : Id) → Decided (Contains ids id)
-inside_decided [] id = inr (not_inside_none id)
-inside_decided (first ∷ ids) id = go (same_id_or_not first id) (inside_decided ids id)
-  where
-    beside : first ≢ id → (Contains ids id → ⊥) → (id ≡ first) ⊎ Contains ids id → ⊥
-    beside differs none (inl same) = differs (sym same)
-    beside differs none (inr later) = none later
-
-    go : (first ≡ id) ⊎ (first ≢ id) → Decided (Contains ids id) → Decided (Contains (first ∷ ids) id)
-    go (inl same) later = inl (subst (Contains (first ∷ ids)) same (here first ids))
-    go (inr differs) (inl later) = inl (there first id ids later)
-    go (inr differs) (inr none) = inr (λ inside. beside differs none (here_or_there first id ids inside))
+inside_decided ids id = contained_or_not same_id_or_not ids id
 
 -- after both histories the same is known of the entry with this identifier
 pub record SameEntry (members : ℕ) (H K : List Event) (replica : ℕ) (id : Id) : Type 0 where
@@ -112,20 +102,13 @@ same_from_updates event same marks undropped = record {
 }
 
 pub idle_quiet : (event : Event) → IsIdle event → IsQuiet event
-idle_quiet (Ask by to) idle = tt
-idle_quiet (Serve by ask) idle = tt
-idle_quiet (Restart by) idle = tt
-idle_quiet (Update by op) idle = idle
-idle_quiet (Accept by serve) idle = idle
 idle_quiet (Collect by) idle = absurd idle
+idle_quiet event idle = idle
 
 idle_leaves : (H : List Event) (event : Event) (id : Id) → IsIdle event → LeavesEntry H event id
-idle_leaves H (Ask by to) id idle = tt
-idle_leaves H (Serve by ask) id idle = tt
-idle_leaves H (Restart by) id idle = tt
 idle_leaves H (Update by op) id idle = absurd idle
-idle_leaves H (Accept by serve) id idle = absurd idle
 idle_leaves H (Collect by) id idle = absurd idle
+idle_leaves H event id idle = idle
 
 pub others_same_updates : (H : List Event) (event : Event) (replica : ℕ) → (actor event ≢ replica) ⊎ IsIdle event →
     SameUpdates H (Knows H replica) (H ++ event ∷ []) (Knows (H ++ event ∷ []) replica)

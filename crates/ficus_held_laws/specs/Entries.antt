@@ -1,16 +1,17 @@
 -- The entries that a replica keeps, each in its state, and what each event makes of them.
 use Rattle.std.specs.Prelude.{◌≡◌, ◌⊎◌, ℕ, List, Some, Contains}
+use Rattle.std.specs.Bool.{MatchBool}
 use Rattle.ficus_ids.specs.declared.id.Id.{Id}
 use Rattle.ficus_entry.specs.Entry.{Holds}
 use Rattle.ficus_entry.specs.declared.entry.Entry.{Entry as Kept}
 use Rattle.ficus_entry.specs.declared.entry.State.{State}
 use Rattle.ficus_entry.specs.declared.entry.State.TheVariants.{Live, Dead}
 use Rattle.ficus_model.specs.declared.event.Event.{Event}
-use Rattle.ficus_model.specs.declared.event.Event.TheVariants.{Update, Ask, Serve, Accept, Collect, Restart}
 use Rattle.ficus_model.specs.declared.event.Op.{Op}
+use Rattle.ficus_model.specs.Events.{traits}
 use Rattle.ficus_model.specs.Held.{IsHeldEntry}
 use Rattle.ficus_model.specs.Live.{ModelEntry, entry_of, entered_by, removed_by}
-use Rattle.ficus_laws.specs.Updates.{next_number}
+use Rattle.ficus_laws.specs.Updates.{next_number, IsQuiet}
 use Rattle.ficus_removal_laws.specs.Marks.{IsAbsent}
 use Rattle.ficus_merge_laws.specs.States.{StandsAs, IsKilled}
 
@@ -70,9 +71,4 @@ pub record AreEntriesStepped (replica : ℕ) (number : Id) (op : Op) (entries af
 
 -- the event is no update, takes nothing and collects nothing
 abbrev pub IsIdle : Event → Type 0
-IsIdle (Ask by to) = Unit {0}
-IsIdle (Serve by ask) = Unit {0}
-IsIdle (Restart by) = Unit {0}
-IsIdle (Update by op) = ⊥
-IsIdle (Accept by serve) = ⊥
-IsIdle (Collect by) = ⊥
+IsIdle event = MatchBool (traits event).collects ⊥ (IsQuiet event)

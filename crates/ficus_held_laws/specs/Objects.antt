@@ -2,7 +2,7 @@
 use Rattle.std.specs.Prelude.{◌≡◌, ◌⊎◌, ◌↔◌, ℕ, List, [], Contains}
 use Rattle.ficus_ids.specs.declared.id.Id.{Id}
 use Rattle.ficus_ids.specs.declared.kind.Kind.{Kind}
-use Rattle.ficus_ids.specs.declared.kind.Kind.TheVariants.{Dir, Plain, Lines, Max, Keep}
+use Rattle.ficus_ids.specs.declared.kind.Kind.TheVariants.{Dir}
 use Rattle.ficus_entry.specs.declared.entry.Entry.{Entry as Kept}
 use Rattle.ficus_model.specs.declared.event.Event.{Event}
 use Rattle.ficus_model.specs.declared.event.Op.{Op}
@@ -66,10 +66,7 @@ pub record IsObjectStepped (replica : ℕ) (number : Id) (op : Op) (object after
 -- the versions of an object just made: a directory has none, and a file the first one
 abbrev pub first_versions : ℕ → Kind → List Item
 first_versions replica Dir = []
-first_versions replica Plain = advanced replica [] []
-first_versions replica Lines = advanced replica [] []
-first_versions replica Max = advanced replica [] []
-first_versions replica Keep = advanced replica [] []
+first_versions replica kind = advanced replica [] []
 
 -- an object that the update with this number makes
 pub record IsObjectMade (replica : ℕ) (number : Id) (op : Op) (object : KeptObject) : Type 0 where

@@ -4,6 +4,7 @@ pub mod ListLaws
 pub mod Rising
 pub mod RisingLaws
 pub mod Kind
+pub mod KindLaws
 pub mod Marks
 pub mod MarksLaws
 pub mod Members

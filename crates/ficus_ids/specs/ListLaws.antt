@@ -16,6 +16,22 @@ here_or_there x y xs (suc k, within, is) = inr (k, omega arith, is)
 pub not_inside_none : {X : Type 0} (x : X) → Contains [] x → ⊥
 not_inside_none x inside = omega arith
 
+-- where items can be told apart, one is in a list or it isn't
+pub contained_or_not : {X : Type 0} → ((a b : X) → (a ≡ b) ⊎ (a ≡ b → ⊥)) → (xs : List X) (x : X) →
+    Contains xs x ⊎ (Contains xs x → ⊥)
+contained_or_not same [] x = inr (not_inside_none x)
+contained_or_not {X} same (first ∷ xs) x = go (same first x) (contained_or_not same xs x)
+  where
+    beside : (first ≡ x → ⊥) → (Contains xs x → ⊥) → (x ≡ first) ⊎ Contains xs x → ⊥
+    beside differs none (inl is) = differs (sym is)
+    beside differs none (inr later) = none later
+
+    go : (first ≡ x) ⊎ (first ≡ x → ⊥) → Contains xs x ⊎ (Contains xs x → ⊥) →
+        Contains (first ∷ xs) x ⊎ (Contains (first ∷ xs) x → ⊥)
+    go (inl is) later = inl (subst (λ (y : X). Contains (first ∷ xs) y) is (here first xs))
+    go (inr differs) (inl later) = inl (there first x xs later)
+    go (inr differs) (inr none) = inr (λ inside. beside differs none (here_or_there first x xs inside))
+
 -- what is made of the items of a list, and of no others, is in the mapped list
 pub into_map : {X Y : Type 0} (f : X → Y) (xs : List X) (x : X) → Contains xs x → Contains (map f xs) (f x)
 into_map f [] x inside = absurd (not_inside_none x inside)

@@ -11,7 +11,8 @@ use Rattle.ficus_keep.specs.Kept.{Kept}
 use Rattle.ficus_keep.specs.declared.keep.Keep.{Ghosts as Keep}
 use Rattle.ficus_model.specs.declared.event.Event.{Event}
 use Rattle.ficus_model.specs.declared.event.Event.TheVariants as event
-use Rattle.ficus_model.specs.Events.{actor}
+use Rattle.ficus_model.specs.Events.{actor, traits}
+use Rattle.ficus_laws.proofs.Updates.{is_own}
 use Rattle.ficus_model.specs.Lawful.{Volume}
 use Rattle.ficus_replica.specs.SavedOf.{generation_of, is_saved}
 use Rattle.ficus_saved.specs.declared.saved.Saved.{Saved}
@@ -107,16 +108,8 @@ none_of [] is = refl
 none_of (event ∷ list) is = absurd (omega (arith, is))
 
 -- an event after which a member saves is its own
-same_number : (by r : ℕ) → (by == r) ≡ true → by ≡ r
-same_number by r same = grind arith
-
 saved_own : (r : ℕ) (event : Event) → is_saved r event ≡ true → actor event ≡ r
-saved_own r (event.Update by op) is = same_number by r is
-saved_own r (event.Ask by to) is = same_number by r is
-saved_own r (event.Accept by serve) is = same_number by r is
-saved_own r (event.Collect by) is = same_number by r is
-saved_own r (event.Serve by ask) is = absurd (cc)
-saved_own r (event.Restart by) is = absurd (cc)
+saved_own r event is = is_own (traits event).saves (actor event) r is
 
 is_saved_one : (r : ℕ) (H : List Event) (event : Event)
     → generation_of r (H ++ event ∷ []) ≡ generation_of r H + 1 → is_saved r event ≡ true

@@ -17,7 +17,7 @@ use Rattle.ficus_runs.specs.Run.Run.{End, Then}
 use Rattle.ficus_runs.specs.Sequence.{Effect, unchanged}
 use Rattle.ficus_runs.specs.Sequence.ByRule.{Says}
 use Rattle.ficus_runs.specs.Sequence.CutFirst.{InFirst, InRest}
-use Rattle.ficus_runs.specs.Sequence.First.{Ends, Goes}
+use Rattle.ficus_runs.specs.Sequence.First.{Goes}
 use Rattle.ficus_runs.specs.Sweep.{Collecting, DoesSweepPart, Pulling, PullsPart, SweepStep, SweepsPart, sweep_steps}
 use Rattle.ficus_run_laws.proofs.Extending.{Extends, as_it_was, further, step_extends}
 use Rattle.ficus_run_laws.proofs.SweepSteps.{as_step}

@@ -17,8 +17,8 @@ use Rattle.ficus_runs.specs.Run.{Run, Step}
 use Rattle.ficus_world.specs.Kills.{PairRests}
 use Rattle.ficus_world.specs.Stand.{DisksKeep, KeepsFor}
 
--- A save of the member, which was up, was begun: an event of its own has happened after which it saves, and all stand as
--- before; or nothing has happened, and the member is down, with an event of its own pending.
+-- A save of the member, which was up, was begun: an event of its own has happened after which it saves, and all stand
+-- as before; or nothing has happened, and the member is down, with an event of its own pending.
 pub record BeginsSave (old new : ModelWorld) (r : ℕ) : Type 0 where
   pub up : IsUp r old
   pub event : Event
@@ -26,9 +26,9 @@ pub record BeginsSave (old new : ModelWorld) (r : ℕ) : Type 0 where
   pub so : ((new.events ≡ old.events ++ event ∷ []) × (new.standings ≡ old.standings) × (is_saved r event ≡ true))
       ⊎ ((new.events ≡ old.events) × (new.standings ≡ slice_set old.standings (r - 1) (Down (Some event))))
 
--- The pair of this number from one state to the next. Whatever a crash between them might have left keeps what the world
--- before says of the member; or, where a save of the member was begun, what the world after says. Where none was begun,
--- nothing is written. No moment between the two is left out.
+-- The pair of this number from one state to the next. Whatever a crash between them might have left keeps what the
+-- world before says of the member; or, where a save of the member was begun, what the world after says. Where none was
+-- begun, nothing is written. No moment between the two is left out.
 pub record PairBetween {D : Type 0} (kept : List ℕ → List ℕ → Option Kept) (disk : Disk D) (volume : Volume)
     (V U : ModelWorld) (r : ℕ) (old new : Pair D) : Type 0 where
   pub keeps : disk.tells → disk.tells_moments → (was now : Standing) → IsNumbered V.standings r was
@@ -92,9 +92,9 @@ pub record Covers {D : Type 0} {kept : List ℕ → List ℕ → Option Kept} {d
       → disk.left_since now.b (disk.moment was.b) c → Somewhere (LeftOn disk (λ (p : Pair D). p.b) r c) trail
 
 -- Some first commands with the disks, and then maybe what a command has done that was cut short.
-pub record FrontOn {D : Type 0} (kept : List ℕ → List ℕ → Option Kept) (disk : Disk D) (volume : Volume) (W : ModelWorld)
-    (commands : List Command) (outcomes : List (List Outcome)) (answers : List Answer) (middle after : ModelWorld)
-    (old new : List (Pair D)) : Type 0 where
+pub record FrontOn {D : Type 0} (kept : List ℕ → List ℕ → Option Kept) (disk : Disk D) (volume : Volume)
+    (W : ModelWorld) (commands : List Command) (outcomes : List (List Outcome)) (answers : List Answer)
+    (middle after : ModelWorld) (old new : List (Pair D)) : Type 0 where
   pub mid : List (Pair D)
   pub run : RunOn kept disk volume W commands outcomes answers middle old mid
   pub rest : ((after ≡ middle) × (new ≡ mid)) ⊎ Trail kept disk volume middle after mid new
@@ -144,8 +144,8 @@ pub record WasLeft {D : Type 0} (disk : Disk D) (was now left : Pair D) : Type 0
   pub a : disk.left_since now.a (disk.moment was.a) (disk.seen left.a)
   pub b : disk.left_since now.b (disk.moment was.b) (disk.seen left.b)
 
--- The pairs of all members keep one lawful history, which goes on from this one by some of what was pending: an event of
--- a member at most.
+-- The pairs of all members keep one lawful history, which goes on from this one by some of what was pending: an event
+-- of a member at most.
 pub record KeepsFrom {D : Type 0} (kept : List ℕ → List ℕ → Option Kept) (seen : D → List ℕ) (volume : Volume)
     (H : List Event) (disks : List (Pair D)) : Type 0 where
   pub more : List Event

@@ -20,8 +20,8 @@ use ficus_disk::Disk;
 use ficus_keep::Keep;
 use ficus_outside::Link;
 
-/// The law that where a world stands for one of the model, over a link that tells its posts and disks that tell what they
-/// hold, what it passes leaves a trail, from that world of the model to the one for which it then stands. It does
+/// The law that where a world stands for one of the model, over a link that tells its posts and disks that tell what
+/// they hold, what it passes leaves a trail, from that world of the model to the one for which it then stands. It does
 /// nothing when it runs.
 pub fn steps_leave_trails<K: Keep, L: Link, D: Disk>()
     ensures { (volume : Volume) (W : ModelWorld) (old new : Whole) (disks now : List (PairValue D)) → L.tells → D.tells
@@ -82,8 +82,8 @@ pub fn killed_disks_keep_one_history<D: Disk>()
         ⊎ ((by : ℕ) × BeginsSave V U by × KeepsFrom kept D.seen volume U.events left) }
 {}
 
-/// The law that whatever a crash leaves of the disks of a world keeps one history, also where members are down: what has
-/// happened, and some of what was pending. It does nothing when it runs.
+/// The law that whatever a crash leaves of the disks of a world keeps one history, also where members are down: what
+/// has happened, and some of what was pending. It does nothing when it runs.
 pub fn left_disks_keep_one_history<D: Disk>()
     ensures { (kept : List ℕ → List ℕ → Option Kept) (volume : Volume) (W : ModelWorld) (disks left :
         List (PairValue D)) → IsLawful volume W.events → length W.standings ≡ volume.members

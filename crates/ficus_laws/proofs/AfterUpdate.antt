@@ -1,16 +1,14 @@
 -- What a replica is shown after an update of its own.
 use Rattle.std.proofs.Common.{◌≡◌, ℕ, List, [], ◌∷◌, ◌++◌, Some, None, refl, sym, ap, subst, ◌∙◌, inl, inr, ◌⊎◌, arith}
-use Rattle.std.specs.Prelude.{Contains, codes}
-use Rattle.std.proofs.lemmas.Option.{same_Some}
-use Rattle.ficus_ids.specs.declared.id.TheConstants.{ATTIC}
+use Rattle.std.specs.Prelude.{Contains, IfSome}
 use Rattle.ficus_ids.specs.declared.id.Id.{Id}
 use Rattle.ficus_ids.specs.declared.kind.Kind.{Kind}
 use Rattle.ficus_model.specs.declared.event.Event.{Event}
 use Rattle.ficus_model.specs.declared.event.Event.TheVariants.{Update}
 use Rattle.ficus_model.specs.declared.event.Op.{Op}
-use Rattle.ficus_model.specs.declared.event.Op.TheVariants.{Make, Link, Remove, Move, Write, Settle, Resolve, Adopt, Discard}
+use Rattle.ficus_model.specs.declared.event.Op.TheVariants.{Make, Link, Move, Adopt, Discard}
 use Rattle.ficus_model.specs.Known.{Knows}
-use Rattle.ficus_model.specs.Live.{ModelEntry, entry_of, entered_by, removed_by, IsEntered, IsRemoved, IsLive, IsMade}
+use Rattle.ficus_model.specs.Live.{ModelEntry, entered_by, removed_by, IsEntered, IsRemoved, IsLive, IsMade}
 use Rattle.ficus_laws.specs.Updates.{next_number, made_entry, HasUpdate}
 use Rattle.ficus_laws.proofs.Shown.{entered_from, removed_from, entered_has, removed_has, entered_within, removed_within, made_within}
 use Rattle.ficus_laws.proofs.OneMore.{within_more, has_end, has_after_update}
@@ -18,22 +16,17 @@ use Rattle.ficus_laws.proofs.OneMore.{within_more, has_end, has_after_update}
 pub enters_none : (entry : ModelEntry) → None ≡ Some entry → ⊥
 enters_none entry e = cc
 
+entered_ids : (number : Id) (op : Op) → IfSome (entered_by number op) (λ entry. entry.id ≡ number)
+entered_ids number (Make dir name kind) = refl
+entered_ids number (Link dir name target) = refl
+entered_ids number (Move entries dir name target) = refl
+entered_ids number (Adopt file dir name) = refl
+entered_ids number (Discard file) = refl
+entered_ids number op = tt
+
 -- an entry has the number of the update that enters it
 pub entered_id : (number : Id) (op : Op) (entry : ModelEntry) → entered_by number op ≡ Some entry → entry.id ≡ number
-entered_id number (Make dir name kind) entry e =
-    sym (ap (λ (found : ModelEntry). found.id) (same_Some (entry_of number dir name number) entry e))
-entered_id number (Link dir name target) entry e =
-    sym (ap (λ (found : ModelEntry). found.id) (same_Some (entry_of number dir name target) entry e))
-entered_id number (Remove entries target) entry e = absurd (enters_none entry e)
-entered_id number (Move entries dir name target) entry e =
-    sym (ap (λ (found : ModelEntry). found.id) (same_Some (entry_of number dir name target) entry e))
-entered_id number (Write file bytes) entry e = absurd (enters_none entry e)
-entered_id number (Settle file bytes) entry e = absurd (enters_none entry e)
-entered_id number (Resolve file bytes) entry e = absurd (enters_none entry e)
-entered_id number (Adopt file dir name) entry e =
-    sym (ap (λ (found : ModelEntry). found.id) (same_Some (entry_of number dir name file) entry e))
-entered_id number (Discard file) entry e =
-    sym (ap (λ (found : ModelEntry). found.id) (same_Some (entry_of number ATTIC (codes "discarded") file) entry e))
+entered_id number op entry e = subst (λ found. IfSome found (λ entered. entered.id ≡ number)) e (entered_ids number op)
 
 -- In each of these a replica has done one more operation.
 module _ (H : List Event) (replica : ℕ) (op : Op) where

@@ -1,12 +1,15 @@
--- Whether a replica knows a position can be decided.
+-- What can be decided: what stands at a position, and whether a replica knows it.
 use Rattle.std.proofs.Common.{◌≡◌, ◌⊎◌, ℕ, zero, suc, ◌+◌, ◌<◌, ◌≤◌, List, length, refl, subst, inl, inr, arith}
 use Rattle.std.proofs.lemmas.Bool.{cases_lt, cases_eq}
+use Rattle.ficus_ids.specs.declared.id.Id.{Id}
 use Rattle.ficus_model.specs.declared.event.Event.{Event}
-use Rattle.ficus_model.specs.declared.event.Event.TheVariants.{Update, Ask, Serve, Accept, Collect, Restart}
-use Rattle.ficus_model.specs.Events.{IsAt, IsOf, actor}
+use Rattle.ficus_model.specs.declared.event.Event.TheVariants.{Update, Accept}
+use Rattle.ficus_model.specs.declared.event.Op.{Op}
+use Rattle.ficus_model.specs.Events.{IsAt, IsOf, IsUpdate, actor}
 use Rattle.ficus_model.specs.Known.{HasSeen, Knows}
 use Rattle.ficus_model.specs.Known.HasSeen.{Itself, Earlier, Heard}
-use Rattle.ficus_laws.proofs.Positions.{at_exists, at_same, of_at, of_same, of_within}
+use Rattle.ficus_laws.proofs.Past.{update_numbered, update_same}
+use Rattle.ficus_laws.proofs.Positions.{at_exists, at_same, at_within, of_at, of_same, of_within}
 use Rattle.ficus_laws.proofs.Seen.{seen_within}
 
 -- it holds, or it doesn't
@@ -17,6 +20,24 @@ pub both_decided : {P Q : Type 0} → Decided P → Decided Q → Decided (P × 
 both_decided (inl p) (inl q) = inl (p, q)
 both_decided (inl p) (inr none) = inr (λ both. none both.1)
 both_decided (inr none) q = inr (λ both. none both.0)
+
+pub either_decided : {P Q : Type 0} → Decided P → Decided Q → Decided (P ⊎ Q)
+either_decided (inl p) q = inl (inl p)
+either_decided (inr no_p) (inl q) = inl (inr q)
+either_decided {P} {Q} (inr no_p) (inr no_q) = inr none
+  where
+    none : P ⊎ Q → ⊥
+    none (inl p) = no_p p
+    none (inr q) = no_q q
+
+pub not_decided : {P : Type 0} → Decided P → Decided (P → ⊥)
+not_decided (inl p) = inr (λ none. none p)
+not_decided (inr none) = inl none
+
+-- what follows from a decided property and implies it is decided
+pub decided_from : {P Q : Type 0} → (P → Q) → (Q → P) → Decided P → Decided Q
+decided_from there back (inl p) = inl (there p)
+decided_from there back (inr none) = inr (λ q. none (back q))
 
 -- the last number below n of which P holds
 pub record IsLast (P : ℕ → Type 0) (n last : ℕ) : Type 0 where
@@ -74,6 +95,34 @@ of_decided H position replica = go (cases_lt position (length H))
     go (inl h) = let found = at_exists H position h in is found.0 found.1 (cases_eq (actor found.0) replica)
     go (inr h) = inr (λ own. omega (arith, of_within own))
 
+-- at the position stands an update for which this holds
+pub record IsUpdateWith (H : List Event) (P : Id → Op → Type 0) (position : ℕ) : Type 0 where
+  pub number : Id
+  pub op : Op
+  pub update : IsUpdate H position number op
+  pub holds : P number op
+
+pub update_decided : (H : List Event) (P : Id → Op → Type 0) → ((number : Id) (op : Op) → Decided (P number op)) →
+    (position : ℕ) → Decided (IsUpdateWith H P position)
+update_decided H P decide position = go (cases_lt position (length H))
+  where
+    no_update : (event : Event) → IsAt H position event → ((by : ℕ) (op : Op) → event ≡ Update by op → ⊥) →
+        Decided (IsUpdateWith H P position)
+    no_update event a none = inr (λ u. none u.number.replica u.op (at_same a u.update.at))
+
+    with_number : {number : Id} {op : Op} → IsUpdate H position number op → Decided (P number op) →
+        Decided (IsUpdateWith H P position)
+    with_number {number} {op} u (inl holds) = inl (record { number = number; op = op; update = u; holds = holds })
+    with_number {number} {op} u (inr none) = inr (λ w. none (let s = update_same u w.update in rw (s.0, s.1) w.holds))
+
+    is : (event : Event) → IsAt H position event → Decided (IsUpdateWith H P position)
+    is (Update by op) a = let u = update_numbered a in with_number u (decide _ op)
+    is event a = no_update event a (λ q op e. cc)
+
+    go : (position < length H) ⊎ (length H ≤ position) → Decided (IsUpdateWith H P position)
+    go (inl l) = let found = at_exists H position l in is found.0 found.1
+    go (inr l) = inr (λ u. omega (arith, at_within u.update.at))
+
 -- an event that hasn't seen a position: it is another, no earlier event of its replica has, and it wasn't told
 refuted : {H : List Event} {at seen replica : ℕ} → IsOf H at replica → (at ≡ seen → ⊥) →
     ((old : ℕ) → old < at → IsOf H old replica × HasSeen H old seen → ⊥) →
@@ -107,11 +156,7 @@ module _ (H : List Event) (at seen : ℕ) (earlier : (old : ℕ) → old < at �
       go : (serve < at) ⊎ (at ≤ serve) → Decided IsToldOf
       go (inl h) = was h (earlier serve h)
       go (inr h) = inr (λ told. let e = same told.3 in let l = told.2 in omega arith)
-  told_decided (Update by op) a = takes_nothing (Update by op) a (λ taker served e. cc)
-  told_decided (Ask by to) a = takes_nothing (Ask by to) a (λ taker served e. cc)
-  told_decided (Serve by ask) a = takes_nothing (Serve by ask) a (λ taker served e. cc)
-  told_decided (Collect by) a = takes_nothing (Collect by) a (λ taker served e. cc)
-  told_decided (Restart by) a = takes_nothing (Restart by) a (λ taker served e. cc)
+  told_decided event a = takes_nothing event a (λ taker served e. cc)
 
   abbrev HasOwn : ℕ → ℕ → Type 0
   HasOwn by old = IsOf H old by × HasSeen H old seen

@@ -3,7 +3,7 @@ use Rattle.std.proofs.Common.{◌≡◌, ◌≢◌, ℕ, ◌+◌, ◌<◌, ◌�
 use Rattle.std.proofs.lemmas.Bool.{cases_lt}
 use Rattle.std.proofs.lemmas.List.{length_push}
 use Rattle.ficus_model.specs.declared.event.Event.{Event}
-use Rattle.ficus_model.specs.declared.event.Event.TheVariants.{Update, Ask, Serve, Accept, Collect, Restart}
+use Rattle.ficus_model.specs.declared.event.Event.TheVariants.{Accept}
 use Rattle.ficus_model.specs.Events.{IsAt, IsOf, before, through, actor}
 use Rattle.ficus_model.specs.Known.{HasSeen, Knows}
 use Rattle.ficus_model.specs.Known.HasSeen.{Itself, Earlier, Heard}
@@ -64,11 +64,7 @@ takes replica served event h = subst (λ x. Takes x served) h refl
 
 takes_accept : (event : Event) (served : ℕ) → Takes event served → event ≡ Accept (actor event) served
 takes_accept (Accept by serve) served t = ap (Accept by) t
-takes_accept (Update by op) served t = absurd t
-takes_accept (Ask by to) served t = absurd t
-takes_accept (Serve by ask) served t = absurd t
-takes_accept (Collect by) served t = absurd t
-takes_accept (Restart by) served t = absurd t
+takes_accept event served t = absurd t
 
 end_of : (H : List Event) (event : Event) (at : ℕ) → at ≡ length H → IsOf (H ++ event ∷ []) at (actor event)
 end_of H event at h = rw h (of_end H event)

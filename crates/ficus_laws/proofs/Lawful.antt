@@ -3,7 +3,7 @@ use Rattle.std.proofs.Common.{◌≡◌, ℕ, ◌<◌, List, [], ◌∷◌, ◌+
 use Rattle.std.proofs.lemmas.List.{take_at}
 use Rattle.ficus_ids.specs.Members.{IsMember}
 use Rattle.ficus_model.specs.declared.event.Event.{Event}
-use Rattle.ficus_model.specs.declared.event.Event.TheVariants.{Update, Ask, Serve, Accept, Collect, Restart}
+use Rattle.ficus_model.specs.declared.event.Event.TheVariants.{Collect, Restart}
 use Rattle.ficus_model.specs.Events.{IsAt, IsOf, before, actor}
 use Rattle.ficus_model.specs.Lawful.{Volume, MayCome, IsLawful}
 use Rattle.ficus_laws.proofs.Positions.{agree_more, agree_before, agree_take, at_within, at_more, at_end, at_cases, at_from_before}
@@ -52,14 +52,12 @@ lawful_less volume H event lawful =
           may_come_after volume found (sym (agree_take (agree_more H (event ∷ [])) (omega arith))) (lawful.each position found (at_more (event ∷ []) a));
     }
 
-member_of : (volume : Volume) (H : List Event) (event : Event) → MayCome volume H event →
+-- an event that may come is a member's
+pub member_of : (volume : Volume) (H : List Event) (event : Event) → MayCome volume H event →
     IsMember volume.members (actor event)
-member_of volume H (Update by op) may = may.member
-member_of volume H (Ask by to) may = may.member
-member_of volume H (Serve by ask) may = may.member
-member_of volume H (Accept by serve) may = may.member
 member_of volume H (Collect by) may = may
 member_of volume H (Restart by) may = may
+member_of volume H event may = may.member
 
 -- every event of a lawful history is a member's
 pub lawful_member : (volume : Volume) (H : List Event) {position replica : ℕ} → IsLawful volume H →

@@ -2,7 +2,7 @@
 use Rattle.std.proofs.Common.{◌≡◌, ◌≢◌, ℕ, ◌+◌, ◌∙◌, List, [], ◌∷◌, ◌++◌, length, sym, ap, subst, inl, inr, ◌⊎◌, arith}
 use Rattle.ficus_ids.specs.declared.id.Id.{Id}
 use Rattle.ficus_model.specs.declared.event.Event.{Event}
-use Rattle.ficus_model.specs.declared.event.Event.TheVariants.{Update, Ask, Serve, Accept, Collect, Restart}
+use Rattle.ficus_model.specs.declared.event.Event.TheVariants.{Update, Accept}
 use Rattle.ficus_model.specs.declared.event.Op.{Op}
 use Rattle.ficus_model.specs.Events.{IsAt, before, IsOf, IsUpdate, through, actor}
 use Rattle.ficus_model.specs.Known.{HasSeen, Knows}
@@ -61,12 +61,8 @@ same_of_other H event replica other = record {
     go number op (inr (of, rest)) = absurd (other of)
 
 pub quiet_takes : (event : Event) (served : ℕ) → IsQuiet event → Takes event served → ⊥
-quiet_takes (Update by op) served quiet takes = quiet
-quiet_takes (Ask by to) served quiet takes = takes
-quiet_takes (Serve by ask) served quiet takes = takes
 quiet_takes (Accept by serve) served quiet takes = quiet
-quiet_takes (Collect by) served quiet takes = takes
-quiet_takes (Restart by) served quiet takes = takes
+quiet_takes event served quiet takes = takes
 
 -- nor does one that is no update and takes nothing
 pub same_quiet : (H : List Event) (event : Event) (replica : ℕ) → IsQuiet event →

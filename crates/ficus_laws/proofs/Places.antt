@@ -10,7 +10,7 @@ use Rattle.ficus_ids.specs.declared.kind.Kind.TheVariants.{Dir}
 use Rattle.ficus_model.specs.declared.event.Event.{Event}
 use Rattle.ficus_model.specs.declared.event.Event.TheVariants.{Update}
 use Rattle.ficus_model.specs.declared.event.Op.{Op}
-use Rattle.ficus_model.specs.declared.event.Op.TheVariants.{Make, Link, Remove, Move, Write, Settle, Resolve, Adopt, Discard}
+use Rattle.ficus_model.specs.declared.event.Op.TheVariants.{Make, Link, Move, Adopt, Discard}
 use Rattle.ficus_model.specs.Events.{IsOf, before}
 use Rattle.ficus_model.specs.Known.{HasSeen, Knows}
 use Rattle.ficus_model.specs.Known.HasSeen.{Earlier}
@@ -60,17 +60,14 @@ entered_place H U number (Make dir name kind) entry place enters =
     inl (subst (λ found. IsDirectory H U found.dir) (same_Some (entry_of number dir name number) entry enters) place.parent.directory)
 entered_place H U number (Link dir name target) entry may enters =
     inl (subst (λ found. IsDirectory H U found.dir) (same_Some (entry_of number dir name target) entry enters) may.place.parent.directory)
-entered_place H U number (Remove entries target) entry may enters = absurd (enters_none entry enters)
 entered_place H U number (Move entries dir name target) entry may enters =
     inl (subst (λ found. IsDirectory H U found.dir) (same_Some (entry_of number dir name target) entry enters) may.place.parent.directory)
-entered_place H U number (Write file bytes) entry may enters = absurd (enters_none entry enters)
-entered_place H U number (Settle file bytes) entry may enters = absurd (enters_none entry enters)
-entered_place H U number (Resolve file bytes) entry may enters = absurd (enters_none entry enters)
 entered_place H U number (Adopt file dir name) entry may enters =
     inl (subst (λ found. IsDirectory H U found.dir) (same_Some (entry_of number dir name file) entry enters) may.place.parent.directory)
 entered_place H U number (Discard file) entry may enters =
     let same = same_Some (entry_of number ATTIC (codes "discarded") file) entry enters in
     inr (subst (λ found. found.dir ≡ ATTIC) same refl, here number [])
+entered_place H U number op entry may enters = absurd (enters_none entry enters)
 
 -- in a lawful history each entry lies in a directory, or in the attic and is removed
 pub entered_in_place : (volume : Volume) (H : List Event) {replica : ℕ} {entry : ModelEntry} → IsLawful volume H →
@@ -120,15 +117,12 @@ module _ {H K : List Event} {U V : ℕ → Type 0} (more : UpdatesWithin K V H U
       (kind, subst (λ found. IsMade H U found.target kind) same (record { position = u.position; dir = dir; name = name; known = u.known; update = u.update }))
   target_made number (Link dir name target) entry u may enters =
       known_target dir name enters (may.is_file.kind, may.is_file.made)
-  target_made number (Remove entries target) entry u may enters = absurd (enters_none entry enters)
   target_made number (Move entries dir name target) entry u may enters =
       known_target dir name enters (named entries target may.names)
-  target_made number (Write file bytes) entry u may enters = absurd (enters_none entry enters)
-  target_made number (Settle file bytes) entry u may enters = absurd (enters_none entry enters)
-  target_made number (Resolve file bytes) entry u may enters = absurd (enters_none entry enters)
   target_made number (Adopt file dir name) entry u may enters = known_target dir name enters (orphan_made may.orphan)
   target_made number (Discard file) entry u may enters =
       known_target ATTIC (codes "discarded") enters (may.is_file.kind, may.is_file.made)
+  target_made number op entry u may enters = absurd (enters_none entry enters)
 
 pub some_inside : (entries : List Id) → entries ≢ [] → (id : Id) × Contains entries id
 some_inside [] some = absurd (some refl)

@@ -5,7 +5,7 @@ use Rattle.ficus_ids.specs.ListLaws.{here_or_there, not_inside_none}
 use Rattle.ficus_ids.specs.declared.id.Id.{Id}
 use Rattle.ficus_model.specs.declared.event.Event.{Event}
 use Rattle.ficus_model.specs.declared.event.Op.{Op}
-use Rattle.ficus_model.specs.declared.event.Op.TheVariants.{Make, Link, Remove, Move, Write, Settle, Resolve, Adopt, Discard}
+use Rattle.ficus_model.specs.declared.event.Op.TheVariants.{Remove, Move, Discard}
 use Rattle.ficus_model.specs.Live.{ModelEntry, removed_by, IsLive}
 use Rattle.ficus_model.specs.Lawful.{AreNames, IsAllowed}
 
@@ -33,17 +33,12 @@ named_live {id = id} names inside =
 
 pub is_removable : (H : List Event) (U : ℕ → Type 0) (number id : Id) (op : Op) → IsAllowed H U op →
     Contains (removed_by number op) id → IsRemovable H U number op id
-is_removable H U number id (Make dir name kind) allowed removes = absurd (not_inside_none id removes)
-is_removable H U number id (Link dir name target) allowed removes = absurd (not_inside_none id removes)
 is_removable H U number id (Remove entries target) allowed removes = inl (named_live allowed.names removes)
 is_removable H U number id (Move entries dir name target) allowed removes = inl (named_live allowed.names removes)
-is_removable H U number id (Write file bytes) allowed removes = absurd (not_inside_none id removes)
-is_removable H U number id (Settle file bytes) allowed removes = absurd (not_inside_none id removes)
-is_removable H U number id (Resolve file bytes) allowed removes = absurd (not_inside_none id removes)
-is_removable H U number id (Adopt file dir name) allowed removes = absurd (not_inside_none id removes)
 is_removable H U number id (Discard file) allowed removes =
     inr (record { file = file; is = refl; own = only (here_or_there number id [] removes) })
   where
     only : (id ≡ number) ⊎ Contains [] id → id ≡ number
     only (inl same) = same
     only (inr none) = absurd (not_inside_none id none)
+is_removable H U number id op allowed removes = absurd (not_inside_none id removes)

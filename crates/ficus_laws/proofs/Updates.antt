@@ -1,13 +1,14 @@
 -- Updates, their numbers, and how many there are.
 use Rattle.std.proofs.Common.{◌≡◌, ◌≢◌, ℕ, ◌+◌, ◌<◌, ◌≤◌, List, [], ◌∷◌, ◌++◌, length, true, false, cond, refl, sym, ap, ◌∙◌, inl, inr, ◌⊎◌, arith, rules}
+use Rattle.std.specs.Prelude.{Bool, ◌&&◌, ◌==◌, is_some}
 use Rattle.std.proofs.lemmas.Bool.{cases_order}
 use Rattle.std.proofs.lemmas.List.{take_at}
 use Rattle.std.proofs.lemmas.List.Sums.{sum_by-take-le}
 use Rattle.ficus_ids.specs.declared.id.Id.{Id}
 use Rattle.ficus_model.specs.declared.event.Event.{Event}
-use Rattle.ficus_model.specs.declared.event.Event.TheVariants.{Update, Ask, Serve, Accept, Collect, Restart}
+use Rattle.ficus_model.specs.declared.event.Event.TheVariants.{Update}
 use Rattle.ficus_model.specs.declared.event.Op.{Op}
-use Rattle.ficus_model.specs.Events.{IsAt, IsUpdate, before, through, actor, is_update_of, count_of}
+use Rattle.ficus_model.specs.Events.{IsAt, IsUpdate, before, through, actor, is_update_of, count_of, traits}
 use Rattle.ficus_laws.specs.Updates.{next_number, IsIssued}
 use Rattle.ficus_laws.proofs.Counts.{counted_one, counted_none, counted_before, counted_through}
 use Rattle.ficus_laws.proofs.Positions.{AgreeBelow, agree_back, agree_more, agree_at, agree_take, at_within, at_same, at_end, at_cases}
@@ -15,13 +16,17 @@ use Rattle.ficus_laws.proofs.Positions.{AgreeBelow, agree_back, agree_more, agre
 update_is_of : (replica : ℕ) (op : Op) → is_update_of replica (Update replica op) ≡ true
 update_is_of replica op = search rules
 
+-- a test that is no other's fails for another replica, and where it holds it is this replica's
+pub not_own : (test : Bool) (by replica : ℕ) → by ≢ replica → (test && (by == replica)) ≡ false
+not_own true by replica n = grind arith
+not_own false by replica n = refl
+
+pub is_own : (test : Bool) (by replica : ℕ) → (test && (by == replica)) ≡ true → by ≡ replica
+is_own true by replica is = grind arith
+is_own false by replica is = absurd (cc)
+
 pub is_update_of_other : (replica : ℕ) (event : Event) → actor event ≢ replica → is_update_of replica event ≡ false
-is_update_of_other replica (Update by op) n = grind arith
-is_update_of_other replica (Ask by to) n = refl
-is_update_of_other replica (Serve by ask) n = refl
-is_update_of_other replica (Accept by serve) n = refl
-is_update_of_other replica (Collect by) n = refl
-is_update_of_other replica (Restart by) n = refl
+is_update_of_other replica event n = not_own (is_some (traits event).update) (actor event) replica n
 
 pub count_update : (replica : ℕ) (H : List Event) (op : Op) →
     count_of replica (H ++ Update replica op ∷ []) ≡ count_of replica H + 1

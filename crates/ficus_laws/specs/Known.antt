@@ -1,18 +1,16 @@
 -- Known, as it follows from one event to the next.
-use Rattle.std.specs.Prelude.{◌≡◌, ◌⊎◌, ℕ, List, length}
+use Rattle.std.specs.Prelude.{◌≡◌, ◌⊎◌, ℕ, List, length, Option, IsSomeAnd, MatchOption}
 use Rattle.ficus_model.specs.declared.event.Event.{Event}
-use Rattle.ficus_model.specs.declared.event.Event.TheVariants.{Update, Ask, Serve, Accept, Collect, Restart}
-use Rattle.ficus_model.specs.Events.{IsOf, actor, through}
+use Rattle.ficus_model.specs.Events.{IsOf, actor, through, traits}
 use Rattle.ficus_model.specs.Known.{Knows}
+
+-- there is no value, and P
+abbrev pub IsNoneAnd : {A : Type 0} → Option A → Type 0 → Type 0
+IsNoneAnd found P = MatchOption found P (λ _. ⊥)
 
 -- the event takes what was served at this position
 abbrev pub Takes : Event → ℕ → Type 0
-Takes (Accept by serve) position = serve ≡ position
-Takes (Update by op) position = ⊥
-Takes (Ask by to) position = ⊥
-Takes (Serve by ask) position = ⊥
-Takes (Collect by) position = ⊥
-Takes (Restart by) position = ⊥
+Takes event position = IsSomeAnd (traits event).takes (λ served. served ≡ position)
 
 -- the event takes what was served at an earlier position, and the replica of the event there knew this position then
 pub record IsTold (H : List Event) (event : Event) (position : ℕ) : Type 0 where

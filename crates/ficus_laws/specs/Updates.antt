@@ -2,10 +2,10 @@
 use Rattle.std.specs.Prelude.{◌⊎◌, ℕ, ◌+◌, ◌≤◌, List}
 use Rattle.ficus_ids.specs.declared.id.Id.{Id}
 use Rattle.ficus_model.specs.declared.event.Event.{Event}
-use Rattle.ficus_model.specs.declared.event.Event.TheVariants.{Update, Ask, Serve, Accept, Collect, Restart}
 use Rattle.ficus_model.specs.declared.event.Op.{Op}
-use Rattle.ficus_model.specs.Events.{IsUpdate, count_of}
+use Rattle.ficus_model.specs.Events.{IsUpdate, count_of, traits}
 use Rattle.ficus_model.specs.Live.{ModelEntry}
+use Rattle.ficus_laws.specs.Known.{IsNoneAnd}
 
 -- the number of the next update of a replica
 abbrev pub next_number : ℕ → List Event → Id
@@ -42,9 +42,4 @@ Joined U V position = U position ⊎ V position
 
 -- the event is no update and takes nothing
 abbrev pub IsQuiet : Event → Type 0
-IsQuiet (Ask by to) = Unit {0}
-IsQuiet (Serve by ask) = Unit {0}
-IsQuiet (Collect by) = Unit {0}
-IsQuiet (Restart by) = Unit {0}
-IsQuiet (Update by op) = ⊥
-IsQuiet (Accept by serve) = ⊥
+IsQuiet event = IsNoneAnd (traits event).update (IsNoneAnd (traits event).takes (Unit {0}))

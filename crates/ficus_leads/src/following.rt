@@ -12,8 +12,8 @@ use ficus_saved::Saved;
 use std::alloc::Global;
 
 /// What is saved once the records are applied, from the first to the last, to what was saved before. An error besides
-/// `Memory` comes exactly where they lead to nothing: where one of them is no record, or doesn't fit what those before it
-/// lead to.
+/// `Memory` comes exactly where they lead to nothing: where one of them is no record, or doesn't fit what those before
+/// it lead to.
 pub fn led_by(alloc: Global, base: Saved, records: &[Listed<u8>]) -> Result<Saved, RecordFault>
     requires { FitsImage base }
     ensures led { IfOk result (LeadAll Leads records.now base) }

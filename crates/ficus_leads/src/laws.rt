@@ -9,9 +9,9 @@ ghost use Rattle.ficus_saved.specs.declared.saved.Saved.{Saved};
 use ficus_change_law::one_change;
 use ficus_recon_dir::one_merge;
 
-/// The laws that a record makes one thing of what was saved, so that applying the record of an event gives what the call
-/// gave; that bytes lead to one thing from what was saved; and that what a keeper found holds one thing at most. It does
-/// nothing when it runs.
+/// The laws that a record makes one thing of what was saved, so that applying the record of an event gives what the
+/// call gave; that bytes lead to one thing from what was saved; and that what a keeper found holds one thing at most.
+/// It does nothing when it runs.
 pub fn one_led()
     ensures made { (old one other : Saved) (noted : Record) → FitsImage old → Makes old noted one
         → Makes old noted other → one ≡ other }

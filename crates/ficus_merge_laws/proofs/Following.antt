@@ -9,7 +9,7 @@ use Rattle.ficus_ids.specs.declared.id.Id.{Id}
 use Rattle.ficus_entry.specs.declared.entry.State.{State}
 use Rattle.ficus_entry.specs.declared.entry.State.TheVariants.{Live, Dead}
 use Rattle.ficus_model.specs.declared.event.Event.{Event}
-use Rattle.ficus_model.specs.declared.event.Event.TheVariants.{Update, Ask, Serve, Accept, Collect, Restart}
+use Rattle.ficus_model.specs.declared.event.Event.TheVariants.{Update, Collect}
 use Rattle.ficus_model.specs.declared.event.Op.{Op}
 use Rattle.ficus_model.specs.Events.{actor}
 use Rattle.ficus_model.specs.Known.{Knows}
@@ -70,11 +70,8 @@ module _ {members : ℕ} {H : List Event} {replica : ℕ} {id : Id} (event : Eve
 
 leaves_marks : (H : List Event) (event : Event) (id : Id) → LeavesState H event id → LeavesEntry H event id
 leaves_marks H (Update by op) id leaves = leaves.1
-leaves_marks H (Ask by to) id leaves = tt
-leaves_marks H (Serve by ask) id leaves = tt
-leaves_marks H (Accept by serve) id leaves = leaves
-leaves_marks H (Collect by) id leaves = tt
-leaves_marks H (Restart by) id leaves = tt
+leaves_marks H (Collect by) id leaves = absurd leaves
+leaves_marks H event id leaves = leaves
 
 leaves_unentered : (H : List Event) (event : Event) (id : Id) → LeavesState H event id →
     IsEnteredAs (H ++ event ∷ []) (Knows (H ++ event ∷ []) (actor event)) id → IsEnteredAs H (Knows H (actor event)) id
@@ -84,11 +81,8 @@ leaves_unentered H (Update by op) id leaves e = go (entered_after H by op e.ente
         IsEnteredAs H (Knows H by) id
     go (inl was) = record { entry = e.entry; entered = was; named = e.named }
     go (inr new) = absurd (leaves.0 (record { entry = e.entry; enters = new; named = e.named }))
-leaves_unentered H (Ask by to) id leaves e = entered_where (same_quiet H (Ask by to) by tt) e
-leaves_unentered H (Serve by ask) id leaves e = entered_where (same_quiet H (Serve by ask) by tt) e
-leaves_unentered H (Accept by serve) id leaves e = absurd leaves
 leaves_unentered H (Collect by) id leaves e = absurd leaves
-leaves_unentered H (Restart by) id leaves e = entered_where (same_quiet H (Restart by) by tt) e
+leaves_unentered H event id leaves e = entered_where (same_quiet H event (actor event) leaves) e
 
 -- what is no Collect of the replica drops nothing there
 pub undropped : {members : ℕ} {H : List Event} {replica : ℕ} {id : Id} (event : Event) → event ≢ Collect replica →

@@ -1,14 +1,16 @@
 -- What stands at a replica under an identifier, by the history: its state in the terms of the merge table.
-use Rattle.std.specs.Prelude.{◌≡◌, ◌↔◌, ℕ, List, Option, Some, None, IsTrue, Contains}
+use Rattle.std.specs.Prelude.{◌≡◌, ◌↔◌, ℕ, List, Option, Some, None, IfSome, IsTrue, Contains}
+use Rattle.std.specs.Bool.{MatchBool}
 use Rattle.ficus_ids.specs.Marks.{has, IsFull}
 use Rattle.ficus_ids.specs.declared.id.Id.{Id}
 use Rattle.ficus_entry.specs.declared.entry.State.{State}
 use Rattle.ficus_entry.specs.declared.entry.State.TheVariants.{Live, Dead}
 use Rattle.ficus_model.specs.declared.event.Event.{Event}
-use Rattle.ficus_model.specs.declared.event.Event.TheVariants.{Update, Ask, Serve, Accept, Collect, Restart}
 use Rattle.ficus_model.specs.declared.event.Op.{Op}
+use Rattle.ficus_model.specs.Events.{actor, traits}
 use Rattle.ficus_model.specs.Known.{Knows}
 use Rattle.ficus_model.specs.Live.{ModelEntry, entered_by, removed_by, IsRemoved}
+use Rattle.ficus_laws.specs.Known.{IsNoneAnd}
 use Rattle.ficus_laws.specs.Updates.{next_number}
 use Rattle.ficus_removal_laws.specs.Marks.{IsEnteredAs, IsAbsent, IsMarked}
 
@@ -31,12 +33,9 @@ pub record EntersAs (H : List Event) (replica : ℕ) (op : Op) (id : Id) : Type 
 
 -- the event, as the next after the history, takes nothing, collects nothing, and neither enters nor removes the entry
 abbrev pub LeavesState : List Event → Event → Id → Type 0
-LeavesState H (Update by op) id = (EntersAs H by op id → ⊥) × (Contains (removed_by (next_number by H) op) id → ⊥)
-LeavesState H (Ask by to) id = Unit {0}
-LeavesState H (Serve by ask) id = Unit {0}
-LeavesState H (Accept by serve) id = ⊥
-LeavesState H (Collect by) id = ⊥
-LeavesState H (Restart by) id = Unit {0}
+LeavesState H event id = MatchBool (traits event).collects ⊥
+    (IsNoneAnd (traits event).takes (IfSome (traits event).update (λ op. (EntersAs H (actor event) op id → ⊥) ×
+    (Contains (removed_by (next_number (actor event) H) op) id → ⊥))))
 
 -- A collection drops an entry whose second set is full, and leaves every other.
 abbrev pub Collects : ℕ → Option State → Option State → Type 0

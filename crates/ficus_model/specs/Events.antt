@@ -1,6 +1,6 @@
 -- Events, their positions and their numbers. A history is a list of events, the oldest first.
 -- Source: Guy 1991, updates that are issued without coordination.
-use Rattle.std.specs.Prelude.{◌≡◌, ℕ, ◌+◌, Bool, false, ◌==◌, List, take, count_by, slice_get, Some}
+use Rattle.std.specs.Prelude.{◌≡◌, ℕ, ◌+◌, Bool, true, false, ◌&&◌, ◌==◌, List, take, count_by, slice_get, Option, Some, None, is_some}
 use Rattle.ficus_ids.specs.declared.id.Id.{Id}
 use Rattle.ficus_model.specs.declared.event.Event.{Event}
 use Rattle.ficus_model.specs.declared.event.Event.TheVariants.{Update, Ask, Serve, Accept, Collect, Restart}
@@ -14,6 +14,27 @@ actor (Serve by ask) = by
 actor (Accept by serve) = by
 actor (Collect by) = by
 actor (Restart by) = by
+
+-- what an event does, beside whose action it is: the operation of an update, the position of the ask that is served and
+-- of the Serve that is taken, whether it collects, whether it closes earlier asks, and whether its replica is saved
+pub record Traits : Type 0 where
+  pub update : Option Op
+  pub serves : Option ℕ
+  pub takes : Option ℕ
+  pub collects : Bool
+  pub closes : Bool
+  pub saves : Bool
+
+abbrev pub no_traits : Traits
+no_traits = record { update = None; serves = None; takes = None; collects = false; closes = false; saves = false }
+
+abbrev pub traits : Event → Traits
+traits (Update by op) = record no_traits { update = Some op; saves = true }
+traits (Ask by to) = record no_traits { closes = true; saves = true }
+traits (Serve by ask) = record no_traits { serves = Some ask }
+traits (Accept by serve) = record no_traits { takes = Some serve; closes = true; saves = true }
+traits (Collect by) = record no_traits { collects = true; saves = true }
+traits (Restart by) = record no_traits { closes = true }
 
 -- at this position of the history stands this event
 pub record IsAt (H : List Event) (position : ℕ) (event : Event) : Type 0 where
@@ -33,12 +54,7 @@ abbrev pub through : ℕ → List Event → List Event
 through position H = take (position + 1) H
 
 abbrev pub is_update_of : ℕ → Event → Bool
-is_update_of replica (Update by op) = by == replica
-is_update_of replica (Ask by to) = false
-is_update_of replica (Serve by ask) = false
-is_update_of replica (Accept by serve) = false
-is_update_of replica (Collect by) = false
-is_update_of replica (Restart by) = false
+is_update_of replica event = is_some (traits event).update && (actor event == replica)
 
 -- how many updates of a replica there are
 abbrev pub count_of : ℕ → List Event → ℕ
@@ -49,11 +65,15 @@ pub record IsUpdate (H : List Event) (position : ℕ) (number : Id) (op : Op) : 
   pub at : IsAt H position (Update number.replica op)
   pub counted : number.number ≡ count_of number.replica (before position H) + 1
 
+-- the event with another position in place of the one that it names
+abbrev pub placed : (ℕ → ℕ) → Event → Event
+placed place (Update by op) = Update by op
+placed place (Ask by to) = Ask by to
+placed place (Serve by ask) = Serve by (place ask)
+placed place (Accept by serve) = Accept by (place serve)
+placed place (Collect by) = Collect by
+placed place (Restart by) = Restart by
+
 -- the event where so many earlier events go before: the positions in it are raised
 abbrev pub raised : ℕ → Event → Event
-raised earlier (Update by op) = Update by op
-raised earlier (Ask by to) = Ask by to
-raised earlier (Serve by ask) = Serve by (ask + earlier)
-raised earlier (Accept by serve) = Accept by (serve + earlier)
-raised earlier (Collect by) = Collect by
-raised earlier (Restart by) = Restart by
+raised earlier event = placed (λ position. position + earlier) event

@@ -1,16 +1,17 @@
 -- Which event may come after a history, and which histories are lawful.
-use Rattle.std.specs.Prelude.{◌≡◌, ◌≢◌, ◌↔◌, ℕ, ◌+◌, ◌<◌, ◌≤◌, List, [], length, Contains}
+use Rattle.std.specs.Prelude.{◌≡◌, ◌≢◌, ◌↔◌, ℕ, ◌+◌, ◌<◌, ◌≤◌, List, [], length, Contains, IfSome}
+use Rattle.std.specs.Bool.{MatchBool}
 use Rattle.ficus_ids.specs.Members.{IsMember}
 use Rattle.ficus_ids.specs.declared.id.Id.{Id}
 use Rattle.ficus_model.specs.declared.event.Event.{Event}
 use Rattle.ficus_model.specs.declared.event.Event.TheVariants.{Update, Ask, Serve, Accept, Collect, Restart}
 use Rattle.ficus_model.specs.declared.event.Op.{Op}
 use Rattle.ficus_model.specs.declared.event.Op.TheVariants.{Make, Link, Remove, Move, Write, Settle, Resolve, Adopt, Discard}
-use Rattle.ficus_model.specs.Events.{IsAt, before, count_of}
+use Rattle.ficus_model.specs.Events.{IsAt, actor, before, count_of, traits}
 use Rattle.ficus_model.specs.Known.{Knows}
 use Rattle.ficus_model.specs.Live.{ModelEntry, IsLive, IsBound, IsBoundBy, IsTaken, IsDirectory, IsFile, HasInside}
 use Rattle.ficus_model.specs.Reached.{IsReachedFrom}
-use Rattle.ficus_model.specs.Versions.{IsInConflict, written_of}
+use Rattle.ficus_model.specs.Versions.{IsInConflict, given_by, written_of}
 use Rattle.ficus_model.specs.View.{IsOrphan, IsReachedDirectory, IsReachedFile}
 
 -- the fixed numbers of a volume: its members, the most updates of one replica over its life, and the most
@@ -113,24 +114,11 @@ pub record FitsBytes (volume : Volume) (H : List Event) (by : ℕ) (bytes : List
 
 -- the bytes of an operation that writes may be written
 abbrev pub HasBytesLeft : Volume → List Event → ℕ → Op → Type 0
-HasBytesLeft volume H by (Make dir name kind) = Unit {0}
-HasBytesLeft volume H by (Link dir name target) = Unit {0}
-HasBytesLeft volume H by (Remove entries target) = Unit {0}
-HasBytesLeft volume H by (Move entries dir name target) = Unit {0}
-HasBytesLeft volume H by (Write file bytes) = FitsBytes volume H by bytes
-HasBytesLeft volume H by (Settle file bytes) = FitsBytes volume H by bytes
-HasBytesLeft volume H by (Resolve file bytes) = FitsBytes volume H by bytes
-HasBytesLeft volume H by (Adopt file dir name) = Unit {0}
-HasBytesLeft volume H by (Discard file) = Unit {0}
+HasBytesLeft volume H by op = IfSome (given_by op) (λ bytes. FitsBytes volume H by bytes)
 
 -- an event after which an answer to an earlier ask is no longer taken
 abbrev pub ClosesAsk : ℕ → Event → Type 0
-ClosesAsk replica (Ask by to) = by ≡ replica
-ClosesAsk replica (Accept by serve) = by ≡ replica
-ClosesAsk replica (Restart by) = by ≡ replica
-ClosesAsk replica (Update by op) = ⊥
-ClosesAsk replica (Serve by ask) = ⊥
-ClosesAsk replica (Collect by) = ⊥
+ClosesAsk replica event = MatchBool (traits event).closes (actor event ≡ replica) ⊥
 
 -- at this position stands the ask of a replica, and no later event of it asks, takes an answer or restarts
 pub record IsOpenAsk (H : List Event) (position replica to : ℕ) : Type 0 where

@@ -1,23 +1,20 @@
 -- The versions of files: which are shown, and when a file is in conflict.
 -- Source: Parker and others 1983, mutual inconsistency, by the pasts of the versions in place of their vectors.
-use Rattle.std.specs.Prelude.{◌≡◌, ◌≢◌, ℕ, ◌==◌, List, [], length, sum_by, if◌then◌else◌, Option, Some, None}
+use Rattle.std.specs.Prelude.{◌≡◌, ◌≢◌, ℕ, List, [], length, sum_by, if◌then◌else◌, Option, Some, None}
+use Rattle.std.specs.Option.{option_flatten, option_map, unwrap_or}
 use Rattle.ficus_ids.specs.declared.id.Id.{Id}
 use Rattle.ficus_ids.specs.declared.kind.Kind.{Kind}
-use Rattle.ficus_ids.specs.declared.kind.Kind.TheVariants.{Dir, Plain, Lines, Max, Keep}
+use Rattle.ficus_ids.specs.declared.kind.Kind.TheVariants.{Dir}
 use Rattle.ficus_model.specs.declared.event.Event.{Event}
-use Rattle.ficus_model.specs.declared.event.Event.TheVariants.{Update, Ask, Serve, Accept, Collect, Restart}
 use Rattle.ficus_model.specs.declared.event.Op.{Op}
 use Rattle.ficus_model.specs.declared.event.Op.TheVariants.{Make, Link, Remove, Move, Write, Settle, Resolve, Adopt, Discard}
-use Rattle.ficus_model.specs.Events.{IsUpdate}
+use Rattle.ficus_model.specs.Events.{IsUpdate, is_update_of, traits}
 use Rattle.ficus_model.specs.Known.{HasInPast}
 
 -- the file whose first version its Make is: the object made, unless it is a directory
 abbrev pub made_file : Id → Kind → Option Id
 made_file number Dir = None
-made_file number Plain = Some number
-made_file number Lines = Some number
-made_file number Max = Some number
-made_file number Keep = Some number
+made_file number kind = Some number
 
 -- the file of which the update with this number is a version event, if of one
 abbrev pub version_of : Id → Op → Option Id
@@ -31,26 +28,29 @@ version_of number (Resolve file bytes) = Some file
 version_of number (Adopt file dir name) = None
 version_of number (Discard file) = None
 
+-- the bytes that an operation gives a file, if it gives one any: a Make leaves its file empty, and gives it none
+abbrev pub given_by : Op → Option (List ℕ)
+given_by (Make dir name kind) = None
+given_by (Link dir name target) = None
+given_by (Remove entries target) = None
+given_by (Move entries dir name target) = None
+given_by (Write file bytes) = Some bytes
+given_by (Settle file bytes) = Some bytes
+given_by (Resolve file bytes) = Some bytes
+given_by (Adopt file dir name) = None
+given_by (Discard file) = None
+
 -- the bytes that an operation writes; a Make's version is empty
 abbrev pub bytes_of : Op → List ℕ
-bytes_of (Make dir name kind) = []
-bytes_of (Link dir name target) = []
-bytes_of (Remove entries target) = []
-bytes_of (Move entries dir name target) = []
-bytes_of (Write file bytes) = bytes
-bytes_of (Settle file bytes) = bytes
-bytes_of (Resolve file bytes) = bytes
-bytes_of (Adopt file dir name) = []
-bytes_of (Discard file) = []
+bytes_of op = unwrap_or (given_by op) []
+
+-- the bytes that an event gives a file, if it gives one any
+abbrev pub given_in : Event → Option (List ℕ)
+given_in event = option_flatten (option_map given_by (traits event).update)
 
 -- how many bytes an event of the replica writes
 abbrev pub written_in : ℕ → Event → ℕ
-written_in replica (Update by op) = if by == replica then length (bytes_of op) else 0
-written_in replica (Ask by to) = 0
-written_in replica (Serve by ask) = 0
-written_in replica (Accept by serve) = 0
-written_in replica (Collect by) = 0
-written_in replica (Restart by) = 0
+written_in replica event = if is_update_of replica event then length (unwrap_or (given_in event) []) else 0
 
 -- how many bytes the replica has written
 abbrev pub written_of : ℕ → List Event → ℕ

@@ -66,7 +66,12 @@ module _ (bindings : List Binding) (rising : IsStrictlySortedBy binding_cmp bind
         | inl same ↦ absurd (shared.differs (sym leads ∙ ap (λ k. (get_or bindings k d).target) same))
         | inr apart ↦
             elim apart [
-              | inl earlier ↦ inl (omega arith, previous_has_key binding_cmp_total bindings rising (λ b. b.name) same_name_between index place d earlier within named)
+              | inl earlier ↦
+                  inl (
+                    omega arith,
+                    previous_has_key binding_cmp_total bindings rising (λ b. b.name) same_name_between index place d
+                        earlier within named,
+                  )
               | inr later ↦ inr (omega arith, next_has_key binding_cmp_total bindings rising (λ b. b.name) same_name_between index place d later inside named)
             ]
       ]

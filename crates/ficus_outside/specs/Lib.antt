@@ -2,3 +2,4 @@ pub mod Link
 pub mod MemSink
 pub mod MemSource
 pub mod Stream
+pub mod Told

@@ -11,6 +11,7 @@ mod sink;
 mod source;
 mod std_sink;
 mod std_source;
+mod system;
 mod writer_sink;
 
 pub use fail_link::FailLink;
@@ -23,4 +24,5 @@ pub use sink::Sink;
 pub use source::Source;
 pub use std_sink::{Output, StdSink};
 pub use std_source::StdSource;
+pub use system::{Runtime, System};
 pub use writer_sink::{WriterSink, write_through};

@@ -26,13 +26,21 @@ impl<W: Write + Drop> Model for WriterSink<W> {
 
 impl<W: Write + Drop> WriterSink<W> {
     /// The writer, with no fault counted.
-    pub(crate) fn over(writer: W) -> WriterSink<W>
+    pub fn over(writer: W) -> WriterSink<W>
         ensures { result ≡ record { known = W.contents writer; faults = 0 } }
     {
         WriterSink {
             writer,
             faults: Faults::new(),
         }
+    }
+
+    /// The writer.
+    pub fn into_inner(self) -> W
+        ensures { W.contents result ≡ self.known }
+    {
+        let WriterSink { writer, .. } = self;
+        writer
     }
 }
 

@@ -151,10 +151,14 @@ fn shows(alloc: Global, row: &Put) -> bool {
     puts(&screen, row) && screen.shown.into_inner().as_slice() == row.shown.as_bytes()
 }
 
-/// What the runtime's call does with a piece of 70,000 bytes, and what the put of it answers.
-const LONG: [(&[Turn], Result<usize, Failed>); 4] = [
-    (&[], Ok(70_000)),
+/// 2 MiB.
+const LENGTH: usize = 2 * 1024 * 1024;
+
+/// What the runtime's call does with a piece of 2 MiB, and what the put of it answers.
+const LONG: [(&[Turn], Result<usize, Failed>); 5] = [
+    (&[], Ok(LENGTH)),
     (&[Turn::Moves(65_537)], Ok(65_537)),
+    (&[Turn::Moves(LENGTH - 1)], Ok(LENGTH - 1)),
     (&[Turn::Moves(0)], Err(Failed)),
     (&[Turn::Fails], Err(Failed)),
 ];
@@ -177,7 +181,10 @@ fn shows_long(
 
 #[test]
 fn a_sink_takes_long_pieces(rt: HostRuntime) -> Result<(), Fail> {
-    let piece = vec![in rt.alloc(); b'a'; 70_000]?;
+    let mut piece = vec![in rt.alloc(); 0u8; LENGTH]?;
+    for (place, byte) in piece.iter_mut().enumerate() {
+        *byte = (place % 251) as u8;
+    }
     for (row, (turns, answer)) in LONG.iter().enumerate() {
         let is = shows_long(rt.alloc(), turns, &piece, *answer);
         assert!(rt; is, "row {row}");

@@ -17,8 +17,8 @@ pub enum Turn {
 }
 
 impl Turn {
-    // How many bytes of so many are moved.
-    fn count(self, bytes: usize) -> io::Result<usize> {
+    /// How many bytes of so many are moved.
+    pub fn count(self, bytes: usize) -> io::Result<usize> {
         match self {
             Turn::Moves(most) => Ok(bytes.min(most)),
             Turn::Fails => Err(ErrorKind::Other.into()),

@@ -39,8 +39,8 @@ impl PathDraft {
         }
     }
 
-    /// Becomes the path that the bytes spell, in time linear in their number. `None` comes exactly where they spell none;
-    /// what the draft is then isn't said.
+    /// Becomes the path that the bytes spell, in time linear in their number. `None` comes exactly where they spell
+    /// none; what the draft is then isn't said.
     pub fn read(&mut self, bytes: &[u8]) -> Option<()>
         ensures path { OnSome result (IsPath self.new) }
         ensures found { OnSome result (bytes.now ≡ path_text self.new) }

@@ -522,6 +522,13 @@ impl<T: Item> Tree<T> {
         Tree::join_copied(alloc, before, top, behind)
     }
 
+    // Whether neither is more than one higher than the other.
+    fn is_level_with(&self, other: &Tree<T>) -> bool
+        ensures { IsTrue result ↔ DifferByAtMost 1 self.now.height other.now.height }
+    {
+        self.height().abs_diff(other.height()) <= 1
+    }
+
     // The branch at the top, where it is more than one higher than the other tree.
     fn too_high_beside(&self, other: &Tree<T>) -> Option<&Branch<T>>
         ensures top { IfSome result (λ outer. self.now ≡ top_shape outer.now) }
@@ -543,7 +550,12 @@ impl<T: Item> Branch<T> {
         ensures items { IfOk result (λ tree. tree.items ≡ left.items ++ self.now.item ∷ self.now.right.items) }
         ensures height { IfOk result (λ tree. IsBalancedAbove left.height self.now.right.height tree.height) }
     {
-        Tree::balanced(alloc, &left, &self.item, &self.right)
+        if left.is_level_with(&self.right) {
+            let right = self.right.copy()?;
+            Tree::join_copied(alloc, left, &self.item, right)
+        } else {
+            Tree::balanced(alloc, &left, &self.item, &self.right)
+        }
     }
 
     // With another right side.
@@ -552,7 +564,12 @@ impl<T: Item> Branch<T> {
         ensures items { IfOk result (λ tree. tree.items ≡ self.now.left.items ++ self.now.item ∷ right.items) }
         ensures height { IfOk result (λ tree. IsBalancedAbove self.now.left.height right.height tree.height) }
     {
-        Tree::balanced(alloc, &self.left, &self.item, &right)
+        if self.left.is_level_with(&right) {
+            let left = self.left.copy()?;
+            Tree::join_copied(alloc, left, &self.item, right)
+        } else {
+            Tree::balanced(alloc, &self.left, &self.item, &right)
+        }
     }
 
     // With another item between the same sides.

@@ -4,7 +4,9 @@
 mod change;
 mod laws;
 mod merge;
+mod runs;
 mod table;
 
 pub use laws::one_merge;
 pub use merge::{merge_entries, merge_in_order};
+pub use runs::merge_runs;

@@ -1,16 +1,16 @@
 -- What two lists of versions make together is again a list of versions of a file.
-use Rattle.std.proofs.Common.{◌≡◌, ◌≢◌, inl, inr, ℕ, ◌<◌, ◌≤◌, List, [], ◌∷◌, ◌++◌, length, get_or, Contains, refl, sym, ap, ◌∙◌, subst, arith}
+use Rattle.std.proofs.Common.{◌≡◌, ◌≢◌, inl, inr, ℕ, ◌<◌, ◌≤◌, List, [], ◌∷◌, ◌++◌, length, get_or, Contains, refl, sym, ap, ◌∙◌, subst, arith, ◌⊎◌}
 use Rattle.std.specs.declared.cmp.Ordering.{Ordering}
 use Rattle.std.specs.declared.cmp.Ordering.TheVariants.{Less, Equal, Greater}
 use Rattle.std.proofs.lemmas.Bool.{cases_order}
 use Rattle.std.proofs.lemmas.List.{get_or_default}
 use Rattle.std.proofs.lemmas.List.Elements.{Contains-get_or, Contains-append_cases, Contains-append_left, Contains-append_right}
+use Rattle.ficus_ids.specs.KindLaws.{kind_sort}
 use Rattle.ficus_ids.specs.ListLaws.{here, there, here_or_there, not_inside_none}
 use Rattle.ficus_vv.specs.Vector.{vector_cmp, IsOver}
 use Rattle.ficus_vv.specs.VectorLaws.{vector_cmp_total, not_before_itself, before_over}
 use Rattle.ficus_file.specs.declared.version.Version.{Version}
-use Rattle.ficus_ids.specs.declared.kind.Kind.{Kind}
-use Rattle.ficus_ids.specs.declared.kind.Kind.TheVariants.{Dir, Plain, Lines, Max, Keep}
+use Rattle.ficus_ids.specs.declared.kind.Kind.TheVariants.{Dir}
 use Rattle.ficus_file.specs.declared.file.FileReplica.{FileReplica}
 use Rattle.ficus_file.specs.Version.{AreCurrent}
 use Rattle.ficus_file.specs.File.{IsWellFormed}
@@ -133,17 +133,11 @@ merged_current mine theirs both some few merged =
 
 -- the versions of a file or a directory are in order
 pub ordered_of : (file : FileReplica) → IsWellFormed file → AreOrdered file.versions
-ordered_of file well = by_kind file.kind refl
+ordered_of file well = of_kind (kind_sort file.kind)
   where
-    of_file : file.kind ≢ Dir → AreOrdered file.versions
-    of_file is_file = (well.current is_file).ordered
-
-    by_kind : (kind : Kind) → file.kind ≡ kind → AreOrdered file.versions
-    by_kind Dir is = subst AreOrdered (sym (well.directory is)) (λ i j d before within. absurd (omega arith))
-    by_kind Plain is = of_file (λ dir. let clash : Plain ≡ Dir = sym is ∙ dir in cc)
-    by_kind Lines is = of_file (λ dir. let clash : Lines ≡ Dir = sym is ∙ dir in cc)
-    by_kind Max is = of_file (λ dir. let clash : Max ≡ Dir = sym is ∙ dir in cc)
-    by_kind Keep is = of_file (λ dir. let clash : Keep ≡ Dir = sym is ∙ dir in cc)
+    of_kind : (file.kind ≡ Dir) ⊎ (file.kind ≢ Dir) → AreOrdered file.versions
+    of_kind (inl dir) = subst AreOrdered (sym (well.directory dir)) (λ i j d before within. absurd (omega arith))
+    of_kind (inr is_file) = (well.current is_file).ordered
 
 none_inside : (versions : List Version) → ((version : Version) → Contains versions version → ⊥) → versions ≡ []
 none_inside [] none = refl
@@ -177,14 +171,8 @@ text_of_files mine theirs held others can =
 
 -- a file or a directory has at most 8 versions
 pub few_of : (file : FileReplica) → IsWellFormed file → length file.versions ≤ 8
-few_of file well = by_kind file.kind refl
+few_of file well = of_kind (kind_sort file.kind)
   where
-    of_file : file.kind ≢ Dir → length file.versions ≤ 8
-    of_file is_file = (well.current is_file).at_most
-
-    by_kind : (kind : Kind) → file.kind ≡ kind → length file.versions ≤ 8
-    by_kind Dir is = subst (λ (l : List Version). length l ≤ 8) (sym (well.directory is)) (omega arith)
-    by_kind Plain is = of_file (λ dir. let clash : Plain ≡ Dir = sym is ∙ dir in cc)
-    by_kind Lines is = of_file (λ dir. let clash : Lines ≡ Dir = sym is ∙ dir in cc)
-    by_kind Max is = of_file (λ dir. let clash : Max ≡ Dir = sym is ∙ dir in cc)
-    by_kind Keep is = of_file (λ dir. let clash : Keep ≡ Dir = sym is ∙ dir in cc)
+    of_kind : (file.kind ≡ Dir) ⊎ (file.kind ≢ Dir) → length file.versions ≤ 8
+    of_kind (inl dir) = subst (λ (l : List Version). length l ≤ 8) (sym (well.directory dir)) (omega arith)
+    of_kind (inr is_file) = (well.current is_file).at_most

@@ -1,10 +1,10 @@
 -- What is new of a peer's files tells all that a merge asks of them: what both hold alike changes nothing.
-use Rattle.std.proofs.Common.{◌≡◌, ℕ, ◌≤◌, List, length, get_or, slice_get, Contains, Option, Some, None, refl, sym, ap, subst, ◌∙◌, inl, inr}
+use Rattle.std.proofs.Common.{◌≡◌, ℕ, ◌≤◌, List, length, get_or, slice_get, Contains, Option, Some, None, refl, sym, ap, subst, ◌∙◌, inl, inr, ◌⊎◌, ◌≢◌}
 use Rattle.std.proofs.lemmas.Bool.{cases_order}
 use Rattle.std.proofs.lemmas.List.{get_or_default}
 use Rattle.ficus_ids.specs.declared.id.Id.{Id}
-use Rattle.ficus_ids.specs.declared.kind.Kind.{Kind}
-use Rattle.ficus_ids.specs.declared.kind.Kind.TheVariants.{Dir, Plain, Lines, Max, Keep}
+use Rattle.ficus_ids.specs.declared.kind.Kind.TheVariants.{Dir}
+use Rattle.ficus_ids.specs.KindLaws.{kind_sort}
 use Rattle.ficus_ids.specs.ListLaws.{not_inside_none}
 use Rattle.ficus_ids.specs.RisingLaws.{one_item, one_held}
 use Rattle.ficus_vv.specs.Vector.{IsOver}
@@ -24,7 +24,7 @@ use Rattle.ficus_recon_file.proofs.Determined.{same_versions}
 -- no version of a file is over another one of it
 none_is_over : (file : FileReplica) → IsWellFormed file → (a b : Version) → Contains file.versions a →
     Contains file.versions b → IsOver a.vector b.vector → ⊥
-none_is_over file well a b has_a has_b over = by_kind file.kind refl
+none_is_over file well a b has_a has_b over = of_kind (kind_sort file.kind)
   where
     of_file : AreCurrent file.versions → ⊥
     of_file current =
@@ -41,12 +41,9 @@ none_is_over file well a b has_a has_b over = by_kind file.kind refl
               (rw (at_a, at_b) over.covers)
         ]
 
-    by_kind : (kind : Kind) → file.kind ≡ kind → ⊥
-    by_kind Dir is = not_inside_none a (subst (λ l. Contains l a) (well.directory is) has_a)
-    by_kind Plain is = of_file (well.current (λ dir. let clash : Plain ≡ Dir = sym is ∙ dir in cc))
-    by_kind Lines is = of_file (well.current (λ dir. let clash : Lines ≡ Dir = sym is ∙ dir in cc))
-    by_kind Max is = of_file (well.current (λ dir. let clash : Max ≡ Dir = sym is ∙ dir in cc))
-    by_kind Keep is = of_file (well.current (λ dir. let clash : Keep ≡ Dir = sym is ∙ dir in cc))
+    of_kind : (file.kind ≡ Dir) ⊎ (file.kind ≢ Dir) → ⊥
+    of_kind (inl dir) = not_inside_none a (subst (λ l. Contains l a) (well.directory dir) has_a)
+    of_kind (inr is_file) = of_file (well.current is_file)
 
 -- the versions of a file and themselves make themselves
 merged_itself : (file : FileReplica) → IsWellFormed file → AreMerged file.versions file.versions file.versions

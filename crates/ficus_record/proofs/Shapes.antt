@@ -110,15 +110,8 @@ discard_shaped = record { whole = λ p. Discard p; each = discard_parts }
 
 -- no operation has a number above 9
 pub op_tag_low : (op : Op) → op_tag op ≤ 9
-op_tag_low (Make dir called kind) = omega arith
-op_tag_low (Link dir called target) = omega arith
-op_tag_low (Remove entries target) = omega arith
-op_tag_low (Move entries dir called target) = omega arith
-op_tag_low (Write file text) = omega arith
-op_tag_low (Settle file text) = omega arith
-op_tag_low (Resolve file text) = omega arith
-op_tag_low (Adopt file dir called) = omega arith
 op_tag_low (Discard file) = omega arith
+op_tag_low op = omega arith
 
 -- and of records those of operations and of tables
 module _ (members : ℕ) where

@@ -36,41 +36,35 @@ writing = id then string number16
 abbrev pub adopting : Format (Id × (Id × List ℕ))
 adopting = id then id then name
 
--- which operation it is, in a byte
+-- how an operation is spelled: which it is, in a byte, and its fields, where they have a spelling
+pub record OpLayout : Type 1 where
+  pub tag : ℕ
+  pub body : List ℕ
+  pub fits : Type 0
+
+-- the byte, and behind it these fields in this format
+abbrev pub behind : {A : Type 0} → ℕ → Format A → A → OpLayout
+behind tag format fields = record { tag = tag; body = format.spell fields; fits = format.fits fields }
+
+abbrev pub op_layout : Op → OpLayout
+op_layout (Make dir called what) = behind 1 making (dir, (called, what))
+op_layout (Link dir called target) = behind 2 linking (dir, (called, target))
+op_layout (Remove entries target) = behind 3 removing (target, entries)
+op_layout (Move entries dir called target) = behind 4 moving (target, (dir, (called, entries)))
+op_layout (Write file bytes) = behind 5 writing (file, bytes)
+op_layout (Settle file bytes) = behind 6 writing (file, bytes)
+op_layout (Resolve file bytes) = behind 7 writing (file, bytes)
+op_layout (Adopt file dir called) = behind 8 adopting (file, (dir, called))
+op_layout (Discard file) = behind 9 id file
+
 abbrev pub op_tag : Op → ℕ
-op_tag (Make dir called what) = 1
-op_tag (Link dir called target) = 2
-op_tag (Remove entries target) = 3
-op_tag (Move entries dir called target) = 4
-op_tag (Write file bytes) = 5
-op_tag (Settle file bytes) = 6
-op_tag (Resolve file bytes) = 7
-op_tag (Adopt file dir called) = 8
-op_tag (Discard file) = 9
+op_tag op = (op_layout op).tag
 
--- its fields
 abbrev pub op_body : Op → List ℕ
-op_body (Make dir called what) = making.spell (dir, (called, what))
-op_body (Link dir called target) = linking.spell (dir, (called, target))
-op_body (Remove entries target) = removing.spell (target, entries)
-op_body (Move entries dir called target) = moving.spell (target, (dir, (called, entries)))
-op_body (Write file bytes) = writing.spell (file, bytes)
-op_body (Settle file bytes) = writing.spell (file, bytes)
-op_body (Resolve file bytes) = writing.spell (file, bytes)
-op_body (Adopt file dir called) = adopting.spell (file, (dir, called))
-op_body (Discard file) = id.spell file
+op_body op = (op_layout op).body
 
--- it has a spelling
 abbrev pub FitsOp : Op → Type 0
-FitsOp (Make dir called what) = making.fits (dir, (called, what))
-FitsOp (Link dir called target) = linking.fits (dir, (called, target))
-FitsOp (Remove entries target) = removing.fits (target, entries)
-FitsOp (Move entries dir called target) = moving.fits (target, (dir, (called, entries)))
-FitsOp (Write file bytes) = writing.fits (file, bytes)
-FitsOp (Settle file bytes) = writing.fits (file, bytes)
-FitsOp (Resolve file bytes) = writing.fits (file, bytes)
-FitsOp (Adopt file dir called) = adopting.fits (file, (dir, called))
-FitsOp (Discard file) = id.fits file
+FitsOp op = (op_layout op).fits
 
 -- what stands behind such a byte
 pub record IsOpUnder (tag : ℕ) (op : Op) : Type 0 where

@@ -1,4 +1,6 @@
-use crate::steps::played;
+use crate::steps::{fresh, plays};
+use ficus_ids::Refusal;
+use std::alloc::Global;
 use std::test::Fail;
 
 // Days of two replicas, in which each operation, asks, accepts and collections come.
@@ -15,11 +17,18 @@ const DAYS: &[&str] = &[
     "1 mkdir /d\n1 rm /d\npull 2 1\npull 1 2\npull 2 1\npull 1 2\n1 collect\n",
 ];
 
+// Two replicas play the day. Each step applies its record, or fails.
+fn passes(alloc: Global, day: &str) -> Result<(), Refusal> {
+    let mut one = fresh(alloc, 1, 40, 40)?;
+    let mut two = fresh(alloc, 2, 40, 40)?;
+    plays(alloc, &mut one, &mut two, day)
+}
+
 #[test]
 fn records_of_days_are_applied(rt: HostRuntime) -> Result<(), Fail> {
-    for day in DAYS {
-        // Each step applies its record, or fails.
-        played(rt.alloc(), day, 40, 40)?;
+    for (place, day) in DAYS.iter().enumerate() {
+        let passed = passes(rt.alloc(), day);
+        assert!(rt; passed.is_ok(), "{place} {passed:?}");
     }
     Ok(())
 }

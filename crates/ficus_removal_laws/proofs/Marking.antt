@@ -6,7 +6,7 @@ use Rattle.std.proofs.lemmas.List.{take_at}
 use Rattle.ficus_ids.specs.Members.{IsMember}
 use Rattle.ficus_ids.specs.declared.id.Id.{Id}
 use Rattle.ficus_model.specs.declared.event.Event.{Event}
-use Rattle.ficus_model.specs.declared.event.Event.TheVariants.{Update, Ask, Serve, Accept, Collect, Restart}
+use Rattle.ficus_model.specs.declared.event.Event.TheVariants.{Update, Accept, Collect}
 use Rattle.ficus_model.specs.declared.event.Op.{Op}
 use Rattle.ficus_model.specs.Events.{IsOf, actor}
 use Rattle.ficus_model.specs.Known.{Knows}
@@ -51,12 +51,8 @@ before_of_other {peer} {position} H event differs own = go (of_cases event own)
 
 leaves_untold : (H : List Event) (event : Event) (entry : Id) → LeavesEntry H event entry →
     (served : ℕ) → Takes event served → ⊥
-leaves_untold H (Update by op) entry leaves served takes = takes
-leaves_untold H (Ask by to) entry leaves served takes = takes
-leaves_untold H (Serve by ask) entry leaves served takes = takes
 leaves_untold H (Accept by serve) entry leaves served takes = leaves
-leaves_untold H (Collect by) entry leaves served takes = takes
-leaves_untold H (Restart by) entry leaves served takes = takes
+leaves_untold H event entry leaves served takes = takes
 
 removed_quiet : (H : List Event) (event : Event) (replica : ℕ) {entry : Id} → IsQuiet event →
     IsRemoved (H ++ event ∷ []) (Knows (H ++ event ∷ []) replica) entry → IsRemoved H (Knows H replica) entry
@@ -72,11 +68,7 @@ own_leaves H (Update by op) entry leaves r = go (removed_after H by op r)
         IsRemoved H (Knows H by) entry
     go (inl was) = was
     go (inr new) = absurd (leaves new)
-own_leaves H (Ask by to) entry leaves r = removed_quiet H (Ask by to) by tt r
-own_leaves H (Serve by ask) entry leaves r = removed_quiet H (Serve by ask) by tt r
-own_leaves H (Accept by serve) entry leaves r = absurd leaves
-own_leaves H (Collect by) entry leaves r = removed_quiet H (Collect by) by tt r
-own_leaves H (Restart by) entry leaves r = removed_quiet H (Restart by) by tt r
+own_leaves H event entry leaves r = removed_quiet H event (actor event) leaves r
 
 -- In each of these one more event of the replica has come, which takes nothing.
 module _ (H : List Event) (event : Event) (untold : (served : ℕ) → Takes event served → ⊥) where

@@ -1,14 +1,15 @@
 -- How the marks of an entry stand before and after an event.
-use Rattle.std.specs.Prelude.{◌≡◌, ◌↔◌, ◌⊎◌, ℕ, ◌≤◌, List, IsTrue, Contains}
+use Rattle.std.specs.Prelude.{◌≡◌, ◌↔◌, ◌⊎◌, ℕ, ◌≤◌, List, IfSome, IsTrue, Contains}
 use Rattle.ficus_ids.specs.Marks.{has}
 use Rattle.ficus_ids.specs.Members.{IsMember}
 use Rattle.ficus_ids.specs.declared.id.Id.{Id}
 use Rattle.ficus_model.specs.declared.event.Event.{Event}
-use Rattle.ficus_model.specs.declared.event.Event.TheVariants.{Update, Ask, Serve, Accept, Collect, Restart}
+use Rattle.ficus_model.specs.Events.{actor, traits}
 use Rattle.ficus_model.specs.Known.{Knows}
 use Rattle.ficus_model.specs.Live.{ModelEntry, removed_by, IsEntered, IsRemoved}
 use Rattle.ficus_model.specs.Knowledge.{IsHeard, IsInOne, IsInTwo}
 use Rattle.ficus_model.specs.Held.{IsDropped, IsHeldEntry}
+use Rattle.ficus_laws.specs.Known.{IsNoneAnd}
 use Rattle.ficus_laws.specs.Updates.{next_number}
 
 -- every member is in the first set of the replica
@@ -21,12 +22,8 @@ IsTwoFull members H replica entry = (member : ℕ) → IsMember members member �
 
 -- the event, as the next after the history, takes nothing and doesn't remove the entry
 abbrev pub LeavesEntry : List Event → Event → Id → Type 0
-LeavesEntry H (Update by op) entry = Contains (removed_by (next_number by H) op) entry → ⊥
-LeavesEntry H (Ask by to) entry = Unit {0}
-LeavesEntry H (Serve by ask) entry = Unit {0}
-LeavesEntry H (Accept by serve) entry = ⊥
-LeavesEntry H (Collect by) entry = Unit {0}
-LeavesEntry H (Restart by) entry = Unit {0}
+LeavesEntry H event entry = IsNoneAnd (traits event).takes (IfSome (traits event).update
+    (λ op. Contains (removed_by (next_number (actor event) H) op) entry → ⊥))
 
 -- after both histories the replica's sets of marks are the same
 pub record SameMarks (members : ℕ) (H K : List Event) (replica : ℕ) (entry : Id) : Type 0 where
@@ -43,8 +40,8 @@ pub record IsEnteredAs (H : List Event) (U : ℕ → Type 0) (id : Id) : Type 0 
 abbrev pub IsAbsent : ℕ → List Event → ℕ → Id → Type 0
 IsAbsent members H replica id = IsEnteredAs H (Knows H replica) id → IsDropped members H replica id
 
--- the entry is removed and held, and these sets have exactly the members that are known to know of its removal, and those
--- that are known to know that all know of it
+-- the entry is removed and held, and these sets have exactly the members that are known to know of its removal, and
+-- those that are known to know that all know of it
 pub record IsMarked (members : ℕ) (H : List Event) (replica : ℕ) (id : Id) (one two : ℕ) : Type 0 where
   pub entered : IsEnteredAs H (Knows H replica) id
   pub removed : IsRemoved H (Knows H replica) id

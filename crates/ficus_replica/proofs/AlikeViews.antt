@@ -20,7 +20,7 @@ use Rattle.ficus_model.specs.Reached.{Leads}
 use Rattle.ficus_model.specs.ShownNames.{HasOther}
 use Rattle.ficus_model.specs.Versions.{IsShown}
 use Rattle.ficus_model.specs.View.{IsDetached, IsInReach, IsOrphan, IsShared, IsTop, IsVisible, ShowsConflict, ShowsName, ShowsVersion, ViewSame}
-use Rattle.ficus_laws.proofs.Deciding.{Decided, both_decided}
+use Rattle.ficus_laws.proofs.Deciding.{Decided, both_decided, not_decided}
 use Rattle.ficus_laws.proofs.Issued.{made_once}
 use Rattle.ficus_laws.proofs.Shown.{reached_from_more, reached_within}
 use Rattle.ficus_version_laws.proofs.Comparing.{compare_as_pasts}
@@ -64,10 +64,6 @@ bytes_decided a b = go (bytes_eq a b) (bytes_eq-Decides a b).0 (bytes_eq-Decides
 live_decided : (state : State) → Decided (state ≡ Live)
 live_decided Live = inl refl
 live_decided (Dead knowing knowing_all_know) = inr (λ is. cc)
-
-not_decided : {P : Type 0} → Decided P → Decided (P → ⊥)
-not_decided (inl is) = inr (λ none. none is)
-not_decided (inr none) = inl none
 
 -- whether a live entry of the directory with the name leads elsewhere
 module _ (entries : List Entry) (dir : Id) (name : List ℕ) (target : Id) where

@@ -1,5 +1,5 @@
 -- What an operation makes of a saved record stands for the history with the update.
-use Rattle.std.proofs.Common.{◌≡◌, ℕ, ◌≤◌, List, [], ◌∷◌, ◌++◌, refl, sym, subst, arith}
+use Rattle.std.proofs.Common.{◌≡◌, ℕ, ◌≤◌, List, [], ◌∷◌, ◌++◌, sym, subst, arith}
 use Rattle.ficus_entry.specs.declared.entry.Entry.{Entry}
 use Rattle.ficus_file.specs.declared.file.FileReplica.{FileReplica}
 use Rattle.ficus_model.specs.declared.event.Event.{Event}
@@ -15,7 +15,7 @@ use Rattle.ficus_held_laws.specs.Objects.{AreObjectsStepped}
 use Rattle.ficus_held_laws.proofs.Growing.{objects_stepped}
 use Rattle.ficus_held_laws.proofs.Listing.{list_stepped}
 use Rattle.ficus_held_file_laws.specs.Tables.{objects_of}
-use Rattle.ficus_held_file_laws.proofs.Merging.{well_ordered}
+use Rattle.ficus_recon_file.proofs.Current.{ordered_of}
 use Rattle.ficus_replica.specs.Effect.{Applied, next_id}
 use Rattle.ficus_replica.specs.SavedOf.{IsSavedOf}
 use Rattle.ficus_replica.proofs.Saves.{saved_then, generation_saved, update_is_saved, written_more}
@@ -57,7 +57,7 @@ module _ {volume : Volume} {H : List Event} {r : ℕ} {old : Saved} (op : Op)
       })
       (record {
         rising = stepped.held.rising;
-        ordered = λ file inside. well_ordered file file.kind refl (stepped.held.each file inside).well_formed;
+        ordered = λ file inside. ordered_of file (stepped.held.each file inside).well_formed;
         kept = objects_stepped volume H r op (objects_of old.files) (objects_of applied.files)
             (lawful_less volume H (Update r op) lawful).0 is.files.kept (objects_of_files applied.files stepped.stepped_files);
       }))

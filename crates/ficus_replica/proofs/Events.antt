@@ -1,13 +1,15 @@
 -- A replica stands for a history from its start on, also after each event that leaves alone what it saves.
 use Rattle.std.proofs.Common.{◌≡◌, ◌≢◌, ℕ, ◌+◌, ◌≤◌, List, [], ◌∷◌, ◌++◌, Option, Some, None, cond, refl, sym, ap, subst, inl, inr, ◌⊎◌, arith}
-use Rattle.std.specs.Prelude.{All, map, sum_by}
+use Rattle.std.specs.Prelude.{All, Bool, IsSomeAnd, true, false, map, sum_by}
+use Rattle.std.specs.Bool.{MatchBool}
 use Rattle.std.proofs.lemmas.List.Elements.{All-map, All-weaker}
 use Rattle.std.proofs.lemmas.List.Sums.{sum_by-le}
 use Rattle.std.proofs.lemmas.Option.{get_or_from_slice_get}
 use Rattle.ficus_ids.specs.ListLaws.{not_inside_none}
 use Rattle.ficus_model.specs.declared.event.Event.{Event}
-use Rattle.ficus_model.specs.declared.event.Event.TheVariants.{Update, Ask, Serve, Accept, Collect, Restart}
-use Rattle.ficus_model.specs.Events.{IsAt, actor, is_update_of, count_of}
+use Rattle.ficus_model.specs.declared.event.Event.TheVariants.{Update, Ask, Serve, Restart}
+use Rattle.ficus_model.specs.Events.{IsAt, actor, is_update_of, count_of, traits}
+use Rattle.ficus_model.specs.declared.event.Op.{Op}
 use Rattle.ficus_model.specs.Lawful.{Volume, ClosesAsk}
 use Rattle.ficus_model.specs.Versions.{written_in, written_of}
 use Rattle.ficus_ids.specs.Members.{IsMember}
@@ -22,20 +24,14 @@ use Rattle.ficus_replica.proofs.OpenAsks.{open_kept, open_none}
 use Rattle.ficus_replica.proofs.Saves.{saved_of_other, saved_kept, saved_once}
 
 abbrev pub IsServe : Event → Type 0
-IsServe (Serve by ask) = Unit {0}
-IsServe (Update by op) = ⊥
-IsServe (Ask by to) = ⊥
-IsServe (Accept by serve) = ⊥
-IsServe (Collect by) = ⊥
-IsServe (Restart by) = ⊥
+IsServe event = IsSomeAnd (traits event).serves (λ ask. Unit {0})
+
+where_true : (test : Bool) {P : Type 0} → MatchBool test P ⊥ → P
+where_true true so = so
+where_true false so = absurd so
 
 closed_by_own : (r : ℕ) (event : Event) → ClosesAsk r event → actor event ≡ r
-closed_by_own r (Update by op) closes = absurd closes
-closed_by_own r (Ask by to) closes = closes
-closed_by_own r (Serve by ask) closes = absurd closes
-closed_by_own r (Accept by serve) closes = closes
-closed_by_own r (Collect by) closes = absurd closes
-closed_by_own r (Restart by) closes = closes
+closed_by_own r event closes = where_true (traits event).closes closes
 
 serve_stands : (volume : Volume) (H : List Event) (r : ℕ) (replica : Replica) (event : Event) →
     StandsFor volume H r replica → IsServe event → StandsFor volume (H ++ event ∷ []) r replica
@@ -45,11 +41,7 @@ serve_stands volume H r replica (Serve by ask) stands is =
       saved = saved_kept event (inr tt) refl stands.saved refl;
       ask = open_kept H r replica.ask event (λ closes. closes) stands.ask;
     }
-serve_stands volume H r replica (Update by op) stands is = absurd is
-serve_stands volume H r replica (Ask by to) stands is = absurd is
-serve_stands volume H r replica (Accept by serve) stands is = absurd is
-serve_stands volume H r replica (Collect by) stands is = absurd is
-serve_stands volume H r replica (Restart by) stands is = absurd is
+serve_stands volume H r replica event stands is = absurd is
 
 -- what another replica does, and what a replica serves, leaves it as it is
 pub quiet_stands : (volume : Volume) (H : List Event) (r : ℕ) (replica : Replica) (event : Event) →
@@ -71,28 +63,24 @@ restart_stands volume H r saved new was same none =
     }
 
 abbrev pub IsRestart : Event → Type 0
-IsRestart (Restart by) = Unit {0}
-IsRestart (Update by op) = ⊥
-IsRestart (Ask by to) = ⊥
-IsRestart (Serve by ask) = ⊥
-IsRestart (Accept by serve) = ⊥
-IsRestart (Collect by) = ⊥
+IsRestart event = event ≡ Restart (actor event)
 
 pub restarts_alone : (replicas : List ℕ) → All IsRestart (map (λ by. Restart by) replicas)
-restarts_alone replicas = All-map IsRestart (λ by. Restart by) replicas (λ k d within. tt)
+restarts_alone replicas = All-map IsRestart (λ by. Restart by) replicas (λ k d within. refl)
 
 restart_at : {H : List Event} {position : ℕ} {event : Event} → All IsRestart H → IsAt H position event → IsRestart event
 restart_at {H} {position} {event} restarts a = subst IsRestart (get_or_from_slice_get H position event event a.is) (restarts position event (at_within a))
 
+no_update_at : {by : ℕ} {op : Op} → IsRestart (Update by op) → ⊥
+no_update_at is = cc
+
+no_ask_at : {by to : ℕ} → IsRestart (Ask by to) → ⊥
+no_ask_at is = cc
+
 -- a measure that is nothing for each restart
 not_measured : (measure : Event → ℕ) (event : Event) → ((by : ℕ) → measure (Restart by) ≡ 0) → IsRestart event →
     measure event ≤ 0
-not_measured measure (Restart by) none is = omega (arith, none by)
-not_measured measure (Update by op) none is = absurd is
-not_measured measure (Ask by to) none is = absurd is
-not_measured measure (Serve by ask) none is = absurd is
-not_measured measure (Accept by serve) none is = absurd is
-not_measured measure (Collect by) none is = absurd is
+not_measured measure event none is = omega (arith, ap measure is, none (actor event))
 
 module _ (H : List Event) (r : ℕ) (restarts : All IsRestart H) where
   nothing_summed : (measure : Event → ℕ) → ((by : ℕ) → measure (Restart by) ≡ 0) → sum_by measure H ≡ 0
@@ -118,7 +106,7 @@ module _ (H : List Event) (r : ℕ) (restarts : All IsRestart H) where
     rising = record { each = λ i j d before within. absurd (omega arith) };
     kept = record {
       each = λ entry inside. absurd (not_inside_none entry inside);
-      absent = λ id none known. absurd (restart_at restarts known.entered.update.at);
+      absent = λ id none known. absurd (no_update_at (restart_at restarts known.entered.update.at));
     };
   }
 
@@ -128,7 +116,7 @@ module _ (H : List Event) (r : ℕ) (restarts : All IsRestart H) where
     ordered = λ file inside. absurd (not_inside_none file inside);
     kept = record {
       each = λ object inside. absurd (not_inside_none object inside);
-      absent = λ id kind made none. absurd (restart_at restarts made.update.at);
+      absent = λ id kind made none. absurd (no_update_at (restart_at restarts made.update.at));
     };
   }
 
@@ -148,7 +136,7 @@ module _ (H : List Event) (r : ℕ) (restarts : All IsRestart H) where
       entries = no_entries volume.members;
       files = no_files volume.members;
     };
-    ask = λ position to open_ask. restart_at restarts open_ask.ask;
+    ask = λ position to open_ask. no_ask_at (restart_at restarts open_ask.ask);
   }
 
 -- the history without events is one
@@ -157,7 +145,7 @@ no_restarts k d within = absurd (omega arith)
 
 no_ask : (r : ℕ) (asked : Option Asked) → IsOpenAskOf [] r asked → asked ≡ None
 no_ask r None none = refl
-no_ask r (Some asked) waits = absurd (restart_at no_restarts waits.1.ask)
+no_ask r (Some asked) waits = absurd (omega (arith, at_within waits.1.ask))
 
 -- so whatever stands for no events stands for the restarts too
 pub restarted_stands : (volume : Volume) (H : List Event) (r : ℕ) (replica : Replica) → All IsRestart H →

@@ -26,27 +26,15 @@ use Rattle.ficus_replica.proofs.Counting.{no_more_ids}
 
 -- what the operation lists rises
 abbrev pub Rises : Op → Type 0
-Rises (Make dir called kind) = Unit {0}
-Rises (Link dir called target) = Unit {0}
 Rises (Remove entries target) = IsRisingBy (λ (id : Id). id) entries
 Rises (Move entries dir called target) = IsRisingBy (λ (id : Id). id) entries
-Rises (Write file bytes) = Unit {0}
-Rises (Settle file bytes) = Unit {0}
-Rises (Resolve file bytes) = Unit {0}
-Rises (Adopt file dir called) = Unit {0}
-Rises (Discard file) = Unit {0}
+Rises op = Unit {0}
 
 -- so does what has a spelling
 pub spelled_rises : (op : Op) → FitsOp op → Rises op
-spelled_rises (Make dir called kind) spelled = tt
-spelled_rises (Link dir called target) spelled = tt
 spelled_rises (Remove entries target) spelled = spelled.1.1
 spelled_rises (Move entries dir called target) spelled = spelled.1.1.1.1
-spelled_rises (Write file bytes) spelled = tt
-spelled_rises (Settle file bytes) spelled = tt
-spelled_rises (Resolve file bytes) spelled = tt
-spelled_rises (Adopt file dir called) spelled = tt
-spelled_rises (Discard file) spelled = tt
+spelled_rises op spelled = tt
 
 held_as_any : {fit : FileReplica → Type 0} (files : List FileReplica) (id : Id) → HoldsFile files id fit → Holds files id
 held_as_any files id has = record { item = has.file; inside = has.inside; has_id = has.has_id }
@@ -100,11 +88,9 @@ module _ {old : Saved} (fits : FitsImage old) where
   possible (Remove entries target) rises fit = names_removed entries target rises fit
   possible (Move entries dir called target) rises fit =
       record { removes = names_removed entries target rises fit.0; lies = place_makes fit.1 }
-  possible (Write file bytes) rises fit = fit
-  possible (Settle file bytes) rises fit = fit
-  possible (Resolve file bytes) rises fit = fit
   possible (Adopt file dir called) rises fit = record { lies = place_makes fit.0; held = fit.1 }
   possible (Discard file) rises fit = held_as_any old.files file fit
+  possible op rises fit = fit
 
   -- what fits is ready to be done
   pub update_ready : (op : Op) → Rises op → FitsUpdate old op → IsReady old op

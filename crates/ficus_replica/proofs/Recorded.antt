@@ -2,7 +2,7 @@
 use Rattle.std.proofs.Common.{ℕ, List, [], ◌∷◌, ◌++◌, refl, sym, subst, inr}
 use Rattle.ficus_ids.specs.Members.{IsCount}
 use Rattle.ficus_model.specs.declared.event.Event.{Event}
-use Rattle.ficus_model.specs.declared.event.Event.TheVariants.{Update, Ask, Accept, Collect}
+use Rattle.ficus_model.specs.declared.event.Event.TheVariants.{Update, Ask, Collect}
 use Rattle.ficus_model.specs.Lawful.{Volume, IsLawful, MayCome}
 use Rattle.ficus_laws.proofs.Lawful.{lawful_more}
 use Rattle.ficus_record.specs.declared.record.Record.{Record}

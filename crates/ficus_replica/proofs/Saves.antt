@@ -3,16 +3,16 @@ use Rattle.std.proofs.Common.{◌≡◌, ◌≢◌, ◌⊎◌, ℕ, ◌+◌, Lis
 use Rattle.std.proofs.lemmas.List.Sums.{sum_by_push}
 use Rattle.ficus_ids.specs.Members.{IsMember}
 use Rattle.ficus_model.specs.declared.event.Event.{Event}
-use Rattle.ficus_model.specs.declared.event.Event.TheVariants.{Update, Ask, Serve, Accept, Collect, Restart}
+use Rattle.ficus_model.specs.declared.event.Event.TheVariants.{Update, Ask, Accept, Collect}
 use Rattle.ficus_model.specs.declared.event.Op.{Op}
-use Rattle.ficus_model.specs.Events.{actor, is_update_of, count_of}
+use Rattle.ficus_model.specs.Events.{actor, is_update_of, count_of, traits}
 use Rattle.ficus_model.specs.Lawful.{Volume}
 use Rattle.ficus_model.specs.Versions.{bytes_of, written_in, written_of}
 use Rattle.ficus_entry.specs.declared.entry.Entry.{Entry}
 use Rattle.ficus_file.specs.declared.file.FileReplica.{FileReplica}
 use Rattle.ficus_saved.specs.declared.saved.Saved.{Saved}
 use Rattle.ficus_laws.proofs.Counts.{counted_one, counted_none}
-use Rattle.ficus_laws.proofs.Updates.{count_no_update}
+use Rattle.ficus_laws.proofs.Updates.{count_no_update, not_own}
 use Rattle.ficus_held_laws.specs.Entries.{IsIdle}
 use Rattle.ficus_held_laws.proofs.Leaving.{objects_kept}
 use Rattle.ficus_held_laws.proofs.Listing.{list_kept}
@@ -22,12 +22,7 @@ use Rattle.ficus_held_file_laws.proofs.Files.{files_once}
 use Rattle.ficus_replica.specs.SavedOf.{is_saved, generation_of, IsSavedOf}
 
 pub saved_of_other : (r : ℕ) (event : Event) → actor event ≢ r → is_saved r event ≡ false
-saved_of_other r (Update by op) n = grind arith
-saved_of_other r (Ask by to) n = grind arith
-saved_of_other r (Serve by ask) n = refl
-saved_of_other r (Accept by serve) n = grind arith
-saved_of_other r (Collect by) n = grind arith
-saved_of_other r (Restart by) n = refl
+saved_of_other r event n = not_own (traits event).saves (actor event) r n
 
 pub update_is_saved : (r : ℕ) (op : Op) → is_saved r (Update r op) ≡ true
 update_is_saved r op = search rules
@@ -46,12 +41,7 @@ pub generation_saved : (r : ℕ) (H : List Event) (event : Event) → is_saved r
 generation_saved r H event is = counted_one (is_saved r) H event is
 
 written_none : (r : ℕ) (event : Event) → is_update_of r event ≡ false → written_in r event ≡ 0
-written_none r (Update by op) none = rw none refl
-written_none r (Ask by to) none = refl
-written_none r (Serve by ask) none = refl
-written_none r (Accept by serve) none = refl
-written_none r (Collect by) none = refl
-written_none r (Restart by) none = refl
+written_none r event none = rw none refl
 
 pub written_kept : (r : ℕ) (H : List Event) (event : Event) → is_update_of r event ≡ false →
     written_of r (H ++ event ∷ []) ≡ written_of r H

@@ -24,7 +24,7 @@ use Rattle.ficus_file.specs.Files.{AreFiles, Holds, HoldsFile, IsChanged}
 use Rattle.ficus_file.specs.Version.{join_all}
 use Rattle.ficus_file.specs.declared.file.FileReplica.{FileReplica}
 use Rattle.ficus_model.specs.declared.event.Op.{Op}
-use Rattle.ficus_model.specs.declared.event.Op.TheVariants.{Make, Link, Remove, Move, Write, Settle, Resolve, Adopt, Discard}
+use Rattle.ficus_model.specs.declared.event.Op.TheVariants.{Make, Remove, Move, Write, Settle, Resolve, Discard}
 use Rattle.ficus_model.specs.Live.{entry_of}
 use Rattle.ficus_saved.specs.Saved.{FitsImage, IsEntryOfPast, IsFileOfPast}
 use Rattle.ficus_saved.specs.Laws.{FitsReplica}
@@ -55,12 +55,7 @@ enters_nothing by number entries (Settle f b) file bytes overwrites =
     entered_none by number (Settle f b) (killed_none by entries) enters_none
 enters_nothing by number entries (Resolve f b) file bytes overwrites =
     entered_none by number (Resolve f b) (killed_none by entries) enters_none
-enters_nothing by number entries (Make dir name kind) file bytes overwrites = elim overwrites [ ]
-enters_nothing by number entries (Link dir name target) file bytes overwrites = elim overwrites [ ]
-enters_nothing by number entries (Remove list target) file bytes overwrites = elim overwrites [ ]
-enters_nothing by number entries (Move list dir name target) file bytes overwrites = elim overwrites [ ]
-enters_nothing by number entries (Adopt f dir name) file bytes overwrites = elim overwrites [ ]
-enters_nothing by number entries (Discard f) file bytes overwrites = elim overwrites [ ]
+enters_nothing by number entries op file bytes overwrites = elim overwrites [ ]
 
 -- what gives a name gives no other, and leaves the files
 names : {op : Op} {dir target : Id} {name : List ℕ} → GivesName op dir name target → Names op

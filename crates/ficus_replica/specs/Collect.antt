@@ -19,7 +19,8 @@ use Rattle.ficus_replica.specs.declared.collect.Collected.{Collected}
 use Rattle.ficus_replica.specs.declared.replica.Replica.{Replica}
 use Rattle.ficus_replica.specs.SavedOf.{StandsAfter}
 
--- saved once more, with what is left of the tables where the orphans stay, and else as before; and how much was given up
+-- saved once more, with what is left of the tables where the orphans stay, and else as before; and how much was given
+-- up
 pub record CollectGives (old : Replica) (collected : Collected) : Type 0 where
   pub orphans : List Orphan
   pub are : AreOrphans old.saved.entries old.saved.files orphans

@@ -1,5 +1,5 @@
 -- What an operation makes of what a replica saves.
-use Rattle.std.specs.Prelude.{◌≡◌, ◌≢◌, ℕ, ◌+◌, ◌≤◌, List, length, Contains, codes}
+use Rattle.std.specs.Prelude.{◌≡◌, ◌≢◌, ℕ, ◌+◌, ◌≤◌, List, length, Contains, codes, Option, Some, None, IfSome}
 use Rattle.ficus_ids.specs.Name.{IsName}
 use Rattle.ficus_ids.specs.Rising.{IsRisingBy}
 use Rattle.ficus_ids.specs.declared.id.Id.{Id}
@@ -104,14 +104,18 @@ pub record IsReady (old : Saved) (op : Op) : Type 0 where
   pub left : old.next ≤ old.ids
   pub possible : IsPossible old op
 
--- the name that the operation gives is one, where it gives any
+-- the name that the operation gives, if it gives one
+abbrev pub name_given : Op → Option (List ℕ)
+name_given (Make dir called kind) = Some called
+name_given (Link dir called target) = Some called
+name_given (Remove entries target) = None
+name_given (Move entries dir called target) = Some called
+name_given (Write file bytes) = None
+name_given (Settle file bytes) = None
+name_given (Resolve file bytes) = None
+name_given (Adopt file dir called) = Some called
+name_given (Discard file) = None
+
+-- it is a name
 abbrev pub HasName : Op → Type 0
-HasName (Make dir called kind) = IsName called
-HasName (Link dir called target) = IsName called
-HasName (Remove entries target) = Unit {0}
-HasName (Move entries dir called target) = IsName called
-HasName (Write file bytes) = Unit {0}
-HasName (Settle file bytes) = Unit {0}
-HasName (Resolve file bytes) = Unit {0}
-HasName (Adopt file dir called) = IsName called
-HasName (Discard file) = Unit {0}
+HasName op = IfSome (name_given op) IsName

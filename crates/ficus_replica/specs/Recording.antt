@@ -10,8 +10,8 @@ use Rattle.ficus_record.specs.declared.record.Record.{Record}
 use Rattle.ficus_record.specs.declared.record.Record.TheVariants as noted
 use Rattle.ficus_replica.specs.Accept.{IsServed}
 
--- of the replica's updates, asks and collections, and of its taking of the tables that were served to it; nothing else is
--- noted
+-- of the replica's updates, asks and collections, and of its taking of the tables that were served to it; nothing else
+-- is noted
 pub data IsRecordOf (volume : Volume) (H : List Event) (r : ℕ) : Event → Record → Type 0 where
   OfUpdate : {op : Op} → IsRecordOf volume H r (Update r op) (noted.Change op)
   OfAsk : {to : ℕ} → IsRecordOf volume H r (Ask r to) noted.Ask

@@ -1,9 +1,8 @@
 -- What it means that a replica stands for a history.
-use Rattle.std.specs.Prelude.{◌≡◌, ℕ, ◌+◌, List, ◌∷◌, [], ◌++◌, Bool, false, ◌==◌, Option, Some, None, count_by}
+use Rattle.std.specs.Prelude.{◌≡◌, ℕ, ◌+◌, List, ◌∷◌, [], ◌++◌, Bool, ◌&&◌, ◌==◌, Option, Some, None, count_by}
 use Rattle.ficus_ids.specs.Members.{IsMember}
 use Rattle.ficus_model.specs.declared.event.Event.{Event}
-use Rattle.ficus_model.specs.declared.event.Event.TheVariants.{Update, Ask, Serve, Accept, Collect, Restart}
-use Rattle.ficus_model.specs.Events.{count_of, through}
+use Rattle.ficus_model.specs.Events.{actor, count_of, through, traits}
 use Rattle.ficus_model.specs.Lawful.{Volume, IsOpenAsk, MayCome}
 use Rattle.ficus_model.specs.Versions.{written_of}
 use Rattle.ficus_saved.specs.declared.saved.Saved.{Saved}
@@ -13,12 +12,7 @@ use Rattle.ficus_replica.specs.declared.replica.Replica.{Replica}
 
 -- an event of the replica after which it saves
 abbrev pub is_saved : ℕ → Event → Bool
-is_saved replica (Update by op) = by == replica
-is_saved replica (Ask by to) = by == replica
-is_saved replica (Accept by serve) = by == replica
-is_saved replica (Collect by) = by == replica
-is_saved replica (Serve by ask) = false
-is_saved replica (Restart by) = false
+is_saved replica event = (traits event).saves && (actor event == replica)
 
 -- how often the replica has saved
 abbrev pub generation_of : ℕ → List Event → ℕ

@@ -1,8 +1,8 @@
 ghost use Rattle.std.specs.Prelude.{◌≡◌, ◌-◌, ◌^◌, ◌<◌, ℕ, List, IfOk, IsTrue, ◌↔◌};
 
 use crate::{Asked, Replica};
-use ficus_entry::{Entries, Entry, InOrder};
-use ficus_file::{FileReplica, Files, FilesInOrder};
+use ficus_entry::{Entries, InOrder, SharedEntry};
+use ficus_file::{Files, FilesInOrder, SharedFile};
 use ficus_ids::{Memory, Refusal};
 use ficus_recon_dir::merge_in_order;
 use ficus_recon_file::{News, merge_news, news_fit};
@@ -50,14 +50,14 @@ impl Replica {
         self.take_tables(alloc, entries, files)
     }
 
-    /// Takes tables whose rows stand in lists, as [`accept`](Replica::accept) does.
+    /// Takes tables by their rows, as [`accept`](Replica::accept) does.
     pub fn accept_rows(
         &self,
         alloc: Global,
         from: u8,
         number: u64,
-        entries: &[Entry],
-        files: &[FileReplica],
+        entries: &[SharedEntry],
+        files: &[SharedFile],
     ) -> Result<Replica, Refusal>
         requires fits { FitsImage self.now.saved }
         requires tables { FitsTables self.now.saved.members entries.now files.now }
@@ -92,20 +92,20 @@ impl Replica {
         self.take(alloc, &entries.in_order()?, files.in_order()?)
     }
 
-    // Takes tables whose rows stand in lists, or refuses them.
+    // Takes tables by their rows, or refuses them.
     fn take_rows(
         &self,
         alloc: Global,
-        entries: &[Entry],
-        files: &[FileReplica],
+        entries: &[SharedEntry],
+        files: &[SharedFile],
     ) -> Result<Replica, Refusal>
         requires fits { FitsImage self.now.saved }
         requires tables { FitsTables self.now.saved.members entries.now files.now }
         requires generation { self.now.saved.generation < 2 ^ 63 - 1 }
         ensures { TakeGives self.now.saved entries.now files.now result }
     {
-        let entries = InOrder::over(alloc, entries)?;
-        let files = FilesInOrder::over(alloc, files)?;
+        let entries = InOrder::of_rows(alloc, entries)?;
+        let files = FilesInOrder::of_rows(alloc, files)?;
         self.take(alloc, &entries, files)
     }
 

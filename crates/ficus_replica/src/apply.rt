@@ -19,9 +19,9 @@ impl Replica {
     ghost use Rattle.ficus_replica.specs.Accept.{MayTake};
     ghost use Rattle.ficus_replica.specs.Makes.{FitsUpdate, IsFit, IsNoted};
 
-    /// The replica that the record of an event makes of this one, which waits for no answer, as after a restart: it saves
-    /// what it would save after the event. `Unfit` comes exactly where the record doesn't fit what is held, `NotRecord`
-    /// never.
+    /// The replica that the record of an event makes of this one, which waits for no answer, as after a restart: it
+    /// saves what it would save after the event. `Unfit` comes exactly where the record doesn't fit what is held,
+    /// `NotRecord` never.
     pub fn apply(&self, alloc: Global, noted: &Record) -> Result<Replica, RecordFault>
         requires fits { FitsImage self.now.saved }
         requires spelled { FitsRecord self.now.saved.members noted.now }

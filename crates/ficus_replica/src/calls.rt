@@ -73,8 +73,8 @@ impl Replica {
     }
 
     /// Removes the name at the path from its object: all live entries of the directory that have this name and lead to
-    /// this object. Refused as the walk is; with `NotEmpty` exactly where the object is a directory with a live entry in
-    /// it, and every live name of it is the one to be removed; with `Spent` as `make` is.
+    /// this object. Refused as the walk is; with `NotEmpty` exactly where the object is a directory with a live entry
+    /// in it, and every live name of it is the one to be removed; with `Spent` as `make` is.
     pub fn remove(&self, alloc: Global, path: &Path) -> Result<Next, Refusal>
         requires entry { IsEntry path.now }
         requires fits { FitsImage self.now.saved }
@@ -114,9 +114,9 @@ impl Replica {
         self.done(alloc, ficus_answers::rename(alloc, &self.saved, from, path))
     }
 
-    /// Gives the orphan the new path as its name. Refused with `NotOrphan` exactly where no orphan has this identifier; as
-    /// the walk to the parent of the path is; with `IntoSelf` exactly where the orphan is a directory, and the new parent
-    /// is it or lies below it; with `Exists` and `Spent` as `make` is.
+    /// Gives the orphan the new path as its name. Refused with `NotOrphan` exactly where no orphan has this identifier;
+    /// as the walk to the parent of the path is; with `IntoSelf` exactly where the orphan is a directory, and the new
+    /// parent is it or lies below it; with `Exists` and `Spent` as `make` is.
     pub fn adopt(&self, alloc: Global, orphan: Id, path: &Path) -> Result<Next, Refusal>
         requires new { IsNew path.now }
         requires fits { FitsImage self.now.saved }
@@ -191,8 +191,8 @@ impl Replica {
         }
     }
 
-    /// What is in conflict: each name under which a directory has several objects, by directory and name; and each file in
-    /// conflict that has a live name or is an orphan, by identifier.
+    /// What is in conflict: each name under which a directory has several objects, by directory and name; and each file
+    /// in conflict that has a live name or is an orphan, by identifier.
     pub fn conflicts(&self, alloc: Global) -> Result<Clashes, Memory>
         requires { FitsImage self.now.saved }
         ensures { IfOk result (λ clashes. LookGives self.now TellsConflicts (Ok (ToldConflicts clashes))) }
@@ -229,8 +229,8 @@ impl Replica {
         }
     }
 
-    /// The removed entries that it holds, by identifier, each with the members that are known to know of the removal and
-    /// those that are known to know that all know of it.
+    /// The removed entries that it holds, by identifier, each with the members that are known to know of the removal
+    /// and those that are known to know that all know of it.
     pub fn marks(&self, alloc: Global) -> Result<Vec<Entry>, Memory>
         requires { FitsImage self.now.saved }
         ensures { IfOk result (λ marks. LookGives self.now TellsMarks (Ok (ToldMarks marks.items))) }

@@ -24,9 +24,9 @@ impl Replica {
     ghost use Rattle.ficus_replica.specs.SavedOf.{StandsFor};
     ghost use Rattle.ficus_record.specs.declared.record.Record.TheVariants.{Collect as Noted};
 
-    /// Gives up the removed entries of which everybody is known to know that all know, and then the files and directories
-    /// that no entry which is left names or lies in and that are no orphans. The open ask stays. It takes one walk over
-    /// all that is held.
+    /// Gives up the removed entries of which everybody is known to know that all know, and then the files and
+    /// directories that no entry which is left names or lies in and that are no orphans. The open ask stays. It takes
+    /// one walk over all that is held.
     pub fn collect(&self, alloc: Global) -> Result<Collected, Memory>
         requires fits { FitsImage self.now.saved }
         requires generation { self.now.saved.generation < 2 ^ 63 - 1 }

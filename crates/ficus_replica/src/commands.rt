@@ -17,8 +17,8 @@ impl Replica {
     ghost use Rattle.ficus_replica.specs.Makes.{IsNoted};
     ghost use Rattle.ficus_record.specs.declared.record.Record.TheVariants.{Change as Noted};
 
-    /// The replica after the change, and which operation it is, or why it is refused. The record of the operation makes the
-    /// same of what was saved.
+    /// The replica after the change, and which operation it is, or why it is refused. The record of the operation makes
+    /// the same of what was saved.
     pub fn change(&self, alloc: Global, change: &Change) -> Result<Next, Refusal>
         requires new { HasFitPaths change.now }
         requires fits { FitsImage self.now.saved }

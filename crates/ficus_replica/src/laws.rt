@@ -69,8 +69,8 @@ pub fn one_garbage()
         → IsGarbage members H replica one → IsGarbage members H replica other → one ≡ other }
 {}
 
-/// Where a lawful history is followed by an event that may come, what the record of the event makes of what a replica saves
-/// after the history is what it saves after the event.
+/// Where a lawful history is followed by an event that may come, what the record of the event makes of what a replica
+/// saves after the history is what it saves after the event.
 pub fn records_stand()
     ensures { (volume : Volume) (H : List Event) (replica : ℕ) (event : Event) (noted : Record) (old new : Saved)
         → FitsImage old → IsLawful volume H → IsSavedOf volume H replica old → MayCome volume H event

@@ -1,5 +1,6 @@
-//! Tests of what a replica refuses where no script brings it about, each refusal by its variant with ample memory, and of
-//! each call that can want memory, that with ample memory it answers. What scripts bring about is shown by the examples.
+//! Tests of what a replica refuses where no script brings it about, each refusal by its variant with ample memory, and
+//! of each call that can want memory, that with ample memory it answers. What scripts bring about is shown by the
+//! examples.
 #![tactic(auto)]
 
 #[cfg(test)]

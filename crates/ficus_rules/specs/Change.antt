@@ -30,8 +30,8 @@ ChangeRule view (Mv from path) = RenameRule view from path
 ChangeRule view (Adopt orphan path) = AdoptRule view orphan path
 ChangeRule view (Discard orphan) = DiscardRule view orphan
 
--- where the change may be answered with want of memory: where its rule refuses nothing; and where memory has to be taken
--- before that is known
+-- where the change may be answered with want of memory: where its rule refuses nothing; and where memory has to be
+-- taken before that is known
 abbrev pub MayWantMemory : View → Change → Type 0
 MayWantMemory view (Resolve path) = RefusesNothing (ResolveRule view path) ⊎ NeedsResolver view path
 MayWantMemory view (Rm path) = RefusesNothing (RemoveRule view path) ⊎ NeedsNames view path

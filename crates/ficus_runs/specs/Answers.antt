@@ -1,29 +1,21 @@
 -- How what commands come to is answered.
-use Rattle.std.specs.Prelude.{◌↔◌, Result, Ok, Err, IsTrue}
+use Rattle.std.specs.Prelude.{◌↔◌, Result, Ok, Err, IsTrue, if◌then◌else◌, is_some}
 use Rattle.ficus_ids.specs.declared.id.Id.{Id}
 use Rattle.ficus_ids.specs.declared.refusal.Refusal.{Refusal}
 use Rattle.ficus_ids.specs.declared.refusal.Refusal.TheVariants.{Memory}
 use Rattle.ficus_model.specs.declared.event.Op.{Op}
-use Rattle.ficus_model.specs.declared.event.Op.TheVariants as op
 use Rattle.ficus_commands.specs.declared.look.Look.{Look}
 use Rattle.ficus_rules.specs.Look.{LookRule}
 use Rattle.ficus_rules.specs.Alike.{AreAlike}
 use Rattle.ficus_rules.specs.Rule.{Then, Gives, Tells}
 use Rattle.ficus_rules.specs.View.{View}
+use Rattle.ficus_replica.specs.Effect.{name_given}
 use Rattle.ficus_script.specs.declared.answer.Answer.{Answer}
 use Rattle.ficus_script.specs.declared.answer.Answer.TheVariants.{Alike, Done, Made, Told, Refused}
 
 -- what the update of this number is answered with: its number, where it gives an object a name
 abbrev pub answer_to : Id → Op → Answer
-answer_to number (op.Make dir name kind) = Made number
-answer_to number (op.Link dir name target) = Made number
-answer_to number (op.Remove entries target) = Done
-answer_to number (op.Move entries dir name target) = Made number
-answer_to number (op.Write file bytes) = Done
-answer_to number (op.Settle file bytes) = Done
-answer_to number (op.Resolve file bytes) = Done
-answer_to number (op.Adopt file dir name) = Made number
-answer_to number (op.Discard file) = Done
+answer_to number op = if is_some (name_given op) then Made number else Done
 
 -- what a look at what is shown is answered, or why it is refused
 abbrev pub LookAnswer : View → Look → Result Answer Refusal → Type 0

@@ -63,8 +63,8 @@ AreUpPeers volume W by other = ArePeers volume.members by other × IsUp by W × 
 
 -- Where the command may end for want of memory: where nothing refuses it; and, for a change by a member, where the
 -- member has to take memory before that is known. A message between members is spelled before there is known to be room
--- for it, and is fetched before it is known what it says. Disks are read before it is known what they hold. The steps of
--- a sweep are laid out before any is taken.
+-- for it, and is fetched before it is known what it says. Disks are read before it is known what they hold. The steps
+-- of a sweep are laid out before any is taken.
 abbrev pub CommandMayWantMemory : Volume → ModelWorld → Command → Type 0
 CommandMayWantMemory volume W (command.Change by change) =
     IsMember volume.members by × IsUp by W × MayWantMemory (history_view volume W.events by) change

@@ -1,6 +1,6 @@
 -- Sweeps: pulls in a fixed order, and then collections, one after the other, up to the first refusal. Of rounds in such
--- orders, after which each has heard of all that all had heard of, and knows that all have, the source is Guy, Popek and
--- Page 1993.
+-- orders, after which each has heard of all that all had heard of, and knows that all have, the source is Guy, Popek
+-- and Page 1993.
 use Rattle.std.specs.Prelude.{ℕ, ◌+◌, ◌-◌, List, [], ◌∷◌, ◌++◌, map}
 use Rattle.std.specs.List.{range_with_len}
 use Rattle.ficus_model.specs.Lawful.{Volume}

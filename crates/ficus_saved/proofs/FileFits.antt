@@ -1,11 +1,12 @@
 -- Files that fit tables: made, written and merged.
 use Rattle.std.specs.Prelude.{◌≡◌, ◌≢◌, ◌⊎◌, ℕ, ◌+◌, ◌-◌, ◌<◌, ◌≤◌, List, [], ◌∷◌, length, Contains}
 use Rattle.std.proofs.Common.{refl, sym, subst, ◌∙◌, ap, arith, inl, inr}
+use Rattle.ficus_ids.specs.KindLaws.{kind_sort}
 use Rattle.ficus_ids.specs.ListLaws.{here_or_there, not_inside_none}
 use Rattle.ficus_ids.specs.Members.{IsMember}
 use Rattle.ficus_ids.specs.declared.id.Id.{Id}
 use Rattle.ficus_ids.specs.declared.kind.Kind.{Kind}
-use Rattle.ficus_ids.specs.declared.kind.Kind.TheVariants.{Dir, Plain, Lines, Max, Keep}
+use Rattle.ficus_ids.specs.declared.kind.Kind.TheVariants.{Dir}
 use Rattle.ficus_vv.specs.Vector.{count_of, no_counts, join}
 use Rattle.ficus_vv.specs.VectorLaws.{count_of-none, join_with_none, bump_at_most}
 use Rattle.ficus_file.specs.File.{IsWellFormed, over_all, first_versions, made_file, advanced, covered_file}
@@ -20,13 +21,6 @@ use Rattle.ficus_saved.specs.Limits.{update_limit, file_limit}
 use Rattle.ficus_saved.specs.Saved.{IsOfPast, IsFileOfPast}
 use Rattle.ficus_saved.specs.Tables.{IsIssuable, FitsVersion, FitsFile}
 use Rattle.ficus_saved.proofs.CountFits.{join_below, join_all_at_most, join_all_fits, join_fits, none_fits, bump_fits}
-
-dir_or_file : (kind : Kind) → (kind ≡ Dir) ⊎ (kind ≢ Dir)
-dir_or_file Dir = inl refl
-dir_or_file Plain = inr (λ is. cc)
-dir_or_file Lines = inr (λ is. cc)
-dir_or_file Max = inr (λ is. cc)
-dir_or_file Keep = inr (λ is. cc)
 
 -- it doesn't matter which of two lists comes first
 turned_kept : (mine theirs : List Version) (version : Version) → IsKept mine theirs version → IsKept theirs mine version
@@ -62,7 +56,7 @@ module _ (members me next : ℕ) where
   -- where both are directories or both are files, though only one kind is said
   other_is_dir : (mine theirs both : FileReplica) → IsWellFormed theirs → IsWellFormed both →
       IsMergedFile mine theirs both → both.kind ≡ Dir → theirs.kind ≡ Dir
-  other_is_dir mine theirs both well well_both merged is = elim (dir_or_file theirs.kind) [
+  other_is_dir mine theirs both well well_both merged is = elim (kind_sort theirs.kind) [
     | inl dir ↦ dir
     | inr is_file ↦
         let none : length both.versions ≡ 0 = ap (λ (l : List Version). length l) (well_both.directory is) in
@@ -140,10 +134,7 @@ module _ (members me next : ℕ) (member : IsMember members me) (some : 1 ≤ ne
 
       by_kind : (of : Kind) → Contains (first_versions of me) version → FitsAsVersion members me (next + 1) version
       by_kind Dir none = absurd (not_inside_none version none)
-      by_kind Plain here = empty here
-      by_kind Lines here = empty here
-      by_kind Max here = empty here
-      by_kind Keep here = empty here
+      by_kind kind here = empty here
 
   -- a file or directory that the next update makes fits afterwards
   pub made_file_fits : (kind : Kind) →

@@ -3,7 +3,8 @@ use Rattle.std.specs.Prelude.{◌≡◌, ◌⊎◌, ◌↔◌, ℕ, List, Option
 use Rattle.std.proofs.Common.{refl, sym, subst, inl, inr}
 use Rattle.std.proofs.lemmas.List.Elements.{All-contains_itself, All-weaker}
 use Rattle.std.proofs.lemmas.Option.{same_Some}
-use Rattle.ficus_ids.specs.Rising.{HoldsUnderBy}
+use Rattle.ficus_ids.specs.IdLaws.{same_id_or_not}
+use Rattle.ficus_ids.specs.ListLaws.{contained_or_not}
 use Rattle.ficus_ids.specs.RisingLaws.{held_or_not}
 use Rattle.ficus_ids.specs.declared.id.Id.{Id}
 use Rattle.ficus_file.specs.File.{IsWellFormed}
@@ -13,16 +14,9 @@ use Rattle.ficus_recon_file.specs.Merge.{IsTaken, Merges, AreMergedFiles}
 use Rattle.ficus_saved.proofs.FileFits.{FitsAsFile, merged_file_fits}
 use Rattle.ficus_saved.proofs.Held.{all_under}
 
-inside_or_not : (held : List Id) (id : Id) → Contains held id ⊎ (Contains held id → ⊥)
-inside_or_not held id = by_held (held_or_not (λ i. i) held id)
-  where
-    by_held : (found : Option Id) × HoldsUnderBy (λ i. i) held id found → Contains held id ⊎ (Contains held id → ⊥)
-    by_held (Some other, has) = inl (subst (Contains held) has.1 has.0)
-    by_held (None, none) = inr (λ inside. none (record { item = id; inside = inside; has_id = refl }))
-
 -- what is taken is theirs
 taken_is : (held : List Id) (theirs file : FileReplica) → IsTaken held theirs (Some file) → file ≡ theirs
-taken_is held theirs file taken = elim (inside_or_not held theirs.id) [
+taken_is held theirs file taken = elim (contained_or_not same_id_or_not held theirs.id) [
   | inl inside ↦ same_Some file theirs (taken.named inside)
   | inr outside ↦ absurd (let clash : Some file ≡ None = taken.unnamed outside in cc)
 ]

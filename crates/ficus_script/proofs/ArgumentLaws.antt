@@ -126,11 +126,8 @@ kind_shape last no_text no_path =
     ) refl
 
 kind_word_shape : (kind : Kind) → behind_path (Some (kind_word kind)) ≡ 4
-kind_word_shape Dir = refl
-kind_word_shape Plain = refl
-kind_word_shape Lines = refl
-kind_word_shape Max = refl
 kind_word_shape Keep = refl
+kind_word_shape kind = refl
 
 shape_is : (arguments : Arguments) (first : List ℕ) (rest : Option (List ℕ)) → AreArguments arguments →
     Begins first rest (argument_words arguments) → shape_at first rest ≡ shape_of arguments
@@ -159,11 +156,8 @@ kind_at word =
     if get_or word 0 0 == 108 then Lines else if get_or word 0 0 == 109 then Max else Keep
 
 kind_found : (kind : Kind) → kind_at (kind_word kind) ≡ kind
-kind_found Dir = refl
-kind_found Plain = refl
-kind_found Lines = refl
-kind_found Max = refl
 kind_found Keep = refl
+kind_found kind = refl
 
 kind_word_injective : (kind other : Kind) → kind_word kind ≡ kind_word other → kind ≡ other
 kind_word_injective kind other same = sym (kind_found kind) ∙ ap kind_at same ∙ kind_found other

@@ -10,8 +10,8 @@ use Rattle.ficus_script.specs.Script.{AreLines, IsFirstBad, MayStand}
 abbrev pub at_volume : ℕ → List ℕ → List ℕ
 at_volume volume text = 64 ∷ decimal volume ++ 32 ∷ text
 
--- The line is a text of this volume: it is behind the number, or it is the whole line, which doesn't begin with `@`, and
--- the volume is the first.
+-- The line is a text of this volume: it is behind the number, or it is the whole line, which doesn't begin with `@`,
+-- and the volume is the first.
 pub record IsVolumeCut (volumes : ℕ) (line : List ℕ) (volume : ℕ) (text : List ℕ) : Type 0 where
   pub among : IsMember volumes volume
   pub cut : ((volume ≡ 1) × (line ≡ text) × (slice_index line 0 ≢ 64)) ⊎ (line ≡ at_volume volume text)

@@ -6,8 +6,8 @@ use ficus_ids::{Id, Listed, Refusal};
 pub enum Answer {
     /// It was done.
     Done,
-    /// It was done, and an object got a name by the update of this number, which is the number of the entry, and that of
-    /// the object where it was made.
+    /// It was done, and an object got a name by the update of this number, which is the number of the entry, and that
+    /// of the object where it was made.
     Made(Id),
     /// It was done, and a message of this number was posted.
     Mail(u32),

@@ -29,7 +29,8 @@ pub enum Command {
     /// `stop R K PICK`: the disks of replica `by` stop after `calls` more calls that write or sync; `pick`, from 0 to
     /// 3, says which of the images that a crash may then leave is found by the next restart.
     Stop { by: u8, calls: u32, pick: u8 },
-    /// `sweep star`, `sweep ring`: the pulls of the order, and then a collection by each replica, up to the first refusal.
+    /// `sweep star`, `sweep ring`: the pulls of the order, and then a collection by each replica, up to the first
+    /// refusal.
     Sweep { order: Order },
     /// `R why`: for each file in conflict at replica `by`, two updates of this run that clash.
     Why { by: u8 },
@@ -38,8 +39,8 @@ pub enum Command {
 impl Command {
     ghost use Rattle.ficus_script.specs.Command.{IsStep};
 
-    /// Whether it is one step of a world: every command is, but a sweep, which is several, and why, which asks only what is
-    /// stored.
+    /// Whether it is one step of a world: every command is, but a sweep, which is several, and why, which asks only
+    /// what is stored.
     pub fn is_step(&self) -> bool
         ensures { IsTrue result ↔ IsStep self.now }
     {

@@ -80,8 +80,8 @@ pub(crate) fn is_command(line: &[u8], paths: &mut LinePaths) -> bool
     }
 }
 
-/// The command that the line spells, which is one step of a world. `NotCommand` comes exactly where it spells none such,
-/// and `Memory` only where it spells one and memory was refused.
+/// The command that the line spells, which is one step of a world. `NotCommand` comes exactly where it spells none
+/// such, and `Memory` only where it spells one and memory was refused.
 pub(crate) fn read_step(
     alloc: Global,
     line: &[u8],

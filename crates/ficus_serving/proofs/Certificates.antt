@@ -1,5 +1,5 @@
 -- What why is answered is what the model answers, whatever the world stands for.
-use Rattle.std.proofs.Common.{◌≡◌, ℕ, List, [], length, Ok, Err, refl, ap, subst, ◌∙◌}
+use Rattle.std.proofs.Common.{ℕ, List, [], length, Ok, Err, refl, ap, subst, ◌∙◌}
 use Rattle.ficus_disk.specs.declared.disk.Disk.{Ghosts as Disk}
 use Rattle.ficus_disk.specs.declared.pair.Pair.{Pair}
 use Rattle.ficus_ids.specs.Members.{IsMember}
@@ -14,7 +14,6 @@ use Rattle.ficus_why.specs.Plain.{IsPlain}
 use Rattle.ficus_why_runs.specs.Row.{Explains, run_of}
 use Rattle.ficus_why_runs.proofs.Lawful.{lawful_plain}
 use Rattle.ficus_runs.specs.ModelWorld.{ModelWorld}
-use Rattle.ficus_runs.specs.Outcome.{AllDone}
 use Rattle.ficus_runs.specs.Run.{CommandMayWantMemory, Does, Step}
 use Rattle.ficus_runs.specs.Sequence.{Effect}
 use Rattle.ficus_runs.specs.Sequence.First.{Ends, Goes}

@@ -97,7 +97,8 @@ fn answer_one<K: Sink, D: Disk, P: Keep + Drop, L: Link + Drop>(
     put_answer(alloc, &answer, output)
 }
 
-/// Puts the text of the answer.
+/// Puts the text of the answer. `Sink` comes exactly where the sink has failed, and `Memory` only where memory was
+/// refused; what was put by then is a front of the text.
 pub fn put_answer<K: Sink>(
     alloc: Global,
     answer: &Answer,

@@ -2,14 +2,13 @@
 ghost use Rattle.std.specs.Prelude.{◌≡◌, [], IfOk};
 ghost use Rattle.ficus_saved.specs.Saved.{FitsImage};
 
-use crate::events::{Noted, command, event, first};
-use crate::saves::{holds, makes, saves_next};
+use crate::records::MAKE;
+use crate::saves::{after, first, holds, makes, saves_next};
 use ficus_disk::{Disk, FailDisk, Pair};
 use ficus_ids::{Memory, Refusal};
 use ficus_journal::Journal;
 use ficus_keep::Keep;
 use ficus_replica::Replica;
-use ficus_script::Command;
 use ficus_store::TwoSlot;
 use std::alloc::Global;
 use std::test::Fail;
@@ -24,22 +23,24 @@ enum Step {
     Nothing,
 }
 
-// Makes, saves what the command says, and opens anew, up to what fails.
+// Makes, saves the event of the record, and opens anew, up to what fails.
 fn failing_step<K: Keep + Drop, D: Disk>(
     alloc: Global,
     disks: &mut Pair<D>,
-    command: &Command,
+    fresh: &Replica,
     saved: &Replica,
 ) -> Result<Step, Refusal>
-    requires fits { FitsImage saved.now.saved }
+    requires fits { FitsImage fresh.now.saved }
+    requires first { fresh.now.saved.generation ≡ 0 }
+    requires saved { FitsImage saved.now.saved }
     requires empty_a { D.tells → D.seen disks.old.a ≡ [] }
     requires empty_b { D.tells → D.seen disks.old.b ≡ [] }
 {
-    match makes::<K, D>(alloc, disks) {
+    match makes::<K, D>(alloc, disks, fresh) {
         Err(Refusal::Store) => return Ok(Step::Make),
         made => made?,
     }
-    match saves_next::<K, D>(alloc, disks, command, None) {
+    match saves_next::<K, D>(alloc, disks, MAKE, None) {
         Err(Refusal::Store) => return Ok(Step::Open),
         Ok(false) => return Ok(Step::Commit),
         Ok(true) => {}
@@ -77,28 +78,6 @@ fn holds_after<K: Keep + Drop, D: Disk>(
     }
 }
 
-// What is saved, of which command, and what was there before.
-#[derive(Drop)]
-struct Work {
-    command: Command,
-    fresh: Replica,
-    saved: Replica,
-}
-
-fn day(alloc: Global) -> Result<Work, Refusal>
-    ensures fresh { IfOk result (λ made. FitsImage made.fresh.saved) }
-    ensures saved { IfOk result (λ made. FitsImage made.saved.saved) }
-{
-    let command = command(alloc, "1 mkdir /a\n")?;
-    let fresh = first(alloc)?;
-    let Noted { next: saved, .. } = event(alloc, &fresh, &command, &fresh)?;
-    Ok(Work {
-        command,
-        fresh,
-        saved,
-    })
-}
-
 // Empty disks of which one fails at this call.
 fn failing(alloc: Global, is_a: bool, call: u32) -> Result<Pair<FailDisk>, Memory>
     ensures a { IfOk result (λ disks. ⟦<FailDisk as Disk>⟧.seen disks.a ≡ []) }
@@ -124,17 +103,19 @@ fn failing(alloc: Global, is_a: bool, call: u32) -> Result<Pair<FailDisk>, Memor
 fn fails<K: Keep + Drop, D: Disk>(
     alloc: Global,
     disks: &mut Pair<D>,
-    day: &Work,
+    fresh: &Replica,
+    saved: &Replica,
     step: Step,
 ) -> Result<bool, Refusal>
-    requires fresh { FitsImage day.now.fresh.saved }
-    requires saved { FitsImage day.now.saved.saved }
+    requires fresh { FitsImage fresh.now.saved }
+    requires first { fresh.now.saved.generation ≡ 0 }
+    requires saved { FitsImage saved.now.saved }
     requires empty_a { D.tells → D.seen disks.old.a ≡ [] }
     requires empty_b { D.tells → D.seen disks.old.b ≡ [] }
 {
     Ok(
-        failing_step::<K, D>(alloc, disks, &day.command, &day.saved)? == step
-            && holds_after::<K, D>(alloc, disks, step, &day.fresh, &day.saved)?,
+        failing_step::<K, D>(alloc, disks, fresh, saved)? == step
+            && holds_after::<K, D>(alloc, disks, step, fresh, saved)?,
     )
 }
 
@@ -176,16 +157,24 @@ const RECORDS: [&[Row]; 2] = [
 // The first call with which something else fails than the table of one of the disks says.
 fn wrong<K: Keep + Drop>(
     alloc: Global,
-    day: &Work,
+    fresh: &Replica,
+    saved: &Replica,
     is_a: bool,
     table: &[Row],
 ) -> Result<Option<u32>, Refusal>
-    requires fresh { FitsImage day.now.fresh.saved }
-    requires saved { FitsImage day.now.saved.saved }
+    requires fresh { FitsImage fresh.now.saved }
+    requires first { fresh.now.saved.generation ≡ 0 }
+    requires saved { FitsImage saved.now.saved }
 {
     for (first, last, step) in table {
         for call in *first..=*last {
-            if !fails::<K, FailDisk>(alloc, &mut failing(alloc, is_a, call)?, day, *step)? {
+            if !fails::<K, FailDisk>(
+                alloc,
+                &mut failing(alloc, is_a, call)?,
+                fresh,
+                saved,
+                *step,
+            )? {
                 return Ok(Some(call));
             }
         }
@@ -193,14 +182,26 @@ fn wrong<K: Keep + Drop>(
     Ok(None)
 }
 
+// The same of each disk of either keeper.
+fn wrongs(alloc: Global, fresh: &Replica, saved: &Replica) -> Result<[Option<u32>; 4], Refusal>
+    requires fresh { FitsImage fresh.now.saved }
+    requires first { fresh.now.saved.generation ≡ 0 }
+    requires saved { FitsImage saved.now.saved }
+{
+    Ok([
+        wrong::<TwoSlot>(alloc, fresh, saved, true, SLOTS[0])?,
+        wrong::<TwoSlot>(alloc, fresh, saved, false, SLOTS[1])?,
+        wrong::<Journal>(alloc, fresh, saved, true, RECORDS[0])?,
+        wrong::<Journal>(alloc, fresh, saved, false, RECORDS[1])?,
+    ])
+}
+
 #[test]
 fn a_call_that_fails_leaves_the_old_or_the_new(rt: HostRuntime) -> Result<(), Fail> {
-    let day = day(rt.alloc())?;
-    for (place, is_a) in [true, false].iter().enumerate() {
-        let slots = wrong::<TwoSlot>(rt.alloc(), &day, *is_a, SLOTS[place])?;
-        assert!(rt; slots.is_none(), "{slots:?}");
-        let records = wrong::<Journal>(rt.alloc(), &day, *is_a, RECORDS[place])?;
-        assert!(rt; records.is_none(), "{records:?}");
+    let fresh = first(rt.alloc())?;
+    let saved = after(rt.alloc(), &fresh, MAKE)?;
+    for (place, wrong) in wrongs(rt.alloc(), &fresh, &saved)?.iter().enumerate() {
+        assert!(rt; wrong.is_none(), "disk {place}: {wrong:?}");
     }
     Ok(())
 }

@@ -1,4 +1,5 @@
 // Bytes that stand on the disks, and what is opened of them.
+use crate::records::{ASK, COLLECT, DISCARD, INSIDE, MAKE};
 use crate::saves::{empty, told};
 use ficus_disk::{Disk, MemDisk, Pair};
 use ficus_ids::Refusal;
@@ -21,17 +22,20 @@ pub(crate) fn disk_of(alloc: Global, bytes: &[u8]) -> Result<MemDisk, Refusal> {
 }
 
 // The fresh image of replica 1 of 2.
-const FRESH: &[u8] = &[
-    70, 73, 67, 49, 1, 2, 0, 1, 134, 160, 0, 64, 0, 0, 0, 0, 0, 1, 0, 0, 0, 0, 0, 0, 0, 0, 0, 0, 0,
-    0, 0, 0, 0, 0, 0, 0, 0, 0,
-];
+const FRESH: &[u8] = b"FIC1\x01\x02\0\x01\x86\xa0\0\x40\0\0\
+    \0\0\0\x01\0\0\0\0\0\0\0\0\0\0\0\0\
+    \0\0\0\0\0\0\0\0";
+
+// The same without its last byte.
+const SHORT: &[u8] = b"FIC1\x01\x02\0\x01\x86\xa0\0\x40\0\0\
+    \0\0\0\x01\0\0\0\0\0\0\0\0\0\0\0\0\
+    \0\0\0\0\0\0\0";
 
 // The image after `1 mkdir /a`.
-const FIRST: &[u8] = &[
-    70, 73, 67, 49, 1, 2, 0, 1, 134, 160, 0, 64, 0, 0, 0, 0, 0, 2, 0, 0, 0, 0, 0, 0, 0, 0, 0, 0, 0,
-    1, 0, 0, 0, 1, 1, 0, 0, 0, 1, 0, 0, 0, 0, 0, 1, 97, 1, 0, 0, 0, 1, 0, 0, 0, 0, 1, 1, 0, 0, 0,
-    1, 0, 0, 0, 0, 0, 0, 0, 0, 0, 0,
-];
+const FIRST: &[u8] = b"FIC1\x01\x02\0\x01\x86\xa0\0\x40\0\0\
+    \0\0\0\x02\0\0\0\0\0\0\0\0\0\0\0\x01\
+    \0\0\0\x01\x01\0\0\0\x01\0\0\0\0\0\x01a\x01\0\0\0\x01\0\
+    \0\0\0\x01\x01\0\0\0\x01\0\0\0\0\0\0\0\0\0\0";
 
 // The generation that is opened.
 fn opens<K: Keep + Drop, D: Disk>(alloc: Global, disks: &mut Pair<D>) -> Result<u64, StoreFault> {
@@ -48,39 +52,34 @@ fn opens_with<K: Keep + Drop>(alloc: Global, image: &[u8]) -> Option<Result<u64,
     Some(opens::<K, MemDisk>(alloc, &mut disks))
 }
 
+// Whether that is opened with either keeper.
+fn opens_as(alloc: Global, image: &[u8], opened: Result<u64, StoreFault>) -> bool {
+    opens_with::<TwoSlot>(alloc, image) == Some(opened)
+        && opens_with::<Journal>(alloc, image) == Some(opened)
+}
+
+/// Images, and what is opened where they are made.
+const IMAGES: &[(&[u8], Result<u64, StoreFault>)] = &[
+    (FRESH, Ok(0)),
+    (SHORT, Err(StoreFault::NoImage)),
+    (b"", Err(StoreFault::NoImage)),
+    (FIRST, Err(StoreFault::NoImage)),
+];
+
 #[test]
 fn only_an_image_of_its_generation_is_opened(rt: HostRuntime) -> Result<(), Fail> {
     let alloc = rt.alloc();
     let nothing = Err(StoreFault::NoImage);
     assert!(rt; opens::<TwoSlot, MemDisk>(alloc, &mut empty(alloc)) == nothing);
     assert!(rt; opens::<Journal, MemDisk>(alloc, &mut empty(alloc)) == nothing);
-    let rows: [(&[u8], Result<u64, StoreFault>); 4] = [
-        (FRESH, Ok(0)),
-        (&FRESH[..37], nothing),
-        (b"", nothing),
-        (FIRST, nothing),
-    ];
-    for (image, opened) in rows {
-        assert!(rt; opens_with::<TwoSlot>(alloc, image) == Some(opened));
-        assert!(rt; opens_with::<Journal>(alloc, image) == Some(opened));
+    for (place, (image, opened)) in IMAGES.iter().enumerate() {
+        assert!(rt; opens_as(alloc, image, *opened), "{place}");
     }
     Ok(())
 }
 
-// Bodies of records: a directory `a` in the root, one in the directory 1.1, the directory 1.1 given up, an ask, a
-// collection.
-const MAKE: &[u8] = &[1, 0, 0, 0, 0, 0, 1, b'a', 0];
-
-const INSIDE: &[u8] = &[1, 1, 0, 0, 0, 1, 1, b'a', 0];
-
-const DISCARD: &[u8] = &[9, 1, 0, 0, 0, 1];
-
-const ASK: &[u8] = &[10];
-
-const COLLECT: &[u8] = &[12];
-
-// Records that are in force behind the fresh image, and what is opened then: nothing where one is no record, or doesn't fit
-// what those before it make.
+// Records that are in force behind the fresh image, and what is opened then: nothing where one is no record, or doesn't
+// fit what those before it make.
 const BEHIND: &[(&[&[u8]], Result<u64, StoreFault>)] = &[
     (&[], Ok(0)),
     (&[MAKE], Ok(1)),
@@ -124,13 +123,17 @@ fn log_of(alloc: Global, bodies: &[&[u8]]) -> Result<Pair<MemDisk>, Refusal> {
     Ok(disks)
 }
 
+// What is opened of the fresh image with these records behind it.
+fn opens_behind(alloc: Global, bodies: &[&[u8]]) -> Result<Result<u64, StoreFault>, Refusal> {
+    let mut disks = log_of(alloc, bodies)?;
+    Ok(opens::<Journal, MemDisk>(alloc, &mut disks))
+}
+
 #[test]
 fn a_record_in_force_is_one_that_fits(rt: HostRuntime) -> Result<(), Fail> {
-    let alloc = rt.alloc();
-    for (bodies, opened) in BEHIND {
-        let mut disks = log_of(alloc, bodies)?;
-        let found = opens::<Journal, MemDisk>(alloc, &mut disks);
-        assert!(rt; found == *opened, "{bodies:?}");
+    for (place, (bodies, opened)) in BEHIND.iter().enumerate() {
+        let found = opens_behind(rt.alloc(), bodies)?;
+        assert!(rt; found == *opened, "{place}");
     }
     Ok(())
 }
@@ -144,16 +147,23 @@ fn opens_bytes(alloc: Global, bytes: &[u8]) -> Result<u64, Refusal> {
     opens::<Journal, MemDisk>(alloc, &mut disks).map_err(told)
 }
 
+// The first length at which something else is opened than the records that end there.
+fn first_torn(alloc: Global, bytes: &[u8]) -> Result<Option<usize>, Refusal> {
+    for length in 56..=bytes.len() {
+        // The slot has 56 bytes, and each record 22 more, with its next gate.
+        if opens_bytes(alloc, &bytes[..length])? != (length as u64 - 56) / 22 {
+            return Ok(Some(length));
+        }
+    }
+    Ok(None)
+}
+
 #[test]
 fn a_torn_record_is_passed_over(rt: HostRuntime) -> Result<(), Fail> {
-    let alloc = rt.alloc();
-    let mut disks = log_of(alloc, &[MAKE, INSIDE])?;
-    let bytes = read_all(alloc, &mut disks.a).map_err(told)?;
-    // The slot has 56 bytes, and each record 22 more, with its next gate.
+    let mut disks = log_of(rt.alloc(), &[MAKE, INSIDE])?;
+    let bytes = read_all(rt.alloc(), &mut disks.a).map_err(told)?;
     assert_eq!(rt; bytes.len(), 100);
-    for length in 56..=bytes.len() {
-        let found = opens_bytes(alloc, &bytes[..length])?;
-        assert_eq!(rt; found, (length as u64 - 56) / 22, "{length} bytes");
-    }
+    let length = first_torn(rt.alloc(), &bytes)?;
+    assert!(rt; length.is_none(), "{length:?} bytes");
     Ok(())
 }

@@ -1,19 +1,47 @@
 // Saves, and what the disks hold after each.
 ghost use Rattle.std.specs.Prelude.{◌≡◌, ◌<◌, ◌≤◌, [], IfOk, IfSome, IsTrue, OnOk};
 ghost use Rattle.ficus_keep.specs.Pairs.{PairSame, PairWithin};
+ghost use Rattle.ficus_leads.specs.Holds.{Leads};
 ghost use Rattle.ficus_saved.specs.Saved.{FitsImage};
 ghost use Rattle.ficus_stable.specs.Stable.{IsReady, MayFollow};
 
-use crate::events::{Noted, event, first};
 use ficus_disk::{Disk, MemDisk, Pair};
-use ficus_ids::{Memory, Refusal};
+use ficus_ids::{Members, Memory, Refusal};
 use ficus_image::encode_image;
 use ficus_keep::{Keep, MakeFault, StoreFault};
+use ficus_record::{RecordFault, decode_record};
 use ficus_replica::Replica;
-use ficus_saved::Saved;
-use ficus_script::Command;
+use ficus_saved::{BYTE_LIMIT, Saved, UPDATE_LIMIT};
 use ficus_stable::{Recovered, Stable};
 use std::alloc::Global;
+
+/// Replica 1 of two, which has heard of nothing.
+pub(crate) fn first(alloc: Global) -> Result<Replica, Refusal>
+    ensures fits { IfOk result (λ replica. FitsImage replica.saved) }
+    ensures first { IfOk result (λ replica. replica.saved.generation ≡ 0) }
+{
+    let members = Members::new(2).ok_or(Refusal::Member)?;
+    Ok(Replica::fresh(alloc, 1, members, UPDATE_LIMIT, BYTE_LIMIT))
+}
+
+/// The replica after the event of the record, as the record is applied.
+pub(crate) fn after(alloc: Global, was: &Replica, body: &[u8]) -> Result<Replica, Refusal>
+    requires { FitsImage was.now.saved }
+    ensures { IfOk result (λ next. Leads body.now was.now.saved next.saved) }
+{
+    match decode_record(alloc, body, was.saved.members) {
+        Ok(noted) => was.apply(alloc, &noted).map_err(unfit),
+        Err(fault) => Err(unfit(fault)),
+    }
+}
+
+// Why a record wasn't applied, as a refusal.
+fn unfit(fault: RecordFault) -> Refusal {
+    match fault {
+        RecordFault::Memory => Refusal::Memory,
+        _ => Refusal::NoMail,
+    }
+}
 
 /// Two empty disks.
 pub(crate) fn empty(alloc: Global) -> Pair<MemDisk>
@@ -26,15 +54,17 @@ pub(crate) fn empty(alloc: Global) -> Pair<MemDisk>
     }
 }
 
-/// Makes what replica 1 begins with on two empty disks.
+/// Makes what the replica begins with on two empty disks.
 pub(crate) fn makes<K: Keep + Drop, D: Disk>(
     alloc: Global,
     disks: &mut Pair<D>,
+    replica: &Replica,
 ) -> Result<(), Refusal>
+    requires fits { FitsImage replica.now.saved }
+    requires first { replica.now.saved.generation ≡ 0 }
     requires empty_a { D.tells → D.seen disks.old.a ≡ [] }
     requires empty_b { D.tells → D.seen disks.old.b ≡ [] }
 {
-    let replica = first(alloc)?;
     match Stable::<K>::make(alloc, disks, &replica.saved) {
         Ok(()) => Ok(()),
         Err(MakeFault::Failed) => Err(Refusal::Store),
@@ -72,38 +102,64 @@ fn arm<D: Disk>(disks: &mut Pair<D>, stop: Option<Stop>)
     }
 }
 
-/// Saves what came of an event, with both disks armed once that is prepared; whether it was done.
-pub(crate) fn saves<K: Keep + Drop, D: Disk>(
+// Saves the replica after the event of the record, with both disks armed once that is prepared; whether it was done.
+fn saves<K: Keep + Drop, D: Disk>(
     stable: &mut Stable<K>,
     disks: &mut Pair<D>,
-    event: &Noted,
+    next: &Replica,
+    body: &[u8],
     stop: Option<Stop>,
 ) -> Result<bool, Memory>
     requires stop { IfSome stop (λ fuse. fuse.pick < 4) }
-    requires fits { FitsImage event.now.next.saved }
-    requires follows { D.tells → MayFollow K.kept K.fits D.seen D.may_leave stable.old disks.old event.now.next.saved
-        event.now.bytes.items }
+    requires fits { FitsImage next.now.saved }
+    requires follows { D.tells
+        → MayFollow K.kept K.fits D.seen D.may_leave stable.old disks.old next.now.saved body.now }
     ensures ready { D.tells → IfOk result (λ is_saved. IsTrue is_saved
-        → IsReady K.kept K.fits D.seen D.may_leave stable.new disks.new event.now.next.saved) }
+        → IsReady K.kept K.fits D.seen D.may_leave stable.new disks.new next.now.saved) }
 {
-    stable.prepare(disks, &event.next.saved, &event.bytes)?;
+    stable.prepare(disks, &next.saved, body)?;
     arm(disks, stop);
-    Ok(stable.commit(disks, &event.next.saved).is_ok())
+    Ok(stable.commit(disks, &next.saved).is_ok())
 }
 
-/// Opens the disks, has the replica that they hold do what the command says, and saves that; whether it was done.
+/// Saves what the replica is after the event of the record, as above, and makes it that; whether the save was done.
+pub(crate) fn saves_after<K: Keep + Drop, D: Disk>(
+    alloc: Global,
+    stable: &mut Stable<K>,
+    disks: &mut Pair<D>,
+    now: &mut Replica,
+    body: &[u8],
+    stop: Option<Stop>,
+) -> Result<bool, Refusal>
+    requires stop { IfSome stop (λ fuse. fuse.pick < 4) }
+    requires fits { FitsImage now.old.saved }
+    requires ready { D.tells → IsReady K.kept K.fits D.seen D.may_leave stable.old disks.old now.old.saved }
+    ensures fits { OnOk result (FitsImage now.new.saved) }
+    ensures ready { D.tells → IfOk result (λ is_saved. IsTrue is_saved
+        → IsReady K.kept K.fits D.seen D.may_leave stable.new disks.new now.new.saved) }
+{
+    let next = after(alloc, now, body)?;
+    let is_saved = saves(stable, disks, &next, body, stop)?;
+    *now = next;
+    Ok(is_saved)
+}
+
+/// Opens the disks, and saves what the replica that they hold is after the event of the record; whether it was done.
 pub(crate) fn saves_next<K: Keep + Drop, D: Disk>(
     alloc: Global,
     disks: &mut Pair<D>,
-    command: &Command,
+    body: &[u8],
     stop: Option<Stop>,
 ) -> Result<bool, Refusal>
     requires { IfSome stop (λ fuse. fuse.pick < 4) }
 {
-    let Recovered { mut stable, saved } = Stable::<K>::open(alloc, disks).map_err(told)?;
-    let was = Replica::open(saved);
-    let event = event(alloc, &was, command, &was)?;
-    Ok(saves(&mut stable, disks, &event, stop)?)
+    match Stable::<K>::open(alloc, disks) {
+        Ok(Recovered { mut stable, saved }) => {
+            let mut now = Replica::open(saved);
+            saves_after(alloc, &mut stable, disks, &mut now, body, stop)
+        }
+        Err(fault) => Err(told(fault)),
+    }
 }
 
 // Whether both are saved by the same image.

@@ -1,17 +1,16 @@
 // Saves that a fuse stops, and what is found once the disks are opened again.
-ghost use Rattle.std.specs.Prelude.{◌≡◌, ◌<◌, [], IfOk};
+ghost use Rattle.std.specs.Prelude.{◌≡◌, ◌<◌, [], OnOk};
 ghost use Rattle.ficus_saved.specs.Saved.{FitsImage};
 
-use crate::days::{changes, plays};
-use crate::events::{Noted, command, event, first};
+use crate::days::plays;
 use crate::kept::disk_of;
-use crate::saves::{Stop, empty, holds, makes, saves_next, told};
+use crate::records::{MAKE, changes};
+use crate::saves::{Stop, after, empty, first, holds, makes, saves_next, told};
 use ficus_disk::{Disk, MemDisk, Pair};
 use ficus_ids::Refusal;
 use ficus_journal::Journal;
 use ficus_keep::Keep;
 use ficus_replica::Replica;
-use ficus_script::Command;
 use ficus_slot::read_all;
 use ficus_store::TwoSlot;
 use std::alloc::Global;
@@ -42,89 +41,99 @@ const RECORD: &[Row] = &[
     (5, [true, true, true, true]),
 ];
 
-// What two disks hold, the replica of which that is, and what a further command makes of it.
-#[derive(Drop)]
-struct Before {
-    a: Vec<u8>,
-    b: Vec<u8>,
-    was: Replica,
-    next: Replica,
-}
-
-// That of the keeper's disks after so many saves.
-fn behind<K: Keep + Drop>(alloc: Global, count: u32, command: &Command) -> Result<Before, Refusal>
-    ensures { IfOk result (λ before. FitsImage before.was.saved × FitsImage before.next.saved) }
-{
-    let mut disks = empty(alloc);
-    let was = first_saves::<K>(alloc, &mut disks, count)?;
-    let Noted { next, .. } = event(alloc, &was, command, &was)?;
-    Ok(Before {
-        a: read_all(alloc, &mut disks.a).map_err(told)?,
-        b: read_all(alloc, &mut disks.b).map_err(told)?,
-        was,
-        next,
-    })
-}
-
 // Makes so many saves on two empty disks.
 fn first_saves<K: Keep + Drop>(
     alloc: Global,
     disks: &mut Pair<MemDisk>,
-    count: u32,
-) -> Result<Replica, Refusal>
+    was: &mut Replica,
+    count: u8,
+) -> Result<(), Refusal>
     requires empty_a { ⟦<MemDisk as Disk>⟧.seen disks.old.a ≡ [] }
     requires empty_b { ⟦<MemDisk as Disk>⟧.seen disks.old.b ≡ [] }
-    ensures { IfOk result (λ was. FitsImage was.saved) }
+    requires fits { FitsImage was.old.saved }
+    requires first { was.old.saved.generation ≡ 0 }
+    ensures { OnOk result (FitsImage was.new.saved) }
 {
-    makes::<K, MemDisk>(alloc, disks)?;
-    plays::<K, MemDisk>(alloc, disks, &changes(alloc, count)?, &first(alloc)?)
+    makes::<K, MemDisk>(alloc, disks, was)?;
+    plays::<K, MemDisk>(alloc, disks, was, &changes(alloc, count)?)
 }
 
-// Whether what such a fuse does to a save of the command is as said: it is done where so many calls pass, and found or not.
+// Two disks that hold what these do.
+fn copied(alloc: Global, disks: &mut Pair<MemDisk>) -> Result<Pair<MemDisk>, Refusal> {
+    let a = copy_of(alloc, &mut disks.a)?;
+    let b = copy_of(alloc, &mut disks.b)?;
+    Ok(Pair { a, b })
+}
+
+fn copy_of(alloc: Global, disk: &mut MemDisk) -> Result<MemDisk, Refusal> {
+    let bytes = read_all(alloc, disk).map_err(told)?;
+    disk_of(alloc, &bytes)
+}
+
+// Whether what such a fuse does to the save is as said: it is done where so many calls pass, and then this is found.
 fn leaves<K: Keep + Drop>(
     alloc: Global,
-    before: &Before,
-    command: &Command,
+    disks: &mut Pair<MemDisk>,
     calls: u32,
     stop: Stop,
-    is_found: bool,
+    found: &Replica,
 ) -> Result<bool, Refusal>
     requires pick { stop.pick < 4 }
-    requires was { FitsImage before.now.was.saved }
-    requires next { FitsImage before.now.next.saved }
+    requires found { FitsImage found.now.saved }
 {
-    let mut disks = Pair {
-        a: disk_of(alloc, &before.a)?,
-        b: disk_of(alloc, &before.b)?,
-    };
-    let is_saved = saves_next::<K, MemDisk>(alloc, &mut disks, command, Some(stop))?;
-    if is_saved != (stop.calls >= calls) {
-        return Ok(false);
-    }
-    if is_found {
-        holds::<K, MemDisk>(alloc, &mut disks, &before.next)
-    } else {
-        holds::<K, MemDisk>(alloc, &mut disks, &before.was)
-    }
+    let is_saved = saves_next::<K, MemDisk>(alloc, disks, MAKE, Some(stop))?;
+    Ok(is_saved == (stop.calls >= calls) && holds::<K, MemDisk>(alloc, disks, found)?)
 }
 
-// The first stop that leaves something else than the table says of a save that takes so many calls, behind so many saves.
+// The first stop that leaves something else than the table says of a save that takes so many calls, behind so many
+// saves.
 fn wrong<K: Keep + Drop>(
     alloc: Global,
-    count: u32,
+    count: u8,
     calls: u32,
     table: &[Row],
 ) -> Result<Option<Stop>, Refusal> {
-    let command = command(alloc, "1 mkdir /stopped\n")?;
-    let before = behind::<K>(alloc, count, &command)?;
+    let mut was = first(alloc)?;
+    let mut disks = empty(alloc);
+    match first_saves::<K>(alloc, &mut disks, &mut was, count) {
+        Ok(()) => wrong_after::<K>(alloc, &mut disks, &was, calls, table),
+        Err(refusal) => Err(refusal),
+    }
+}
+
+// The same of what the disks hold, which is what the replica saves.
+fn wrong_after<K: Keep + Drop>(
+    alloc: Global,
+    disks: &mut Pair<MemDisk>,
+    was: &Replica,
+    calls: u32,
+    table: &[Row],
+) -> Result<Option<Stop>, Refusal>
+    requires { FitsImage was.now.saved }
+{
+    let next = after(alloc, was, MAKE)?;
+    first_wrong::<K>(alloc, disks, was, &next, calls, table)
+}
+
+fn first_wrong<K: Keep + Drop>(
+    alloc: Global,
+    disks: &mut Pair<MemDisk>,
+    was: &Replica,
+    next: &Replica,
+    calls: u32,
+    table: &[Row],
+) -> Result<Option<Stop>, Refusal>
+    requires was { FitsImage was.now.saved }
+    requires next { FitsImage next.now.saved }
+{
     for (passed, found) in table {
         for pick in 0..4_u8 {
             let stop = Stop {
                 calls: *passed,
                 pick,
             };
-            let is_found = found[pick as usize];
-            if !leaves::<K>(alloc, &before, &command, calls, stop, is_found)? {
+            let found = if found[pick as usize] { next } else { was };
+            if !leaves::<K>(alloc, &mut copied(alloc, disks)?, calls, stop, found)? {
                 return Ok(Some(stop));
             }
         }
@@ -132,18 +141,21 @@ fn wrong<K: Keep + Drop>(
     Ok(None)
 }
 
-#[test]
-fn a_stopped_save_is_found_by_its_pick(rt: HostRuntime) -> Result<(), Fail> {
-    let alloc = rt.alloc();
-    let wrongs = [
+// That of each volume.
+fn wrongs(alloc: Global) -> Result<[Option<Stop>; 6], Refusal> {
+    Ok([
         wrong::<TwoSlot>(alloc, 0, 6, IMAGE)?,
         wrong::<TwoSlot>(alloc, 1, 6, IMAGE)?,
         wrong::<Journal>(alloc, 0, 4, RECORD)?,
         wrong::<Journal>(alloc, 63, 4, RECORD)?,
         wrong::<Journal>(alloc, 64, 6, IMAGE)?,
         wrong::<Journal>(alloc, 65, 4, RECORD)?,
-    ];
-    for (place, wrong) in wrongs.iter().enumerate() {
+    ])
+}
+
+#[test]
+fn a_stopped_save_is_found_by_its_pick(rt: HostRuntime) -> Result<(), Fail> {
+    for (place, wrong) in wrongs(rt.alloc())?.iter().enumerate() {
         if let Some(Stop { calls, pick }) = wrong {
             assert!(rt; false, "volume {place}: {calls} calls, pick {pick}");
         }

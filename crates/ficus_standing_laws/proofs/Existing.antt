@@ -1,10 +1,12 @@
 -- For each lawful history of two to eight members a replica of each member stands; so alike is the same view.
 use Rattle.std.proofs.Common.{◌≡◌, ◌⊎◌, ◌↔◌, ℕ, ◌+◌, ◌<◌, ◌≤◌, List, length, Option, Some, None, inl, inr, refl, subst, sym, arith}
+use Rattle.std.specs.Bool.{MatchBool}
+use Rattle.std.specs.Prelude.{Bool, true, false}
 use Rattle.std.proofs.lemmas.Bool.{cases_eq, cases_lt}
 use Rattle.ficus_ids.specs.Members.{IsCount, IsMember}
 use Rattle.ficus_model.specs.declared.event.Event.{Event}
-use Rattle.ficus_model.specs.declared.event.Event.TheVariants.{Update, Ask, Serve, Accept, Collect, Restart}
-use Rattle.ficus_model.specs.Events.{IsAt, count_of, through}
+use Rattle.ficus_model.specs.declared.event.Event.TheVariants.{Ask}
+use Rattle.ficus_model.specs.Events.{IsAt, actor, count_of, through, traits}
 use Rattle.ficus_model.specs.Known.{Knows}
 use Rattle.ficus_model.specs.Lawful.{Volume, ClosesAsk, IsLawful, IsOpenAsk}
 use Rattle.ficus_model.specs.Versions.{written_of}
@@ -55,14 +57,14 @@ saved_exists volume H replica count member lawful =
       },
     )
 
+-- what is said where a test holds is decided where it is
+where_decided : (test : Bool) {P : Type 0} → Decided P → Decided (MatchBool test P ⊥)
+where_decided true decided = decided
+where_decided false decided = inr (λ so. so)
+
 module _ (H : List Event) (replica : ℕ) where
   closes_or_not : (event : Event) → Decided (ClosesAsk replica event)
-  closes_or_not (Update by op) = inr (λ closes. closes)
-  closes_or_not (Ask by to) = cases_eq by replica
-  closes_or_not (Serve by ask) = inr (λ closes. closes)
-  closes_or_not (Accept by serve) = cases_eq by replica
-  closes_or_not (Collect by) = inr (λ closes. closes)
-  closes_or_not (Restart by) = cases_eq by replica
+  closes_or_not event = where_decided (traits event).closes (cases_eq (actor event) replica)
 
   -- an event that closes asks of the replica stands at the position
   record ClosesAt (position : ℕ) : Type 0 where
@@ -113,12 +115,7 @@ module _ (H : List Event) (replica : ℕ) where
       refl,
     ),
   )
-  waits last (Update by op) at closes latest = absurd closes
-  waits last (Serve by ask) at closes latest = absurd closes
-  waits last (Collect by) at closes latest = absurd closes
-  waits last (Accept by serve) at closes latest =
-      (None, none_open last (Accept by serve) at closes latest (λ to e. cc))
-  waits last (Restart by) at closes latest = (None, none_open last (Restart by) at closes latest (λ to e. cc))
+  waits last event at closes latest = (None, none_open last event at closes latest (λ to e. cc))
 
   ask_exists : Waits
   ask_exists = go (last_or_none ClosesAt (length H) (λ position l. closes_at position))

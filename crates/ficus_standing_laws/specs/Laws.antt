@@ -71,7 +71,8 @@ SecondCollectionGivesNothing = (members : ℕ) (H : List Event) (replica : ℕ) 
     IsMember members replica → IsGarbage members (H ++ Collect replica ∷ []) replica garbage →
     garbage ≡ record { entries = 0; objects = 0 }
 
--- the replica holds the entry with this identifier, and knows of every member that it knows that all know of its removal
+-- the replica holds the entry with this identifier, and knows of every member that it knows that all know of its
+-- removal
 pub record IsFullyRemoved (members : ℕ) (H : List Event) (replica : ℕ) (id : Id) : Type 0 where
   pub entry : ModelEntry
   pub has_id : entry.id ≡ id
@@ -83,8 +84,8 @@ abbrev pub EntriesGivenUp : Type 0
 EntriesGivenUp = (members : ℕ) (H : List Event) (replica : ℕ) (id : Id) →
     IsEntryGivenUp members H replica id ↔ IsFullyRemoved members H replica id
 
--- the replica holds the object, which is no orphan, and no entry that it holds after a collection leads to it or lies in
--- it
+-- the replica holds the object, which is no orphan, and no entry that it holds after a collection leads to it or lies
+-- in it
 pub record IsLeftBehind (members : ℕ) (H : List Event) (replica : ℕ) (object : Id) : Type 0 where
   pub kind : Kind
   pub held : IsHeldObject members H replica object kind

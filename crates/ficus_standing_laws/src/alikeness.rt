@@ -7,7 +7,8 @@ pub fn alike_is_same_view()
     ensures { AlikeIsSameView }
 {}
 
-/// So the answer of `Replica::alike`, which is over what both hold, is that of every lawful history for which both stand.
+/// So the answer of `Replica::alike`, which is over what both hold, is that of every lawful history for which both
+/// stand.
 pub fn alike_tables_show_same()
     ensures { AlikeTablesShowSame }
 {}

@@ -1,5 +1,5 @@
-//! The laws of replicas that stand for histories: that there are some, what alike says of them, where detached directories
-//! of tables lie, and what a collection gives up.
+//! The laws of replicas that stand for histories: that there are some, what alike says of them, where detached
+//! directories of tables lie, and what a collection gives up.
 //!
 //! A law is the contract of a function with an empty body. Its lemmas stand in `proofs/`, for the proofs of
 //! the crates above.

@@ -15,8 +15,8 @@ use Rattle.ficus_world.specs.declared.member.MemberState.TheVariants as state
 use Rattle.ficus_world.specs.World.{IsReplica, IsUpIn, MemberStandsFor, StateStandsFor, Whole, WorldStandsFor}
 use Rattle.ficus_summary.specs.Running.{HoldingsIn}
 use Rattle.ficus_summary.specs.Summary.{AreHoldings}
-use Rattle.ficus_summary.specs.Text.{holding_of}
-use Rattle.ficus_summary.specs.declared.holding.Holding.{Holding}
+use Rattle.ficus_check.specs.Holding.{holding_of}
+use Rattle.ficus_check.specs.declared.holding.Holding.{Holding}
 
 -- none yet
 pub holdings_none : (world : Whole) → HoldingsIn world 0 []

@@ -1,4 +1,3 @@
-pub mod Counting
 pub mod Generating
 pub mod Holdings
 pub mod OneSummary

@@ -15,9 +15,10 @@ use Rattle.ficus_script.proofs.ScriptLaws.{one_script}
 use Rattle.ficus_serving.proofs.Places.{at_index}
 use Rattle.ficus_serving.specs.Tally.{is_no_refusal, is_refusal}
 use Rattle.ficus_summary.specs.Summary.{AreHoldings, ComesTo, Summarizes}
-use Rattle.ficus_summary.specs.Text.{holding_of, summary_text}
+use Rattle.ficus_check.specs.Holding.{holding_of}
+use Rattle.ficus_summary.specs.Text.{summary_text}
 use Rattle.ficus_summary.specs.declared.counts.Counts.{Counts}
-use Rattle.ficus_summary.specs.declared.holding.Holding.{Holding}
+use Rattle.ficus_check.specs.declared.holding.Holding.{Holding}
 
 -- the members hold so much after a history, and no other
 holdings_once : {volume : Volume} {H : List Event} {one other : List Holding} → AreHoldings volume H one

@@ -12,7 +12,7 @@ use Rattle.ficus_world.specs.World.{Whole}
 use Rattle.ficus_summary.specs.Running.{CountedAs, HoldingsIn}
 use Rattle.ficus_summary.specs.Summary.{ComesTo}
 use Rattle.ficus_summary.specs.declared.counts.Counts.{Counts}
-use Rattle.ficus_summary.specs.declared.holding.Holding.{Holding}
+use Rattle.ficus_check.specs.declared.holding.Holding.{Holding}
 use Rattle.ficus_summary.proofs.Holdings.{are_holdings}
 
 -- every disk in memory has a fuse

@@ -10,9 +10,9 @@ use Rattle.ficus_script.specs.declared.answer.Answer.{Answer}
 use Rattle.ficus_script.specs.declared.command.Command.{Command}
 use Rattle.ficus_serving.specs.Tally.{is_no_refusal, is_refusal}
 use Rattle.ficus_summary.specs.Summary.{fresh_start}
-use Rattle.ficus_summary.specs.Text.{holding_of}
+use Rattle.ficus_check.specs.Holding.{holding_of}
 use Rattle.ficus_summary.specs.declared.counts.Counts.{Counts}
-use Rattle.ficus_summary.specs.declared.holding.Holding.{Holding}
+use Rattle.ficus_check.specs.declared.holding.Holding.{Holding}
 use Rattle.ficus_world.specs.World.{IsReplica, Whole, WorldStandsFor}
 
 -- The commands were carried out from a fresh start on, and all that they asked of the outside was done. All members are

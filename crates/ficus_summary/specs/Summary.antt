@@ -14,9 +14,10 @@ use Rattle.ficus_script.specs.Script.{IsScript}
 use Rattle.ficus_script.specs.declared.answer.Answer.{Answer}
 use Rattle.ficus_script.specs.declared.command.Command.{Command}
 use Rattle.ficus_serving.specs.Tally.{is_no_refusal, is_refusal}
-use Rattle.ficus_summary.specs.Text.{holding_of, summary_text}
+use Rattle.ficus_check.specs.Holding.{holding_of}
+use Rattle.ficus_summary.specs.Text.{summary_text}
 use Rattle.ficus_summary.specs.declared.counts.Counts.{Counts}
-use Rattle.ficus_summary.specs.declared.holding.Holding.{Holding}
+use Rattle.ficus_check.specs.declared.holding.Holding.{Holding}
 
 -- the members hold so much after the history
 pub record AreHoldings (volume : Volume) (H : List Event) (holdings : List Holding) : Type 0 where

@@ -1,19 +1,9 @@
 -- How what a run comes to is told.
-use Rattle.std.specs.Prelude.{ℕ, ◌+◌, not, List, [], ◌∷◌, ◌++◌, length, count_by, codes}
+use Rattle.std.specs.Prelude.{ℕ, List, [], ◌∷◌, ◌++◌, codes}
 use Rattle.std.specs.Fmt.{decimal}
-use Rattle.ficus_entry.specs.Kill.{is_live}
-use Rattle.ficus_entry.specs.declared.entry.Entry.{Entry}
-use Rattle.ficus_file.specs.declared.file.FileReplica.{FileReplica}
+use Rattle.ficus_check.specs.Lines.{numbered_lines}
 use Rattle.ficus_summary.specs.declared.counts.Counts.{Counts}
-use Rattle.ficus_summary.specs.declared.holding.Holding.{Holding}
-
--- how much these are: entries that are live, entries that are removed, and files and directories
-abbrev pub holding_of : List Entry → List FileReplica → Holding
-holding_of entries files = record {
-  live = count_by is_live entries;
-  dead = count_by (λ entry. not (is_live entry)) entries;
-  objects = length files;
-}
+use Rattle.ficus_check.specs.declared.holding.Holding.{Holding}
 
 -- a word and a number, on a line of its own
 abbrev pub count_line : List ℕ → ℕ → List ℕ
@@ -27,8 +17,7 @@ holding_line r holding =
 
 -- the members' lines, from this number on
 abbrev pub holding_lines : ℕ → List Holding → List ℕ
-holding_lines r [] = []
-holding_lines r (holding ∷ holdings) = holding_line r holding ++ holding_lines (r + 1) holdings
+holding_lines r holdings = numbered_lines holding_line r holdings
 
 -- each count on a line of its own, and then what each member holds
 abbrev pub counts_text : Counts → List ℕ

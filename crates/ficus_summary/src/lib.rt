@@ -4,7 +4,6 @@
 mod counts;
 mod disks;
 mod generated;
-mod holding;
 mod laws;
 mod running;
 mod summary;

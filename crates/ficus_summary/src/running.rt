@@ -14,7 +14,7 @@ ghost use Rattle.ficus_world.specs.Fuses.{FusesStand, at_rest};
 ghost use Rattle.ficus_world.specs.World.{IsUpIn, Whole, WorldStandsFor};
 
 use crate::counts::Counts;
-use crate::holding::{Holding, holding_of};
+use ficus_check::{Holding, holding_of};
 use ficus_disk::{Disk, Pair};
 use ficus_ids::{Members, Memory};
 use ficus_journal::Journal;

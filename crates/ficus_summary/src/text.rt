@@ -2,7 +2,7 @@ ghost use Rattle.std.specs.Prelude.{◌≡◌, ◌++◌, IfOk, OnOk};
 ghost use Rattle.ficus_summary.specs.Text.{counts_text, holding_line, holding_lines, summary_text};
 
 use crate::counts::Counts;
-use crate::holding::Holding;
+use ficus_check::Holding;
 use ficus_ids::Memory;
 use std::alloc::Global;
 

@@ -19,8 +19,8 @@ use ficus_outside::MemLink;
 use ficus_world::{World, WorldFault, what_is_made_stands};
 use std::alloc::Global;
 
-/// Makes a fresh volume with these limits on empty disks, whose fuses aren't armed, and opens it, over a link that counts
-/// so many bytes as posted already. Such disks don't fail.
+/// Makes a fresh volume with these limits on empty disks, whose fuses aren't armed, and opens it, over a link that
+/// counts so many bytes as posted already. Such disks don't fail.
 pub fn fresh_world<D: Disk>(
     alloc: Global,
     members: Members,

@@ -1,5 +1,5 @@
 //! The steps of a sweep, as commands.
-ghost use Rattle.std.specs.Prelude.{◌≡◌, ◌+◌, ◌-◌, ◌<◌, ◌≤◌, ◌++◌, length, map, IfOk, OnOk};
+ghost use Rattle.std.specs.Prelude.{◌≡◌, ◌+◌, ◌-◌, ◌<◌, ◌≤◌, ◌++◌, map, IfOk, OnOk};
 ghost use Rattle.ficus_runs.specs.Sweep.{command_of, leg_step, leg_steps, ring_round, star_round, sweep_steps};
 ghost use Rattle.ficus_sweep.specs.Legs.{leg_of};
 

@@ -30,8 +30,8 @@ pub fn sweep<D: Disk, K: Keep + Drop, L: Link + Drop>(
     requires pairs { length world.old.whole.members ≤ length disks.old.items }
     requires disks { AreDisksOf D.tells K.kept K.fits D.seen D.may_leave D.armings world.old.whole.members
         world.old.stables disks.old.items }
-    // Whatever the world stood for before, over a link that tells its posts: the model sweeps so, and the world stands for
-    // what that leads to.
+    // Whatever the world stood for before, over a link that tells its posts: the model sweeps so, and the world stands
+    // for what that leads to.
     ensures follows { L.tells → (volume : Volume) (W : ModelWorld) → WorldStandsFor volume W world.old.whole
         → FollowsSweep K.Keep D.Disk volume W world.old.whole (sweep_steps order volume.members) result world.new.whole
         disks.old.items disks.new.items }

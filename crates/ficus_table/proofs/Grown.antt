@@ -1,10 +1,14 @@
 -- A rising list with one item more at its end, if any.
-use Rattle.std.proofs.Common.{◌≡◌, ◌≢◌, ℕ, ◌<◌, ◌-◌, List, [], ◌∷◌, ◌++◌, length, get_or, Option, Some, None, Contains, Less, sym, subst, ◌∙◌, ap, inl, inr, refl, arith}
+use Rattle.std.proofs.Common.{◌≡◌, ◌≢◌, ℕ, ◌<◌, ◌-◌, List, [], ◌∷◌, ◌++◌, length, map, get_or, Option, Some, None, Contains, Less, sym, subst, ◌∙◌, ap, inl, inr, refl, arith}
 use Rattle.std.proofs.lemmas.Bool.{cases_lt}
 use Rattle.std.proofs.lemmas.List.{append-nil, length_push, get_or_append_left, get_or-append_right}
-use Rattle.std.proofs.lemmas.List.Elements.{Contains-append_left, Contains-push, Contains-push_cases, Contains-get_or}
+use Rattle.std.proofs.lemmas.List.Edits.{insert_end}
+use Rattle.std.proofs.lemmas.List.Elements.{All-contains, Contains-append_left, Contains-push, Contains-push_cases, Contains-get_or}
 use Rattle.ficus_ids.specs.declared.id.Id.{Id}
 use Rattle.ficus_ids.specs.Id.{id_cmp}
+use Rattle.std.specs.Prelude.{All}
+use Rattle.std.specs.List.{insert}
+use Rattle.ficus_ids.specs.ListLaws.{into_map}
 use Rattle.ficus_ids.specs.Rising.{IsRisingBy, HoldsBy, HoldsUnderBy}
 use Rattle.ficus_ids.specs.RisingLaws.{one_held}
 use Rattle.ficus_table.specs.SideBySide.{as_list}
@@ -79,3 +83,13 @@ module _ {S : Type 0} (id_of : S → Id) where
     pub grows : (more : Option S) → HasId id_of id more → IsGrown old id more
     grows None has = nothing_more
     grows (Some item) has = one_more item has
+
+-- rows with one more behind them, whose identifier is above theirs
+pub rising_appended : {R S : Type 0} (id_of : S → Id) (seen : R → S) (list more : List R) (row : R) →
+    IsRisingBy (λ r. id_of (seen r)) list →
+    All (λ item. id_cmp (id_of item) (id_of (seen row)) ≡ Less) (map seen list) → more ≡ insert list (length list) row →
+    IsRisingBy (λ r. id_of (seen r)) more
+rising_appended id_of seen list more row rising below is =
+    rw (is, insert_end list row) (rising_push (λ r. id_of (seen r)) list row rising
+    (λ x inside. All-contains (λ item. id_cmp (id_of item) (id_of (seen row)) ≡ Less) (map seen list) (seen x) below
+    (into_map seen list x inside)))

@@ -45,6 +45,16 @@ impl<'a, R: Row> InOrder<'a, R> {
         Ok(InOrder { seen })
     }
 
+    /// What rows show that stand in no table, whose identifiers rise strictly.
+    pub fn of_rows(alloc: Global, rows: &'a [R]) -> Result<InOrder<'a, R>, Memory>
+        requires { IsRisingBy (λ row. R.id_of (R.seen row)) rows.now }
+        ensures { IfOk result (λ in_order. in_order ≡ map R.seen rows.now) }
+    {
+        let each = each_of(alloc, rows)?;
+        let seen = looks_at(alloc, &each)?;
+        Ok(InOrder { seen })
+    }
+
     /// How many rows there are.
     pub fn len(&self) -> usize
         ensures value { result ≡ length self.now }
@@ -87,6 +97,25 @@ pub(crate) fn rows_of<R: Row>(alloc: Global, list: &PersistentList<R>) -> Result
     let mut rows = Vec::with_capacity(alloc, list.len())?;
     list.gather(&mut rows)?;
     Ok(rows)
+}
+
+/// Copies of the rows of a list, in order.
+pub(crate) fn copies_of<R: Row>(alloc: Global, list: &PersistentList<R>) -> Result<Vec<R>, Memory>
+    ensures { IfOk result (λ copies. copies.items ≡ list.now) }
+{
+    let rows = rows_of(alloc, list)?;
+    copied_each(alloc, &rows)
+}
+
+// A copy of each of the rows.
+fn copied_each<R: Row>(alloc: Global, rows: &[&R]) -> Result<Vec<R>, Memory>
+    ensures { IfOk result (λ copies. copies.items ≡ map (λ row. row.now) rows.now) }
+{
+    let mut copies = Vec::with_capacity(alloc, rows.len())?;
+    for row in rows {
+        copies.push(row.copied()?)?;
+    }
+    Ok(copies)
 }
 
 /// Each of the rows, to be looked at.

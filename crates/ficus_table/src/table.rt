@@ -1,5 +1,7 @@
 ghost use Rattle.std.specs.Prelude.{◌≡◌, ◌≢◌, ◌≤◌, ◌<◌, ◌==◌, [], ◌∷◌, length, map, slice_get, slice_set};
-ghost use Rattle.std.specs.Prelude.{vec_len, vec_capacity, Some, IfOk, IfErr, OnOk, OnErr, AllPairs};
+ghost use Rattle.std.specs.Prelude.{◌++◌, vec_len, vec_capacity, Some, IfOk, IfErr, OnOk, OnErr, All, AllPairs};
+ghost use Rattle.std.specs.declared.cmp.Ordering.TheVariants.{Less};
+ghost use Rattle.ficus_ids.specs.Id.{id_cmp};
 ghost use Rattle.std.specs.Option.{option_copied};
 ghost use Rattle.ficus_ids.specs.Rising.{IsRisingBy, HoldsBy, HoldsUnderBy, IsFoundAtBy, IsPlaceBy};
 ghost use Rattle.ficus_ids.specs.Rising.{Adds, PutsBy, LeavesOutBy};
@@ -8,6 +10,7 @@ ghost use Rattle.ficus_table.specs.Table.{IsEdited, KeepsId};
 
 use crate::Row;
 use crate::edit::{Edit, place_of, put};
+use crate::in_order::copies_of;
 use crate::search::search;
 use ficus_ids::{Id, Memory};
 use ficus_persistent::PersistentList;
@@ -106,6 +109,15 @@ impl<R: Row> Table<R> {
         }
     }
 
+    /// All rows in the order of identifiers, each as [`row`](Table::row) gives it.
+    pub fn rows(&self) -> Result<Vec<R>, Memory>
+        ensures rows { IfOk result (λ rows. map R.seen rows.items ≡ self.now.items) }
+        ensures rising { IfOk result (λ rows. IsRisingBy (λ row. R.id_of (R.seen row)) rows.items) }
+    {
+        let list = self.whole()?;
+        copies_of(self.allocator(), &list)
+    }
+
     /// Where the row with the identifier is, or where one with it would go.
     pub fn search(&self, id: Id) -> Result<usize, usize>
         ensures found { IfOk result (IsFoundAtBy R.id_of self.now.items id) }
@@ -160,6 +172,20 @@ impl<R: Row> Table<R> {
         ensures rising { IsRisingBy R.id_of self.new.items }
     {
         self.put(row)
+    }
+
+    /// Adds a row behind all others: its identifier is above theirs. After `Memory` the rows are as before.
+    pub fn append(&mut self, row: R) -> Result<(), Memory>
+        requires { All (λ item. id_cmp (R.id_of item) (R.id_of (R.seen row)) ≡ Less) self.old.items }
+        ensures appended { OnOk result (self.new.items ≡ self.old.items ++ R.seen row ∷ []) }
+        ensures edited { OnOk result (self.new.edited ≡ []) }
+        ensures kept { OnErr result (self.new ≡ self.old) }
+        ensures rising { IsRisingBy R.id_of self.new.items }
+    {
+        // Tells that the identifiers rise.
+        let _count = self.len();
+        let list = self.appending(row)?;
+        self.hold(list)
     }
 
     /// Adds a row, in place of the one with its identifier if there is one. After `Memory` the rows are as before.
@@ -223,6 +249,16 @@ impl<R: Row> Table<R> {
     {
         let list = self.whole()?;
         putting(&list, self.allocator(), row)
+    }
+
+    // The rows with this one behind them.
+    fn appending(&self, row: R) -> Result<PersistentList<R>, Memory>
+        requires { All (λ item. id_cmp (R.id_of item) (R.id_of (R.seen row)) ≡ Less) self.now.items }
+        ensures appended { IfOk result (λ more. map R.seen more ≡ self.now.items ++ R.seen row ∷ []) }
+        ensures rising { IfOk result (IsRisingBy (λ one. R.id_of (R.seen one))) }
+    {
+        let list = self.whole()?;
+        list.insert(self.allocator(), list.len(), row)
     }
 
     // The rows, edited as they are, in a list of their own.

@@ -11,7 +11,7 @@ use Rattle.ficus_file.specs.declared.file.FileReplica.{FileReplica}
 use Rattle.ficus_recon_file.specs.Versions.{AreOrdered}
 use Rattle.ficus_model.specs.declared.event.Event.{Event}
 use Rattle.ficus_model.specs.declared.event.Op.{Op}
-use Rattle.ficus_model.specs.declared.event.Op.TheVariants.{Make, Link, Remove, Move, Write, Settle, Resolve, Adopt, Discard}
+use Rattle.ficus_model.specs.declared.event.Op.TheVariants.{Make}
 use Rattle.ficus_model.specs.Events.{IsUpdate}
 use Rattle.ficus_model.specs.Known.{Knows}
 use Rattle.ficus_model.specs.Lawful.{Volume, IsLawful}
@@ -125,15 +125,7 @@ module _ (volume : Volume) (H : List Event) (replica : ℕ) (lawful : IsLawful v
       by : U position → (number : Id) (op : Op) → IsUpdate H position number op →
           ((file : FileReplica) × Stands position file) ⊎ ((file : FileReplica) → Stands position file → ⊥)
       by known number (Make dir name kind) update = made known number dir name kind update
-      by known number (Link dir name target) update = none number (Link dir name target) update (λ d n k e. cc)
-      by known number (Remove entries target) update = none number (Remove entries target) update (λ d n k e. cc)
-      by known number (Move entries dir name target) update =
-          none number (Move entries dir name target) update (λ d n k e. cc)
-      by known number (Write file bytes) update = none number (Write file bytes) update (λ d n k e. cc)
-      by known number (Settle file bytes) update = none number (Settle file bytes) update (λ d n k e. cc)
-      by known number (Resolve file bytes) update = none number (Resolve file bytes) update (λ d n k e. cc)
-      by known number (Adopt file dir name) update = none number (Adopt file dir name) update (λ d n k e. cc)
-      by known number (Discard file) update = none number (Discard file) update (λ d n k e. cc)
+      by known number op update = none number op update (λ d n k e. cc)
 
       go : Decided (U position) → Decided (HasUpdateAt H position) →
           ((file : FileReplica) × Stands position file) ⊎ ((file : FileReplica) → Stands position file → ⊥)

@@ -37,7 +37,7 @@ use Rattle.ficus_top.specs.declared.fault.ReadingFault.TheVariants as reading
 use Rattle.ficus_top.specs.declared.status.Status.{Status}
 use Rattle.ficus_words.specs.declared.fault.WordsFault.TheVariants as word
 use Rattle.ficus_words.specs.declared.mode.Mode.{Mode}
-use Rattle.ficus_words.specs.declared.mode.Mode.TheVariants.{Init, Run, Replay, Volumes, Gen}
+use Rattle.ficus_words.specs.declared.mode.Mode.TheVariants.{Init, Run, Check, Replay, Volumes, Gen}
 use Rattle.ficus_words.specs.declared.mode.Size.{Size}
 use Rattle.ficus_world.specs.Fuses.{AreUnarmed}
 use Rattle.ficus_world.specs.Opening.{AreEmpty, AreMadeInPart, AreSynced, IsAtFault, IsFirstBad, IsFirstOccupied, IsUnfailed, Opens, SeenSame, StandsOn, Steady}
@@ -710,6 +710,16 @@ module _ {S K D : Type 0} (seen : Seen S K D) (unread : seen.input.new ≡ seen.
       (λ fault unfailed is. unfailed_now) (λ idle. rests_now) (λ tells told. tt) (λ tells told is. absurd is)
       (λ tells q r is bad. absurd (cc is)) (λ tells r is first opens. absurd (cc is))
       (λ tells first opens. all_others_rest seen.disk first.members (disks_before seen) (disks_after seen) rests_now)
+  nothing_done (Check root) = record {
+    codes = inr (inl refl);
+    unread = unread;
+    unwritten = record { rests = rests_now; same = held; unarmed = unarmed };
+    unfailed = λ other. unfailed_now;
+    told = λ tells code. absurd (cc code);
+    prefix = λ tells code. absurd (cc code);
+    silent = λ codes. silent;
+    complete = λ sink none. inr refl;
+  }
   nothing_done (Replay size) =
       replay_of seen unread_end size any (λ tells. takes) (λ tells told. tt)
       (λ tells told is. absurd is) (λ idle. record { put = silent; unarmed = unarmed; besides = tt })

@@ -17,3 +17,4 @@ pub mod WordLaws
 pub mod Kills
 pub mod KilledRuns
 pub mod Joined
+pub mod Judging

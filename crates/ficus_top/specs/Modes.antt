@@ -2,5 +2,6 @@
 pub mod Init
 pub mod Run
 pub mod Replay
+pub mod Check
 pub mod Gen
 pub mod Volumes

@@ -3,11 +3,12 @@ use Rattle.std.specs.Prelude.{◌≡◌, ◌≢◌, ◌<◌, ◌≤◌, ◌^◌,
 use Rattle.ficus_graft.specs.Crossing.{AreFew}
 use Rattle.ficus_ids.specs.Members.{IsCount}
 use Rattle.ficus_words.specs.declared.mode.Mode.{Mode}
-use Rattle.ficus_words.specs.declared.mode.Mode.TheVariants.{Init, Run, Replay, Volumes, Gen}
+use Rattle.ficus_words.specs.declared.mode.Mode.TheVariants.{Init, Run, Check, Replay, Volumes, Gen}
 use Rattle.ficus_world.specs.Opening.{IsAtFault, Steady}
 use Rattle.ficus_top.specs.Making.{FitsSize}
 use Rattle.ficus_top.specs.Modes.Init.{DoesInit}
 use Rattle.ficus_top.specs.Modes.Run.{DoesRun}
+use Rattle.ficus_top.specs.Modes.Check.{DoesCheck}
 use Rattle.ficus_top.specs.Modes.Replay.{DoesReplay}
 use Rattle.ficus_top.specs.Modes.Volumes.{DoesVolumes}
 use Rattle.ficus_top.specs.Modes.Gen.{DoesGen}
@@ -19,6 +20,7 @@ use Rattle.ficus_top.specs.declared.status.Status.{Status}
 abbrev pub FitsMode : Mode → Type 0
 FitsMode (Init size root) = FitsSize size
 FitsMode (Run root) = Unit {0}
+FitsMode (Check root) = Unit {0}
 FitsMode (Replay size) = FitsSize size
 FitsMode (Volumes size count) = FitsSize size × AreFew count
 FitsMode (Gen members seed steps) = IsCount members × (seed < 2 ^ 31) × (steps ≤ 5000)
@@ -27,6 +29,7 @@ FitsMode (Gen members seed steps) = IsCount members × (seed < 2 ^ 31) × (steps
 abbrev pub Does : {S K D : Type 0} → Mode → Seen S K D → Status → Type 0
 Does (Init size root) seen status = DoesInit size seen status
 Does (Run root) seen status = DoesRun seen status
+Does (Check root) seen status = DoesCheck seen status
 Does (Replay size) seen status = DoesReplay size seen status
 Does (Volumes size count) seen status = DoesVolumes size count seen status
 Does (Gen members seed steps) seen status = DoesGen members seed steps seen status

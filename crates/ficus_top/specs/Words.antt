@@ -4,7 +4,7 @@ use Rattle.std.specs.declared.alloc.Global.{Global}
 use Rattle.ficus_words.specs.Grammar.{Text}
 use Rattle.ficus_words.specs.Mode.{AreWords}
 use Rattle.ficus_words.specs.declared.mode.Mode.{Mode}
-use Rattle.ficus_words.specs.declared.mode.Mode.TheVariants.{Init, Run, Replay, Volumes, Gen}
+use Rattle.ficus_words.specs.declared.mode.Mode.TheVariants.{Init, Run, Check, Replay, Volumes, Gen}
 
 -- the words as bytes
 abbrev pub texts : List (String Global) → List Text
@@ -14,6 +14,7 @@ texts words = map string_bytes words
 abbrev pub root_in : Mode → Option Text
 root_in (Init size root) = Some root
 root_in (Run root) = Some root
+root_in (Check root) = Some root
 root_in (Replay size) = None
 root_in (Volumes size count) = None
 root_in (Gen members seed steps) = None

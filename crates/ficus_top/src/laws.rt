@@ -18,6 +18,7 @@ ghost use Rattle.ficus_world.specs.Opening.{AreEmpty, StandsOn, Steady};
 ghost use Rattle.ficus_world.specs.Stand.{DisksOutlast, DisksStand};
 ghost use Rattle.ficus_top.specs.Codes.{IsCode, IsIdleCode, IsReadCode, IsUntouchedCode, NamesReplica};
 ghost use Rattle.ficus_top.specs.Ends.{AllUp, NoneFailed};
+ghost use Rattle.ficus_top.specs.Modes.Check.{IsCheckCode};
 ghost use Rattle.ficus_top.specs.Modes.Gen.{IsGenCode};
 ghost use Rattle.ficus_top.specs.Modes.Init.{IsInitCode};
 ghost use Rattle.ficus_top.specs.Modes.Replay.{IsReplayCode};
@@ -124,9 +125,9 @@ pub fn next_run_goes_on<D: Disk>()
 /// The law of a run that was killed. Let what a read of some pairs gives be what a kill might have left between two
 /// neighbours of the run's trail. Killed while the volume was opened, they keep the history of the entry. Killed after
 /// the first k answers and before the next one is whole, they keep what had happened after k commands, then some first
-/// events of those of the next command: none or all of them, but for a pull, which has an event for each of its messages,
-/// and a sweep, which has those of its pulls and collections; and then some of what was pending, an event of a member at
-/// most. With what they keep the next run begins. It does nothing when it runs.
+/// events of those of the next command: none or all of them, but for a pull, which has an event for each of its
+/// messages, and a sweep, which has those of its pulls and collections; and then some of what was pending, an event of
+/// a member at most. With what they keep the next run begins. It does nothing when it runs.
 pub fn killed_runs_go_on<D: Disk>()
     ensures run { (volume : Volume) (W after : ModelWorld) (commands : List Command) (outcomes : List (List Outcome))
         (answers : List Answer) (entry now left : List (PairValue D))
@@ -162,9 +163,9 @@ pub fn unrisen_counts_are_no_failures<D: Disk>()
         → (D.faults pair.a < 2 ^ 64 - 1) × (D.faults pair.b < 2 ^ 64 - 1)) → NoneFailed D.faults old new }
 {}
 
-/// The law that each mode ends with some of the codes: a run with each but 1 and 9, a replay with each but 1, a run over
-/// several volumes with each but 1 and those that name a replica, the making of a volume with each but those of a script
-/// and of opening, and a summary with 0, 3 and 5. It does nothing when it runs.
+/// The law that each mode ends with some of the codes: a run with each but 1 and 9, a replay with each but 1, a run
+/// over several volumes with each but 1 and those that name a replica, the making of a volume with each but those of a
+/// script and of opening, a check with 0, 3, 5 and 6, and a summary with 0, 3 and 5. It does nothing when it runs.
 pub fn mode_codes()
     ensures run { (code : ℕ) → IsRunCode code ↔ (IsCode code × (code ≢ 1) × (code ≢ 9)) }
     ensures replay { (code : ℕ) → IsReplayCode code ↔ (IsCode code × (code ≢ 1)) }
@@ -172,5 +173,7 @@ pub fn mode_codes()
         ↔ (IsCode code × (code ≢ 1) × (NamesReplica code → ⊥)) }
     ensures init { (code : ℕ) → IsInitCode code
         ↔ (IsCode code × (code ≢ 5) × (code ≢ 7) × (IsUntouchedCode code → ⊥)) }
+    ensures check { (code : ℕ) → IsCheckCode code ↔ (IsCode code × (code ≢ 7) × (code ≢ 9)
+        × (IsUntouchedCode code → ⊥)) }
     ensures summary { (code : ℕ) → IsGenCode code ↔ (IsCode code × (IsIdleCode code → ⊥)) }
 {}

@@ -1,6 +1,7 @@
 //! The program as one call: it reads the words and the script, makes or opens the volume, and answers each command.
 #![tactic(auto)]
 
+mod checking;
 mod fault;
 mod joining;
 mod laws;

@@ -5,8 +5,8 @@ use ficus_ids::Memory;
 use ficus_words::{Mode, WordsFault, read_words};
 use std::alloc::Global;
 
-/// Where the volume lies, or is to lie, that the words name: ROOT of `init` and `run`. `None` exactly where they name
-/// none.
+/// Where the volume lies, or is to lie, that the words name: ROOT of `init`, `run` and `check`. `None` exactly where
+/// they name none.
 pub fn root_of(alloc: Global, words: &Vec<String>) -> Result<Option<String>, Memory>
     ensures found { IfOk result (λ root. IfSome root (λ root. NameRoot (texts words.now.items) (string_bytes root))) }
     ensures none { IfOk result (λ root. IfNone root ((place : List ℕ) → NameRoot (texts words.now.items) place → ⊥)) }
@@ -26,7 +26,7 @@ fn root_in(alloc: Global, mode: &Mode) -> Result<Option<String>, Memory>
     ensures memory { IsErr result → root_in mode.now ≢ None }
 {
     match mode {
-        Mode::Init { root, .. } | Mode::Run { root } => {
+        Mode::Init { root, .. } | Mode::Run { root } | Mode::Check { root } => {
             Ok(Some(String::from_str(alloc, root.text())?))
         }
         Mode::Replay { .. } | Mode::Volumes { .. } | Mode::Gen { .. } => Ok(None),

@@ -43,7 +43,8 @@ fn script_of(alloc: Global, lines: &str) -> Result<String, AllocError> {
     Ok(script)
 }
 
-fn answers_of(alloc: Global, lines: &str) -> Result<String, AllocError> {
+/// The answers that stand below the lines of a script.
+pub(crate) fn answers_of(alloc: Global, lines: &str) -> Result<String, AllocError> {
     let mut answers = String::new(alloc);
     for line in lines.lines() {
         if let Some(answer) = line.strip_prefix("    ") {
@@ -59,23 +60,31 @@ pub(crate) fn ends_so<D: Disk>(
     call: &Call<'_>,
     disks: &mut Vec<Pair<D>>,
 ) -> Result<bool, Fail> {
-    ends_so_where(alloc, call, 0, 0, disks)
+    let ended = ended_where(alloc, call, 0, 0, disks)?;
+    let answers = answers_of(alloc, call.lines)?;
+    Ok(ended.status == call.ended && ended.output.written() == answers.as_bytes())
 }
 
-/// The same where this call of the source and this one of the sink fail, counted from 1.
-pub(crate) fn ends_so_where<D: Disk>(
+/// How a call ended, and what it put.
+#[derive(Drop)]
+pub(crate) struct Ended {
+    pub status: Status,
+    pub output: MemSink,
+}
+
+/// How the call over these disks ends where this call of the source and this one of the sink fail, counted from 1.
+pub(crate) fn ended_where<D: Disk>(
     alloc: Global,
     call: &Call<'_>,
     source_fails: u32,
     sink_fails: u32,
     disks: &mut Vec<Pair<D>>,
-) -> Result<bool, Fail> {
+) -> Result<Ended, Fail> {
     let script = script_of(alloc, call.lines)?;
     let mut input = MemSource::new(script.into_bytes(), [source_fails].to_vec(alloc)?);
     let mut output = MemSink::new(alloc, [sink_fails].to_vec(alloc)?)?;
     let status = end(alloc, call.words, &mut input, &mut output, disks)?;
-    let answers = answers_of(alloc, call.lines)?;
-    Ok(status == call.ended && output.written() == answers.as_bytes())
+    Ok(Ended { status, output })
 }
 
 /// How the program ends with these words, over this source, this sink and these disks.

@@ -6,6 +6,8 @@ mod calls;
 #[cfg(test)]
 mod disks;
 #[cfg(test)]
+mod fixed_link;
+#[cfg(test)]
 mod links;
 #[cfg(test)]
 mod modes;

@@ -1,9 +1,11 @@
-// The program's loop over a link that fails at each call in turn, and over one that is nearly full.
+// The program's loop over a link that fails at each call in turn, over one that is nearly full, and over one that gives
+// other bytes than were posted.
 ghost use Rattle.std.specs.Prelude.{◌≡◌, ◌≤◌, [], length};
 ghost use Rattle.ficus_ids.specs.Members.{IsCount};
 ghost use Rattle.ficus_world.specs.Disks.{AreDisksOf};
 
 use crate::disks::pairs;
+use crate::fixed_link::FixedLink;
 use ficus_disk::{Disk, FailDisk, Pair};
 use ficus_ids::Members;
 use ficus_journal::Journal;
@@ -126,6 +128,65 @@ fn a_link_fails_at_each_call_in_turn(rt: HostRuntime) -> Result<(), Fail> {
         let link = FailLink::new(rt.alloc(), [call].to_vec(rt.alloc())?);
         let so = answer_so(rt.alloc(), link, script, answers)?;
         assert!(rt; so, "{call} {script:?}");
+    }
+    Ok(())
+}
+
+const AS_BEFORE: &str =
+    "ask 1 2\n1 mkdir /a\n2 mkdir /b\ngive 1\npull 2 1\n1 tree\n2 tree\nask 1 2\n";
+
+const REFUSED: &str =
+    "ok 1\nok 1.1\nok 2.1\nno badmessage\nno badmessage\nok 1\n0.0 a 1.1 dir\nok 1\n0.0 b 2.1 dir\nok 3\n";
+
+const TAKEN: &str = "ok 1\nok\nok 1\n0.0 b 2.1 dir\nok 0\n";
+
+// Bytes that are given whatever was posted, a script with its answers, and what the bytes are.
+const GIVEN: &[(&[u8], &str, &str, &str)] = &[
+    (
+        b"\x03\x01\x01\x02\0\0\0\0\0\0\0\x01",
+        AS_BEFORE,
+        REFUSED,
+        "an ask of version 3",
+    ),
+    (
+        b"\x01\x01\x01\x01\0\0\0\0\0\0\0\x01",
+        AS_BEFORE,
+        REFUSED,
+        "an ask to its sender",
+    ),
+    (
+        b"\x01\x01\x01\x03\0\0\0\0\0\0\0\x01",
+        AS_BEFORE,
+        REFUSED,
+        "an ask to no member",
+    ),
+    (
+        b"\x01\x01\x01\x02\0\0\0\0\0\0\0\x01\0",
+        AS_BEFORE,
+        REFUSED,
+        "an ask with a byte more",
+    ),
+    (
+        b"\x01\x02\x02\x01\0\0\0\0\0\0\0\x01\0\0\0\0\0\0\0",
+        AS_BEFORE,
+        REFUSED,
+        "an answer without its last byte",
+    ),
+    (
+        b"\x01\x02\x02\x01\0\0\0\0\0\0\0\x01\0\0\0\x01\x02\0\0\0\x01\0\0\0\0\0\x01b\x02\0\0\0\x01\0\
+        \0\0\0\x01\x02\0\0\0\x01\0\0\0\0\0\0\0\0\0\0",
+        "ask 1 2\ngive 1\n1 tree\n2 tree\n",
+        TAKEN,
+        "an answer with a directory",
+    ),
+];
+
+#[test]
+fn what_the_link_gives_is_what_is_read(rt: HostRuntime) -> Result<(), Fail> {
+    for &(bytes, script, answers, what) in GIVEN {
+        let link = FixedLink::new(rt.alloc(), bytes);
+        let so = answer_so(rt.alloc(), link, script, answers)?;
+        assert!(rt; so, "{what}");
     }
     Ok(())
 }

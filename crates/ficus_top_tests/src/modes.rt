@@ -65,6 +65,23 @@ fn put_by(alloc: Global, words: &str) -> Result<Vec<u8>, Fail> {
     Ok(output.written().to_vec(alloc)?)
 }
 
+const OF_EMPTY_DISKS: &[u8] = b"replica 1 empty
+replica 2 empty
+replica 3 empty
+replica 4 empty
+replica 5 empty
+replica 6 empty
+replica 7 empty
+replica 8 empty
+";
+
+#[test]
+fn empty_disks_are_told_as_empty(rt: HostRuntime) -> Result<(), Fail> {
+    let lines = put_by(rt.alloc(), "ficus check vol")?;
+    assert!(rt; lines.as_slice() == OF_EMPTY_DISKS);
+    Ok(())
+}
+
 const LONGEST: &str = "ficus gen --members 8 --seed 7 --steps 5000";
 
 #[test]

@@ -1,5 +1,5 @@
 // Words and scripts that are refused, and sources and sinks that fail.
-use crate::calls::{Call, DONE, ends_so, ends_so_where};
+use crate::calls::{Call, DONE, Ended, answers_of, ended_where, ends_so};
 use crate::disks::fused_pairs;
 use ficus_script::ScriptFault;
 use ficus_top::Status;
@@ -59,68 +59,76 @@ fn the_first_bad_line_is_named(rt: HostRuntime) -> Result<(), Fail> {
     Ok(())
 }
 
-/// Which call of the source and which of the sink fails, with 0 for none; the lines of the script with what is put of
-/// their answers; and the code.
-struct Failing {
-    source: u32,
-    sink: u32,
-    lines: &'static str,
-    code: u8,
+const FILE_CONFLICT: Call = Call {
+    words: REPLAY,
+    lines: r#"1 create /f plain
+    ok 1.1
+pull 2 1
+    ok
+1 write /f "a"
+    ok
+2 write /f "b"
+    ok
+pull 1 2
+    ok
+pull 2 1
+    ok
+1 read /f
+    no conflict
+1 write /f "c"
+    no conflict
+2 versions /f
+    ok 2
+    [1,1] "b"
+    [2,0] "a"
+1 resolve /f
+    no declined
+1 settle /f "ab"
+    ok
+1 versions /f
+    ok 1
+    [3,1] "ab""#,
+    ended: DONE,
+};
+
+// How the call ends where these calls fail, and what it puts.
+fn ended(alloc: Global, source_fails: u32, sink_fails: u32) -> Result<Ended, Fail> {
+    let mut disks = fused_pairs(alloc)?;
+    ended_where(alloc, &FILE_CONFLICT, source_fails, sink_fails, &mut disks)
 }
 
-const FAILING: [Failing; 5] = [
-    Failing {
-        source: 1,
-        sink: 0,
-        lines: "1 mkdir /a\n1 mkdir /a",
-        code: 4,
-    },
-    Failing {
-        source: 2,
-        sink: 0,
-        lines: "1 mkdir /a\n1 mkdir /a",
-        code: 4,
-    },
-    Failing {
-        source: 0,
-        sink: 1,
-        lines: "1 mkdir /a\n1 mkdir /a",
-        code: 5,
-    },
-    Failing {
-        source: 0,
-        sink: 2,
-        lines: "1 mkdir /a\n    ok 1.1\n1 mkdir /a",
-        code: 5,
-    },
-    Failing {
-        source: 0,
-        sink: 3,
-        lines: "1 mkdir /a\n    ok 1.1\n1 mkdir /a\n    no exists",
-        code: 0,
-    },
-];
+// A script is taken in two calls: one for its bytes and one for its end.
+#[test]
+fn a_source_fails_at_each_call_in_turn(rt: HostRuntime) -> Result<(), Fail> {
+    for call in 1..3u32 {
+        let failed = ended(rt.alloc(), call, 0)?;
+        assert!(rt; failed.status.code == 4, "{call}");
+        assert!(rt; failed.output.written().is_empty(), "{call}");
+    }
+    Ok(())
+}
+
+// Each of the twelve answers is put in one call.
+#[test]
+fn a_sink_fails_at_each_call_in_turn(rt: HostRuntime) -> Result<(), Fail> {
+    let whole = answers_of(rt.alloc(), FILE_CONFLICT.lines)?;
+    for call in 1..13u32 {
+        let failed = ended(rt.alloc(), 0, call)?;
+        assert!(rt; failed.status.code == 5, "{call}");
+        assert!(rt;
+            whole.as_bytes().starts_with(failed.output.written()),
+            "{call}"
+        );
+    }
+    Ok(())
+}
 
 #[test]
-fn a_source_or_a_sink_fails_at_each_call_in_turn(rt: HostRuntime) -> Result<(), Fail> {
-    for Failing {
-        source,
-        sink,
-        lines,
-        code,
-    } in &FAILING {
-        let call = Call {
-            words: REPLAY,
-            lines,
-            ended: Status {
-                code: *code,
-                ..DONE
-            },
-        };
-        let mut disks = fused_pairs(rt.alloc())?;
-        let so = ends_so_where(rt.alloc(), &call, *source, *sink, &mut disks)?;
-        assert!(rt; so, "{source} {sink}");
-    }
+fn what_fails_behind_the_last_call_is_nothing(rt: HostRuntime) -> Result<(), Fail> {
+    let all = ended(rt.alloc(), 3, 13)?;
+    let whole = answers_of(rt.alloc(), FILE_CONFLICT.lines)?;
+    assert!(rt; all.status == DONE);
+    assert!(rt; all.output.written() == whole.as_bytes());
     Ok(())
 }
 

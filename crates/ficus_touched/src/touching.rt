@@ -7,8 +7,8 @@ use ficus_entry::Entries;
 use ficus_ids::{Id, Memory};
 use std::alloc::Global;
 
-/// Those of the rising identifiers that an entry, live or removed, names or lies in, rising. It takes one walk along the
-/// entries.
+/// Those of the rising identifiers that an entry, live or removed, names or lies in, rising. It takes one walk along
+/// the entries.
 pub fn touched(alloc: Global, entries: &Entries, ids: &[Id]) -> Result<Vec<Id>, Memory>
     requires { IsRisingBy (λ id. id) ids.now }
     ensures rising { IfOk result (λ kept. IsRisingBy (λ id. id) kept.items) }

@@ -5,7 +5,7 @@ use Rattle.ficus_ids.specs.declared.id.Id.{Id}
 use Rattle.ficus_model.specs.declared.event.Event.{Event}
 use Rattle.ficus_model.specs.declared.event.Event.TheVariants.{Update}
 use Rattle.ficus_model.specs.declared.event.Op.{Op}
-use Rattle.ficus_model.specs.declared.event.Op.TheVariants.{Make, Link, Remove, Move, Write, Settle, Resolve, Adopt, Discard}
+use Rattle.ficus_model.specs.declared.event.Op.TheVariants.{Remove, Discard}
 use Rattle.ficus_model.specs.View.{HasUnseen}
 use Rattle.ficus_model.specs.Events.{IsOf, IsUpdate}
 use Rattle.ficus_model.specs.Known.{HasSeen, Knows, HasInPast}
@@ -170,15 +170,9 @@ module _ (H : List Event) (event : Event) (replica : ℕ) {file : Id}
 -- an operation that covers an object is no version event
 covers_no_version : (number : Id) (op : Op) (file : Id) → covered_by op ≡ Some file → version_of number op ≡ Some file →
     ⊥
-covers_no_version number (Make dir name kind) file c v = cc
-covers_no_version number (Link dir name target) file c v = cc
 covers_no_version number (Remove entries target) file c v = cc
-covers_no_version number (Move entries dir name target) file c v = cc
-covers_no_version number (Write object bytes) file c v = cc
-covers_no_version number (Settle object bytes) file c v = cc
-covers_no_version number (Resolve object bytes) file c v = cc
-covers_no_version number (Adopt object dir name) file c v = cc
 covers_no_version number (Discard object) file c v = cc
+covers_no_version number op file c v = cc
 
 -- In these a replica has done one more operation.
 module _ (H : List Event) (replica : ℕ) (op : Op) where

@@ -7,19 +7,17 @@ use Rattle.ficus_ids.specs.IdLaws.{same_id_or_not}
 use Rattle.ficus_ids.specs.ListLaws.{here, there, here_or_there, not_inside_none}
 use Rattle.ficus_ids.specs.declared.id.Id.{Id}
 use Rattle.ficus_model.specs.declared.event.Event.{Event}
-use Rattle.ficus_model.specs.declared.event.Event.TheVariants.{Update, Ask, Serve, Accept, Collect, Restart}
-use Rattle.ficus_model.specs.declared.event.Op.{Op}
-use Rattle.ficus_model.specs.Events.{IsAt, IsUpdate, actor, before}
+use Rattle.ficus_model.specs.Events.{IsAt, actor, before}
 use Rattle.ficus_model.specs.Known.{HasSeen, Knows, HasInPast}
 use Rattle.ficus_model.specs.Known.HasSeen.{Itself}
 use Rattle.ficus_model.specs.Versions.{version_of, covered_by, bytes_of, IsVersion, IsCovering, IsShown}
 use Rattle.ficus_model.specs.Vectors.{Counts, IsInVector, IsVectorOf, IsCovered, IsCoverOf}
 use Rattle.ficus_model.specs.Vectors.Counts.{Nothing, OneMore, AsMany}
 use Rattle.ficus_model.specs.View.{HasUnseen}
-use Rattle.ficus_laws.proofs.Positions.{at_exists, at_same, at_within, of_at, of_same, of_within}
+use Rattle.ficus_laws.proofs.Positions.{at_exists, of_at, of_same, of_within}
 use Rattle.ficus_laws.proofs.Seen.{seen_through}
-use Rattle.ficus_laws.proofs.Past.{past_earlier, past_seen, update_numbered, update_same}
-use Rattle.ficus_laws.proofs.Deciding.{Decided, IsLast, HasLast, NoneBelow, last_or_none, of_decided, seen_decided, knows_decided}
+use Rattle.ficus_laws.proofs.Past.{past_earlier, past_seen}
+use Rattle.ficus_laws.proofs.Deciding.{Decided, IsLast, HasLast, NoneBelow, decided_from, either_decided, last_or_none, of_decided, seen_decided, knows_decided, update_decided}
 use Rattle.ficus_version_laws.specs.Listed.{Item, IsItemOf, IsShownItem, IsListed, AreShown}
 use Rattle.ficus_version_laws.specs.Covers.{HasCover, ShowsUncovered}
 use Rattle.ficus_version_laws.proofs.Past.{version_within, covering_within, past_sees}
@@ -34,57 +32,11 @@ some_decided (Some other) id = go (same_id_or_not other id)
     go (inl same) = inl (ap Some same)
     go (inr differs) = inr (λ e. differs (same_Some other id e))
 
--- at the position stands an update for which this holds
-record IsUpdateWith (H : List Event) (P : Id → Op → Type 0) (position : ℕ) : Type 0 where
-  number : Id
-  op : Op
-  update : IsUpdate H position number op
-  holds : P number op
-
-update_decided : (H : List Event) (P : Id → Op → Type 0) → ((number : Id) (op : Op) → Decided (P number op)) →
-    (position : ℕ) → Decided (IsUpdateWith H P position)
-update_decided H P decide position = go (cases_lt position (length H))
-  where
-    no_update : (event : Event) → IsAt H position event → ((by : ℕ) (op : Op) → event ≡ Update by op → ⊥) →
-        Decided (IsUpdateWith H P position)
-    no_update event a none = inr (λ u. none u.number.replica u.op (at_same a u.update.at))
-
-    with_number : {number : Id} {op : Op} → IsUpdate H position number op → Decided (P number op) →
-        Decided (IsUpdateWith H P position)
-    with_number {number} {op} u (inl holds) = inl (record { number = number; op = op; update = u; holds = holds })
-    with_number {number} {op} u (inr none) = inr (λ w. none (let s = update_same u w.update in rw (s.0, s.1) w.holds))
-
-    is : (event : Event) → IsAt H position event → Decided (IsUpdateWith H P position)
-    is (Update by op) a = let u = update_numbered a in with_number u (decide _ op)
-    is (Ask by to) a = no_update (Ask by to) a (λ q op e. cc)
-    is (Serve by ask) a = no_update (Serve by ask) a (λ q op e. cc)
-    is (Accept by serve) a = no_update (Accept by serve) a (λ q op e. cc)
-    is (Collect by) a = no_update (Collect by) a (λ q op e. cc)
-    is (Restart by) a = no_update (Restart by) a (λ q op e. cc)
-
-    go : (position < length H) ⊎ (length H ≤ position) → Decided (IsUpdateWith H P position)
-    go (inl l) = let found = at_exists H position l in is found.0 found.1
-    go (inr l) = inr (λ u. omega (arith, at_within u.update.at))
-
--- what follows from a decided property and implies it is decided
-decided_from : {P Q : Type 0} → (P → Q) → (Q → P) → Decided P → Decided Q
-decided_from there back (inl p) = inl (there p)
-decided_from there back (inr none) = inr (λ q. none (back q))
-
 three_decided : {P Q R : Type 0} → Decided P → Decided Q → Decided R → Decided (P × Q × R)
 three_decided (inl p) (inl q) (inl r) = inl (p, q, r)
 three_decided (inl p) (inl q) (inr none) = inr (λ all. none all.2)
 three_decided (inl p) (inr none) r = inr (λ all. none all.1)
 three_decided (inr none) q r = inr (λ all. none all.0)
-
-either_decided : {P Q : Type 0} → Decided P → Decided Q → Decided (P ⊎ Q)
-either_decided (inl p) q = inl (inl p)
-either_decided (inr no_p) (inl q) = inl (inr q)
-either_decided {P} {Q} (inr no_p) (inr no_q) = inr none
-  where
-    none : P ⊎ Q → ⊥
-    none (inl p) = no_p p
-    none (inr q) = no_q q
 
 pub version_decided : (H : List Event) (file : Id) (position : ℕ) → Decided (IsVersion H file position)
 version_decided H file position =

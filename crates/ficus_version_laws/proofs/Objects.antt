@@ -3,11 +3,11 @@ use Rattle.std.proofs.Common.{◌≡◌, ◌≢◌, ℕ, List, Some, None, subst
 use Rattle.std.proofs.lemmas.Option.{same_Some}
 use Rattle.ficus_ids.specs.declared.id.Id.{Id}
 use Rattle.ficus_ids.specs.declared.kind.Kind.{Kind}
-use Rattle.ficus_ids.specs.declared.kind.Kind.TheVariants.{Dir, Plain, Lines, Max, Keep}
+use Rattle.ficus_ids.specs.declared.kind.Kind.TheVariants.{Dir}
 use Rattle.ficus_model.specs.declared.event.Event.{Event}
 use Rattle.ficus_model.specs.declared.event.Event.TheVariants.{Update}
 use Rattle.ficus_model.specs.declared.event.Op.{Op}
-use Rattle.ficus_model.specs.declared.event.Op.TheVariants.{Make, Link, Remove, Move, Write, Settle, Resolve, Adopt, Discard}
+use Rattle.ficus_model.specs.declared.event.Op.TheVariants.{Make, Remove, Write, Settle, Resolve, Discard}
 use Rattle.ficus_model.specs.Events.{IsUpdate, before}
 use Rattle.ficus_model.specs.Known.{Knows}
 use Rattle.ficus_model.specs.Live.{IsMade, IsFile}
@@ -24,10 +24,7 @@ use Rattle.ficus_laws.proofs.Places.{within_past, some_inside, entered_target}
 -- a kind whose Make is a version isn't that of directories
 pub made_file_is : (number file : Id) (kind : Kind) → made_file number kind ≡ Some file → (number ≡ file) × (kind ≢ Dir)
 made_file_is number file Dir e = cc
-made_file_is number file Plain e = (same_Some number file e, λ d. cc)
-made_file_is number file Lines e = (same_Some number file e, λ d. cc)
-made_file_is number file Max e = (same_Some number file e, λ d. cc)
-made_file_is number file Keep e = (same_Some number file e, λ d. cc)
+made_file_is number file kind e = (same_Some number file e, λ d. cc)
 
 pub none_is : (file : Id) → None ≡ Some file → ⊥
 none_is file e = cc
@@ -57,17 +54,13 @@ module _ (volume : Volume) (H : List Event) (lawful : IsLawful volume H) (reader
         };
         other = is.1;
       }
-  written {file = file} (Link dir name target) u k e = absurd (none_is file e)
-  written {file = file} (Remove entries target) u k e = absurd (none_is file e)
-  written {file = file} (Move entries dir name target) u k e = absurd (none_is file e)
   written {file = file} (Write object bytes) u k e = subst (IsFile H (Knows H reader)) (same_Some object file e)
       (file_within (more u k) (may u).allowed.in_reach.is_file)
   written {file = file} (Settle object bytes) u k e = subst (IsFile H (Knows H reader)) (same_Some object file e)
       (file_within (more u k) (may u).allowed.in_reach.is_file)
   written {file = file} (Resolve object bytes) u k e = subst (IsFile H (Knows H reader)) (same_Some object file e)
       (file_within (more u k) (may u).allowed.in_reach.is_file)
-  written {file = file} (Adopt object dir name) u k e = absurd (none_is file e)
-  written {file = file} (Discard object) u k e = absurd (none_is file e)
+  written {file = file} op u k e = absurd (none_is file e)
 
   -- where a version is known, its file is
   pub version_file : {file : Id} {position : ℕ} → IsVersion H file position → Knows H reader position →
@@ -93,17 +86,11 @@ module _ (volume : Volume) (H : List Event) (lawful : IsLawful volume H) (reader
 
   covered : {position : ℕ} {number object : Id} (op : Op) → IsUpdate H position number op → Knows H reader position →
       covered_by op ≡ Some object → IsKnownObject object
-  covered {object = object} (Make dir name kind) u k e = absurd (none_is object e)
-  covered {object = object} (Link dir name target) u k e = absurd (none_is object e)
   covered {object = object} (Remove entries target) u k e = subst IsKnownObject (same_Some target object e) (removed_object u k)
-  covered {object = object} (Move entries dir name target) u k e = absurd (none_is object e)
-  covered {object = object} (Write file bytes) u k e = absurd (none_is object e)
-  covered {object = object} (Settle file bytes) u k e = absurd (none_is object e)
-  covered {object = object} (Resolve file bytes) u k e = absurd (none_is object e)
-  covered {object = object} (Adopt file dir name) u k e = absurd (none_is object e)
   covered {object = object} (Discard file) u k e =
       let f = file_within (more u k) (may u).allowed.is_file in
       subst IsKnownObject (same_Some file object e) (f.kind, f.made)
+  covered {object = object} op u k e = absurd (none_is object e)
 
   -- where a Remove or a Discard of an object is known, the object is
   pub covering_object : {object : Id} {position : ℕ} → IsCovering H object position → Knows H reader position →

@@ -10,7 +10,7 @@ use Rattle.ficus_model.specs.Known.{Knows}
 use Rattle.ficus_model.specs.Live.{ModelEntry, IsEntered, IsMade}
 use Rattle.ficus_model.specs.View.{IsOrphan}
 use Rattle.ficus_laws.specs.Updates.{SameUpdates}
-use Rattle.ficus_laws.proofs.Deciding.{Decided, both_decided, knows_decided}
+use Rattle.ficus_laws.proofs.Deciding.{Decided, both_decided, knows_decided, not_decided}
 use Rattle.ficus_laws.proofs.OneMore.{same_quiet}
 use Rattle.ficus_laws.proofs.Shown.{entered_within, made_within}
 use Rattle.ficus_laws.proofs.Views.{KnowsSame, kept_known, orphan_within}
@@ -22,7 +22,7 @@ use Rattle.ficus_final_laws.proofs.Collecting.{done_cases, done_now}
 use Rattle.ficus_view_laws.specs.Laws.{IsNeeded}
 use Rattle.ficus_view_laws.proofs.Entries.{HasEntered, some_entered}
 use Rattle.ficus_view_laws.proofs.Knowledge.{dropped_decided}
-use Rattle.ficus_view_laws.proofs.Objects.{not_decided, orphan_decided, touches_decided, unless_refuted}
+use Rattle.ficus_view_laws.proofs.Objects.{orphan_decided, touches_decided, unless_refuted}
 
 -- after a collection of the replica
 module _ (members : ℕ) (H : List Event) (replica : ℕ) where

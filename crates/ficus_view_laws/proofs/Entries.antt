@@ -7,7 +7,7 @@ use Rattle.ficus_ids.specs.declared.id.Id.{Id}
 use Rattle.ficus_ids.specs.declared.kind.Kind.{Kind}
 use Rattle.ficus_model.specs.declared.event.Event.{Event}
 use Rattle.ficus_model.specs.declared.event.Op.{Op}
-use Rattle.ficus_model.specs.declared.event.Op.TheVariants.{Make, Link, Remove, Move, Write, Settle, Resolve, Adopt, Discard}
+use Rattle.ficus_model.specs.declared.event.Op.TheVariants.{Make}
 use Rattle.ficus_model.specs.Events.{IsUpdate}
 use Rattle.ficus_model.specs.Live.{ModelEntry, entered_by, removed_by, IsEntered, IsRemoved, IsMade, HasName, HasInside}
 use Rattle.ficus_laws.proofs.AfterUpdate.{entered_id, enters_none}
@@ -217,22 +217,7 @@ module _ (H : List Event) (U : ℕ → Type 0) (known : (position : ℕ) → Dec
             let e : Make dir name kind ≡ Make there.dir there.name there.kind = s.1 in
             let same : kind ≡ there.kind = cc in
             rw (s.0, same) there.holds))
-    made_by k number (Link dir name target) update =
-        no_make (record { number = number; op = Link dir name target; update = update }) (λ d n c e. cc)
-    made_by k number (Remove entries target) update =
-        no_make (record { number = number; op = Remove entries target; update = update }) (λ d n c e. cc)
-    made_by k number (Move entries dir name target) update =
-        no_make (record { number = number; op = Move entries dir name target; update = update }) (λ d n c e. cc)
-    made_by k number (Write file bytes) update =
-        no_make (record { number = number; op = Write file bytes; update = update }) (λ d n c e. cc)
-    made_by k number (Settle file bytes) update =
-        no_make (record { number = number; op = Settle file bytes; update = update }) (λ d n c e. cc)
-    made_by k number (Resolve file bytes) update =
-        no_make (record { number = number; op = Resolve file bytes; update = update }) (λ d n c e. cc)
-    made_by k number (Adopt file dir name) update =
-        no_make (record { number = number; op = Adopt file dir name; update = update }) (λ d n c e. cc)
-    made_by k number (Discard file) update =
-        no_make (record { number = number; op = Discard file; update = update }) (λ d n c e. cc)
+    made_by k number op update = no_make (record { number = number; op = op; update = update }) (λ d n c e. cc)
 
     made_at : (position : ℕ) → Decided (IsMadeAt H U P position)
     made_at position = go (known position) (update_or_none H position)

@@ -18,7 +18,7 @@ use Rattle.ficus_model.specs.Lawful.{Volume, IsLawful}
 use Rattle.ficus_model.specs.Live.{IsRemoved}
 use Rattle.ficus_model.specs.Knowledge.{IsInOne, IsInTwo, KnowsThatKnows}
 use Rattle.ficus_model.specs.Held.{IsDropped}
-use Rattle.ficus_laws.proofs.Deciding.{Decided, both_decided, of_decided, knows_decided}
+use Rattle.ficus_laws.proofs.Deciding.{Decided, both_decided, of_decided, knows_decided, decided_from}
 use Rattle.ficus_laws.proofs.Knowledge.{knows_within}
 use Rattle.ficus_laws.proofs.Lawful.{lawful_member}
 use Rattle.ficus_laws.proofs.Positions.{at_within}
@@ -27,10 +27,6 @@ use Rattle.ficus_removal_laws.proofs.Hearing.{one_from_last, one_at_last, two_fr
 use Rattle.ficus_view_laws.specs.Laws.{HasMarks}
 use Rattle.ficus_view_laws.proofs.Entries.{removed_decided}
 use Rattle.ficus_view_laws.proofs.Positions.{some_position, all_members, collect_decided}
-
-pub as_decided : {P Q : Type 0} → (P → Q) → (Q → P) → Decided P → Decided Q
-as_decided there back (inl p) = inl (there p)
-as_decided there back (inr none) = inr (λ q. none (back q))
 
 -- at this position stands an event of the peer that the replica knows and through which the peer knew so
 module _ (H : List Event) (replica peer : ℕ) (entry : Id) where
@@ -46,13 +42,13 @@ module _ (H : List Event) (replica peer : ℕ) (entry : Id) where
       (both_decided (of_decided H position peer) (removed_decided T (Knows T peer) (knows_decided T peer) entry))
 
   pub knows_that_knows : Decided (KnowsThatKnows H replica peer entry)
-  knows_that_knows = as_decided
+  knows_that_knows = decided_from
       (λ some. record { position = some.0; known = some.1.0; own = some.1.1.0; removed = some.1.1.1 })
       (λ knows. (knows.position, (knows.known, (knows.own, knows.removed))))
       (some_position H KnewAt knew_at (λ position there. knows_within there.0))
 
   pub one_decided : Decided (IsInOne H replica peer entry)
-  one_decided = as_decided one_at_last one_from_last knows_that_knows
+  one_decided = decided_from one_at_last one_from_last knows_that_knows
 
 module _ (members : ℕ) (H : List Event) (replica peer : ℕ) (entry : Id) where
   abbrev AllKnewAt : ℕ → Type 0
@@ -67,7 +63,7 @@ module _ (members : ℕ) (H : List Event) (replica peer : ℕ) (entry : Id) wher
       (λ member. knows_that_knows (through position H) peer member entry)))
 
   pub two_decided : Decided (IsInTwo members H replica peer entry)
-  two_decided = as_decided two_at_last two_from_last (as_decided
+  two_decided = decided_from two_at_last two_from_last (decided_from
       (λ some. record { position = some.0; known = some.1.0; own = some.1.1.0; all = some.1.1.1 })
       (λ knows. (knows.position, (knows.known, (knows.own, knows.all))))
       (some_position H AllKnewAt all_knew_at (λ position there. knows_within there.0)))
@@ -77,7 +73,7 @@ module _ (members : ℕ) (H : List Event) (replica : ℕ) (entry : Id) where
   DropsAt position = IsAt H position (Collect replica) × IsTwoFull members (before position H) replica entry
 
   pub dropped_decided : Decided (IsDropped members H replica entry)
-  dropped_decided = as_decided
+  dropped_decided = decided_from
       (λ some. record { position = some.0; collect = some.1.0; full = some.1.1 })
       (λ dropped. (dropped.position, (dropped.collect, dropped.full)))
       (some_position H DropsAt

@@ -1,9 +1,10 @@
 -- Which objects are orphans, and which are done, is decided.
 use Rattle.std.proofs.Common.{◌≡◌, ◌⊎◌, ℕ, List, subst, inl, inr}
 use Rattle.ficus_ids.specs.IdLaws.{same_id_or_not}
+use Rattle.ficus_ids.specs.KindLaws.{kind_sort}
 use Rattle.ficus_ids.specs.declared.id.Id.{Id}
 use Rattle.ficus_ids.specs.declared.kind.Kind.{Kind}
-use Rattle.ficus_ids.specs.declared.kind.Kind.TheVariants.{Dir, Plain, Lines, Max, Keep}
+use Rattle.ficus_ids.specs.declared.kind.Kind.TheVariants.{Dir}
 use Rattle.ficus_model.specs.declared.event.Event.{Event}
 use Rattle.ficus_model.specs.Events.{before, through}
 use Rattle.ficus_model.specs.Known.{Knows, HasInPast}
@@ -11,47 +12,27 @@ use Rattle.ficus_model.specs.Held.{IsDropped, IsDone, Touches}
 use Rattle.ficus_model.specs.Live.{ModelEntry, IsFile, IsMade}
 use Rattle.ficus_model.specs.Versions.{IsCovering, IsUncovered}
 use Rattle.ficus_model.specs.View.{HasUnseen, IsFilled, IsOrphan}
-use Rattle.ficus_laws.proofs.Deciding.{Decided, both_decided, knows_decided}
+use Rattle.ficus_laws.proofs.Deciding.{Decided, both_decided, decided_from, either_decided, knows_decided, not_decided}
 use Rattle.ficus_laws.proofs.Issued.{made_once}
 use Rattle.ficus_laws.proofs.Positions.{at_within}
 use Rattle.ficus_version_laws.proofs.Existing.{covering_decided, past_decided, version_decided}
 use Rattle.ficus_version_laws.proofs.Past.{covering_within, version_within}
 use Rattle.ficus_held_laws.specs.Objects.{HasDone}
 use Rattle.ficus_view_laws.proofs.Entries.{HasEntered, inside_or_not, name_decided, some_entered, some_made}
-use Rattle.ficus_view_laws.proofs.Knowledge.{as_decided, dropped_decided}
+use Rattle.ficus_view_laws.proofs.Knowledge.{dropped_decided}
 use Rattle.ficus_view_laws.proofs.Positions.{collect_decided, some_position}
-
-directory_or_not : (kind : Kind) → Decided (kind ≡ Dir)
-directory_or_not Dir = inl (λ i. Dir)
-directory_or_not Plain = inr (λ e. cc)
-directory_or_not Lines = inr (λ e. cc)
-directory_or_not Max = inr (λ e. cc)
-directory_or_not Keep = inr (λ e. cc)
-
-pub not_decided : {P : Type 0} → Decided P → Decided (P → ⊥)
-not_decided (inl is) = inr (λ none. none is)
-not_decided (inr none) = inl none
-
-either_decided : {P Q : Type 0} → Decided P → Decided Q → Decided (P ⊎ Q)
-either_decided (inl p) q = inl (inl p)
-either_decided (inr none) (inl q) = inl (inr q)
-either_decided {P} {Q} (inr none) (inr neither) = inr (λ either. go either)
-  where
-    go : P ⊎ Q → ⊥
-    go (inl p) = none p
-    go (inr q) = neither q
 
 module _ (H : List Event) (U : ℕ → Type 0) (known : (position : ℕ) → Decided (U position)) where
   -- an object is made, as something
   pub made_or_not : (object : Id) → Decided ((kind : Kind) × IsMade H U object kind)
-  made_or_not object = as_decided
+  made_or_not object = decided_from
       (λ has. (has.kind, subst (λ id. IsMade H U id has.kind) has.holds has.made))
       (λ made. record { object = object; kind = made.0; made = made.1; holds = λ i. object })
       (some_made H U known (λ id kind. id ≡ object) (λ id kind. same_id_or_not id object))
 
   made_as : (object : Id) → Decided ((kind : Kind) × IsMade H U object kind) → Decided (IsMade H U object Dir)
   made_as object (inr none) = inr (λ made. none (Dir, made))
-  made_as object (inl (kind, made)) = go (directory_or_not kind)
+  made_as object (inl (kind, made)) = go (kind_sort kind)
     where
       go : Decided (kind ≡ Dir) → Decided (IsMade H U object Dir)
       go (inl is) = inl (subst (IsMade H U object) is made)
@@ -59,14 +40,14 @@ module _ (H : List Event) (U : ℕ → Type 0) (known : (position : ℕ) → Dec
 
   file_as : (object : Id) → Decided ((kind : Kind) × IsMade H U object kind) → Decided (IsFile H U object)
   file_as object (inr none) = inr (λ is. none (is.kind, is.made))
-  file_as object (inl (kind, made)) = go (directory_or_not kind)
+  file_as object (inl (kind, made)) = go (kind_sort kind)
     where
       go : Decided (kind ≡ Dir) → Decided (IsFile H U object)
       go (inl is) = inr (λ file. file.other (let same = made_once made file.made in cc))
       go (inr other) = inl (record { kind = kind; made = made; other = other })
 
   filled_decided : (object : Id) → Decided (IsFilled H U object)
-  filled_decided object = as_decided
+  filled_decided object = decided_from
       (λ both. record { made = both.0; inside = both.1 }) (λ is. (is.made, is.inside))
       (both_decided (made_as object (made_or_not object)) (inside_or_not H U known object))
 
@@ -80,7 +61,7 @@ module _ (H : List Event) (U : ℕ → Type 0) (known : (position : ℕ) → Dec
       (λ cover there. covering_within there.0)
 
   uncovered_decided : (file : Id) (version : ℕ) → Decided (IsUncovered H U file version)
-  uncovered_decided file version = as_decided
+  uncovered_decided file version = decided_from
       (λ all. record {
         version = all.0;
         known = all.1.0;
@@ -91,7 +72,7 @@ module _ (H : List Event) (U : ℕ → Type 0) (known : (position : ℕ) → Dec
       (both_decided (known version) (not_decided (covered_decided file version))))
 
   unseen_decided : (object : Id) → Decided (HasUnseen H U object)
-  unseen_decided object = as_decided
+  unseen_decided object = decided_from
       (λ both. record { is_file = both.0; position = both.1.0; uncovered = both.1.1 })
       (λ is. (is.is_file, (is.position, is.uncovered)))
       (both_decided (file_as object (made_or_not object))
@@ -99,7 +80,7 @@ module _ (H : List Event) (U : ℕ → Type 0) (known : (position : ℕ) → Dec
       (λ position there. version_within there.version)))
 
   pub orphan_decided : (object : Id) → Decided (IsOrphan H U object)
-  orphan_decided object = as_decided
+  orphan_decided object = decided_from
       (λ both. record { nameless = both.0; kept = both.1 }) (λ is. (is.nameless, is.kept))
       (both_decided (not_decided (name_decided H U known object))
       (either_decided (filled_decided object) (unseen_decided object)))
@@ -126,7 +107,7 @@ module _ (members : ℕ) (H : List Event) (replica : ℕ) (object : Id) where
       (not_decided (dropped_decided members (through position H) replica entry.id)))
 
   done_decided : (position : ℕ) → Decided (IsDone members H replica object position)
-  done_decided position = as_decided
+  done_decided position = decided_from
       (λ all. record {
         collect = all.0;
         kind = all.1.0.0;
@@ -153,7 +134,7 @@ module _ (members : ℕ) (H : List Event) (replica : ℕ) (object : Id) where
       (not_decided (orphan_decided H (Knows (before position H) replica) known object)))))
 
   pub done_or_not : Decided (HasDone members H replica object)
-  done_or_not = as_decided
+  done_or_not = decided_from
       (λ some. record { position = some.0; done = some.1 }) (λ has. (has.position, has.done))
       (some_position H (IsDone members H replica object) done_decided
       (λ position there. at_within there.collect))

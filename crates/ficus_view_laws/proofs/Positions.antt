@@ -4,12 +4,11 @@ use Rattle.std.proofs.lemmas.Bool.{cases_lt, cases_eq}
 use Rattle.ficus_ids.specs.Members.{IsMember}
 use Rattle.ficus_ids.specs.declared.id.Id.{Id}
 use Rattle.ficus_model.specs.declared.event.Event.{Event}
-use Rattle.ficus_model.specs.declared.event.Event.TheVariants.{Update, Ask, Serve, Accept, Collect, Restart}
+use Rattle.ficus_model.specs.declared.event.Event.TheVariants.{Collect}
 use Rattle.ficus_model.specs.declared.event.Op.{Op}
 use Rattle.ficus_model.specs.Events.{IsAt, IsUpdate}
 use Rattle.ficus_laws.proofs.Positions.{at_exists, at_same, at_within}
-use Rattle.ficus_laws.proofs.Past.{update_numbered}
-use Rattle.ficus_laws.proofs.Deciding.{Decided, HasLast, NoneBelow, last_or_none}
+use Rattle.ficus_laws.proofs.Deciding.{Decided, HasLast, NoneBelow, decided_from, last_or_none, update_decided}
 
 -- where something is only at positions of the history, it is decided whether it is at one
 pub some_position : (H : List Event) (P : ℕ → Type 0) → ((position : ℕ) → Decided (P position)) →
@@ -49,23 +48,10 @@ pub record HasUpdateAt (H : List Event) (position : ℕ) : Type 0 where
   pub update : IsUpdate H position number op
 
 pub update_or_none : (H : List Event) (position : ℕ) → Decided (HasUpdateAt H position)
-update_or_none H position = go (cases_lt position (length H))
-  where
-    none : (event : Event) → IsAt H position event → ((by : ℕ) (op : Op) → event ≡ Update by op → ⊥) →
-        Decided (HasUpdateAt H position)
-    none event at other = inr (λ has. other has.number.replica has.op (at_same at has.update.at))
-
-    is : (event : Event) → IsAt H position event → Decided (HasUpdateAt H position)
-    is (Update by op) at = inl (record { number = _; op = op; update = update_numbered at })
-    is (Ask by to) at = none (Ask by to) at (λ q op e. cc)
-    is (Serve by ask) at = none (Serve by ask) at (λ q op e. cc)
-    is (Accept by serve) at = none (Accept by serve) at (λ q op e. cc)
-    is (Collect by) at = none (Collect by) at (λ q op e. cc)
-    is (Restart by) at = none (Restart by) at (λ q op e. cc)
-
-    go : (position < length H) ⊎ (length H ≤ position) → Decided (HasUpdateAt H position)
-    go (inl l) = let found = at_exists H position l in is found.0 found.1
-    go (inr h) = inr (λ has. omega (arith, at_within has.update.at))
+update_or_none H position = decided_from
+    (λ with. record { number = with.number; op = with.op; update = with.update })
+    (λ has. record { number = has.number; op = has.op; update = has.update; holds = tt })
+    (update_decided H (λ number op. Unit {0}) (λ number op. inl tt) position)
 
 -- whether the replica collects at a position
 pub collect_decided : (H : List Event) (position replica : ℕ) → Decided (IsAt H position (Collect replica))
@@ -81,12 +67,8 @@ collect_decided H position replica = go (cases_lt position (length H))
     own by at (inr other) = inr (λ is. other (let e : Collect by ≡ Collect replica = at_same at is in cc))
 
     is : (event : Event) → IsAt H position event → Decided (IsAt H position (Collect replica))
-    is (Update by op) at = none (Update by op) at (λ e. cc)
-    is (Ask by to) at = none (Ask by to) at (λ e. cc)
-    is (Serve by ask) at = none (Serve by ask) at (λ e. cc)
-    is (Accept by serve) at = none (Accept by serve) at (λ e. cc)
     is (Collect by) at = own by at (cases_eq by replica)
-    is (Restart by) at = none (Restart by) at (λ e. cc)
+    is event at = none event at (λ e. cc)
 
     go : (position < length H) ⊎ (length H ≤ position) → Decided (IsAt H position (Collect replica))
     go (inl l) = let found = at_exists H position l in is found.0 found.1

@@ -1,5 +1,5 @@
-//! The laws of what a replica shows and holds that go beyond single events: where detached directories lie, what is left
-//! after a collection, that a replica marks what it holds removed, and in which one state each entry stands.
+//! The laws of what a replica shows and holds that go beyond single events: where detached directories lie, what is
+//! left after a collection, that a replica marks what it holds removed, and in which one state each entry stands.
 //!
 //! A law is the contract of a function with an empty body. Its lemmas stand in `proofs/`, for the proofs of
 //! the crates above.

@@ -7,8 +7,8 @@ pub fn removed_are_marked()
     ensures all { RemovedIsMarked }
 {}
 
-/// An identifier stands at a member in one state, and what an Accept leaves under it is what the merge table makes of what
-/// stood there and, when it served, at the server, and nothing else.
+/// An identifier stands at a member in one state, and what an Accept leaves under it is what the merge table makes of
+/// what stood there and, when it served, at the server, and nothing else.
 pub fn one_state()
     ensures stands { StandsOnce }
     ensures accepted { AcceptLeavesOne }

@@ -1,29 +1,17 @@
 -- A file of which two updates clash is in conflict.
-use Rattle.std.proofs.Common.{◌≡◌, ℕ, List, Some, None, ap, ◌∙◌}
-use Rattle.std.proofs.lemmas.Option.{same_Some}
+use Rattle.std.proofs.Common.{◌≡◌, ℕ, List, [], Some, ap, ◌∙◌}
+use Rattle.std.specs.Option.{unwrap_or}
 use Rattle.ficus_ids.specs.declared.id.Id.{Id}
 use Rattle.ficus_laws.proofs.Positions.{at_same}
 use Rattle.ficus_model.specs.declared.event.Event.{Event}
 use Rattle.ficus_model.specs.declared.event.Op.{Op}
-use Rattle.ficus_model.specs.declared.event.Op.TheVariants.{Make, Link, Remove, Move, Write, Settle, Resolve, Adopt, Discard}
 use Rattle.ficus_model.specs.Known.{Knows}
-use Rattle.ficus_model.specs.Versions.{IsVersion, HasBytes, IsInConflict, bytes_of}
+use Rattle.ficus_model.specs.Versions.{IsVersion, HasBytes, IsInConflict, bytes_of, given_by, given_in}
 use Rattle.ficus_why.specs.declared.clash.Clash.{Clash}
-use Rattle.ficus_why.specs.Clash.{Gives, IsClash, given_by, written}
-
-gives_none : (bytes : List ℕ) → None ≡ Some bytes → ⊥
-gives_none bytes is = cc
+use Rattle.ficus_why.specs.Clash.{Gives, IsClash}
 
 bytes_given : (op : Op) (bytes : List ℕ) → given_by op ≡ Some bytes → bytes_of op ≡ bytes
-bytes_given (Make dir name kind) bytes is = absurd (gives_none bytes is)
-bytes_given (Link dir name target) bytes is = absurd (gives_none bytes is)
-bytes_given (Remove entries target) bytes is = absurd (gives_none bytes is)
-bytes_given (Move entries dir name target) bytes is = absurd (gives_none bytes is)
-bytes_given (Write file other) bytes is = same_Some other bytes is
-bytes_given (Settle file other) bytes is = same_Some other bytes is
-bytes_given (Resolve file other) bytes is = same_Some other bytes is
-bytes_given (Adopt file dir name) bytes is = absurd (gives_none bytes is)
-bytes_given (Discard file) bytes is = absurd (gives_none bytes is)
+bytes_given op bytes is = ap (λ given. unwrap_or given []) is
 
 has_given : {H : List Event} {file : Id} {position : ℕ} {bytes : List ℕ} → IsVersion H file position
     → Gives H position bytes → HasBytes H position bytes
@@ -31,7 +19,7 @@ has_given {bytes} version gives = record {
   number = version.number;
   op = version.op;
   update = version.update;
-  are = bytes_given version.op bytes (ap written (at_same version.update.at gives.at) ∙ gives.gives);
+  are = bytes_given version.op bytes (ap given_in (at_same version.update.at gives.at) ∙ gives.gives);
 }
 
 pub in_conflict : (H : List Event) (clash : Clash) → IsClash H clash

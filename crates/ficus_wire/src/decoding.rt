@@ -10,9 +10,9 @@ ghost use Rattle.ficus_file.specs.declared.file.FileReplica.{FileReplica as File
 
 use crate::message::Route;
 use crate::{Letter, Message, WireFault};
-use ficus_codec::read_all_lists;
-use ficus_entry::{Entries, Entry};
-use ficus_file::{FileReplica, Files};
+use ficus_codec::{Known, read_all_rows};
+use ficus_entry::{Entries, SharedEntry};
+use ficus_file::{Files, SharedFile};
 use ficus_formats::{ReadFault, Reader};
 use ficus_ids::{Listed, Members, Memory};
 use std::alloc::Global;
@@ -50,18 +50,24 @@ fn read_answer(
     alloc: Global,
     reader: Reader<'_>,
     members: Members,
-) -> Result<(Route, (Listed<Entry>, Listed<FileReplica>)), ReadFault>
+    known: &Known,
+) -> Result<(Route, (Listed<SharedEntry>, Listed<SharedFile>)), ReadFault>
     ensures reads { ReadsAll (answer members) reader.entry result }
     ensures memory { IsErrOf result ReadFault.Memory → BeginsRoute members reader.entry }
 {
     let mut rest = reader;
     let way = read_route(&mut rest, members)?;
-    let tables = read_all_lists(alloc, rest, members)?;
+    let tables = read_all_rows(alloc, rest, members, known)?;
     Ok((way, tables))
 }
 
 // The message that the bytes spell which are left, from the first to the last.
-fn read_message(alloc: Global, reader: Reader<'_>, members: Members) -> Result<Letter, ReadFault>
+fn read_message(
+    alloc: Global,
+    reader: Reader<'_>,
+    members: Members,
+    known: &Known,
+) -> Result<Letter, ReadFault>
     ensures reads { ReadsLetter members reader.entry result }
     ensures memory { IsErrOf result ReadFault.Memory → BeginsAnswer members reader.entry }
 {
@@ -75,7 +81,9 @@ fn read_message(alloc: Global, reader: Reader<'_>, members: Members) -> Result<L
             Ok(Letter::Ask { from, to, number })
         }
         2 => {
-            let (Route { from, to, number }, (entries, files)) = read_answer(alloc, rest, members)?;
+            let (Route { from, to, number }, (entries, files)) = read_answer(
+                alloc, rest, members, known,
+            )?;
             Ok(Letter::Answer {
                 from,
                 to,
@@ -88,9 +96,15 @@ fn read_message(alloc: Global, reader: Reader<'_>, members: Members) -> Result<L
     }
 }
 
-/// The message between members that the bytes spell, from the first to the last, as it is read. `NotMessage` comes
-/// exactly where they spell none; `Memory` only where an answer's kind and route stand in front, which rows follow.
-pub fn read_letter(alloc: Global, bytes: &[u8], members: Members) -> Result<Letter, WireFault>
+/// The message between members that the bytes spell, from the first to the last, as it is read. Rows of an answer that
+/// are known are shared. `NotMessage` comes exactly where they spell none; `Memory` only where an answer's kind and route
+/// stand in front, which rows follow.
+pub fn read_letter(
+    alloc: Global,
+    bytes: &[u8],
+    members: Members,
+    known: &Known,
+) -> Result<Letter, WireFault>
     ensures fits { IfOk result (λ letter. FitsMessage members (message_of letter)) }
     ensures spelled { IfOk result (λ letter. bytes.now ≡ message_bytes members (message_of letter)) }
     ensures not_message { IsErrOf result WireFault.NotMessage →
@@ -98,7 +112,7 @@ pub fn read_letter(alloc: Global, bytes: &[u8], members: Members) -> Result<Lett
     ensures memory { IsErrOf result WireFault.Memory → BeginsAnswer members bytes.now }
 {
     let _ = members.count();
-    let letter = read_message(alloc, Reader::new(bytes), members)?;
+    let letter = read_message(alloc, Reader::new(bytes), members, known)?;
     Ok(letter)
 }
 
@@ -117,8 +131,8 @@ fn message_in(alloc: Global, letter: Letter) -> Result<Message, Memory>
             entries,
             files,
         } => {
-            let entries = Entries::of(alloc, entries.items())?;
-            let files = Files::of(alloc, files.into_vec())?;
+            let entries = Entries::of_rows(alloc, entries.items())?;
+            let files = Files::of_rows(alloc, files.items())?;
             Ok(Message::Answer {
                 from,
                 to,
@@ -142,10 +156,19 @@ pub fn decode(alloc: Global, bytes: &[u8], members: Members) -> Result<Message, 
     ensures memory { IsErrOf result WireFault.Memory → BeginsAnswer members bytes.now }
 {
     let _ = members.count();
-    let letter = read_letter(alloc, bytes, members)?;
+    let letter = read_letter(alloc, bytes, members, &Known::none(alloc))?;
     match message_in(alloc, letter) {
         Ok(message) => Ok(message),
         Err(Memory) => Err(WireFault::Memory),
+    }
+}
+
+/// Who an answer in the bytes is for, or `None` where none seems to be in them. Whether one is, reading finds: this is
+/// asked before, for whose rows are known.
+pub fn receiver_in(bytes: &[u8]) -> Option<u8> {
+    match bytes {
+        [1, 2, _, to, ..] => Some(*to),
+        _ => None,
     }
 }
 

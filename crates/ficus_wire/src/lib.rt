@@ -6,7 +6,7 @@ mod encoding;
 mod message;
 mod wire_fault;
 
-pub use decoding::{decode, one_message, read_letter, tables_in};
+pub use decoding::{decode, one_message, read_letter, receiver_in, tables_in};
 pub use encoding::encode;
 pub use message::{Letter, Message};
 pub use wire_fault::WireFault;

@@ -1,5 +1,5 @@
-use ficus_entry::{Entries, Entry};
-use ficus_file::{FileReplica, Files};
+use ficus_entry::{Entries, SharedEntry};
+use ficus_file::{Files, SharedFile};
 use ficus_ids::Listed;
 
 /// What one replica sends to another.
@@ -21,7 +21,8 @@ pub enum Message {
     },
 }
 
-/// A message as it is read, before its tables are made from their rows: who takes them walks along them once.
+/// A message as it is read, before its tables are made from their rows: who takes them walks along them once, and may
+/// share them.
 #[derive(Drop)]
 pub enum Letter {
     /// As [`Message::Ask`].
@@ -35,8 +36,8 @@ pub enum Letter {
         from: u8,
         to: u8,
         number: u64,
-        entries: Listed<Entry>,
-        files: Listed<FileReplica>,
+        entries: Listed<SharedEntry>,
+        files: Listed<SharedFile>,
     },
 }
 

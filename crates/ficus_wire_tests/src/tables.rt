@@ -1,8 +1,11 @@
 // Tables that are written out, and what is no tables.
 use crate::variants::{Change, changed};
 use ficus_codec::{
-    TakeFault, put_tables, take_id, take_tables, take_u8, take_u16, take_u32, take_u64,
+    Known, ReadFault, Reader, TakeFault, put_tables, read_all_rows, take_id, take_tables, take_u8,
+    take_u16, take_u32, take_u64,
 };
+use ficus_entry::Entries;
+use ficus_file::Files;
 use ficus_ids::{Id, Members, Memory};
 use std::alloc::Global;
 use std::test::Fail;
@@ -133,6 +136,51 @@ fn tables_have_one_spelling(rt: HostRuntime) -> Result<(), Fail> {
     assert!(rt; are_refused(alloc, &REMOVED, &NOT_REMOVED, members)?);
     assert!(rt; are_refused(alloc, &APART, &NOT_APART, members)?);
     assert!(rt; !stay_so(alloc, &[0; 7], members)?);
+    Ok(())
+}
+
+// Whether the bytes are written again as they were read where the rows of other tables are known.
+fn stay_so_beside(
+    alloc: Global,
+    bytes: &[u8],
+    known: &[u8],
+    members: Members,
+) -> Result<bool, Memory> {
+    let Ok((entries, files, _)) = take_tables(alloc, known, 0, members) else {
+        return Ok(false);
+    };
+    let known = Known::of(&entries, &files)?;
+    match read_all_rows(alloc, Reader::new(bytes), members, &known) {
+        Ok((entries, files)) => {
+            let entries = Entries::of_rows(alloc, entries.items())?;
+            let files = Files::of_rows(alloc, files.items())?;
+            let mut out = Vec::new(alloc);
+            put_tables(&mut out, &entries, &files, members)?;
+            Ok(out.as_slice() == bytes)
+        }
+        Err(ReadFault::Unspelled) => Ok(false),
+        Err(ReadFault::Memory) => Err(Memory),
+    }
+}
+
+// Other tables with the same identifiers: the removed entry has another second set, and the file another cover.
+const OTHER_SET: Change = Change { place: 41, byte: 0 };
+
+const OTHER_COVER: Change = Change { place: 70, byte: 1 };
+
+#[test]
+fn what_is_known_changes_nothing_that_is_read(rt: HostRuntime) -> Result<(), Fail> {
+    let alloc = rt.alloc();
+    let members = Members::new(2).ok_or("two")?;
+    let other_set = changed(alloc, &REMOVED, OTHER_SET)?;
+    let other_cover = changed(alloc, &REMOVED, OTHER_COVER)?;
+    assert!(rt; stay_so_beside(alloc, &REMOVED, &REMOVED, members)?);
+    assert!(rt; stay_so_beside(alloc, &REMOVED, &other_set, members)?);
+    assert!(rt; stay_so_beside(alloc, &REMOVED, &other_cover, members)?);
+    assert!(rt; stay_so_beside(alloc, &other_set, &REMOVED, members)?);
+    assert!(rt; stay_so_beside(alloc, &DIRECTORY, &REMOVED, members)?);
+    assert!(rt; stay_so_beside(alloc, &APART, &APART, members)?);
+    assert!(rt; stay_so_beside(alloc, &APART, &REMOVED, members)?);
     Ok(())
 }
 

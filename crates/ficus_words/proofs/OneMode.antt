@@ -10,7 +10,7 @@ use Rattle.ficus_words.specs.Given.{Texts, texts_of, IsNumber, IsNumberOrMost}
 use Rattle.ficus_words.specs.Mode.{IsSize, AsksFor, AreWords, AreNoWords, IsReadingOf}
 use Rattle.ficus_words.proofs.Spelling.{spelled_of}
 use Rattle.ficus_words.specs.declared.mode.Mode.{Mode}
-use Rattle.ficus_words.specs.declared.mode.Mode.TheVariants.{Init, Run, Replay, Volumes, Gen}
+use Rattle.ficus_words.specs.declared.mode.Mode.TheVariants.{Init, Run, Check, Replay, Volumes, Gen}
 use Rattle.ficus_words.specs.declared.mode.Size.{Size}
 
 same_text : {text : Option Text} (one other : Text) → text ≡ Some one → text ≡ Some other → one ≡ other
@@ -41,6 +41,7 @@ same_size texts one other is also = λ i. record {
 abbrev word_of : Mode → Text
 word_of (Init size root) = codes "init"
 word_of (Run root) = codes "run"
+word_of (Check root) = codes "check"
 word_of (Replay size) = codes "replay"
 word_of (Volumes size count) = codes "volumes"
 word_of (Gen members seed steps) = codes "gen"
@@ -48,6 +49,7 @@ word_of (Gen members seed steps) = codes "gen"
 asks_by_word : (texts : Texts) (mode : Mode) → AsksFor texts mode → texts.mode ≡ Some (word_of mode)
 asks_by_word texts (Init size root) is = is.mode
 asks_by_word texts (Run root) is = is.mode
+asks_by_word texts (Check root) is = is.mode
 asks_by_word texts (Replay size) is = is.mode
 asks_by_word texts (Volumes size count) is = is.mode
 asks_by_word texts (Gen members seed steps) is = is.mode
@@ -56,6 +58,8 @@ one_asked : (texts : Texts) (mode other : Mode) → AsksFor texts mode → AsksF
 one_asked texts (Init size root) (Init same folder) is also = λ i. Init (same_size texts size same is.sized also.sized i)
     (same_text root folder is.folder.is also.folder.is i)
 one_asked texts (Run root) (Run folder) is also = ap (λ (t : Text). Run t) (same_text root folder is.folder.is also.folder.is)
+one_asked texts (Check root) (Check folder) is also =
+    ap (λ (t : Text). Check t) (same_text root folder is.alone.folder.is also.alone.folder.is)
 one_asked texts (Replay size) (Replay same) is also = ap (λ (s : Size). Replay s) (same_size texts size same is.sized also.sized)
 one_asked texts (Volumes size count) (Volumes same number) is also = λ i. Volumes
     (same_size texts size same is.sized also.sized i)

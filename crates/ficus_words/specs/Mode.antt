@@ -3,7 +3,7 @@ use Rattle.std.specs.Prelude.{◌≡◌, ℕ, List, Some, None, codes, Result, O
 use Rattle.ficus_words.specs.Grammar.{Text, Use, Gives}
 use Rattle.ficus_words.specs.Given.{Texts, texts_of, IsNumber, IsNumberOrMost, IsSomeText}
 use Rattle.ficus_words.specs.declared.mode.Mode.{Mode}
-use Rattle.ficus_words.specs.declared.mode.Mode.TheVariants.{Init, Run, Replay, Volumes, Gen}
+use Rattle.ficus_words.specs.declared.mode.Mode.TheVariants.{Init, Run, Check, Replay, Volumes, Gen}
 use Rattle.ficus_words.specs.declared.mode.Size.{Size}
 use Rattle.ficus_words.specs.declared.fault.WordsFault.{WordsFault}
 use Rattle.ficus_words.specs.declared.fault.WordsFault.TheVariants.{Usage, Memory}
@@ -30,6 +30,12 @@ pub record HasNoScript (texts : Texts) : Type 0 where
   pub seed : texts.seed ≡ None
   pub steps : texts.steps ≡ None
 
+-- a folder is given, and nothing of how large a volume is and to make a script from
+pub record HasFolderAlone (texts : Texts) (root : Text) : Type 0 where
+  pub folder : IsSomeText texts.root root
+  pub no_size : HasNoSize texts
+  pub no_script : HasNoScript texts
+
 -- the texts of each mode: what is listed for it, and nothing else
 pub record IsInit (texts : Texts) (size : Size) (root : Text) : Type 0 where
   pub mode : texts.mode ≡ Some (codes "init")
@@ -43,6 +49,10 @@ pub record IsRun (texts : Texts) (root : Text) : Type 0 where
   pub folder : IsSomeText texts.root root
   pub no_size : HasNoSize texts
   pub no_script : HasNoScript texts
+
+pub record IsCheck (texts : Texts) (root : Text) : Type 0 where
+  pub mode : texts.mode ≡ Some (codes "check")
+  pub alone : HasFolderAlone texts root
 
 pub record IsReplay (texts : Texts) (size : Size) : Type 0 where
   pub mode : texts.mode ≡ Some (codes "replay")
@@ -71,6 +81,7 @@ pub record IsGen (texts : Texts) (members seed steps : ℕ) : Type 0 where
 abbrev pub AsksFor : Texts → Mode → Type 0
 AsksFor texts (Init size root) = IsInit texts size root
 AsksFor texts (Run root) = IsRun texts root
+AsksFor texts (Check root) = IsCheck texts root
 AsksFor texts (Replay size) = IsReplay texts size
 AsksFor texts (Volumes size count) = IsVolumes texts size count
 AsksFor texts (Gen members seed steps) = IsGen texts members seed steps

@@ -8,7 +8,8 @@ pub fn one_mode()
     ensures { (words : List Text) (mode other : Mode) → AreWords words mode → AreWords words other → mode ≡ other }
 {}
 
-/// The law that words give one list of uses at most: of each name one value, in one order. It does nothing when it runs.
+/// The law that words give one list of uses at most: of each name one value, in one order. It does nothing when it
+/// runs.
 pub fn one_use()
     ensures { (words : List Text) (one other : List Use) → Gives words one → Gives words other → one ≡ other }
 {}

@@ -1,6 +1,6 @@
-ghost use Rattle.std.specs.Prelude.{◌≡◌, ◌↔◌, Some, codes, ok_or, IsTrue, IfSome, IfNone};
+ghost use Rattle.std.specs.Prelude.{◌≡◌, ◌↔◌, ℕ, List, Some, codes, ok_or, IsTrue, IsErrOf, IfOk, IfSome, IfNone};
 ghost use Rattle.ficus_words.specs.Given.{given_texts};
-ghost use Rattle.ficus_words.specs.Mode.{HasNoLimit, HasNoScript, HasNoSize, IsReadingOf, IsSize};
+ghost use Rattle.ficus_words.specs.Mode.{HasFolderAlone, HasNoLimit, HasNoScript, HasNoSize, IsReadingOf, IsSize};
 ghost use Rattle.ficus_words.specs.declared.fault.WordsFault.TheVariants.{Usage};
 ghost use Rattle.ficus_words.specs.declared.mode.Size.{Size as SizeValue};
 
@@ -32,6 +32,10 @@ pub enum Mode {
     Run {
         root: Root,
     },
+    /// `check ROOT`: to judge what the files of each replica in a folder hold.
+    Check {
+        root: Root,
+    },
     /// `replay --members N [--ids I] [--bytes B]`: to run a script on a fresh volume in memory.
     Replay {
         size: Size,
@@ -58,6 +62,7 @@ pub(crate) fn read_mode(alloc: Global, given: &Given<'_>) -> Result<Mode, WordsF
     match given.mode {
         Some(mode) if mode == "init" => read_init(alloc, given),
         Some(mode) if mode == "run" => read_run(alloc, given),
+        Some(mode) if mode == "check" => read_check(alloc, given),
         Some(mode) if mode == "replay" => read_replay(given).ok_or(WordsFault::Usage),
         Some(mode) if mode == "volumes" => read_volumes(given).ok_or(WordsFault::Usage),
         Some(mode) if mode == "gen" => read_gen(given).ok_or(WordsFault::Usage),
@@ -83,11 +88,28 @@ fn read_run(alloc: Global, given: &Given<'_>) -> Result<Mode, WordsFault>
     requires { (given_texts given.now).mode ≡ Some (codes "run") }
     ensures { IsReadingOf (given_texts given.now) result }
 {
+    let root = read_folder_alone(alloc, given)?;
+    Ok(Mode::Run { root })
+}
+
+fn read_check(alloc: Global, given: &Given<'_>) -> Result<Mode, WordsFault>
+    requires { (given_texts given.now).mode ≡ Some (codes "check") }
+    ensures { IsReadingOf (given_texts given.now) result }
+{
+    let root = read_folder_alone(alloc, given)?;
+    Ok(Mode::Check { root })
+}
+
+// The folder, where nothing else is given besides the mode. `Usage` comes exactly where there is none, or more is given.
+fn read_folder_alone(alloc: Global, given: &Given<'_>) -> Result<Root, WordsFault>
+    ensures found { IfOk result (HasFolderAlone (given_texts given.now)) }
+    ensures usage { IsErrOf result WordsFault.Usage → (root : List ℕ)
+        → HasFolderAlone (given_texts given.now) root → ⊥ }
+{
     if !has_no_size(given) || !has_no_script(given) {
         return Err(WordsFault::Usage);
     }
-    let root = read_root(alloc, given.root)?;
-    Ok(Mode::Run { root })
+    read_root(alloc, given.root)
 }
 
 fn read_replay(given: &Given<'_>) -> Option<Mode>

@@ -10,7 +10,7 @@ struct Row {
     lines: &'static [&'static str],
 }
 
-const ROWS: [Row; 19] = [
+const ROWS: [Row; 21] = [
     Row {
         mode: "replay 2 100000 4194304",
         lines: &[
@@ -66,6 +66,14 @@ const ROWS: [Row; 19] = [
     Row {
         mode: "run a=b",
         lines: &["ficus run a=b"],
+    },
+    Row {
+        mode: "check vol",
+        lines: &["ficus check vol", "ficus check -- vol"],
+    },
+    Row {
+        mode: "check run",
+        lines: &["ficus check run"],
     },
     Row {
         mode: "gen 2 1 3",
@@ -151,6 +159,12 @@ const ROWS: [Row; 19] = [
             "ficus run vol vol",
             "ficus run vol --members 2",
             "ficus run vol --ids 2",
+            "ficus check",
+            "ficus check ",
+            "ficus check vol vol",
+            "ficus check vol --members 2",
+            "ficus check vol --volumes 1",
+            "ficus check vol --seed 1",
             "ficus run -x",
             "ficus gen --members 2 --seed 1",
             "ficus gen --members 2 --steps 1",
@@ -205,6 +219,10 @@ fn mode_shown(alloc: Global, mode: &Mode) -> Result<String, AllocError> {
         Mode::Run { root } => {
             let folder = root.text();
             format!(in alloc; "run {folder}")
+        }
+        Mode::Check { root } => {
+            let folder = root.text();
+            format!(in alloc; "check {folder}")
         }
         Mode::Replay { size } => {
             let size = size_shown(alloc, *size)?;

@@ -21,11 +21,12 @@ module _ {D : Type 0} (kept : List ℕ → List ℕ → Option Kept) (seen : D �
     fits = opens.fits;
     holds = opens.holds;
     may = record {
-      me = opens.may.me;
-      members = opens.may.members ∙ sym is.may.members;
-      ids = opens.may.ids ∙ sym is.may.ids;
-      bytes = opens.may.bytes ∙ sym is.may.bytes;
-      generation = opens.may.generation;
+      own = opens.may.own;
+      same = record {
+        members = opens.may.same.members ∙ sym is.may.same.members;
+        ids = opens.may.same.ids ∙ sym is.may.same.ids;
+        bytes = opens.may.same.bytes ∙ sym is.may.same.bytes;
+      };
     };
   }
 
@@ -38,7 +39,7 @@ module _ {D : Type 0} (kept : List ℕ → List ℕ → Option Kept) (seen : D �
       let is_one = (read.each 1 one.0 one.1).1 in
       let opens_one = by_other read.first saved_one saved_one 1 is_one is_one in
       let within = bad.member saved_one opens_one in
-      let as_many = is_one.may.members in
+      let as_many = is_one.may.same.members in
       let counted = read.counted in
       let at =
       number_exists members r (record { at_least = bad.some; at_most = omega (arith, within, as_many, counted) }) in

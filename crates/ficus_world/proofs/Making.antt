@@ -13,7 +13,8 @@ use Rattle.ficus_leads.proofs.Led.{held_at}
 use Rattle.ficus_stable.specs.Holds.{HoldsOneOf}
 use Rattle.ficus_runs.specs.Numbered.{IsNumbered}
 use Rattle.ficus_world.specs.Kills.{AllRest}
-use Rattle.ficus_world.specs.Opening.{AreEmpty, AreMade, AreMadeInPart, AreSynced, IsEmptyPair, IsFirstOccupied, IsFoundFault, Steady}
+use Rattle.ficus_check.specs.Judged.{IsEmptyPair}
+use Rattle.ficus_world.specs.Opening.{AreEmpty, AreMade, AreMadeInPart, AreSynced, IsFirstOccupied, IsFoundFault, Steady}
 use Rattle.ficus_world.specs.declared.opening.WorldFault.{WorldFault}
 use Rattle.ficus_world.specs.declared.opening.WorldFault.TheVariants.{Image, Memory, Occupied, Store}
 use Rattle.ficus_run_laws.proofs.Numbers.{number_exists}

@@ -4,7 +4,7 @@ use Rattle.std.proofs.Math.Seq.{drop-append_seam}
 use Rattle.std.proofs.lemmas.List.{ext_get_or}
 use Rattle.ficus_ids.specs.Members.{IsMember}
 use Rattle.ficus_model.specs.declared.event.Event.{Event}
-use Rattle.ficus_model.specs.declared.event.Event.TheVariants.{Update, Ask, Serve, Accept, Collect, Restart}
+use Rattle.ficus_model.specs.declared.event.Event.TheVariants.{Serve, Accept}
 use Rattle.ficus_model.specs.Events.{raised}
 use Rattle.ficus_model.specs.Lawful.{Volume, IsLawful}
 use Rattle.ficus_replica.proofs.Standing.{replica_once}
@@ -27,12 +27,9 @@ use Rattle.ficus_world.proofs.Pending.{comes_now}
 use Rattle.ficus_world.proofs.Standing.{fuses_of, fuses_stand, member_stands, raise, replica_stands, standing_of}
 
 lowered_again : (n : ℕ) (event : Event) → lowered n (raised n event) ≡ event
-lowered_again n (Update by op) = refl
-lowered_again n (Ask by to) = refl
 lowered_again n (Serve by ask) = let same : ask + n - n ≡ ask = omega arith in ap (Serve by) same
 lowered_again n (Accept by serve) = let same : serve + n - n ≡ serve = omega arith in ap (Accept by) same
-lowered_again n (Collect by) = refl
-lowered_again n (Restart by) = refl
+lowered_again n event = refl
 
 all_lowered : (n : ℕ) (events : List Event) → map (lowered n) (map (raised n) events) ≡ events
 all_lowered n [] = refl

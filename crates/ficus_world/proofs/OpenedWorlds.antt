@@ -6,6 +6,7 @@ use Rattle.std.proofs.lemmas.Bool.{cases_eq}
 use Rattle.std.proofs.lemmas.List.{append-nil, length-replicate, get_or-replicate, length-take-le, get_or-take, length-map, get_or-map}
 use Rattle.std.proofs.lemmas.List.Sums.{count_by-le-length}
 use Rattle.std.proofs.lemmas.Option.{get_or_from_slice_get}
+use Rattle.ficus_check.proofs.Owning.{holds_same}
 use Rattle.ficus_disk.specs.declared.pair.Pair.{Pair}
 use Rattle.ficus_ids.specs.Members.{IsCount, IsMember}
 use Rattle.ficus_keep.specs.Kept.{Kept, found_in}
@@ -35,7 +36,7 @@ use Rattle.ficus_world.specs.declared.member.Member.{Member}
 use Rattle.ficus_world.specs.declared.member.MemberState.{MemberState}
 use Rattle.ficus_world.specs.declared.member.MemberState.TheVariants.{Up}
 use Rattle.ficus_run_laws.proofs.Numbers.{number_exists}
-use Rattle.ficus_world.proofs.Openings.{holds_same, opens_of, opens_same}
+use Rattle.ficus_world.proofs.Openings.{opens_of, opens_same}
 use Rattle.ficus_run_laws.proofs.Starts.{restarts_more, restarts_raised, start_lawful}
 use Rattle.ficus_world.proofs.Steadies.{steady_back}
 
@@ -62,11 +63,11 @@ module _ (members : List Member) (opened : AreOpened members) (count : IsCount (
       → IsSoundMember (length members) events r member
   sound events r member at =
       let so = opened.each r first_member.0 member first_member.1 at in
-      let generation = so.may.generation in
+      let generation = so.may.own.generation in
       record {
         replica = record {
-          me = so.may.me;
-          members = so.may.members ∙ counted first_member.0 first_member.1;
+          me = so.may.own.me;
+          members = so.may.same.members ∙ counted first_member.0 first_member.1;
           fits = so.fits;
           generation = omega (arith, generation);
         };
@@ -120,11 +121,12 @@ module _ {D : Type 0} (kept : List ℕ → List ℕ → Option Kept) (seen : D �
         fits = keeps.fits;
         holds = keeps.holds;
         may = record {
-          me = keeps.is.me;
-          members = keeps.is.members ∙ sym first.is.members;
-          ids = keeps.is.ids ∙ sym first.is.ids;
-          bytes = keeps.is.bytes ∙ sym first.is.bytes;
-          generation = omega (arith, saves, most, few);
+          own = record { me = keeps.is.me; generation = omega (arith, saves, most, few) };
+          same = record {
+            members = keeps.is.members ∙ sym first.is.members;
+            ids = keeps.is.ids ∙ sym first.is.ids;
+            bytes = keeps.is.bytes ∙ sym first.is.bytes;
+          };
         };
       }
 

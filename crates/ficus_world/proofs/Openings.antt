@@ -3,10 +3,12 @@ use Rattle.std.proofs.Common.{◌≡◌, ℕ, ◌+◌, ◌<◌, ◌≤◌, Bool,
 use Rattle.std.specs.Prelude.{◌↔◌, slice_set, IsTrue}
 use Rattle.std.proofs.lemmas.Bool.{cases_lt}
 use Rattle.std.proofs.lemmas.List.{length_push}
+use Rattle.ficus_check.specs.Judged.{HoldsNoneOf, IsOfVolume, IsOwn, IsSound, MayOpen}
+use Rattle.ficus_check.specs.declared.checked.Checked.{Checked}
+use Rattle.ficus_check.proofs.Owning.{is_false}
 use Rattle.ficus_disk.specs.declared.pair.Pair.{Pair}
 use Rattle.ficus_ids.specs.Members.{IsMember}
 use Rattle.ficus_keep.specs.Kept.{Kept, found_in}
-use Rattle.ficus_keep.specs.Pairs.{PairSame}
 use Rattle.ficus_saved.specs.Saved.{FitsImage}
 use Rattle.ficus_saved.specs.declared.saved.Saved.{Saved}
 use Rattle.ficus_leads.specs.Holds.{Holds, OneHeld}
@@ -15,7 +17,7 @@ use Rattle.ficus_stable.specs.Stable.{IsReady}
 use Rattle.ficus_stable.specs.declared.stable.Stable.{Stable}
 use Rattle.ficus_runs.specs.Numbered.{IsNumbered}
 use Rattle.ficus_world.specs.Disks.{AreDisksOf, HoldsFor, are_fused}
-use Rattle.ficus_world.specs.Opening.{AreOpened, HoldsNoImage, IsBad, IsFirstBad, IsOneMore, IsOpened, MayOpen, Opens, Steady, opened_member}
+use Rattle.ficus_world.specs.Opening.{AreOpened, IsBad, IsFirstBad, IsOneMore, IsOpened, Opens, Steady, opened_member}
 use Rattle.ficus_world.specs.declared.member.Member.{Member}
 use Rattle.ficus_world.specs.declared.member.MemberState.{MemberState}
 use Rattle.ficus_run_laws.proofs.Numbers.{number_once, number_read, number_exists, number_more, number_cases}
@@ -30,18 +32,15 @@ nothing_before : (members : List Member) → 1 ≡ length members + 1 → member
 nothing_before [] one = refl
 nothing_before (member ∷ members) one = absurd (omega (arith, one))
 
-is_false : (b : Bool) (P : Type 0) → b ≡ false → (IsTrue b ↔ P) → P → ⊥
-is_false b P not tells p = let yes = tells.1 p in absurd (cc)
-
 -- one member more is up, behind those that are
 module _ (members : List Member) (saved : Saved) (fused : Bool) (number : ℕ) (next : number ≡ length members + 1)
-    (opened : AreOpened members) (fits : FitsImage saved) (alone : members ≡ [] → MayOpen saved saved number)
-    (behind : (first : Member) → IsNumbered members 1 first → MayOpen first.replica.saved saved number) where
+    (opened : AreOpened members) (fits : FitsImage saved) (own : IsOwn saved number)
+    (behind : (first : Member) → IsNumbered members 1 first → IsOfVolume first.replica.saved saved) where
   abbrev new : List Member
   new = members ++ opened_member saved fused ∷ []
 
-  made : (first : Saved) → MayOpen first saved number → IsOpened first number (opened_member saved fused)
-  made first may = record { up = refl; asks = refl; fits = fits; may = may }
+  made : (first : Saved) → IsOfVolume first saved → IsOpened first number (opened_member saved fused)
+  made first same = record { up = refl; asks = refl; fits = fits; may = record { own = own; same = same } }
 
   each : (r : ℕ) (first member : Member)
       → IsNumbered members 1 first ⊎ ((1 ≡ length members + 1) × (first ≡ opened_member saved fused))
@@ -57,7 +56,7 @@ module _ (members : List Member) (saved : Saved) (fused : Bool) (number : ℕ) (
       subst (λ k. IsOpened first.replica.saved k member) (next ∙ sym last.0)
       (subst (IsOpened first.replica.saved number) (sym last.1)
       (subst (λ (m : Member). IsOpened m.replica.saved number (opened_member saved fused)) (sym one.1)
-      (made saved (alone (nothing_before members one.0)))))
+      (made saved (record { members = refl; ids = refl; bytes = refl }))))
 
   pub opened_more : AreOpened new
   opened_more = record {
@@ -133,10 +132,6 @@ module _ {K D : Type 0} (tells : Type 0) (kept : List ℕ → List ℕ → Optio
       ((are.each r member stable.0 pair at stable.1 at_pair).holds told)).holds
 
 module _ {D : Type 0} (kept : List ℕ → List ℕ → Option Kept) (seen : D → List ℕ) where
-  pub holds_same : (one two : Pair D) (saved : Saved) → PairSame seen one two → Holds (found_in kept seen two) saved
-      → Holds (found_in kept seen one) saved
-  holds_same one two saved same holds = held_at _ _ saved (ap₂ kept (sym same.a) (sym same.b)) holds
-
   -- what holds in what is read holds while that stays
   pub opens_same : (one two : List (Pair D)) (first saved : Saved) (r : ℕ) → Steady seen one two
       → Opens kept seen one first saved r → Opens kept seen two first saved r
@@ -156,12 +151,28 @@ module _ {D : Type 0} (kept : List ℕ → List ℕ → Option Kept) (seen : D �
       bad first saved (opens_same one two first first 1 steady opens_first)
       (opens_same one two first saved r steady opens)
 
-  -- of disks that hold no image no world is opened
+  -- of disks that hold nothing of their member's own no world is opened
   pub none_held : (disks : List (Pair D)) (number : ℕ) (before : Pair D) → IsNumbered disks number before
-      → HoldsNoImage kept seen before → IsBad kept seen disks number
+      → HoldsNoneOf kept seen number before → IsBad kept seen disks number
   none_held disks number before at none = λ first saved opens_first opens.
       none saved opens.fits
-      (subst (λ (p : Pair D). Holds (found_in kept seen p) saved) (number_once opens.is at) opens.holds)
+      (subst (λ (p : Pair D). Holds (found_in kept seen p) saved) (number_once opens.is at) opens.holds) opens.may.own
+
+  -- disks that are sound, and with which no world is opened, are of another volume than the first member's
+  pub sound_bad : (disks : List (Pair D)) (first : Saved) (r : ℕ) (pair : Pair D) (told : Checked)
+      → Opens kept seen disks first first 1 → IsNumbered disks r pair → IsSound kept seen r pair told
+      → IsBad kept seen disks r → (saved : Saved) × Holds (found_in kept seen pair) saved × (IsOfVolume first saved → ⊥)
+  sound_bad disks first r pair told opens at sound bad = (
+    sound.saved,
+    sound.holds,
+    λ same. bad first sound.saved opens (record {
+      pair = pair;
+      is = at;
+      fits = sound.fits;
+      holds = sound.holds;
+      may = record { own = sound.own; same = same };
+    }),
+  )
 
   -- the disks of members that were opened hold what these save
   module _ (members : List Member) (disks : List (Pair D)) (opened : AreOpened members)
@@ -185,9 +196,9 @@ module _ {D : Type 0} (kept : List ℕ → List ℕ → Option Kept) (seen : D �
     module _ (held_once : OneHeld) (number : ℕ) (before : Pair D) (read : Saved) (at : IsNumbered disks number before)
         (holds : Holds (found_in kept seen before) read)
         (next : number ≡ length members + 1) (answer : Bool) (refused : answer ≡ false)
-        (alone : members ≡ [] → IsTrue answer ↔ MayOpen read read number)
+        (alone : members ≡ [] → IsTrue answer)
         (behind : (first : Member) → IsNumbered members 1 first
-        → IsTrue answer ↔ MayOpen first.replica.saved read number) where
+        → IsTrue answer ↔ IsOfVolume first.replica.saved read) where
       read_is : (first saved : Saved) → Opens kept seen disks first saved number → saved ≡ read
       read_is first saved opens =
           held_once (found_in kept seen before) saved read
@@ -200,15 +211,8 @@ module _ {D : Type 0} (kept : List ℕ → List ℕ → Option Kept) (seen : D �
             let may =
             subst (λ (f : Saved). MayOpen f saved number) (first_is held_once first one.0 one.1 opens_first) opens.may in
             is_false answer _ refused (behind one.0 one.1)
-            (subst (λ (s : Saved). MayOpen one.0.replica.saved s number) (read_is first saved opens) may)
-        | inr none ↦
-            let number_one : number ≡ 1 = omega (arith, none, next) in
-            let first_read =
-            read_is first first
-            (subst (λ k. Opens kept seen disks first first k) (sym number_one) opens_first) in
-            let may = subst (λ (f : Saved). MayOpen f saved number) first_read opens.may in
-            is_false answer _ refused (alone (nothing_before members (omega (arith, none))))
-            (subst (λ (s : Saved). MayOpen read s number) (read_is first saved opens) may)
+            (subst (λ (s : Saved). MayOpen one.0.replica.saved s number) (read_is first saved opens) may).same
+        | inr none ↦ let so = alone (nothing_before members (omega (arith, none))) in absurd (cc)
       ]
 
   -- the first disks are those of no world

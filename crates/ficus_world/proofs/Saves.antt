@@ -16,6 +16,7 @@ use Rattle.ficus_leads.proofs.Led.{held_at}
 use Rattle.ficus_stable.specs.Holds.{HoldsOneOf}
 use Rattle.ficus_stable.specs.Stable.{IsReady}
 use Rattle.ficus_stable.specs.declared.stable.Stable.{Stable}
+use Rattle.ficus_stable.proofs.Ready.{still_ready}
 use Rattle.ficus_runs.specs.Numbered.{IsNumbered}
 use Rattle.ficus_runs.specs.Outcome.{IsArmed, OpeningFails, SaveFails}
 use Rattle.ficus_world.specs.declared.member.Member.{Member}
@@ -167,15 +168,8 @@ module _ {K D : Type 0} (tells : Type 0) (kept : List ℕ → List ℕ → Optio
   ready_seen : (stable : Stable K) (pair now_pair : Pair D) (saved : Saved) → PairSame seen pair now_pair
       → PairWithin may_leave pair now_pair → IsReady kept fits seen may_leave stable pair saved
       → IsReady kept fits seen may_leave stable now_pair saved
-  ready_seen stable pair now_pair saved same within ready = record {
-    holds = held_at _ _ saved (ap₂ kept same.a same.b) ready.holds;
-    settled = record {
-      holds = subst (λ (bytes : List ℕ). fits stable.keeper bytes (seen now_pair.b)) (sym same.a)
-          (subst (λ (bytes : List ℕ). fits stable.keeper (seen pair.a) bytes) (sym same.b) ready.settled.holds);
-      synced_a = λ bytes leaves. ready.settled.synced_a bytes (within.a bytes leaves) ∙ sym same.a;
-      synced_b = λ bytes leaves. ready.settled.synced_b bytes (within.b bytes leaves) ∙ sym same.b;
-    };
-  }
+  ready_seen stable pair now_pair saved same within ready =
+      still_ready kept fits seen may_leave stable pair now_pair saved same within ready
 
   -- and where the pair is opened again
   ready_again : (stable : Stable K) (pair now_pair : Pair D) (saved : Saved) → PairLeft seen may_leave pair now_pair

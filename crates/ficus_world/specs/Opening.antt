@@ -1,5 +1,6 @@
 -- What it means that a volume is made on disks, and that a world is opened on them.
 use Rattle.std.specs.Prelude.{◌≡◌, ◌≢◌, ◌⊎◌, ℕ, ◌^◌, ◌<◌, ◌≤◌, ◌+◌, ◌==◌, Bool, if◌then◌else◌, List, [], length, map, Option, None, Some, Result, IsErrOf}
+use Rattle.ficus_check.specs.Judged.{IsEmptyPair, MayOpen}
 use Rattle.ficus_disk.specs.Crash.{Only}
 use Rattle.ficus_disk.specs.Pair.{PairRose}
 use Rattle.ficus_disk.specs.declared.fuse.Fuse.{Fuse}
@@ -23,10 +24,6 @@ use Rattle.ficus_world.specs.declared.opening.WorldFault.TheVariants.{Image, Mem
 use Rattle.ficus_world.specs.Disks.{are_fused}
 use Rattle.ficus_world.specs.Fuses.{AreUnarmed}
 use Rattle.ficus_world.specs.Stand.{DisksKeep}
-
--- both disks hold nothing
-abbrev pub IsEmptyPair : {D : Type 0} → (D → List ℕ) → Pair D → Type 0
-IsEmptyPair seen pair = (seen pair.a ≡ []) × (seen pair.b ≡ [])
 
 -- the disks of the members up to this one hold nothing
 pub record AreEmpty {D : Type 0} (seen : D → List ℕ) (disks : List (Pair D)) (count : ℕ) : Type 0 where
@@ -57,15 +54,6 @@ pub record AreMadeInPart {D : Type 0} (kept : List ℕ → List ℕ → Option K
       → HoldsOneOf kept may_leave pair None (Some (fresh_saved volume at))
   pub behind : (r : ℕ) (pair : Pair D) → IsNumbered disks r pair → IsMember volume.members r → at < r → (a b : List ℕ)
       → may_leave pair.a a → may_leave pair.b b → (a ≡ []) × (b ≡ [])
-
--- a world is opened from what is of this member and of the same volume as the first member's, and of a generation below
--- 2^62
-pub record MayOpen (first saved : Saved) (r : ℕ) : Type 0 where
-  pub me : saved.me ≡ r
-  pub members : saved.members ≡ first.members
-  pub ids : saved.ids ≡ first.ids
-  pub bytes : saved.bytes ≡ first.bytes
-  pub generation : saved.generation < 2 ^ 62
 
 -- what is held of a member, of which a world may be opened by what is held of the first one
 pub record Opens {D : Type 0} (kept : List ℕ → List ℕ → Option Kept) (seen : D → List ℕ) (disks : List (Pair D))
@@ -170,11 +158,7 @@ pub record AreRead {D : Type 0} (kept : List ℕ → List ℕ → Option Kept) (
   pub each : (r : ℕ) (member : Member) → IsNumbered members r member
       → (member.state ≡ Up) × Opens kept seen disks first member.replica.saved r
 
--- no image of what a replica saves is held
-abbrev pub HoldsNoImage : {D : Type 0} → (List ℕ → List ℕ → Option Kept) → (D → List ℕ) → Pair D → Type 0
-HoldsNoImage kept seen pair = (saved : Saved) → FitsImage saved → Holds (found_in kept seen pair) saved → ⊥
-
--- a member that was opened: it is up, waits for no answer, and holds an image with which a world may be opened
+-- a member that was opened: it is up, waits for no answer, and a world may be opened with what it saves
 pub record IsOpened (first : Saved) (r : ℕ) (member : Member) : Type 0 where
   pub up : member.state ≡ Up
   pub asks : member.replica.ask ≡ None

@@ -14,15 +14,15 @@ use Rattle.ficus_runs.specs.ModelWorld.{ModelWorld, Standing, Up, Down}
 use Rattle.ficus_runs.specs.Numbered.{IsNumbered}
 use Rattle.ficus_world.specs.World.{AreOthers}
 
--- what was found is an image of what the member saves after the history
+-- what was found, an image and the records behind it, holds what the member saves after the history
 pub record KeepsOf (volume : Volume) (H : List Event) (r : ℕ) (found : Option Kept) : Type 0 where
   pub saved : Saved
   pub is : IsSavedOf volume H r saved
   pub fits : FitsImage saved
   pub holds : Holds found saved
 
--- What was found is an image of what the member saves after the history with this event of its own, whatever others do
--- between the two: the event may still come.
+-- What was found, an image and the records behind it, holds what the member saves after the history with this event of
+-- its own, whatever others do between the two: the event may still come.
 pub record KeepsWith (volume : Volume) (H : List Event) (r : ℕ) (event : Event) (found : Option Kept) : Type 0 where
   pub saved : Saved
   pub fits : FitsImage saved

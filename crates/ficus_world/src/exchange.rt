@@ -24,9 +24,10 @@ use crate::keeping::keep;
 use crate::member::{Pending, is_up};
 use crate::post::Post;
 use crate::saving::prepare_at;
+use ficus_codec::Known;
 use ficus_disk::{Disk, Pair};
-use ficus_entry::Entry;
-use ficus_file::FileReplica;
+use ficus_entry::SharedEntry;
+use ficus_file::SharedFile;
 use ficus_ids::{Members, Memory, Refusal};
 use ficus_keep::Keep;
 use ficus_model::{Event, History};
@@ -35,7 +36,7 @@ use ficus_record::{Record, encode_accept, encode_record};
 use ficus_replica::Replica;
 use ficus_script::Answer;
 use ficus_stable::Stable;
-use ficus_wire::{Letter, Message, WireFault, encode, read_letter, tables_in};
+use ficus_wire::{Letter, Message, WireFault, encode, read_letter, receiver_in, tables_in};
 use std::alloc::Global;
 
 /// What is known of a message that came: its number, from whom to whom it goes, and the number of its ask.
@@ -184,8 +185,8 @@ impl<K: Keep + Drop, L: Link + Drop> World<K, L> {
         alloc: Global,
         disks: &mut Vec<Pair<D>>,
         came: Delivery,
-        entries: &[Entry],
-        files: &[FileReplica],
+        entries: &[SharedEntry],
+        files: &[SharedFile],
         tables: &[u8],
     ) -> Result<Answer, Refusal>
         requires room { length self.old.whole.events < event_limit + most_events }
@@ -329,8 +330,27 @@ impl<L: Link + Drop> Group<L> {
             return Err(Refusal::NoMail);
         }
         let bytes = self.post.fetch(mail)?;
-        let letter = read(alloc, &bytes, self.count())?;
+        let letter = self.letter(alloc, &bytes)?;
         Ok(Fetched { letter, bytes })
+    }
+
+    // The message that the bytes spell. What the receiver of an answer holds already is shared.
+    fn letter(&self, alloc: Global, bytes: &[u8]) -> Result<Letter, Refusal>
+        ensures { OrMemory (λ given. Reads (length self.now.members) bytes.now (messages_of given)) result }
+    {
+        let known = self.known_to(alloc, receiver_in(bytes))?;
+        read(alloc, bytes, self.count(), &known)
+    }
+
+    // The rows of the member, if there is one.
+    fn known_to(&self, alloc: Global, to: Option<u8>) -> Result<Known, Memory> {
+        match to {
+            Some(to) if self.has(to) => {
+                let saved = &self.member(to).replica.saved;
+                Known::of(&saved.entries, &saved.files)
+            }
+            _ => Ok(Known::none(alloc)),
+        }
     }
 
     // Serves an ask with what the member holds. All memory is taken before anything changes.
@@ -417,10 +437,10 @@ fn make_ready<K: Keep + Drop, L: Link + Drop, D: Disk>(
 }
 
 // The message that the bytes spell.
-fn read(alloc: Global, bytes: &[u8], members: Members) -> Result<Letter, Refusal>
+fn read(alloc: Global, bytes: &[u8], members: Members, known: &Known) -> Result<Letter, Refusal>
     ensures { OrMemory (λ given. Reads members bytes.now (messages_of given)) result }
 {
-    match read_letter(alloc, bytes, members) {
+    match read_letter(alloc, bytes, members, known) {
         Ok(letter) => Ok(letter),
         Err(WireFault::NotMessage) => Err(Refusal::BadMessage),
         Err(WireFault::Memory) => Err(Refusal::Memory),

@@ -2,6 +2,7 @@
 //! other, each made of atomic events of one replica.
 #![tactic(auto)]
 
+mod checking;
 mod exchange;
 mod group;
 mod keeping;
@@ -15,6 +16,7 @@ mod settled;
 mod step;
 mod world;
 
+pub use checking::checks_tell_of_openings;
 pub use laws::{disks_stand, knowledge_is_held, one_world, pending_events_may_come};
 pub use opening::{WorldFault, what_is_made_stands};
 pub use world::{DEFAULT_BYTES, DEFAULT_IDS, World};

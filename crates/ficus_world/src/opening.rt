@@ -1,4 +1,5 @@
 ghost use Rattle.std.specs.Prelude.{◌≡◌, ◌↔◌, ◌≤◌, ◌+◌, ◌<◌, ◌⊎◌, [], ◌∷◌, ◌++◌, Err, None, Some, ℕ, List, true, false, length, take, IfErr, IfOk, IsErrAnd, IsErrOf, IsOk, IsTrue, OnErr, OnOk};
+ghost use Rattle.ficus_check.specs.Judged.{HoldsNoneOf, IsEmptyPair, IsOfVolume, IsOwn};
 ghost use Rattle.ficus_disk.specs.Pair.{PairRose};
 ghost use Rattle.ficus_disk.specs.declared.pair.Pair.{Pair as PairValue};
 ghost use Rattle.ficus_ids.specs.Members.{IsCount, IsMember};
@@ -19,7 +20,7 @@ ghost use Rattle.ficus_runs.specs.Start.{restarts, start};
 ghost use Rattle.ficus_runs.specs.Fuses.{FuseState};
 ghost use Rattle.ficus_world.specs.Disks.{AreDisksOf, are_fused};
 ghost use Rattle.ficus_world.specs.Fuses.{AreAtRest, AreRegular, AreUnarmed, FusesStand};
-ghost use Rattle.ficus_world.specs.Opening.{AreEmpty, AreMade, AreMadeInPart, AreOpened, AreRead, AreSynced, HoldsNoImage, IsAtFault, IsBad, IsEmptyPair, IsFirstBad, IsFirstOccupied, IsFoundFault, IsOneMore, IsStoreFault, IsSynced, IsUnfailed, MayOpen, Opens, PairUnfailing, SeenSame, StandsOn, Steady, Unfailing, fuses_in, opened_member};
+ghost use Rattle.ficus_world.specs.Opening.{AreEmpty, AreMade, AreMadeInPart, AreOpened, AreRead, AreSynced, IsAtFault, IsBad, IsFirstBad, IsFirstOccupied, IsFoundFault, IsOneMore, IsStoreFault, IsSynced, IsUnfailed, Opens, PairUnfailing, SeenSame, StandsOn, Steady, Unfailing, fuses_in, opened_member};
 ghost use Rattle.ficus_world.specs.World.{WorldStandsFor};
 ghost use Rattle.ficus_world.specs.declared.member.Member.{Member as MemberValue};
 ghost use Rattle.ficus_world.specs.declared.opening.WorldFault.{WorldFault as WorldFaultValue};
@@ -29,6 +30,7 @@ use crate::World;
 use crate::group::Group;
 use crate::member::{Member, MemberState};
 use crate::post::Post;
+use ficus_check::{is_of_volume, open_own};
 use ficus_disk::{Disk, Pair};
 use ficus_faults::Failed;
 use ficus_ids::{Members, Memory};
@@ -246,8 +248,8 @@ fn or_occupied(occupied: Option<u8>, is_empty: bool, number: u8) -> Option<u8>
     }
 }
 
-// Whether both disks of this member hold nothing.
-fn look_at<D: Disk>(pair: &mut Pair<D>, number: u8) -> Result<bool, WorldFault>
+/// Whether both disks of this member hold nothing.
+pub(crate) fn look_at<D: Disk>(pair: &mut Pair<D>, number: u8) -> Result<bool, WorldFault>
     ensures empty { D.tells → IfOk result (λ is. IsTrue is ↔ IsEmptyPair D.seen pair.old) }
     ensures same { D.tells → PairSame D.seen pair.old pair.new }
     ensures synced { D.tells → IsSynced D.seen D.may_leave pair.old → IsSynced D.seen D.may_leave pair.new }
@@ -446,7 +448,7 @@ fn open_next<K: Keep + Drop, D: Disk>(
 {
     let index = usize::from(number) - 1;
     let Recovered { stable, saved } = open_one(alloc, &mut disks[index], number)?;
-    if !may_open_behind(&opened.members, &saved, number) {
+    if !is_of_their_volume(&opened.members, &saved) {
         one_saved();
         return Err(WorldFault::Image(number));
     }
@@ -455,29 +457,30 @@ fn open_next<K: Keep + Drop, D: Disk>(
     Ok(())
 }
 
-// Whether a world may be opened with this behind these members, of which the first one says what the volume is.
-fn may_open_behind(members: &[Member], saved: &Saved, number: u8) -> bool
-    ensures first { members.now ≡ [] → IsTrue result ↔ MayOpen saved.now saved.now number }
+// Whether this is of the same volume as what these members saved, of which the first one says what it is.
+fn is_of_their_volume(members: &[Member], saved: &Saved) -> bool
+    ensures first { members.now ≡ [] → IsTrue result }
     ensures behind { (first : MemberValue) → IsNumbered members.now 1 first
-        → IsTrue result ↔ MayOpen first.replica.saved saved.now number }
+        → IsTrue result ↔ IsOfVolume first.replica.saved saved.now }
 {
     match members {
-        [first, ..] => may_open(&first.replica.saved, saved, number),
-        [] => may_open(saved, saved, number),
+        [first, ..] => is_of_volume(&first.replica.saved, saved),
+        [] => true,
     }
 }
 
-// What the disks of one member hold.
-fn open_one<K: Keep + Drop, D: Disk>(
+/// What the disks of one member hold of its own.
+pub(crate) fn open_one<K: Keep + Drop, D: Disk>(
     alloc: Global,
     pair: &mut Pair<D>,
     number: u8,
 ) -> Result<Recovered<K>, WorldFault>
     ensures fits { IfOk result (λ found. FitsImage found.saved) }
+    ensures own { IfOk result (λ found. IsOwn found.saved number) }
     ensures ready { D.tells → IfOk result (λ found.
         IsReady K.kept K.fits D.seen D.may_leave found.stable pair.new found.saved) }
     ensures image { D.tells → (r : ℕ) → IsErrOf result (WorldFault.Image r)
-        → (r ≡ number) × HoldsNoImage K.kept D.seen pair.old }
+        → (r ≡ number) × HoldsNoneOf K.kept D.seen number pair.old }
     ensures failed { (r : ℕ) → IsErrOf result (WorldFault.Store r)
         → (r ≡ number) × PairRose D.faults 1 pair.old pair.new }
     ensures never { (r : ℕ) → IsErrOf result (WorldFault.Occupied r) → ⊥ }
@@ -489,28 +492,13 @@ fn open_one<K: Keep + Drop, D: Disk>(
     ensures armings { PairSame D.armings pair.old pair.new }
     ensures unfailing { D.tells_fuse → PairUnfailing D.fuse result pair.old pair.new }
 {
-    match Stable::open(alloc, pair) {
+    match open_own(alloc, pair, number) {
         Ok(found) => Ok(found),
         Err(StoreFault::Failed) => Err(WorldFault::Store(number)),
         Err(StoreFault::NoImage) => Err(WorldFault::Image(number)),
         Err(StoreFault::Memory) => Err(WorldFault::Memory),
     }
 }
-
-// Whether a world may be opened with this for the member of this number, where the first member has that.
-fn may_open(first: &Saved, saved: &Saved, number: u8) -> bool
-    ensures { IsTrue result ↔ MayOpen first.now saved.now number }
-{
-    saved.me == number
-        && saved.members == first.members
-        && saved.ids == first.ids
-        && saved.bytes == first.bytes
-        && saved.generation < GENERATION_LIMIT
-}
-
-/// A world is opened from fewer saves than this of each member, so that each has a generation for every command to
-/// come.
-const GENERATION_LIMIT: u64 = 1 << 62;
 
 // Whether both disks have a fuse.
 fn is_fused<D: Disk>(pair: &Pair<D>) -> bool

@@ -2,7 +2,6 @@ use Rattle.std.proofs.Common.{sym, subst, ◌∙◌}
 use Rattle.std.proofs.lemmas.Bool.{false≢true}
 use Rattle.std.proofs.lemmas.Result.{err_from_is_err_and}
 use Rattle.ficus_ids.specs.Members.{IsMember}
-use Rattle.ficus_why.specs.Plain.{IsPlain}
 use Rattle.ficus_serving.proofs.Certificates.{why_down, why_nobody, why_told, why_wanted}
 use Rattle.ficus_serving.proofs.explaining.answer_why.Goals as goal
 

@@ -1,14 +1,14 @@
-use Rattle.std.proofs.Common.{◌∙◌, arith}
-use Rattle.ficus_stable_tests.proofs.Ready.{still_ready}
+use Rattle.std.proofs.Common.{arith}
+use Rattle.ficus_stable.proofs.Ready.{still_ready}
 use Rattle.ficus_stable_tests.proofs.saves.saves.Goals as goal
 
 pub commit-requires : goal.commit-requires
 commit-requires g c =
     let prepared = c.in_ok-prepare.ensures.prepared in (
-      c.args.event.now.bytes.items,
+      c.args.body.now,
       record {
         image = prepared.image;
-        noted = λ takes_record. prepared.noted takes_record ∙ c.deref.ensures.value;
+        noted = prepared.noted;
         takes = prepared.takes;
         room_a = omega (arith, prepared.room_a, c.arm.ensures.room_a);
         room_b = omega (arith, prepared.room_b, c.arm.ensures.room_b);

@@ -1,7 +1,7 @@
 use Rattle.std.proofs.Common.{◌≡◌, ℕ, ◌+◌, ◌-◌, List, Vec, Global, ap, ap₂, arith, subst, sym, ◌∙◌}
 use Rattle.ficus_summary.specs.Running.{HoldingsIn}
-use Rattle.ficus_summary.specs.Text.{holding_of}
-use Rattle.ficus_summary.specs.declared.holding.Holding.{Holding}
+use Rattle.ficus_check.specs.Holding.{holding_of}
+use Rattle.ficus_check.specs.declared.holding.Holding.{Holding}
 use Rattle.ficus_summary.proofs.Holdings.{holdings_more}
 use Rattle.ficus_summary.proofs.running.holdings_of.Goals.{else-loop-member-test, then-loop-member-test+in-Some+in_ok-push+else-member-member-end}
 use Rattle.ficus_summary.proofs.running.holdings_of.Goals as goal

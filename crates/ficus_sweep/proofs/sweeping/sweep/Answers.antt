@@ -1,4 +1,4 @@
-use Rattle.std.proofs.Common.{◌≡◌, Err, length, map, sym, subst, ap, ◌∙◌}
+use Rattle.std.proofs.Common.{Err, length, map, sym, subst, ap, ◌∙◌}
 use Rattle.std.proofs.lemmas.Result.{err_from_is_err_and}
 use Rattle.ficus_ids.specs.Members.{IsCount}
 use Rattle.ficus_runs.specs.Sweep.{command_of, sweep_steps}

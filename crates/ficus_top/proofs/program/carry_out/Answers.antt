@@ -4,6 +4,7 @@ use Rattle.ficus_top.specs.Program.{DoesIn}
 use Rattle.ficus_top.specs.Seen.{Seen}
 use Rattle.ficus_top.specs.declared.status.Status.{Status}
 use Rattle.ficus_top.proofs.Doing.{EndedAsAny, any_of, armed_nothing, init_ends, init_of, joined_ends, put_nothing, replay_of, run_of, seen_of, status_of, volumes_of}
+use Rattle.ficus_top.proofs.Judging.{check_ends, check_of}
 use Rattle.ficus_top.proofs.program.carry_out.Goals as goal
 
 -- what is done in this mode is told by the status
@@ -49,6 +50,18 @@ returns-in-Run g c =
           c.run.ensures.never_occupied c.run.ensures.spared c.run.ensures.rests c.run.ensures.killed
           c.run.ensures.front_killed c.run.ensures.earlier c.run.ensures.member c.run.ensures.others;
       ends = any_of seen c.run.result any;
+    })
+
+pub returns-in-Check : goal.returns-in-Check
+returns-in-Check g c =
+    let seen = seen_of g.S.Source c.args.input.now c.args.input.now g.K.Sink c.args.output.now c.check.new.output
+    g.D.Disk c.args.disks.now c.check.new.disks in
+    let ended = c.check.ensures in
+    in_mode seen c.check.result c.in-Check.is refl (record {
+      does = check_of seen c.check.result ended.codes refl ended.unwritten ended.silent ended.write_fault
+          ended.store_fault ended.unfailed ended.told ended.prefix;
+      ends = check_ends seen c.check.result ended.codes refl ended.unwritten ended.silent ended.write_fault
+          ended.store_fault ended.write_fault_comes ended.line ended.replica ended.counted;
     })
 
 pub returns-in-Replay : goal.returns-in-Replay

@@ -2,6 +2,7 @@ use Rattle.std.proofs.Common.{◌≡◌, ◌+◌, ◌-◌, subst, sym, ap, ◌�
 use Rattle.std.specs.Prelude.{List}
 use Rattle.std.proofs.lemmas.List.{get_or-set_same}
 use Rattle.std.proofs.lemmas.Result.{err_from_is_err_and}
+use Rattle.ficus_check.proofs.Owning.{holds_same}
 use Rattle.ficus_disk.specs.declared.pair.Pair.{Pair}
 use Rattle.ficus_runs.specs.Numbered.{IsNumbered}
 use Rattle.ficus_world.specs.Disks.{are_fused}
@@ -9,16 +10,16 @@ use Rattle.ficus_world.specs.Opening.{IsAtFault, IsBad}
 use Rattle.ficus_world.specs.declared.member.Member.{Member as MemberValue}
 use Rattle.ficus_world.specs.declared.opening.WorldFault.TheVariants.{Image, Store}
 use Rattle.ficus_world.proofs.Faults.{handed_on, same_err, same_image}
-use Rattle.ficus_world.proofs.Openings.{disks_more, held_of, holds_same, none_held, none_may, one_more, opened_more}
+use Rattle.ficus_world.proofs.Openings.{disks_more, held_of, none_held, none_may, one_more, opened_more}
 use Rattle.ficus_world.proofs.Steadies.{fault_set, number_at, steady_none, steady_one}
 use Rattle.ficus_world.proofs.Unarmed.{unfailing_set}
 use Rattle.ficus_world.proofs.Kills.{all_rest_one}
 use Rattle.ficus_world.proofs.Others.{others_one}
 use Rattle.ficus_world.proofs.opening.open_next.Goals as goal
 
-pub returns-then-not-may_open_behind-clause-image :
-    goal.returns-then-not-may_open_behind-clause-image
-returns-then-not-may_open_behind-clause-image g c = λ tells r is.
+pub returns-then-not-is_of_their_volume-clause-image :
+    goal.returns-then-not-is_of_their_volume-clause-image
+returns-then-not-is_of_their_volume-clause-image g c = λ tells r is.
     let number = same_image c.args.number r (same_err {T = Unit {0}} _ _ is) in
     let index : c.from-index.result - 1 + 1 ≡ c.args.number =
     omega (arith, c.from-index.ensures, c.requires.pair.at_least) in
@@ -36,22 +37,22 @@ returns-then-not-may_open_behind-clause-image g c = λ tells r is.
     let bad =
     none_may g.K.Keep.kept g.D.Disk.seen c.args.opened.now.members.items c.args.disks.now.items c.requires.opened held
     c.one_saved.ensures c.args.number c.index_mut.result.now c.in_ok-stable.field-0.saved at holds c.requires.next
-    c.may_open_behind.result c.if-not-may_open_behind.true
-    (λ none. c.may_open_behind.ensures.first (c.deref.ensures.value ∙ none))
-    (λ first one. c.may_open_behind.ensures.behind first
+    c.is_of_their_volume.result c.if-not-is_of_their_volume.true
+    (λ none. c.is_of_their_volume.ensures.first (c.deref.ensures.value ∙ none))
+    (λ first one. c.is_of_their_volume.ensures.behind first
     (subst (λ (l : List MemberValue). IsNumbered l 1 first) (sym c.deref.ensures.value) one)) in
     (sym number, subst (IsBad g.K.Keep.kept g.D.Disk.seen c.args.disks.now.items) number bad)
 
-pub returns-then-not-may_open_behind-clause-same :
-    goal.returns-then-not-may_open_behind-clause-same
-returns-then-not-may_open_behind-clause-same g c = λ tells.
+pub returns-then-not-is_of_their_volume-clause-same :
+    goal.returns-then-not-is_of_their_volume-clause-same
+returns-then-not-is_of_their_volume-clause-same g c = λ tells.
     steady_one g.D.Disk.seen c.args.disks.now.items (c.from-index.result - 1) c.index_mut.result.now c.open_one.new.pair
     (omega (arith, c.from-index.ensures, c.requires.pair.at_least, c.requires.pair.at_most)) c.index_mut.ensures.value
     (c.open_one.ensures.same tells)
 
-pub returns-then-not-may_open_behind-clause-armings :
-    goal.returns-then-not-may_open_behind-clause-armings
-returns-then-not-may_open_behind-clause-armings g c =
+pub returns-then-not-is_of_their_volume-clause-armings :
+    goal.returns-then-not-is_of_their_volume-clause-armings
+returns-then-not-is_of_their_volume-clause-armings g c =
     steady_one g.D.Disk.armings c.args.disks.now.items (c.from-index.result - 1) c.index_mut.result.now
     c.open_one.new.pair (omega (arith, c.from-index.ensures, c.requires.pair.at_least, c.requires.pair.at_most))
     c.index_mut.ensures.value c.open_one.ensures.armings
@@ -72,11 +73,10 @@ pub returns-clause-opened : goal.returns-clause-opened
 returns-clause-opened g c =
     rw c.in_ok-enter.ensures.members
     (opened_more c.args.opened.now.members.items c.in_ok-stable.field-0.saved c.is_fused-fused.result c.args.number
-    c.requires.next c.requires.opened c.in_ok-stable.ensures.fits
-    (λ none. (c.may_open_behind.ensures.first (c.deref.ensures.value ∙ none)).0 c.if-not-may_open_behind.false)
-    (λ first one. (c.may_open_behind.ensures.behind first
+    c.requires.next c.requires.opened c.in_ok-stable.ensures.fits c.in_ok-stable.ensures.own
+    (λ first one. (c.is_of_their_volume.ensures.behind first
     (subst (λ (l : List MemberValue). IsNumbered l 1 first) (sym c.deref.ensures.value) one)).0
-    c.if-not-may_open_behind.false))
+    c.if-not-is_of_their_volume.false))
 
 pub returns-clause-members : goal.returns-clause-members
 returns-clause-members g c =
@@ -114,8 +114,8 @@ returns-clause-armings g c =
     c.open_one.new.pair (omega (arith, c.from-index.ensures, c.requires.pair.at_least, c.requires.pair.at_most))
     c.index_mut.ensures.value c.open_one.ensures.armings
 
-pub returns-then-not-may_open_behind-clause-unfailing : goal.returns-then-not-may_open_behind-clause-unfailing
-returns-then-not-may_open_behind-clause-unfailing g c = λ fused.
+pub returns-then-not-is_of_their_volume-clause-unfailing : goal.returns-then-not-is_of_their_volume-clause-unfailing
+returns-then-not-is_of_their_volume-clause-unfailing g c = λ fused.
     let at = number_at c.args.disks.now.items (c.from-index.result - 1) c.index_mut.result.now
     (omega (arith, c.from-index.ensures, c.requires.pair.at_least, c.requires.pair.at_most)) c.index_mut.ensures.value
     in
@@ -152,8 +152,8 @@ returns-in_err-stable-clause-spared g c = λ fault unfailed is.
     (handed_on c.open_one.result c.from_residual.result given.0 c.in_err-stable.field-0.0 fault c.in_err-stable.was
     given.1 given.2 is))
 
-pub returns-then-not-may_open_behind-clause-spared : goal.returns-then-not-may_open_behind-clause-spared
-returns-then-not-may_open_behind-clause-spared g c = λ fault unfailed is.
+pub returns-then-not-is_of_their_volume-clause-spared : goal.returns-then-not-is_of_their_volume-clause-spared
+returns-then-not-is_of_their_volume-clause-spared g c = λ fault unfailed is.
     steady_one g.D.Disk.faults c.args.disks.now.items (c.from-index.result - 1) c.index_mut.result.now
     c.open_one.new.pair (omega (arith, c.from-index.ensures, c.requires.pair.at_least, c.requires.pair.at_most))
     c.index_mut.ensures.value c.in_ok-stable.ensures.steady
@@ -170,8 +170,8 @@ returns-in_err-stable-clause-rests g c =
     (omega (arith, c.from-index.ensures, c.requires.pair.at_least, c.requires.pair.at_most)) c.index_mut.ensures.value
     c.open_one.ensures.rests
 
-pub returns-then-not-may_open_behind-clause-rests : goal.returns-then-not-may_open_behind-clause-rests
-returns-then-not-may_open_behind-clause-rests g c =
+pub returns-then-not-is_of_their_volume-clause-rests : goal.returns-then-not-is_of_their_volume-clause-rests
+returns-then-not-is_of_their_volume-clause-rests g c =
     all_rest_one g.D.Disk c.args.disks.now.items (c.from-index.result - 1) c.index_mut.result.now c.open_one.new.pair
     (omega (arith, c.from-index.ensures, c.requires.pair.at_least, c.requires.pair.at_most)) c.index_mut.ensures.value
     c.open_one.ensures.rests
@@ -193,8 +193,8 @@ returns-in_err-stable-clause-others g c =
     others_one c.args.number c.args.disks.now.items (c.from-index.result - 1) c.open_one.new.pair
     (omega (arith, c.from-index.ensures, c.requires.pair.at_least))
 
-pub returns-then-not-may_open_behind-clause-others : goal.returns-then-not-may_open_behind-clause-others
-returns-then-not-may_open_behind-clause-others g c =
+pub returns-then-not-is_of_their_volume-clause-others : goal.returns-then-not-is_of_their_volume-clause-others
+returns-then-not-is_of_their_volume-clause-others g c =
     others_one c.args.number c.args.disks.now.items (c.from-index.result - 1) c.open_one.new.pair
     (omega (arith, c.from-index.ensures, c.requires.pair.at_least))
 

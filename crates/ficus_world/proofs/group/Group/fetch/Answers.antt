@@ -1,4 +1,4 @@
-use Rattle.std.proofs.Common.{ℕ, List, Result, Err, Ok, [], subst}
+use Rattle.std.proofs.Common.{ℕ, List, Result, Err, Ok, [], length, subst}
 use Rattle.std.proofs.lemmas.Result.{err_from_is_err_and}
 use Rattle.ficus_ids.specs.declared.refusal.Refusal.{Refusal}
 use Rattle.ficus_ids.specs.declared.refusal.Refusal.TheVariants as refusal
@@ -40,16 +40,15 @@ returns-in_err-letter-clause-fetches g c =
     let refused = err_from_is_err_and residual.result residual.ensures.1 in
     let old = whole_of c.self.inside.members.items c.self.inside.history.events c.self.inside.post.now in
     let r = c.in_err-letter.field-0.0 in
-    let reads = λ (count : ℕ) (bytes : List ℕ).
-    OrMemory (λ (given : Result Letter Refusal). Reads count bytes (messages_of given)) (Err r) in
+    let reads = λ (bytes : List ℕ).
+    OrMemory (λ (given : Result Letter Refusal). Reads (length old.members) bytes (messages_of given)) (Err r) in
     rw (refused.1, refused.2, c.in_ok-bytes.ensures.same, ← c.self.view_is)
     (fetched_read g.L.Link.tells old c.args.mail c.in_ok-bytes.bytes.items c.in_ok-bytes.ensures.fetched (Err r)
-    (subst (λ (count : ℕ). reads count c.in_ok-bytes.bytes.items) c.count.ensures
-    (subst (λ (bytes : List ℕ). reads c.count.result bytes) c.deref.ensures.value c.in_err-letter.ensures)))
+    (subst reads c.deref.ensures.value c.in_err-letter.ensures))
 
 pub returns-clause-fetches : goal.returns-clause-fetches
 returns-clause-fetches g c =
     let old = whole_of c.self.inside.members.items c.self.inside.history.events c.self.inside.post.now in
     rw (c.in_ok-bytes.ensures.same, ← c.self.view_is)
     (fetched_read g.L.Link.tells old c.args.mail c.in_ok-bytes.bytes.items c.in_ok-bytes.ensures.fetched
-    (Ok c.in_ok-letter.letter) (rw (c.count.ensures, c.deref.ensures.value) at c.in_ok-letter.ensures))
+    (Ok c.in_ok-letter.letter) (rw c.deref.ensures.value at c.in_ok-letter.ensures))

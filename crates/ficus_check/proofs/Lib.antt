@@ -1,0 +1,4 @@
+pub mod Counting
+pub mod Judging
+pub mod Numbering
+pub mod Owning

@@ -1,0 +1,5 @@
+use Rattle.ficus_saved.specs.Saved.{FitsImage}
+use Rattle.ficus_record_tests.proofs.steps.does_all.Given as goal
+
+abbrev pub invariant-loop-command : goal.invariant-loop-command
+invariant-loop-command l = FitsImage l.one.saved × FitsImage l.two.saved
