@@ -15,8 +15,7 @@ use Rattle.ficus_run_laws.proofs.Replaced.{replaced}
 use Rattle.ficus_run_laws.proofs.Starts.{length_restarts}
 use Rattle.ficus_runs.specs.Numbered.{IsNumbered}
 use Rattle.ficus_runs.specs.Run.Run.{End}
-use Rattle.ficus_journal.specs.contracts.journal.JournalKeep
-use Rattle.ficus_journal.specs.declared.journal.Journal.{Journal}
+use Rattle.ficus_summary.specs.Keeper.{Keeper, keeper}
 use Rattle.ficus_world.specs.World.{Backed, Whole, WorldStandsFor}
 use Rattle.ficus_serving.proofs.Places.{none_caused, tells_for}
 use Rattle.ficus_serving.specs.Serving.{serving_limit}
@@ -42,10 +41,10 @@ few_events volume world count stands =
       count.at_most,
     )
 
-module _ (volume : Volume) (worlds : List (Backed Journal)) (disks : Disks MemDisk) (world : Backed Journal)
+module _ (volume : Volume) (worlds : List (Backed Keeper)) (disks : Disks MemDisk) (world : Backed Keeper)
     (pairs : Vec (Pair MemDisk) Global) where
   -- one volume more
-  pub fresh_more : IsHeld JournalKeep.TheImpl.ghosts MemDiskDisk.TheImpl.ghosts world (vec_items pairs)
+  pub fresh_more : IsHeld keeper MemDiskDisk.TheImpl.ghosts world (vec_items pairs)
       → IsFresh volume world (vec_items pairs) → AreFresh volume worlds disks
       → AreFresh volume (worlds ++ world ∷ []) (disks ++ pairs ∷ [])
   fresh_more held fresh are = record {
@@ -60,9 +59,9 @@ module _ (volume : Volume) (worlds : List (Backed Journal)) (disks : Disks MemDi
             | inr last ↦ elim (number_cases disks pairs of) [
               | inl before ↦ absurd (omega (arith, last.0, before.member.at_most, are.held.count))
               | inr too ↦
-                  subst (λ (w : Backed Journal). IsHeld JournalKeep.TheImpl.ghosts MemDiskDisk.TheImpl.ghosts w
+                  subst (λ (w : Backed Keeper). IsHeld keeper MemDiskDisk.TheImpl.ghosts w
                   (vec_items own_pairs)) (sym last.1)
-                  (subst (λ (p : Vec (Pair MemDisk) Global). IsHeld JournalKeep.TheImpl.ghosts
+                  (subst (λ (p : Vec (Pair MemDisk) Global). IsHeld keeper
                   MemDiskDisk.TheImpl.ghosts world (vec_items p)) (sym too.1) held)
             ]
           ];
@@ -76,29 +75,29 @@ module _ (volume : Volume) (worlds : List (Backed Journal)) (disks : Disks MemDi
           | inr last ↦ elim (number_cases disks pairs of) [
             | inl before ↦ absurd (omega (arith, last.0, before.member.at_most, are.held.count))
             | inr too ↦
-                subst (λ (w : Backed Journal). IsFresh volume w (vec_items own_pairs)) (sym last.1)
+                subst (λ (w : Backed Keeper). IsFresh volume w (vec_items own_pairs)) (sym last.1)
                 (subst (λ (p : Vec (Pair MemDisk) Global). IsFresh volume world (vec_items p)) (sym too.1) fresh)
           ]
         ];
   }
 
 -- the link of one more volume hasn't failed
-pub unfailed_more : (worlds : List (Backed Journal)) (index : ℕ) (world : Backed Journal) → index < length worlds
+pub unfailed_more : (worlds : List (Backed Keeper)) (index : ℕ) (world : Backed Keeper) → index < length worlds
     → world ≡ get_or worlds index world → world.whole.post.faults ≡ 0 → AreUnfailed (take index worlds)
     → AreUnfailed (take (index + 1) worlds)
 unfailed_more worlds index world within is none before v own at =
     let behind : take (index + 1) worlds ≡ take index worlds ++ world ∷ [] =
-    take_more worlds index world within ∙ ap (λ (w : Backed Journal). take index worlds ++ w ∷ []) (sym is) in
+    take_more worlds index world within ∙ ap (λ (w : Backed Keeper). take index worlds ++ w ∷ []) (sym is) in
     elim (number_cases (take index worlds) world
-    (subst (λ (w : List (Backed Journal)). IsNumbered w v own) behind at)) [
+    (subst (λ (w : List (Backed Keeper)). IsNumbered w v own) behind at)) [
       | inl earlier ↦ before v own earlier
-      | inr last ↦ subst (λ (w : Backed Journal). w.whole.post.faults ≡ 0) (sym last.1) none
+      | inr last ↦ subst (λ (w : Backed Keeper). w.whole.post.faults ≡ 0) (sym last.1) none
     ]
 
 -- each volume has run what was sent to it from its beginning, where its link has never failed
-pub runs_fresh : (volume : Volume) (sent : List Sent) (old new : List (Backed Journal)) (disks later : Disks MemDisk)
+pub runs_fresh : (volume : Volume) (sent : List Sent) (old new : List (Backed Keeper)) (disks later : Disks MemDisk)
     (told : Type 0) → told → AreFresh volume old disks
-    → EachRuns told JournalKeep.TheImpl.ghosts MemDiskDisk.TheImpl.ghosts sent old new disks later → AreUnfailed new
+    → EachRuns told keeper MemDiskDisk.TheImpl.ghosts sent old new disks later → AreUnfailed new
     → (v : ℕ) → IsMember (length old) v → RunsFresh volume v sent
 runs_fresh volume sent old new disks later told is_told are runs unfailed v member =
     let world = number_exists old v member in
@@ -118,7 +117,7 @@ runs_fresh volume sent old new disks later told is_told are runs unfailed v memb
     }
 
 -- there is room for what a script stores
-pub room_of : (volume : Volume) (worlds : List (Backed Journal)) (disks : Disks MemDisk) → AreFresh volume worlds disks
+pub room_of : (volume : Volume) (worlds : List (Backed Keeper)) (disks : Disks MemDisk) → AreFresh volume worlds disks
     → HaveRoom serving_limit worlds
 room_of volume worlds disks are v world is =
     let pairs = number_exists disks v (subst (λ n. IsMember n v) (sym are.held.count) is.member) in
@@ -130,16 +129,16 @@ told_always : (lines : List VolumeLine) → Told ⊤ ⊤ lines
 told_always lines = record { posts = tt; held = λ k d within. tells_for tt _ }
 
 -- what was answered over fresh volumes
-module _ (tells : Type 0) (volume : Volume) (count : ℕ) (lines : List VolumeLine) (worlds old new : List (Backed Journal))
+module _ (tells : Type 0) (volume : Volume) (count : ℕ) (lines : List VolumeLine) (worlds old new : List (Backed Keeper))
     (disks later : Disks MemDisk) (was now : List ℕ) (same : old ≡ worlds) (counted : length worlds ≡ count)
     (are : AreFresh volume worlds disks) (unfailed : AreUnfailed new) where
   fresh : AreFresh volume old disks
-  fresh = subst (λ (w : List (Backed Journal)). AreFresh volume w disks) (sym same) are
+  fresh = subst (λ (w : List (Backed Keeper)). AreFresh volume w disks) (sym same) are
 
   number : length old ≡ count
   number = ap length same ∙ counted
 
-  pub answers_fresh : AnswersLines tells (Told ⊤ ⊤ lines) JournalKeep.TheImpl.ghosts MemDiskDisk.TheImpl.ghosts lines old
+  pub answers_fresh : AnswersLines tells (Told ⊤ ⊤ lines) keeper MemDiskDisk.TheImpl.ghosts lines old
       new disks later was now → AnswersFresh tells volume count lines was now
   answers_fresh answers = record {
     sent = answers.sent;
@@ -151,24 +150,24 @@ module _ (tells : Type 0) (volume : Volume) (count : ℕ) (lines : List VolumeLi
     put = answers.put;
   }
 
-  module _ (front : AnswersFront tells ⊤ (Told ⊤ ⊤ lines) JournalKeep.TheImpl.ghosts MemDiskDisk.TheImpl.ghosts lines old
+  module _ (front : AnswersFront tells ⊤ (Told ⊤ ⊤ lines) keeper MemDiskDisk.TheImpl.ghosts lines old
       new disks later was now) where
     -- no link had failed before the last line was cut short
     unfailed_before : AreUnfailed front.worlds
     unfailed_before v world is = go front.left
       where
         go : ((new ≡ front.worlds) × (later ≡ front.disks))
-            ⊎ IsNextCut ⊤ JournalKeep.TheImpl.ghosts MemDiskDisk.TheImpl.ghosts lines front.count front.last front.worlds
+            ⊎ IsNextCut ⊤ keeper MemDiskDisk.TheImpl.ghosts lines front.count front.last front.worlds
             new front.disks later → world.whole.post.faults ≡ 0
         go (inl as_before) =
-            unfailed v world (subst (λ (w : List (Backed Journal)). IsNumbered w v world) (sym as_before.0) is)
+            unfailed v world (subst (λ (w : List (Backed Keeper)). IsNumbered w v world) (sym as_before.0) is)
         go (inr next) =
             let cut = next.cut.cut in
             let still : length new ≡ length front.worlds =
             ap length cut.set ∙ length-set front.worlds (next.cut.volume - 1) cut.next in
             let own = number_exists new v (subst (λ n. IsMember n v) (sym still) is.member) in
             elim (replaced front.worlds next.cut.volume v cut.next own.0 cut.member.at_least
-            (subst (λ (w : List (Backed Journal)). IsNumbered w v own.0) cut.set own.1)) [
+            (subst (λ (w : List (Backed Keeper)). IsNumbered w v own.0) cut.set own.1)) [
               | inl mine ↦
                   let of_old : IsMember (length old) v = subst (λ n. IsMember n v) front.runs.count is.member in
                   let first = number_exists old v of_old in
@@ -183,11 +182,11 @@ module _ (tells : Type 0) (volume : Volume) (count : ℕ) (lines : List VolumeLi
                   (subst (λ n. IsNumbered front.disks n between.0) mine.0 between.1) run.stands in
                   let none = unfailed v own.0 own.1 in
                   let ends : own.0.whole.post.faults ≡ cut.next.whole.post.faults =
-                  ap (λ (w : Backed Journal). w.whole.post.faults) mine.1 in
+                  ap (λ (w : Backed Keeper). w.whole.post.faults) mine.1 in
                   omega (arith, stop.stops.caused.risen, ends, none)
               | inr others ↦
                   let as_then : own.0 ≡ world = number_once others.1 is in
-                  subst (λ (w : Backed Journal). w.whole.post.faults ≡ 0) as_then (unfailed v own.0 own.1)
+                  subst (λ (w : Backed Keeper). w.whole.post.faults ≡ 0) as_then (unfailed v own.0 own.1)
             ]
 
     pub front_fresh : AnswersFreshFront tells volume count lines was now

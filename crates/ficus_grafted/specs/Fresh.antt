@@ -17,9 +17,8 @@ use Rattle.ficus_runs.specs.Run.{Run}
 use Rattle.ficus_runs.specs.Start.{start}
 use Rattle.ficus_serving.specs.Puts.{PutsFront}
 use Rattle.ficus_serving.specs.Serving.{texts_of}
-use Rattle.ficus_journal.specs.contracts.journal.JournalKeep
-use Rattle.ficus_journal.specs.declared.journal.Journal.{Journal}
-use Rattle.ficus_world.specs.Fuses.{FusesStand, at_rest, keeping_of}
+use Rattle.ficus_summary.specs.Keeper.{Keeper, keeper, keeping}
+use Rattle.ficus_world.specs.Fuses.{FusesStand, at_rest}
 use Rattle.ficus_world.specs.World.{Backed, WorldStandsFor}
 use Rattle.ficus_graft.specs.Answered.{AreAnswered, Sent, answers_to, commands_to}
 use Rattle.ficus_graft.specs.Runs.{AreHeld, Disks}
@@ -29,22 +28,22 @@ abbrev pub begun : ℕ → ModelWorld
 begun members = start [] members 805306368 (replicate members true)
 
 -- the world stands for this, over a link that hasn't failed and fuses of which none is armed
-pub record IsFresh (volume : Volume) (world : Backed Journal) (pairs : List (Pair MemDisk)) : Type 0 where
+pub record IsFresh (volume : Volume) (world : Backed Keeper) (pairs : List (Pair MemDisk)) : Type 0 where
   pub stands : WorldStandsFor volume (begun volume.members) world.whole
   pub few : length world.whole.events ≤ 8
   pub unfailed : world.whole.post.faults ≡ 0
   pub fuses : (F : ℕ → FuseState) → ((r : ℕ) → F r ≡ at_rest 0)
-      → FusesStand JournalKeep.TheImpl.ghosts MemDiskDisk.TheImpl.ghosts F world.whole.members pairs
+      → FusesStand keeper MemDiskDisk.TheImpl.ghosts F world.whole.members pairs
 
 -- each of the volumes does
-pub record AreFresh (volume : Volume) (worlds : List (Backed Journal)) (disks : Disks MemDisk) : Type 0 where
-  pub held : AreHeld JournalKeep.TheImpl.ghosts MemDiskDisk.TheImpl.ghosts worlds disks
-  pub each : (v : ℕ) (world : Backed Journal) (pairs : Vec (Pair MemDisk) Global) → IsNumbered worlds v world
+pub record AreFresh (volume : Volume) (worlds : List (Backed Keeper)) (disks : Disks MemDisk) : Type 0 where
+  pub held : AreHeld keeper MemDiskDisk.TheImpl.ghosts worlds disks
+  pub each : (v : ℕ) (world : Backed Keeper) (pairs : Vec (Pair MemDisk) Global) → IsNumbered worlds v world
       → IsNumbered disks v pairs → IsFresh volume world (vec_items pairs)
 
 -- the link of no volume has failed
-abbrev pub AreUnfailed : List (Backed Journal) → Type 0
-AreUnfailed worlds = (v : ℕ) (world : Backed Journal) → IsNumbered worlds v world → world.whole.post.faults ≡ 0
+abbrev pub AreUnfailed : List (Backed Keeper) → Type 0
+AreUnfailed worlds = (v : ℕ) (world : Backed Keeper) → IsNumbered worlds v world → world.whole.post.faults ≡ 0
 
 -- A volume has run, alone, what was sent to it. The link never failed, and the fuses, of which none was armed at first,
 -- allow what became of all that was asked of the disks.
@@ -53,7 +52,7 @@ pub record RunsFresh (volume : Volume) (v : ℕ) (sent : List Sent) : Type 0 whe
   pub after : ModelWorld
   pub run : Run volume (begun volume.members) (commands_to v sent) outcomes (answers_to v sent) after
   pub linked : link_failures (all_outcomes outcomes) ≡ 0
-  pub fuses : FusesAllowAll (keeping_of JournalKeep.TheImpl.ghosts) (λ r. at_rest 0) (all_outcomes outcomes)
+  pub fuses : FusesAllowAll keeping (λ r. at_rest 0) (all_outcomes outcomes)
 
 -- The lines were answered over so many fresh volumes of this size, each of which has run, alone, what was sent to it.
 -- Over a sink that tells, the texts of the answers were put, in order, and nothing else.

@@ -7,9 +7,8 @@ ghost use Rattle.ficus_summary.specs.Sized.{sized};
 
 use ficus_disk::{MemDisk, Pair};
 use ficus_ids::{Members, Memory};
-use ficus_journal::Journal;
 use ficus_outside::MemLink;
-use ficus_summary::{fresh_disks, fresh_world};
+use ficus_summary::{Keeper, fresh_disks, fresh_world};
 use ficus_world::World;
 use std::alloc::Global;
 
@@ -19,7 +18,7 @@ pub(crate) const POSTED: u64 = 805_306_368;
 /// Volumes, and the disks of each.
 #[derive(Drop)]
 pub(crate) struct Fresh {
-    pub(crate) worlds: Vec<World<Journal, MemLink>>,
+    pub(crate) worlds: Vec<World<Keeper, MemLink>>,
     pub(crate) disks: Vec<Vec<Pair<MemDisk>>>,
 }
 

@@ -11,10 +11,10 @@ ghost use Rattle.ficus_summary.specs.Sized.{sized};
 use crate::fresh::{Fresh, fresh_volumes};
 use ficus_graft::{Volumes, answer_lines};
 use ficus_ids::Members;
-use ficus_journal::Journal;
 use ficus_outside::{MemLink, Sink};
 use ficus_script::VolumeLine;
 use ficus_serving::AnsweringFault;
+use ficus_summary::Keeper;
 use std::alloc::Global;
 
 /// Answers the lines over so many fresh volumes in memory, each with so many members and these limits. `Sink` comes
@@ -52,7 +52,7 @@ pub fn answer_fresh<S: Sink>(
 }
 
 // Reads the link of each volume. Reading one in memory tells that it counts no fault.
-fn read_links(volumes: &Volumes<Journal, MemLink>)
+fn read_links(volumes: &Volumes<Keeper, MemLink>)
     ensures { AreUnfailed volumes.now }
 {
     for world in volumes.worlds() {

@@ -1,5 +1,6 @@
 pub mod Generating
 pub mod Holdings
+pub mod Keepers
 pub mod OneSummary
 pub mod Runs
 pub mod Summarizing

@@ -3,3 +3,4 @@ pub mod Summary
 pub mod Disks
 pub mod Running
 pub mod Sized
+pub mod Keeper

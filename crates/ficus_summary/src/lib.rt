@@ -4,6 +4,7 @@
 mod counts;
 mod disks;
 mod generated;
+mod keeper;
 mod laws;
 mod running;
 mod summary;
@@ -11,6 +12,7 @@ mod text;
 mod world;
 
 pub use disks::fresh_disks;
+pub use keeper::Keeper;
 pub use laws::one_summary;
 pub use summary::summarize;
 pub use world::fresh_world;

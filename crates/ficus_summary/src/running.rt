@@ -5,8 +5,7 @@ ghost use Rattle.ficus_runs.specs.Fuses.{FuseState};
 ghost use Rattle.ficus_runs.specs.Start.{default_volume};
 ghost use Rattle.ficus_script.specs.Command.{IsCommand};
 ghost use Rattle.ficus_serving.specs.Serving.{script_limit};
-ghost use Rattle.ficus_journal.specs.Logs.{kept_in};
-ghost use Rattle.ficus_journal.specs.Journal.{Fits};
+ghost use Rattle.ficus_summary.specs.Keeper.{Fits, keeper, kept_in};
 ghost use Rattle.ficus_summary.specs.Running.{CountedAs, HoldingsIn};
 ghost use Rattle.ficus_summary.specs.Summary.{ComesTo, fresh_start};
 ghost use Rattle.ficus_world.specs.Disks.{AreDisksOf};
@@ -14,11 +13,10 @@ ghost use Rattle.ficus_world.specs.Fuses.{FusesStand, at_rest};
 ghost use Rattle.ficus_world.specs.World.{IsUpIn, Whole, WorldStandsFor};
 
 use crate::counts::Counts;
+use crate::keeper::Keeper;
 use ficus_check::{Holding, holding_of};
 use ficus_disk::{Disk, Pair};
 use ficus_ids::{Members, Memory};
-use ficus_journal::Journal;
-use ficus_keep::Keep;
 use ficus_outside::MemLink;
 use ficus_script::Command;
 use ficus_serving::count_all;
@@ -30,7 +28,7 @@ use std::alloc::Global;
 pub(crate) fn run<D: Disk>(
     alloc: Global,
     members: Members,
-    world: &mut World<Journal, MemLink>,
+    world: &mut World<Keeper, MemLink>,
     disks: &mut Vec<Pair<D>>,
     commands: &[Command],
 ) -> Result<Counts, Memory>
@@ -46,7 +44,7 @@ pub(crate) fn run<D: Disk>(
     requires disks { AreDisksOf D.tells kept_in Fits D.seen D.may_leave D.armings world.old.whole.members
         world.old.stables disks.old.items }
     requires fuses { (F : ℕ → FuseState) → ((r : ℕ) → F r ≡ at_rest 0)
-        → FusesStand ⟦<Journal as Keep>⟧ D.Disk F world.old.whole.members disks.old.items }
+        → FusesStand keeper D.Disk F world.old.whole.members disks.old.items }
     ensures counted { IfOk result (λ counts. CountedAs members commands.now counts world.new.whole) }
 {
     let before = world.history().len();
@@ -65,7 +63,7 @@ pub(crate) fn run<D: Disk>(
 pub(crate) fn holdings_of(
     alloc: Global,
     members: Members,
-    world: &World<Journal, MemLink>,
+    world: &World<Keeper, MemLink>,
 ) -> Result<Vec<Holding>, Memory>
     requires up { (r : ℕ) → IsMember members r → IsUpIn world.now.whole r }
     ensures { IfOk result (λ holdings. HoldingsIn world.now.whole members holdings.items) }

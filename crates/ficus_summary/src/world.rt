@@ -3,18 +3,16 @@ ghost use Rattle.ficus_ids.specs.Members.{IsCount};
 ghost use Rattle.ficus_runs.specs.Fuses.{FuseState};
 ghost use Rattle.ficus_runs.specs.Start.{start};
 ghost use Rattle.ficus_saved.specs.Limits.{byte_limit, update_limit};
-ghost use Rattle.ficus_journal.specs.Logs.{IsRegular, kept_in};
+ghost use Rattle.ficus_summary.specs.Keeper.{Fits, IsRegular, keeper, kept_in};
 ghost use Rattle.ficus_summary.specs.Sized.{sized};
-ghost use Rattle.ficus_journal.specs.Journal.{Fits};
 ghost use Rattle.ficus_world.specs.Disks.{AreDisksOf};
 ghost use Rattle.ficus_world.specs.Fuses.{AreRegular, AreUnarmed, FusesStand, at_rest};
 ghost use Rattle.ficus_world.specs.Opening.{AreEmpty, AreMade, Steady, fuses_in};
 ghost use Rattle.ficus_world.specs.World.{WorldStandsFor};
 
+use crate::keeper::Keeper;
 use ficus_disk::{Disk, Pair};
 use ficus_ids::{Members, Memory};
-use ficus_journal::Journal;
-use ficus_keep::Keep;
 use ficus_outside::MemLink;
 use ficus_world::{World, WorldFault, what_is_made_stands};
 use std::alloc::Global;
@@ -28,7 +26,7 @@ pub fn fresh_world<D: Disk>(
     bytes: u32,
     total: u64,
     disks: &mut Vec<Pair<D>>,
-) -> Result<World<Journal, MemLink>, Memory>
+) -> Result<World<Keeper, MemLink>, Memory>
     requires members { IsCount members }
     requires ids_at_least { 1 ≤ ids }
     requires ids_at_most { ids ≤ update_limit }
@@ -44,7 +42,7 @@ pub fn fresh_world<D: Disk>(
     ensures disks { IfOk result (λ world. AreDisksOf D.tells kept_in Fits D.seen D.may_leave D.armings
         world.whole.members world.stables disks.new.items) }
     ensures fuses { IfOk result (λ world. (F : ℕ → FuseState) → ((r : ℕ) → F r ≡ at_rest 0)
-        → FusesStand ⟦<Journal as Keep>⟧ D.Disk F world.whole.members disks.new.items) }
+        → FusesStand keeper D.Disk F world.whole.members disks.new.items) }
     ensures pairs { length disks.new.items ≡ 8 }
 {
     make(alloc, members, ids, bytes, disks)?;
@@ -73,7 +71,7 @@ fn make<D: Disk>(
     ensures unarmed { AreUnarmed D.fuse disks.new.items }
     ensures armings { Steady D.armings disks.old.items disks.new.items }
 {
-    match World::<Journal, MemLink>::make(alloc, disks, members, ids, bytes) {
+    match World::<Keeper, MemLink>::make(alloc, disks, members, ids, bytes) {
         Ok(()) => Ok(()),
         Err(fault) => Err(want_of_memory(fault)),
     }
@@ -87,7 +85,7 @@ fn open<D: Disk>(
     bytes: u32,
     total: u64,
     disks: &mut Vec<Pair<D>>,
-) -> Result<World<Journal, MemLink>, Memory>
+) -> Result<World<Keeper, MemLink>, Memory>
     requires members { IsCount members }
     requires ids_at_least { 1 ≤ ids }
     requires ids_at_most { ids ≤ update_limit }
@@ -104,11 +102,11 @@ fn open<D: Disk>(
     ensures disks { IfOk result (λ world. AreDisksOf D.tells kept_in Fits D.seen D.may_leave D.armings
         world.whole.members world.stables disks.new.items) }
     ensures fuses { IfOk result (λ world. (F : ℕ → FuseState) → ((r : ℕ) → F r ≡ at_rest 0)
-        → FusesStand ⟦<Journal as Keep>⟧ D.Disk F world.whole.members disks.new.items) }
+        → FusesStand keeper D.Disk F world.whole.members disks.new.items) }
     ensures pairs { length disks.new.items ≡ 8 }
 {
-    what_is_made_stands::<Journal, D>();
-    match World::<Journal, MemLink>::open(alloc, disks, MemLink::after(alloc, total)) {
+    what_is_made_stands::<Keeper, D>();
+    match World::<Keeper, MemLink>::open(alloc, disks, MemLink::after(alloc, total)) {
         Ok(world) => Ok(world),
         Err(fault) => Err(want_of_memory(fault)),
     }

@@ -19,7 +19,7 @@ use Rattle.ficus_run_laws.proofs.Outcomes.{count_append}
 use Rattle.ficus_run_laws.proofs.Numbers.{number_exists}
 use Rattle.ficus_run_laws.proofs.Up.{run_up}
 use Rattle.ficus_world.specs.Disks.{DisksFollow}
-use Rattle.ficus_journal.specs.Logs.{kept_in}
+use Rattle.ficus_summary.specs.Keeper.{keeping, kept_in}
 use Rattle.ficus_world.specs.Fuses.{FusesPermit, keeping_of}
 use Rattle.ficus_world.specs.Opening.{Steady}
 use Rattle.ficus_world.specs.Stand.{ArePending, DisksOutlast, DisksStand}
@@ -28,7 +28,7 @@ use Rattle.ficus_world.proofs.Disks.{follows_steady, follows_then}
 use Rattle.ficus_keep.specs.Kept.{Kept}
 use Rattle.ficus_kills.specs.Trail.{FrontOn, RunOn}
 use Rattle.ficus_top.specs.Killed.{EndsFrontOn, EndsOn}
-use Rattle.ficus_top.specs.Ends.{AllUp, Ends, EndsFront, NoneFailed, StandNow, journal_keeping}
+use Rattle.ficus_top.specs.Ends.{AllUp, Ends, EndsFront, NoneFailed, StandNow}
 use Rattle.ficus_serving.specs.Serving.{ServesWorld, ServesWorldFront}
 use Rattle.ficus_serving.proofs.Places.{none_caused}
 use Rattle.ficus_top.proofs.Members.{run_spares}
@@ -103,15 +103,15 @@ module _ {D : Type 0} {disk_faults : D → ℕ} {armings : D → Option ℕ} whe
 
 -- what the fuses permit of the journal
 pub permitted : {K D : Type 0} (keep : Keep K) (disk : Disk D) (before : Whole) (disks : List (Pair D))
-    → keeping_of keep ≡ journal_keeping → disk.tells → (outcomes : List Outcome)
+    → keeping_of keep ≡ keeping → disk.tells → (outcomes : List Outcome)
     → FusesPermit keep disk outcomes before.members disks → (F : ℕ → FuseState) → StandNow keep disk before disks F
-    → FusesAllowAll journal_keeping F outcomes
+    → FusesAllowAll keeping F outcomes
 permitted keep disk before disks slots told outcomes permit F stands =
     subst (λ (keeping : Keeping). FusesAllowAll keeping F outcomes) slots (permit.all stands.0 told F stands.1)
 
 module _ {K D : Type 0} {tells : Type 0} {keep : Keep K} {disk : Disk D} {volume : Volume} {W : ModelWorld}
     {before : Whole} {commands : List Command} {world : Whole} {old new : List ℕ}
-    {old_disks new_disks : List (Pair D)} (slots : keeping_of keep ≡ journal_keeping) (told : disk.tells)
+    {old_disks new_disks : List (Pair D)} (slots : keeping_of keep ≡ keeping) (told : disk.tells)
     (nothing : world.post.faults ≡ 0)
     (stand : (M : ModelWorld) → WorldStandsFor volume M world → DisksStand kept_in disk.seen volume M new_disks)
     (outlast : (M : ModelWorld) → WorldStandsFor volume M world

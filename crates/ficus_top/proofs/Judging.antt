@@ -8,7 +8,7 @@ use Rattle.ficus_check.proofs.Judging.{judged_same}
 use Rattle.ficus_disk.specs.declared.disk.Disk.{Ghosts as Disk}
 use Rattle.ficus_disk.specs.declared.pair.Pair.{Pair}
 use Rattle.ficus_ids.specs.Members.{IsMember}
-use Rattle.ficus_journal.specs.Logs.{kept_in}
+use Rattle.ficus_summary.specs.Keeper.{kept_in}
 use Rattle.ficus_run_laws.proofs.Numbers.{number_exists}
 use Rattle.ficus_runs.specs.Numbered.{IsNumbered}
 use Rattle.ficus_world.specs.Kills.{AllRest, RestsAt}

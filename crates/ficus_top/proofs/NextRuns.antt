@@ -8,7 +8,7 @@ use Rattle.ficus_model.specs.Lawful.{IsLawful, Volume}
 use Rattle.ficus_runs.specs.ModelWorld.{ModelWorld, Standing}
 use Rattle.ficus_runs.specs.Numbered.{IsNumbered}
 use Rattle.ficus_run_laws.proofs.Numbers.{number_exists}
-use Rattle.ficus_journal.specs.Logs.{kept_in}
+use Rattle.ficus_summary.specs.Keeper.{kept_in}
 use Rattle.ficus_world.specs.Opening.{StandsOn}
 use Rattle.ficus_world.specs.Stand.{DisksOutlast, DisksStand, KeepsFor, KeepsOf}
 use Rattle.ficus_top.specs.Ends.{AllUp}

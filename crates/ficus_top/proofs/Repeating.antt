@@ -13,7 +13,7 @@ use Rattle.ficus_script.specs.declared.answer.Answer.{Answer}
 use Rattle.ficus_script.specs.declared.command.Command.{Command}
 use Rattle.ficus_script.proofs.ScriptLaws.{one_script}
 use Rattle.ficus_serving.specs.Serving.{texts_of}
-use Rattle.ficus_top.specs.Ends.{journal_keeping}
+use Rattle.ficus_summary.specs.Keeper.{keeping}
 use Rattle.ficus_top.specs.Headline.{Answers, AreFusesAtRest, fuses_of}
 
 -- the same answers are put again
@@ -34,7 +34,7 @@ same_answers {disk = disk} {other_disk = other_disk} volume earlier {script} {ag
     other.ends.after) commands
     (subst (λ (fuses : List Bool). Run volume (start earlier volume.members 0 fuses) other.commands
     other.ends.serves.outcomes other.ends.serves.answers other.ends.after) (sym fused) other.ends.serves.run) in
-    let same = fused_run_once journal_keeping F one.ends.serves.run run (one.ends.fuses F rest) (other.ends.fuses F rest_too)
+    let same = fused_run_once keeping F one.ends.serves.run run (one.ends.fuses F rest) (other.ends.fuses F rest_too)
     one.ends.linked other.ends.linked in (
       texts_of one.ends.serves.answers,
       one.ends.serves.put tt,

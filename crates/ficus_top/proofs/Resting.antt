@@ -12,7 +12,7 @@ use Rattle.ficus_replica.specs.SavedOf.{generation_of, is_saved}
 use Rattle.ficus_run_laws.proofs.Numbers.{number_exists}
 use Rattle.ficus_runs.specs.Fuses.{FuseState}
 use Rattle.ficus_runs.specs.Start.{restarts, start}
-use Rattle.ficus_journal.specs.Logs.{IsRegular, IsTrim}
+use Rattle.ficus_summary.specs.Keeper.{IsRegular}
 use Rattle.ficus_world.specs.Fuses.{AreAtRest, AreRegular, AreUnarmed, FusesStand, at_rest}
 use Rattle.ficus_world.specs.Opening.{Unfailing}
 use Rattle.ficus_world.specs.World.{Whole, WorldStandsFor}
@@ -81,20 +81,3 @@ rest_made rest unfailing regular = record {
   own = regular;
   states = rest.states;
 }
-
--- empty disks are those of a volume that nobody wrote
-none_trim : IsTrim []
-none_trim = record { few = λ saved is. absurd (cc is); shut = λ saved is. absurd (cc is) }
-
-none_regular : IsRegular [] []
-none_regular = record {
-  even = λ saved is. absurd (cc is);
-  odd = λ saved is. absurd (cc is);
-  trim_a = none_trim;
-  trim_b = none_trim;
-}
-
-pub nothing_regular : {a b : List ℕ} → a ≡ [] → b ≡ [] → IsRegular a b
-nothing_regular {a} {b} no_a no_b =
-    subst (λ (x : List ℕ). IsRegular x b) (sym no_a)
-    (subst (λ (y : List ℕ). IsRegular [] y) (sym no_b) none_regular)

@@ -6,12 +6,12 @@ use Rattle.ficus_keep.specs.declared.keep.Keep.{Ghosts as Keep}
 use Rattle.ficus_model.specs.Lawful.{Volume}
 use Rattle.ficus_script.specs.declared.command.Command.{Command}
 use Rattle.ficus_run_laws.specs.Outcomes.{all_outcomes}
-use Rattle.ficus_runs.specs.Fuses.{FuseState, FusesAllowAll, Keeping}
+use Rattle.ficus_runs.specs.Fuses.{FuseState, FusesAllowAll}
 use Rattle.ficus_runs.specs.ModelWorld.{ModelWorld, Standing, Up}
 use Rattle.ficus_runs.specs.Numbered.{IsNumbered}
 use Rattle.ficus_runs.specs.Outcome.{link_failures}
 use Rattle.ficus_runs.specs.Run.{EachDone}
-use Rattle.ficus_journal.specs.Logs.{calls_of_journal, kept_in, lies_on_a}
+use Rattle.ficus_summary.specs.Keeper.{keeping, kept_in}
 use Rattle.ficus_world.specs.Disks.{DisksFollow}
 use Rattle.ficus_world.specs.Fuses.{FusesStand}
 use Rattle.ficus_world.specs.World.{Whole}
@@ -29,10 +29,6 @@ pub record NoneFailed {D : Type 0} (faults : D → ℕ) (old new : List (Pair D)
   pub each : (r : ℕ) (pair : Pair D) → IsNumbered new r pair
       → (faults pair.a < 2 ^ 64 - 1) × (faults pair.b < 2 ^ 64 - 1)
 
--- how many calls save a generation in a journal, and on which disk it lies
-abbrev pub journal_keeping : Keeping
-journal_keeping = record { calls = calls_of_journal; is_on_a = lies_on_a }
-
 -- the disks tell their fuses, and so these stand of the members of a world
 abbrev pub StandNow : {K D : Type 0} → Keep K → Disk D → Whole → List (Pair D) → (ℕ → FuseState) → Type 0
 StandNow keep disk world disks F = disk.tells_fuse × FusesStand keep disk F world.members disks
@@ -49,7 +45,7 @@ pub record Ends {D : Type 0} (tells : Type 0) (disk : Disk D) (Rest : (ℕ → F
   pub linked : link_failures (all_outcomes serves.outcomes) ≡ 0
   pub disks : DisksFollow disk.faults disk.armings (all_outcomes serves.outcomes) old_disks new_disks
   pub done : NoneFailed disk.faults old_disks new_disks → EachDone serves.outcomes
-  pub fuses : (F : ℕ → FuseState) → Rest F → FusesAllowAll journal_keeping F (all_outcomes serves.outcomes)
+  pub fuses : (F : ℕ → FuseState) → Rest F → FusesAllowAll keeping F (all_outcomes serves.outcomes)
   pub standings : length after.standings ≡ volume.members
   pub pending : ArePending volume after
   pub stand : DisksStand kept_in disk.seen volume after new_disks
@@ -66,7 +62,7 @@ pub record EndsFront {D : Type 0} (tells may : Type 0) (disk : Disk D) (Rest : (
       new_disks
   pub done : NoneFailed disk.faults old_disks new_disks → EachDone serves.outcomes
   pub fuses : (F : ℕ → FuseState) → Rest F
-      → FusesAllowAll journal_keeping F (all_outcomes serves.outcomes ++ serves.more_outcomes)
+      → FusesAllowAll keeping F (all_outcomes serves.outcomes ++ serves.more_outcomes)
   pub standings : length after.standings ≡ volume.members
   pub pending : ArePending volume after
   pub stand : DisksStand kept_in disk.seen volume after new_disks

@@ -12,7 +12,7 @@ use Rattle.ficus_script.specs.Script.{IsScript}
 use Rattle.ficus_replica.specs.SavedOf.{generation_of}
 use Rattle.ficus_runs.specs.Fuses.{FuseState}
 use Rattle.ficus_runs.specs.Start.{start}
-use Rattle.ficus_journal.specs.Logs.{IsRegular}
+use Rattle.ficus_summary.specs.Keeper.{IsRegular}
 use Rattle.ficus_world.specs.Fuses.{AreRegular, AreUnarmed, at_rest}
 use Rattle.ficus_world.specs.Opening.{Steady, fuses_in}
 use Rattle.ficus_top.specs.Ends.{Ends, EndsFront}

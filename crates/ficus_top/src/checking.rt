@@ -9,9 +9,9 @@ use crate::fault::Fault;
 use crate::status::Status;
 use ficus_check::{Checked, checked_text};
 use ficus_disk::{Disk, Pair};
-use ficus_journal::Journal;
 use ficus_outside::{MemLink, Sink};
 use ficus_serving::{AnsweringFault, put_all};
+use ficus_summary::Keeper;
 use ficus_world::{World, WorldFault};
 use std::alloc::Global;
 
@@ -58,7 +58,7 @@ fn judge_all<D: Disk>(
     ensures faults { FailsAs D.faults result disks.old.items disks.new.items }
 {
     for before in 0..8u8 {
-        judgements[usize::from(before)] = World::<Journal, MemLink>::check(
+        judgements[usize::from(before)] = World::<Keeper, MemLink>::check(
             alloc,
             disks,
             before + 1,

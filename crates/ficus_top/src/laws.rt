@@ -8,7 +8,7 @@ ghost use Rattle.ficus_keep.specs.Pairs.{PairLeft, PairSame};
 ghost use Rattle.ficus_runs.specs.Numbered.{IsNumbered};
 ghost use Rattle.ficus_script.specs.declared.command.Command.{Command};
 ghost use Rattle.ficus_script.specs.declared.command.Command.TheVariants.{Stop as Stops};
-ghost use Rattle.ficus_journal.specs.Logs.{kept_in};
+ghost use Rattle.ficus_summary.specs.Keeper.{kept_in};
 ghost use Rattle.ficus_world.specs.Fuses.{AreUnarmed, at_rest};
 ghost use Rattle.ficus_kills.specs.Trail.{AreKilled, DuringAt, KeepsBetween, KeepsFrom, Killed, Somewhere, Trail, whole};
 ghost use Rattle.ficus_kills.specs.Trail.Trail.{Still};

@@ -1,5 +1,5 @@
 ghost use Rattle.std.specs.Prelude.{◌≡◌, ◌⊎◌, ◌≤◌, ℕ, [], length, IfErr, IsErrAnd, IsErrOf, OnErr, OnOk};
-ghost use Rattle.ficus_journal.specs.Logs.{IsRegular, kept_in};
+ghost use Rattle.ficus_summary.specs.Keeper.{IsRegular, kept_in};
 ghost use Rattle.ficus_top.specs.Ending.{IsInterruption, IsOfMaking};
 ghost use Rattle.ficus_top.specs.Making.{FitsSize, volume_of};
 ghost use Rattle.ficus_world.specs.Fuses.{AreRegular};
@@ -9,8 +9,8 @@ ghost use Rattle.ficus_world.specs.Opening.{AreEmpty, AreMade, AreMadeInPart, Ar
 
 use crate::fault::Fault;
 use ficus_disk::{Disk, Pair};
-use ficus_journal::Journal;
 use ficus_outside::MemLink;
+use ficus_summary::Keeper;
 use ficus_words::Size;
 use ficus_world::{World, WorldFault, what_is_made_stands};
 use std::alloc::Global;
@@ -86,7 +86,7 @@ pub(crate) fn make<D: Disk>(
     ensures unfailing { D.tells_fuse → Unfailing D.fuse result disks.old.items disks.new.items }
     ensures regular { D.tells → OnOk result (AreRegular IsRegular D.seen disks.new.items size.members) }
 {
-    let made = World::<Journal, MemLink>::make(alloc, disks, size.members, size.ids, size.bytes);
-    what_is_made_stands::<Journal, D>();
+    let made = World::<Keeper, MemLink>::make(alloc, disks, size.members, size.ids, size.bytes);
+    what_is_made_stands::<Keeper, D>();
     made
 }

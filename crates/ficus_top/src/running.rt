@@ -6,8 +6,7 @@ ghost use Rattle.ficus_runs.specs.ModelWorld.{ModelWorld};
 ghost use Rattle.ficus_runs.specs.Start.{start};
 ghost use Rattle.ficus_saved.specs.declared.saved.Saved.{Saved as SavedValue};
 ghost use Rattle.ficus_script.specs.Command.{IsCommand};
-ghost use Rattle.ficus_journal.specs.Logs.{kept_in};
-ghost use Rattle.ficus_journal.specs.Journal.{Fits};
+ghost use Rattle.ficus_summary.specs.Keeper.{Fits, keeper, kept_in};
 ghost use Rattle.ficus_top.specs.Ending.{IsAnswering, IsIdle, IsInterruption, IsOfRunning, IsUntouched, TakesAsEnded};
 ghost use Rattle.ficus_top.specs.Ends.{AllUp, Ends, EndsFront, StandNow};
 ghost use Rattle.ficus_top.specs.Killed.{EndsFrontKilled, EndsFrontOn, EndsKilled, EndsOn, KilledAnswers, KilledAnswersFront};
@@ -27,11 +26,10 @@ use crate::fault::{Fault, ReadingFault};
 use crate::making::make;
 use crate::read::read_commands;
 use ficus_disk::{Disk, Pair};
-use ficus_journal::Journal;
-use ficus_keep::Keep;
 use ficus_outside::{MemLink, Sink, Source};
 use ficus_script::Command;
 use ficus_serving::{AnsweringFault, answer_all};
+use ficus_summary::Keeper;
 use ficus_words::Size;
 use ficus_world::{World, WorldFault, disks_stand, pending_events_may_come};
 use std::alloc::Global;
@@ -234,7 +232,7 @@ fn run_on<K: Sink, D: Disk>(
         → IsErrOf result (Fault.Answering AnsweringFault.Sink) }
     ensures counted { K.faults output.old ≤ K.faults output.new }
 {
-    let mut world = World::<Journal, MemLink>::open(alloc, disks, MemLink::new(alloc))?;
+    let mut world = World::<Keeper, MemLink>::open(alloc, disks, MemLink::new(alloc))?;
     answer_on(alloc, &mut world, disks, commands, output)?;
     Ok(())
 }
@@ -242,7 +240,7 @@ fn run_on<K: Sink, D: Disk>(
 // Answers the commands over a world that was just opened, and over its disks.
 fn answer_on<K: Sink, D: Disk>(
     alloc: Global,
-    world: &mut World<Journal, MemLink>,
+    world: &mut World<Keeper, MemLink>,
     disks: &mut Vec<Pair<D>>,
     commands: &[Command],
     output: &mut K,
@@ -256,22 +254,22 @@ fn answer_on<K: Sink, D: Disk>(
     requires unfailed { world.old.whole.post.faults ≡ 0 }
     ensures answers { D.tells → OnOk result ((volume : Volume) (W : ModelWorld)
         → WorldStandsFor volume W world.old.whole
-        → AllUp W → Ends K.tells D.Disk (StandNow ⟦<Journal as Keep>⟧ D.Disk world.old.whole disks.old.items) volume W
+        → AllUp W → Ends K.tells D.Disk (StandNow keeper D.Disk world.old.whole disks.old.items) volume W
         commands.now
         (K.written output.old) (K.written output.new) disks.old.items disks.new.items) }
     ensures prefix { D.tells → IfErr result (λ fault. (volume : Volume) (W : ModelWorld)
         → WorldStandsFor volume W world.old.whole
         → AllUp W → EndsFront K.tells (fault ≡ AnsweringFault.Memory) D.Disk
-        (StandNow ⟦<Journal as Keep>⟧ D.Disk world.old.whole disks.old.items) volume W commands.now
+        (StandNow keeper D.Disk world.old.whole disks.old.items) volume W commands.now
         (K.written output.old) (K.written output.new) disks.old.items disks.new.items) }
     ensures runs { D.tells → OnOk result ((volume : Volume) (W : ModelWorld)
         → WorldStandsFor volume W world.old.whole
-        → AllUp W → EndsOn K.tells D.Disk (StandNow ⟦<Journal as Keep>⟧ D.Disk world.old.whole disks.old.items) volume
+        → AllUp W → EndsOn K.tells D.Disk (StandNow keeper D.Disk world.old.whole disks.old.items) volume
         W commands.now (K.written output.old) (K.written output.new) disks.old.items disks.new.items) }
     ensures front_runs { D.tells → IfErr result (λ fault. (volume : Volume) (W : ModelWorld)
         → WorldStandsFor volume W world.old.whole
         → AllUp W → EndsFrontOn K.tells (fault ≡ AnsweringFault.Memory) D.Disk
-        (StandNow ⟦<Journal as Keep>⟧ D.Disk world.old.whole disks.old.items) volume W commands.now
+        (StandNow keeper D.Disk world.old.whole disks.old.items) volume W commands.now
         (K.written output.old) (K.written output.new) disks.old.items disks.new.items) }
     ensures others { OthersStay (length world.old.whole.members) disks.old.items disks.new.items }
     ensures pairs { length disks.new.items ≡ length disks.old.items }

@@ -5,7 +5,7 @@ use Rattle.ficus_check.specs.Lines.{checked_text}
 use Rattle.ficus_check.specs.declared.checked.Checked.{Checked}
 use Rattle.ficus_disk.specs.declared.disk.Disk.{Ghosts as Disk}
 use Rattle.ficus_disk.specs.declared.pair.Pair.{Pair}
-use Rattle.ficus_journal.specs.Logs.{kept_in}
+use Rattle.ficus_summary.specs.Keeper.{kept_in}
 use Rattle.ficus_runs.specs.Numbered.{IsNumbered}
 use Rattle.ficus_serving.specs.Puts.{PutsFront}
 use Rattle.ficus_world.specs.Kills.{AllRest}

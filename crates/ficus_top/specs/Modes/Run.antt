@@ -3,7 +3,7 @@ use Rattle.std.specs.Prelude.{◌≡◌, ◌≢◌, ◌⊎◌, ◌≤◌, ℕ, L
 use Rattle.ficus_model.specs.Lawful.{Volume}
 use Rattle.ficus_model.specs.declared.event.Event.{Event}
 use Rattle.ficus_saved.specs.declared.saved.Saved.{Saved}
-use Rattle.ficus_journal.specs.Logs.{kept_in}
+use Rattle.ficus_summary.specs.Keeper.{kept_in}
 use Rattle.ficus_world.specs.Kills.{AllRest, OthersRest}
 use Rattle.ficus_world.specs.Opening.{AreSynced, IsFirstBad, Opens, SeenSame, StandsOn, Steady}
 use Rattle.ficus_top.specs.Codes.{IsIdleCode, IsRefusalCode}

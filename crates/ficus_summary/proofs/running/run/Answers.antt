@@ -1,6 +1,6 @@
 use Rattle.std.proofs.Common.{length, ap, arith, refl, sym}
 use Rattle.ficus_runs.specs.Start.{default_volume}
-use Rattle.ficus_journal.specs.contracts.journal.JournalKeep
+use Rattle.ficus_summary.specs.Keeper.{keeper}
 use Rattle.ficus_summary.specs.Summary.{fresh_start}
 use Rattle.ficus_world.specs.Fuses.{at_rest}
 use Rattle.ficus_serving.proofs.Places.{tells_all}
@@ -19,7 +19,7 @@ overflow_sub-result g c =
       ap length c.history-2.ensures,
       c.len-before.ensures.value,
       ap length c.history.ensures,
-      stored_more JournalKeep.TheImpl.ghosts g.D.Disk c.args.members c.args.commands.now c.args.world.now.whole
+      stored_more keeper g.D.Disk c.args.members c.args.commands.now c.args.world.now.whole
           c.count_all.new.world.whole c.in_ok-tally.tally c.args.disks.now.items c.count_all.new.disks.items
           (c.in_ok-tally.ensures.answers tt (tells_all c.requires.tells c.args.commands.now)
           (default_volume c.args.members) (fresh_start c.args.members) c.requires.stands),
@@ -27,7 +27,7 @@ overflow_sub-result g c =
 
 pub returns : goal.returns
 returns g c = record {
-  counted = counted_as JournalKeep.TheImpl.ghosts g.D.Disk c.args.members c.args.commands.now c.args.world.now.whole
+  counted = counted_as keeper g.D.Disk c.args.members c.args.commands.now c.args.world.now.whole
       c.count_all.new.world.whole c.in_ok-tally.tally c.args.disks.now.items c.count_all.new.disks.items
       (c.in_ok-tally.ensures.answers tt (tells_all c.requires.tells c.args.commands.now)
       (default_volume c.args.members) (fresh_start c.args.members) c.requires.stands)

@@ -1,8 +1,7 @@
 use Rattle.std.proofs.Common.{◌≡◌, ℕ, [], Err, length, take, ap, arith, subst, sym}
 use Rattle.ficus_runs.specs.Start.{start}
 use Rattle.ficus_summary.specs.Sized.{sized}
-use Rattle.ficus_journal.specs.Logs.{IsRegular}
-use Rattle.ficus_journal.specs.contracts.journal.JournalKeep
+use Rattle.ficus_summary.specs.Keeper.{IsRegular, keeper}
 use Rattle.ficus_world.specs.Fuses.{AreRegular}
 use Rattle.ficus_world.specs.Opening.{fuses_in}
 use Rattle.ficus_world.specs.World.{WorldStandsFor}
@@ -42,5 +41,5 @@ returns-in-Ok-clause-fuses g c =
     c.in-Ok.ensures.fuses c.requires.tells_fuse c.requires.tells c.requires.unarmed
     (subst (λ (count : ℕ). AreRegular IsRegular g.D.Disk.seen c.args.disks.now.items count) (sym counted)
     c.requires.regular) F
-    (fresh_at_rest JournalKeep.TheImpl.ghosts g.D.Disk volume c.args.disks.now.items members counted c.requires.made
+    (fresh_at_rest keeper g.D.Disk volume c.args.disks.now.items members counted c.requires.made
     (c.in-Ok.ensures.opened c.requires.tells) F zero)
