@@ -1,3 +1,4 @@
 pub mod Around
 pub mod Heights
 pub mod Sides
+pub mod Spelled

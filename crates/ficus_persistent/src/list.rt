@@ -1,11 +1,13 @@
 ghost use Rattle.std.specs.Prelude.{◌≡◌, ◌<◌, ◌≤◌, ◌+◌, ◌*◌, ◌^◌, [], ◌++◌, length, map};
-ghost use Rattle.std.specs.Prelude.{slice_get, slice_set, Some, IfOk, OnOk, IsTrue, ◌↔◌};
-ghost use Rattle.std.specs.List.{insert, remove};
+ghost use Rattle.std.specs.Prelude.{slice_get, slice_set, Some, IfOk, OnErr, OnOk, IsTrue, ◌↔◌};
+ghost use Rattle.std.specs.List.{insert, remove, flat_map, AllByRecursion};
 ghost use Rattle.std.specs.List.Sorted.{IsPartitionedBy};
+ghost use Rattle.ficus_formats.specs.Format.{Keeps};
 ghost use Rattle.ficus_persistent.specs.Cut.{IsCutAt};
 
 use crate::tree::Tree;
 use crate::{Cut, Item};
+use ficus_formats::Spelling;
 use ficus_ids::Memory;
 use std::alloc::Global;
 use std::marker::Model;
@@ -86,6 +88,19 @@ impl<T: Item> PersistentList<T> {
             ≡ map (λ item. item.now) gathered.old.items ++ self.now) }
     {
         self.tree.gather(gathered)
+    }
+
+    /// Appends the spellings of the items, one after the other, in one walk. After `Memory` part of them may stand there.
+    pub fn put_each<S: Spelling<Value = T>>(
+        &self,
+        spelling: &S,
+        out: &mut Vec<u8>,
+    ) -> Result<(), Memory>
+        requires { AllByRecursion (S.format spelling.now).fits self.now }
+        ensures put { OnOk result (out.new.items ≡ out.old.items ++ flat_map (S.format spelling.now).spell self.now) }
+        ensures kept { OnErr result (Keeps out.old.items out.new.items) }
+    {
+        self.tree.put_each(spelling, out)
     }
 
     /// The list with one more item, in front of the one at the index.

@@ -1,13 +1,15 @@
 ghost use Rattle.std.specs.Prelude.{◌≡◌, ◌<◌, ◌≤◌, ◌+◌, ◌-◌, ◌*◌, ◌^◌, ℕ, min, max, [], ◌∷◌, ◌++◌, length, map};
-ghost use Rattle.std.specs.Prelude.{slice_get, slice_set, Some, IfOk, IfSome, IfNone, OnOk, IsTrue, ◌↔◌};
+ghost use Rattle.std.specs.Prelude.{slice_get, slice_set, Some, IfOk, IfSome, IfNone, OnErr, OnOk, IsTrue, ◌↔◌};
 ghost use Rattle.std.specs.Option.{SomeIff};
-ghost use Rattle.std.specs.List.{insert, remove};
+ghost use Rattle.std.specs.List.{insert, remove, flat_map, AllByRecursion};
 ghost use Rattle.std.specs.List.Sorted.{IsPartitionedBy};
+ghost use Rattle.ficus_formats.specs.Format.{Keeps};
 ghost use Rattle.ficus_persistent.specs.Cut.{IsCutAt};
 ghost use Rattle.ficus_persistent.specs.Shape.{nothing, above, DifferByAtMost, IsAtMostOneAbove, IsLow, IsLeast, IsBalancedAbove};
 ghost use Rattle.ficus_persistent.specs.Node.{top_shape, IsSoundBranch};
 
 use crate::{Cut, Item};
+use ficus_formats::Spelling;
 use ficus_ids::Memory;
 use std::alloc::Global;
 use std::marker::Model;
@@ -185,6 +187,29 @@ impl<T: Item> Tree<T> {
                 branch.left.gather(gathered)?;
                 gathered.push(&branch.item)?;
                 branch.right.gather(gathered)
+            }
+        }
+    }
+
+    /// Appends the spellings of the items in order.
+    pub(crate) fn put_each<S: Spelling<Value = T>>(
+        &self,
+        spelling: &S,
+        out: &mut Vec<u8>,
+    ) -> Result<(), Memory>
+        requires { AllByRecursion (S.format spelling.now).fits self.now.items }
+        ensures put { OnOk result (out.new.items ≡ out.old.items
+            ++ flat_map (S.format spelling.now).spell self.now.items) }
+        ensures kept { OnErr result (Keeps out.old.items out.new.items) }
+    {
+        match &self.node {
+            Node::Empty => Ok(()),
+            Node::One(item) => spelling.put(out, item.as_ref()),
+            Node::Fork(branch) => {
+                let branch = branch.as_ref();
+                branch.left.put_each(spelling, out)?;
+                spelling.put(out, &branch.item)?;
+                branch.right.put_each(spelling, out)
             }
         }
     }
