@@ -156,7 +156,8 @@ fn are_current(versions: &[Version]) -> bool
 fn is_bare(file: &FileReplica) -> bool
     ensures { IsTrue result ↔ IsBare file.now }
 {
-    file.versions.items().is_empty() && file.covered == Vector::zero()
+    file.versions.items().is_empty()
+        && file.covered.compare(Vector::zero()) == Standing::Equal
 }
 
 // Whether what is a directory is bare, and what is a file has the versions of one.
@@ -229,7 +230,7 @@ fn passes_counts(reader: &mut Reader<'_>, value: Vector, members: Members) -> bo
     ensures { IsTrue result → Begins (counts members) reader.old value reader.new }
 {
     match read_counts(reader, members) {
-        Ok(read) => read == value,
+        Ok(read) => read.compare(value) == Standing::Equal,
         Err(_) => false,
     }
 }
@@ -315,6 +316,41 @@ fn file_head(id: Id, kind: Kind, count: u8) -> [u8; 7]
     ]
 }
 
+// The bytes of what has no versions, in rows of four behind one byte more, with the counts of all eight.
+fn bare_rows(id: Id, kind: Kind, covered: Vector) -> [[u8; 4]; 10] {
+    let [first, second, third, fourth] = id.number.to_be_bytes();
+    let [one, two, three, four, five, six, seven, eight] = counts_of(covered);
+    [
+        [0, id.replica, first, second],
+        [third, fourth, number_of(kind), 0],
+        one,
+        two,
+        three,
+        four,
+        five,
+        six,
+        seven,
+        eight,
+    ]
+}
+
+// Appends what has no versions, as most directories are many, in one go.
+fn put_bare(
+    out: &mut Vec<u8>,
+    id: Id,
+    kind: Kind,
+    covered: Vector,
+    members: Members,
+) -> Result<(), Memory>
+    ensures put { OnOk result (out.new.items ≡ out.old.items
+        ++ (id_format.spell id ++ (kind_format.spell kind ++ (byte.spell 0 ++ (counts members).spell covered)))) }
+    ensures kept { OnErr result (Keeps out.old.items out.new.items) }
+{
+    let rows = bare_rows(id, kind, covered);
+    let spelled = rows[..2 + usize::from(members.count())].as_flattened();
+    put_bytes(out, &spelled[1..])
+}
+
 /// How files are spelled in a volume of so many members.
 #[derive(Drop)]
 pub(crate) struct FileSpelling {
@@ -340,6 +376,9 @@ impl Spelling for FileSpelling {
     fn put(&self, out: &mut Vec<u8>, value: &FileReplica) -> Result<(), Memory> {
         let members = self.members;
         let versions = value.versions.items();
+        if versions.is_empty() {
+            return put_bare(out, value.id, value.kind, value.covered, members);
+        }
         put_bytes(out, &file_head(value.id, value.kind, versions.len() as u8))?;
         put_run(&VersionSpelling { members }, out, versions)?;
         put_counts(out, value.covered, members)

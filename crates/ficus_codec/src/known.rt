@@ -9,7 +9,7 @@ use ficus_entry::{Entries, Entry, SharedEntry};
 use ficus_file::{FileReplica, Files, SharedFile};
 use ficus_formats::{ReadFault, Reader, RowSpelling, Spelling};
 use ficus_ids::{Id, Members, Memory};
-use ficus_persistent::Item;
+use ficus_persistent::{Item, PersistentList};
 use ficus_table::Row;
 use std::alloc::Global;
 use std::cell::Cell;
@@ -18,38 +18,45 @@ use std::cell::Cell;
 /// built of nothing. What is read depends on none of them.
 #[derive(Drop)]
 pub struct Known {
-    pub(crate) entries: Vec<SharedEntry>,
-    pub(crate) files: Vec<SharedFile>,
+    pub(crate) entries: PersistentList<SharedEntry>,
+    pub(crate) files: PersistentList<SharedFile>,
 }
 
 impl Known {
     /// No rows. Takes no memory.
-    pub fn none(alloc: Global) -> Known {
+    pub fn none(_: Global) -> Known {
         Known {
-            entries: Vec::new(alloc),
-            files: Vec::new(alloc),
+            entries: PersistentList::new(),
+            files: PersistentList::new(),
         }
     }
 
-    /// The rows of tables.
+    /// The rows of tables, with which it shares them.
     pub fn of(entries: &Entries, files: &Files) -> Result<Known, Memory> {
         Ok(Known {
-            entries: entries.rows()?,
-            files: files.rows()?,
+            entries: entries.whole()?,
+            files: files.whole()?,
         })
     }
 }
 
+/// Each of the rows, in order.
+pub(crate) fn each_of<R: Row>(alloc: Global, rows: &PersistentList<R>) -> Result<Vec<&R>, Memory> {
+    let mut each = Vec::with_capacity(alloc, rows.len())?;
+    rows.gather(&mut each)?;
+    Ok(each)
+}
+
 // The known row with the identifier that stands in front of the bytes, which rise with the rows: mostly the next one.
-fn near<'a, R: Row>(known: &'a [R], next: &Cell<usize>, reader: &Reader<'_>) -> Option<&'a R> {
+fn near<'a, R: Row>(known: &[&'a R], next: &Cell<usize>, reader: &Reader<'_>) -> Option<&'a R> {
     let id = reader.again().id().ok()?;
     let place = place_near(known, next.get(), id);
     next.set(place.saturating_add(1));
-    known.get(place)
+    known.get(place).copied()
 }
 
 // Where the row with the identifier is, if rows rise and one has it.
-fn place_near<R: Row>(known: &[R], near: usize, id: Id) -> usize {
+fn place_near<R: Row>(known: &[&R], near: usize, id: Id) -> usize {
     if near < known.len() && R::id(known[near].look()) == id {
         return near;
     }
@@ -59,13 +66,31 @@ fn place_near<R: Row>(known: &[R], near: usize, id: Id) -> usize {
 /// How entries are spelled in a volume of so many members, where some are known.
 #[derive(Drop)]
 pub(crate) struct KnownEntries<'a> {
-    pub(crate) members: Members,
-    pub(crate) known: &'a [SharedEntry],
-    /// The place of the row that is looked at first.
-    pub(crate) next: Cell<usize>,
+    members: Members,
+    known: &'a [&'a SharedEntry],
+    // The place of the row that is looked at first.
+    next: Cell<usize>,
 }
 
 impl<'a> KnownEntries<'a> {
+    /// These are known.
+    pub(crate) fn of(members: Members, known: &'a [&'a SharedEntry]) -> KnownEntries<'a>
+        ensures { result.members ≡ members }
+    {
+        KnownEntries {
+            members,
+            known,
+            next: Cell::new(0),
+        }
+    }
+
+    /// None is known.
+    pub(crate) fn none(members: Members) -> KnownEntries<'a>
+        ensures { result.members ≡ members }
+    {
+        KnownEntries::of(members, &[])
+    }
+
     // The known entry whose spelling stands in front, which it passes.
     fn pass(&self, reader: &mut Reader<'_>) -> Option<&'a SharedEntry>
         ensures passed { IfSome result (λ row. Begins (entry self.now.members) reader.old row.now reader.new) }
@@ -112,13 +137,31 @@ impl<'a> RowSpelling for KnownEntries<'a> {
 /// How files are spelled in a volume of so many members, where some are known.
 #[derive(Drop)]
 pub(crate) struct KnownFiles<'a> {
-    pub(crate) members: Members,
-    pub(crate) known: &'a [SharedFile],
-    /// The place of the row that is looked at first.
-    pub(crate) next: Cell<usize>,
+    members: Members,
+    known: &'a [&'a SharedFile],
+    // The place of the row that is looked at first.
+    next: Cell<usize>,
 }
 
 impl<'a> KnownFiles<'a> {
+    /// These are known.
+    pub(crate) fn of(members: Members, known: &'a [&'a SharedFile]) -> KnownFiles<'a>
+        ensures { result.members ≡ members }
+    {
+        KnownFiles {
+            members,
+            known,
+            next: Cell::new(0),
+        }
+    }
+
+    /// None is known.
+    pub(crate) fn none(members: Members) -> KnownFiles<'a>
+        ensures { result.members ≡ members }
+    {
+        KnownFiles::of(members, &[])
+    }
+
     // The known file whose spelling stands in front, which it passes.
     fn pass(&self, reader: &mut Reader<'_>) -> Option<&'a SharedFile>
         ensures passed { IfSome result (λ row. Begins (file self.now.members) reader.old row.now reader.new) }

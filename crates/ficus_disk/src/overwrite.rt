@@ -1,5 +1,5 @@
 // Changes in place, within the room that is there.
-ghost use Rattle.std.specs.Prelude.{◌≡◌, ◌+◌, ◌-◌, ◌≤◌, ◌++◌, length, replicate, vec_len, vec_capacity, OnOk};
+ghost use Rattle.std.specs.Prelude.{◌≡◌, ◌+◌, ◌-◌, ◌≤◌, ◌++◌, [], length, replicate, vec_len, vec_capacity, IfOk, OnOk};
 ghost use Rattle.ficus_disk.specs.Bytes.{patch};
 ghost use Rattle.ficus_disk.specs.Platter.{IsCleanBut, image_of, marks_of, overlaid, picked_byte};
 ghost use Rattle.ficus_disk.specs.declared.mark.Mark.TheVariants.{Clean};
@@ -8,6 +8,7 @@ use crate::fuse::Pick;
 use crate::mark::Mark;
 use crate::span::Span;
 use ficus_ids::Memory;
+use std::alloc::Global;
 
 /// Writes the bytes over what is there, and past the end.
 pub(crate) fn write_over(to: &mut Vec<u8>, at: usize, bytes: &[u8])
@@ -138,14 +139,28 @@ fn picked_byte(pick: Pick, mark: Mark, byte: u8) -> u8
     }
 }
 
-/// Makes room for so many items in all.
-pub(crate) fn reserve_upto<T>(to: &mut Vec<T>, upto: usize) -> Result<(), Memory>
+/// Makes room for so many items in all, and for four times as many where memory isn't refused: what stands on a disk that
+/// grows is moved seldom then.
+pub(crate) fn reserve_upto<T: Copy>(to: &mut Vec<T>, upto: usize) -> Result<(), Memory>
     ensures items { to.new.items ≡ to.old.items }
     ensures room { OnOk result (upto ≤ vec_capacity to.new) }
     ensures kept { vec_capacity to.old ≤ vec_capacity to.new }
 {
-    if to.len() < upto {
-        to.reserve(upto - to.len())?;
+    if to.capacity() < upto {
+        let mut more = room_for(*to.allocator(), upto)?;
+        more.extend_from_slice(to)?;
+        *to = more;
     }
     Ok(())
+}
+
+/// Room for so many items, or for four times as many.
+fn room_for<T>(alloc: Global, upto: usize) -> Result<Vec<T>, Memory>
+    ensures items { IfOk result (λ room. room.items ≡ []) }
+    ensures room { IfOk result (λ room. upto ≤ vec_capacity room) }
+{
+    match Vec::with_capacity(alloc, upto.saturating_mul(4)) {
+        Ok(room) => Ok(room),
+        Err(_) => Ok(Vec::with_capacity(alloc, upto)?),
+    }
 }

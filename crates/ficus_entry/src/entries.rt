@@ -10,6 +10,7 @@ use crate::note::{notes, noting, renoted};
 use crate::{Entry, SharedEntry, State};
 use ficus_ids::{Id, Marks, Memory};
 use ficus_index::Index;
+use ficus_persistent::PersistentList;
 use ficus_table::Table;
 use std::alloc::Global;
 use std::marker::Model;
@@ -114,6 +115,13 @@ impl Entries {
         // Tells that the identifiers rise.
         let _count = self.len();
         self.table.rows()
+    }
+
+    /// The entries in order, in a list that shares its nodes with these.
+    pub fn whole(&self) -> Result<PersistentList<SharedEntry>, Memory>
+        ensures { IfOk result (λ list. list ≡ self.now) }
+    {
+        self.table.whole()
     }
 
     /// The same entries once more, with memory from where these have theirs.

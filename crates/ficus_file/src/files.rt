@@ -8,6 +8,7 @@ ghost use Rattle.ficus_file.specs.declared.file.FileReplica.{FileReplica as File
 use crate::FileReplica;
 use crate::shared::{Form, SharedFile};
 use ficus_ids::{Id, Memory};
+use ficus_persistent::PersistentList;
 use ficus_table::{InOrder, Table};
 use std::alloc::Global;
 use std::marker::Model;
@@ -102,6 +103,13 @@ impl Files {
         ensures files { AreFiles self.now }
     {
         self.table.in_order()
+    }
+
+    /// The files in order, in a list that shares its nodes with these.
+    pub fn whole(&self) -> Result<PersistentList<SharedFile>, Memory>
+        ensures { IfOk result (λ list. list ≡ self.now) }
+    {
+        self.table.whole()
     }
 
     /// The files in order, for others to share: who takes one in shares with these what is behind it.

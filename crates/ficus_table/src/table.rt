@@ -261,8 +261,8 @@ impl<R: Row> Table<R> {
         list.insert(self.allocator(), list.len(), row)
     }
 
-    // The rows, edited as they are, in a list of their own.
-    pub(crate) fn whole(&self) -> Result<PersistentList<R>, Memory>
+    /// The rows as they stand, with what had become of them, in a list that shares its nodes with the table.
+    pub fn whole(&self) -> Result<PersistentList<R>, Memory>
         ensures same { IfOk result (λ list. map R.seen list ≡ self.now.items) }
         ensures rising { IfOk result (IsRisingBy (λ row. R.id_of (R.seen row))) }
     {
