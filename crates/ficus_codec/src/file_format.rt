@@ -1,4 +1,4 @@
-ghost use Rattle.std.specs.Prelude.{◌≡◌, ◌↔◌, ◌++◌, ◌∷◌, [], length, map, All, Contains, IsTrue, IfErr, IfSome, OnErr, OnOk};
+ghost use Rattle.std.specs.Prelude.{◌≡◌, ◌↔◌, ◌++◌, ◌∷◌, [], length, take, drop, map, All, Contains, IsTrue, IfErr, IfSome, OnErr, OnOk};
 ghost use Rattle.ficus_file.specs.Version.{AreCurrent};
 ghost use Rattle.ficus_file.specs.declared.version.Version.{Version as VersionValue};
 ghost use Rattle.std.specs.Int.{w32, to_be_bytes};
@@ -156,8 +156,7 @@ fn are_current(versions: &[Version]) -> bool
 fn is_bare(file: &FileReplica) -> bool
     ensures { IsTrue result ↔ IsBare file.now }
 {
-    file.versions.items().is_empty()
-        && file.covered.compare(Vector::zero()) == Standing::Equal
+    file.versions.items().is_empty() && file.covered.compare(Vector::zero()) == Standing::Equal
 }
 
 // Whether what is a directory is bare, and what is a file has the versions of one.
@@ -316,8 +315,11 @@ fn file_head(id: Id, kind: Kind, count: u8) -> [u8; 7]
     ]
 }
 
-// The bytes of what has no versions, in rows of four behind one byte more, with the counts of all eight.
-fn bare_rows(id: Id, kind: Kind, covered: Vector) -> [[u8; 4]; 10] {
+// What has no versions, with the counts of all eight, in rows of four bytes behind a zero.
+fn bare_rows(id: Id, kind: Kind, covered: Vector) -> [[u8; 4]; 10]
+    ensures { result ≡ (0 ∷ take 3 (id_format.spell id)) ∷ (drop 3 (id_format.spell id) ++ kind_number kind ∷ 0 ∷ [])
+        ∷ map (to_be_bytes w32) (in_order covered) }
+{
     let [first, second, third, fourth] = id.number.to_be_bytes();
     let [one, two, three, four, five, six, seven, eight] = counts_of(covered);
     [
@@ -334,7 +336,7 @@ fn bare_rows(id: Id, kind: Kind, covered: Vector) -> [[u8; 4]; 10] {
     ]
 }
 
-// Appends what has no versions, as most directories are many, in one go.
+// Appends what has no versions, at once.
 fn put_bare(
     out: &mut Vec<u8>,
     id: Id,
