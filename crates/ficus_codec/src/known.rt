@@ -66,29 +66,22 @@ fn place_near<R: Row>(known: &[&R], near: usize, id: Id) -> usize {
 /// How entries are spelled in a volume of so many members, where some are known.
 #[derive(Drop)]
 pub(crate) struct KnownEntries<'a> {
-    members: Members,
-    known: &'a [&'a SharedEntry],
-    // The place of the row that is looked at first.
-    next: Cell<usize>,
+    pub(crate) members: Members,
+    pub(crate) known: &'a [&'a SharedEntry],
+    /// The place of the row that is looked at first.
+    pub(crate) next: Cell<usize>,
 }
 
 impl<'a> KnownEntries<'a> {
-    /// These are known.
-    pub(crate) fn of(members: Members, known: &'a [&'a SharedEntry]) -> KnownEntries<'a>
-        ensures { result.members ≡ members }
-    {
-        KnownEntries {
-            members,
-            known,
-            next: Cell::new(0),
-        }
-    }
-
     /// None is known.
     pub(crate) fn none(members: Members) -> KnownEntries<'a>
         ensures { result.members ≡ members }
     {
-        KnownEntries::of(members, &[])
+        KnownEntries {
+            members,
+            known: &[],
+            next: Cell::new(0),
+        }
     }
 
     // The known entry whose spelling stands in front, which it passes.
@@ -137,29 +130,22 @@ impl<'a> RowSpelling for KnownEntries<'a> {
 /// How files are spelled in a volume of so many members, where some are known.
 #[derive(Drop)]
 pub(crate) struct KnownFiles<'a> {
-    members: Members,
-    known: &'a [&'a SharedFile],
-    // The place of the row that is looked at first.
-    next: Cell<usize>,
+    pub(crate) members: Members,
+    pub(crate) known: &'a [&'a SharedFile],
+    /// The place of the row that is looked at first.
+    pub(crate) next: Cell<usize>,
 }
 
 impl<'a> KnownFiles<'a> {
-    /// These are known.
-    pub(crate) fn of(members: Members, known: &'a [&'a SharedFile]) -> KnownFiles<'a>
-        ensures { result.members ≡ members }
-    {
-        KnownFiles {
-            members,
-            known,
-            next: Cell::new(0),
-        }
-    }
-
     /// None is known.
     pub(crate) fn none(members: Members) -> KnownFiles<'a>
         ensures { result.members ≡ members }
     {
-        KnownFiles::of(members, &[])
+        KnownFiles {
+            members,
+            known: &[],
+            next: Cell::new(0),
+        }
     }
 
     // The known file whose spelling stands in front, which it passes.

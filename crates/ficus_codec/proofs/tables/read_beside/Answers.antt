@@ -2,7 +2,7 @@ use Rattle.std.specs.Prelude.{IsTrue, false, refl}
 use Rattle.ficus_formats.proofs.Reading.{passed}
 use Rattle.ficus_codec.specs.Formats.{tables}
 use Rattle.ficus_codec.proofs.TableFormats.{at_entries, at_files, tables_begin, objects_miss}
-use Rattle.ficus_codec.proofs.tables.read_rows.Goals as goal
+use Rattle.ficus_codec.proofs.tables.read_beside.Goals as goal
 
 pub returns-in_err-entries : goal.returns-in_err-entries
 returns-in_err-entries c =
