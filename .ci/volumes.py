@@ -107,3 +107,12 @@ def directories(members, made):
     files = [it + bytes(2 + 4 * members) for it in identifiers]
     tables = b"".join([struct.pack(">I", made), *entries, struct.pack(">I", made), *files])
     return slot(made, image(1, members, made, tables))
+
+
+def smallest_files(members, made):
+    """The slot with the image of member 1 that has made so many files, each of one byte, to which no entry leads. Of all
+    rows these take most memory beside what spells them, where the members are few."""
+    count = struct.pack(f">{members}I", 1, *[0] * (members - 1))
+    files = [struct.pack(">BIBB", 1, number, 1, 1) + count + b"\0\1x" + count for number in range(1, made + 1)]
+    tables = struct.pack(">II", 0, made) + b"".join(files)
+    return slot(made, image(1, members, made, tables, used=made))

@@ -1,6 +1,6 @@
 -- A walk along the files of two sides, which finds beside each of theirs the one of mine with its identifier.
 use Rattle.std.proofs.Common.{◌≡◌, ◌⊎◌, List, [], ◌∷◌, ◌++◌, get_or, Contains, Option, Some, None, Bor, option_copied, refl, sym, ◌∙◌, subst, inl, inr, arith}
-use Rattle.std.specs.Prelude.{All}
+use Rattle.std.specs.Prelude.{All, IfSome}
 use Rattle.std.specs.declared.cmp.Ordering.TheVariants.{Less}
 use Rattle.std.proofs.lemmas.List.{map-append, append-nil}
 use Rattle.std.proofs.lemmas.List.Elements.{All-push, Contains-append_left, Contains-push, Contains-push_cases, Contains-get_or}
@@ -11,7 +11,7 @@ use Rattle.ficus_ids.specs.RisingLaws.{one_held}
 use Rattle.ficus_table.specs.SideBySide.{Sides, AreRising, Passes, ArePassed}
 use Rattle.ficus_file.specs.Files.{id_of, IsRising, HoldsUnder}
 use Rattle.ficus_file.specs.declared.file.FileReplica.{FileReplica}
-use Rattle.ficus_recon_file.specs.News.{AreNew, theirs_of, IsBeside, IsKnown, Notes}
+use Rattle.ficus_recon_file.specs.News.{AreNew, theirs_of, IsBeside, HasRow, IsKnown, Notes}
 use Rattle.ficus_recon_file.specs.declared.news.NewFile.{NewFile}
 
 -- of theirs that the walk has passed this is new
@@ -22,6 +22,7 @@ pub record AreNewsSoFar (mine theirs : List FileReplica) (sides : Sides FileRepl
   pub rising : IsRising mine
   pub are_new : AreNew mine sides.theirs_passed (theirs_of news)
   pub each : All (IsBeside mine) news
+  pub rows : All HasRow news
 
 pub nothing_so_far : (mine theirs : List FileReplica) (sides : Sides FileReplica) → sides.mine ≡ mine →
     sides.theirs ≡ theirs → sides.theirs_passed ≡ [] → AreRising id_of sides → AreNewsSoFar mine theirs sides []
@@ -36,6 +37,7 @@ nothing_so_far mine theirs sides mine_is theirs_is none rising = record {
     all = λ file inside. inl inside;
   });
   each = λ k d within. absurd (omega (arith, within));
+  rows = λ k d within. absurd (omega (arith, within));
 }
 
 -- with one file more of theirs, which is above all others, the same is new where mine hold it as it is, and else the
@@ -92,18 +94,19 @@ module _ (mine passed : List FileReplica) (news : List NewFile) (new : NewFile) 
 
 -- the walk passes one identifier more
 pub news_more : (mine theirs : List FileReplica) (old new : Sides FileReplica) (news more : List NewFile)
-    (my their : Option (Bor FileReplica)) → AreNewsSoFar mine theirs old news →
-    Passes id_of old new (option_copied my) (option_copied their) → Notes news more my their →
-    AreNewsSoFar mine theirs new more
-news_more mine theirs old new news more my None so_far passes notes =
+    (my their row : Option (Bor FileReplica)) → AreNewsSoFar mine theirs old news →
+    Passes id_of old new (option_copied my) (option_copied their) → Notes news more my their row →
+    IfSome row (λ r. IfSome their (λ t. r.now ≡ t.now)) → AreNewsSoFar mine theirs new more
+news_more mine theirs old new news more my None row so_far passes notes shows =
     rw (passes.is, notes, append-nil old.theirs_passed) (record {
       mine_is = so_far.mine_is;
       theirs_is = so_far.theirs_is;
       rising = so_far.rising;
       are_new = so_far.are_new;
       each = so_far.each;
+      rows = so_far.rows;
     })
-news_more mine theirs old new news more my (Some their) so_far passes notes = rw passes.is (record {
+news_more mine theirs old new news more my (Some their) row so_far passes notes shows = rw passes.is (record {
   mine_is = so_far.mine_is;
   theirs_is = so_far.theirs_is;
   rising = so_far.rising;
@@ -116,10 +119,14 @@ news_more mine theirs old new news more my (Some their) so_far passes notes = rw
     | inl known ↦ rw known.1 so_far.each
     | inr unknown ↦ rw unknown.1 (All-push (IsBeside mine) news one so_far.each is)
   ];
+  rows = elim notes [
+    | inl known ↦ rw known.1 so_far.rows
+    | inr unknown ↦ rw unknown.1 (All-push HasRow news one so_far.rows shows)
+  ];
 })
   where
     one : NewFile
-    one = record { mine = my; theirs = their }
+    one = record { mine = my; theirs = their; row = row }
 
     is : IsBeside mine one
     is = subst (λ files. HoldsUnder files their.now.id (option_copied my)) so_far.mine_is

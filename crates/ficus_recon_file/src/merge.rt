@@ -3,7 +3,7 @@ ghost use Rattle.ficus_ids.specs.Rising.{IsRisingBy};
 ghost use Rattle.ficus_file.specs.declared.file.FileReplica.{FileReplica as FileValue};
 ghost use Rattle.ficus_file.specs.Files.{AreFiles, IsSoundFile, Holds, HoldsUnder};
 ghost use Rattle.ficus_recon_file.specs.Merge.{CanMerge, Fit, IsMergedFile, IsTaken, AreMergedFiles};
-ghost use Rattle.ficus_recon_file.specs.News.{IsBeside};
+ghost use Rattle.ficus_recon_file.specs.News.{IsBeside, HasRow};
 ghost use Rattle.ficus_recon_file.specs.Changes.{IsChange, AddsChange, AreChanges};
 ghost use Rattle.ficus_touched.specs.Touched.{touched_by};
 
@@ -12,6 +12,7 @@ use crate::{NewFile, News, alone};
 use ficus_entry::Entries;
 use ficus_file::{FileReplica, Files, SharedFile};
 use ficus_ids::{Id, Memory};
+use ficus_persistent::Item;
 use ficus_touched::is_among;
 use std::alloc::Global;
 
@@ -66,17 +67,28 @@ fn merged_change(
 }
 
 // The file of theirs alone, where it is taken.
-fn taken(alloc: Global, theirs: &FileReplica, held: &[Id]) -> Result<Option<SharedFile>, Memory>
-    requires { IsRisingBy (λ other. other) held.now }
-    ensures taken { IfOk result (IsTaken held.now theirs.now) }
-    ensures of_theirs { IfOk result (λ taken. (file : FileValue) → taken ≡ Some file → file ≡ theirs.now) }
+fn taken(alloc: Global, new: NewFile<'_>, held: &[Id]) -> Result<Option<SharedFile>, Memory>
+    requires rising { IsRisingBy (λ other. other) held.now }
+    requires row { HasRow new }
+    ensures taken { IfOk result (IsTaken held.now new.entry.theirs.now) }
+    ensures of_theirs { IfOk result (λ taken. (file : FileValue) → taken ≡ Some file → file ≡ new.entry.theirs.now) }
 {
-    if !is_among(held, theirs.id) {
+    if !is_among(held, new.theirs.id) {
         return Ok(None);
     }
-    let file = theirs.copy(alloc)?;
-    let shared = SharedFile::of(alloc, file)?;
+    let shared = shared(alloc, new)?;
     Ok(Some(shared))
+}
+
+// The file of theirs to share: their row, where it is known.
+fn shared(alloc: Global, new: NewFile<'_>) -> Result<SharedFile, Memory>
+    requires { HasRow new }
+    ensures { IfOk result (λ file. file ≡ new.entry.theirs.now) }
+{
+    match new.row {
+        Some(row) => row.copied(),
+        None => SharedFile::of(alloc, new.theirs.copy(alloc)?),
+    }
 }
 
 // What stands for a new file in place of mine, unless mine stay.
@@ -88,6 +100,7 @@ fn change(
 ) -> Result<Option<SharedFile>, Memory>
     requires theirs { Contains news.now.theirs new.theirs.now }
     requires mine { IsBeside news.now.mine new }
+    requires row { HasRow new }
     requires fit { Fit news.now.mine news.now.theirs }
     requires rising { IsRisingBy (λ id. id) held.now }
     ensures { IfOk result (IsChange held.now news.now.mine new.entry.theirs.now) }
@@ -96,7 +109,7 @@ fn change(
     let _count = news.len();
     match new.mine {
         Some(file) => merged_change(alloc, file, new.theirs),
-        None => taken(alloc, new.theirs, held),
+        None => taken(alloc, new, held),
     }
 }
 
@@ -110,6 +123,7 @@ fn add_change(
 ) -> Result<(), Memory>
     requires theirs { Contains news.now.theirs new.theirs.now }
     requires mine { IsBeside news.now.mine new }
+    requires row { HasRow new }
     requires fit { Fit news.now.mine news.now.theirs }
     requires rising { IsRisingBy (λ id. id) held.now }
     ensures { OnOk result

@@ -1,11 +1,11 @@
-ghost use Rattle.std.specs.Prelude.{◌≡◌, ◌<◌, ◌==◌, ◌↔◌, length, slice_get, Some, All, IfOk, OnOk, IsTrue};
+ghost use Rattle.std.specs.Prelude.{◌≡◌, ◌<◌, ◌==◌, ◌↔◌, length, slice_get, Some, All, IfOk, IfSome, OnOk, IsTrue};
 ghost use Rattle.std.specs.Option.{option_copied};
 ghost use Rattle.ficus_file.specs.Files.{AreFiles, HoldsUnder};
-ghost use Rattle.ficus_recon_file.specs.News.{AreNew, theirs_of, IsBeside, IsKnown, Notes};
+ghost use Rattle.ficus_recon_file.specs.News.{AreNew, theirs_of, IsBeside, HasRow, IsKnown, Notes};
 
-use ficus_file::{FileReplica, Files, FilesInOrder};
+use ficus_file::{FileReplica, Files, FilesInOrder, SharedFile};
 use ficus_ids::Memory;
-use ficus_table::{Pair, SideBySide};
+use ficus_table::{RowPair, SideBySide};
 use std::alloc::Global;
 use std::marker::Model;
 
@@ -14,6 +14,8 @@ use std::marker::Model;
 pub struct NewFile<'a> {
     pub mine: Option<&'a FileReplica>,
     pub theirs: &'a FileReplica,
+    /// The same file of theirs, for mine to share, where theirs were made of rows.
+    pub row: Option<&'a SharedFile>,
 }
 
 /// What of the files of a peer, theirs, is new to a replica, which has mine: those of theirs that mine don't hold as
@@ -74,6 +76,7 @@ impl<'a> News<'a> {
         requires { index < length self.now.new }
         ensures theirs { slice_get self.now.new index ≡ Some result.theirs.now }
         ensures mine { HoldsUnder self.now.mine result.theirs.now.id (option_copied result.mine) }
+        ensures row { HasRow result }
     {
         self.files[index]
     }
@@ -94,23 +97,26 @@ fn found<'a>(
 ) -> Result<Vec<NewFile<'a>>, Memory>
     ensures new { IfOk result (λ news. AreNew mine.now theirs.now (theirs_of news.items)) }
     ensures beside { IfOk result (λ news. All (IsBeside mine.now) news.items) }
+    ensures rows { IfOk result (λ news. All HasRow news.items) }
 {
     let mut walk = SideBySide::of(mine, theirs);
     let mut news = Vec::new(alloc);
-    while let Some(pair) = walk.next_pair() {
-        note(&mut news, pair)?;
+    while let Some(next) = walk.next_row_pair() {
+        note(&mut news, next)?;
     }
     Ok(news)
 }
 
 // Puts the file of theirs behind the others, if there is one, unless mine hold it as it is.
-fn note<'a>(news: &mut Vec<NewFile<'a>>, pair: Pair<'a, FileReplica>) -> Result<(), Memory>
-    ensures { OnOk result (Notes news.old.items news.new.items pair.entry.mine pair.entry.theirs) }
+fn note<'a>(news: &mut Vec<NewFile<'a>>, next: RowPair<'a, SharedFile>) -> Result<(), Memory>
+    ensures { OnOk result
+        (Notes news.old.items news.new.items next.entry.pair.mine next.entry.pair.theirs next.entry.their_row) }
 {
-    if let Some(theirs) = pair.theirs {
+    if let Some(theirs) = next.pair.theirs {
         let new = NewFile {
-            mine: pair.mine,
+            mine: next.pair.mine,
             theirs,
+            row: next.their_row,
         };
         if !is_known(new) {
             news.push(new)?;

@@ -1,4 +1,4 @@
-ghost use Rattle.std.specs.Prelude.{◌≡◌, ◌<◌, ◌==◌, length, map, slice_get, Some, IfOk};
+ghost use Rattle.std.specs.Prelude.{◌≡◌, ◌<◌, ◌==◌, length, map, slice_get, Some, IfOk, IfSome};
 ghost use Rattle.ficus_ids.specs.Rising.{IsRisingBy};
 ghost use Rattle.ficus_table.specs.Edits.{overlaid, AreBelow};
 
@@ -14,17 +14,20 @@ use std::marker::Model;
 #[derive(Drop)]
 pub struct InOrder<'a, R: Row> {
     seen: Vec<&'a R::Seen>,
+    // What shows it, where that stands in no table.
+    rows: Option<&'a [R]>,
 }
 
 impl<'a, R: Row> Model for InOrder<'a, R> {
-    ghost use Rattle.std.specs.Prelude.{List, map};
+    ghost use Rattle.std.specs.Prelude.{◌≡◌, List, map, IfSome};
     ghost use Rattle.ficus_ids.specs.Rising.{IsRisingBy};
 
     ghost Value = { List R.Seen };
 
     ghost view = { λ o. map (λ seen. seen.now) o.seen.items };
 
-    ghost invariant = { λ o. IsRisingBy R.id_of (map (λ seen. seen.now) o.seen.items) };
+    ghost invariant = { λ o. IsRisingBy R.id_of (map (λ seen. seen.now) o.seen.items)
+        × IfSome o.rows (λ rows. map R.seen rows.now ≡ map (λ seen. seen.now) o.seen.items) };
 }
 
 impl<'a, R: Row> InOrder<'a, R> {
@@ -33,7 +36,7 @@ impl<'a, R: Row> InOrder<'a, R> {
         requires { IsRisingBy R.id_of (map (λ one. one.now) seen.items) }
         ensures { result ≡ map (λ one. one.now) seen.entry.items }
     {
-        InOrder { seen }
+        InOrder { seen, rows: None }
     }
 
     /// Rows that stand in no table, whose identifiers rise strictly.
@@ -42,17 +45,21 @@ impl<'a, R: Row> InOrder<'a, R> {
         ensures { IfOk result (λ in_order. in_order ≡ rows.now) }
     {
         let seen = each_of(alloc, rows)?;
-        Ok(InOrder { seen })
+        Ok(InOrder { seen, rows: None })
     }
 
-    /// What rows show that stand in no table, whose identifiers rise strictly.
+    /// What rows show that stand in no table, whose identifiers rise strictly. A table may share them, by
+    /// [`row`](InOrder::row).
     pub fn of_rows(alloc: Global, rows: &'a [R]) -> Result<InOrder<'a, R>, Memory>
         requires { IsRisingBy (λ row. R.id_of (R.seen row)) rows.now }
         ensures { IfOk result (λ in_order. in_order ≡ map R.seen rows.now) }
     {
         let each = each_of(alloc, rows)?;
         let seen = looks_at(alloc, &each)?;
-        Ok(InOrder { seen })
+        Ok(InOrder {
+            seen,
+            rows: Some(rows),
+        })
     }
 
     /// How many rows there are.
@@ -76,6 +83,13 @@ impl<'a, R: Row> InOrder<'a, R> {
         ensures { slice_get self.now index ≡ Some result.now }
     {
         self.seen[index]
+    }
+
+    /// The row at a place, from 0, if there is one, and if it was made [of rows](InOrder::of_rows).
+    pub fn row(&self, index: usize) -> Option<&'a R>
+        ensures { IfSome result (λ row. slice_get self.now index ≡ Some (R.seen row.now)) }
+    {
+        self.rows?.get(index)
     }
 }
 

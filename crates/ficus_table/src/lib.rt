@@ -14,5 +14,5 @@ mod table;
 pub use in_order::InOrder;
 pub use replacing::are_many;
 pub use row::Row;
-pub use side_by_side::{Pair, SideBySide};
+pub use side_by_side::{Pair, RowPair, SideBySide};
 pub use table::Table;

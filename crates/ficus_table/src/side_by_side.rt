@@ -14,6 +14,13 @@ pub struct Pair<'a, S> {
     pub theirs: Option<&'a S>,
 }
 
+/// The same, and where theirs hold something the row that shows it, if that is known.
+#[derive(Drop)]
+pub struct RowPair<'a, R: Row> {
+    pub pair: Pair<'a, R::Seen>,
+    pub their_row: Option<&'a R>,
+}
+
 /// A walk along two tables side by side: under each identifier that one of them has, what both hold, by rising
 /// identifiers. Contracts see the rows of both, and those of each that it has passed.
 #[derive(Drop)]
@@ -63,15 +70,32 @@ impl<'b, 'a, R: Row> SideBySide<'b, 'a, R> {
         ensures none { IfNone result (ArePassed self.old) }
         ensures kept { IfNone result (self.new ≡ self.old) }
     {
+        match self.next_row_pair() {
+            Some(next) => Some(next.pair),
+            None => None,
+        }
+    }
+
+    /// The same as [`next_pair`](SideBySide::next_pair), with the row of theirs, where theirs were made
+    /// [of rows](InOrder::of_rows).
+    pub fn next_row_pair(&mut self) -> Option<RowPair<'a, R>>
+        ensures some { IfSome result (λ next.
+            Passes R.id_of self.old self.new (option_copied next.pair.mine) (option_copied next.pair.theirs)) }
+        ensures row { IfSome result (λ next. IfSome next.their_row (λ row.
+            IfSome next.pair.theirs (λ theirs. R.seen row.now ≡ theirs.now))) }
+        ensures none { IfNone result (ArePassed self.old) }
+        ensures kept { IfNone result (self.new ≡ self.old) }
+    {
         let my_next = seen_at(self.mine, self.mine_done);
         let their_next = seen_at(self.theirs, self.theirs_done);
         if my_next.is_none() && their_next.is_none() {
             return None;
         }
+        let their_row = self.theirs.row(self.theirs_done);
         let pair = lowest::<R>(my_next, their_next);
         self.mine_done += usize::from(pair.mine.is_some());
         self.theirs_done += usize::from(pair.theirs.is_some());
-        Some(pair)
+        Some(RowPair { pair, their_row })
     }
 }
 

@@ -1,8 +1,8 @@
-use Rattle.std.proofs.Common.{◌≤◌, length, refl, sym, subst, ◌∙◌, arith, rules}
+use Rattle.std.proofs.Common.{◌≡◌, ◌≤◌, List, length, Option, Some, None, Bor, option_copied, Contains, refl, sym, subst, ◌∙◌, arith}
 use Rattle.std.proofs.lemmas.Bool.{both_ways}
 use Rattle.std.proofs.lemmas.List.{take_all}
 use Rattle.ficus_ids.specs.RisingLaws.{one_item}
-use Rattle.ficus_file.specs.Files.{id_of}
+use Rattle.ficus_file.specs.Files.{id_of, HoldsUnder}
 use Rattle.ficus_file.specs.declared.file.FileReplica.{FileReplica}
 use Rattle.ficus_recon_file.specs.Merge.{Fit}
 use Rattle.ficus_file.proofs.Changed.{contains_at}
@@ -33,6 +33,14 @@ returns-then-not-can_merge c = (
       found.1))),
 )
 
+-- where none of mine stands beside it, none has its identifier
+none_beside : (mine : List FileReplica) (their : FileReplica) (my : Option (Bor FileReplica)) →
+    HoldsUnder mine their.id (option_copied my) → ((file : Bor FileReplica) → my ≡ Some file → ⊥) →
+    (file : FileReplica) → Contains mine file → file.id ≡ their.id → ⊥
+none_beside mine their None held none file inside has_id =
+    held (record { item = file; inside = inside; has_id = has_id })
+none_beside mine their (Some my) held none file inside has_id = none my refl
+
 pub loop-index-preserved : goal.loop-index-preserved
 loop-index-preserved c =
     let more = fits_more c.args.news.now.mine c.args.news.now.new c.loop-index.index c.at-new.result.theirs.now
@@ -43,7 +51,8 @@ loop-index-preserved c =
           more (λ file inside has_id. rw (one_item id_of c.args.news.now.mine file w.in-Some.file.now
           c.len-index-end.ensures.mine.rising inside found.0 (has_id ∙ sym found.1))
           (w.can_merge.ensures.0 w.if-not-can_merge.false))
-      | in_default w ↦ more (λ file inside has_id. absurd (search rules))
+      | in_default w ↦ more (λ file inside has_id. absurd (none_beside c.args.news.now.mine c.at-new.result.theirs.now
+          c.at-new.result.mine c.at-new.ensures.mine w.in_default.not-Some file inside has_id))
     ]
 
 pub returns : goal.returns

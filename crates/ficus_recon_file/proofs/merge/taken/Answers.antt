@@ -1,4 +1,4 @@
-use Rattle.std.proofs.Common.{Some, refl, ap, ◌∙◌}
+use Rattle.std.proofs.Common.{Some, refl, ap}
 use Rattle.ficus_recon_file.proofs.merge.taken.Goals as goal
 
 pub returns-then-not-is_among-clause-taken : goal.returns-then-not-is_among-clause-taken
@@ -9,6 +9,6 @@ returns-then-not-is_among-clause-taken c = record {
 
 pub returns-clause-taken : goal.returns-clause-taken
 returns-clause-taken c = record {
-  named = λ _. ap Some (c.in_ok-shared.ensures ∙ c.in_ok-file.ensures);
+  named = λ _. ap Some c.in_ok-shared.ensures;
   unnamed = λ none. absurd (none (c.is_among.ensures.0 c.if-not-is_among.false));
 }

@@ -2,8 +2,8 @@ use Rattle.std.proofs.Common.{◌≡◌, ◌+◌, None, option_copied, sym, ap, 
 use Rattle.std.specs.Int.{from_bool}
 use Rattle.std.proofs.lemmas.Bool.{false≢true}
 use Rattle.ficus_table.proofs.Walk.{walked_on, passes_on, taken, taken-copied, copied_none}
-use Rattle.ficus_table.proofs.side_by_side.SideBySide.next_pair.Goals as goal
-use Rattle.ficus_table.proofs.side_by_side.SideBySide.next_pair.Goals.{After-self-2-1, else-is_none-via-then-is_none+else-is_none-2, else-is_none-via-else-is_none}
+use Rattle.ficus_table.proofs.side_by_side.SideBySide.next_row_pair.Goals as goal
+use Rattle.ficus_table.proofs.side_by_side.SideBySide.next_row_pair.Goals.{After-self-2-1, else-is_none-via-then-is_none+else-is_none-2, else-is_none-via-else-is_none}
 
 some_next : (g : _) (c : After-self-2-1 g) → option_copied c.seen_at-my_next.result ≡ None →
     option_copied c.seen_at-their_next.result ≡ None → ⊥
