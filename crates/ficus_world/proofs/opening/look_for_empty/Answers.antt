@@ -27,7 +27,15 @@ pub returns-in_err-is_empty-clause-failed : goal.returns-in_err-is_empty-clause-
 returns-in_err-is_empty-clause-failed g c = λ r is.
     let given = err_from_is_err_and c.from_residual.result c.from_residual.ensures.1 in
     let at = number_at c.loop-before.disks.items c.from.result c.index_mut.result.now
-    (omega (arith, c.from.ensures, c.loop-before.invariant.faults.count, c.requires.pairs, c.loop-before-test.true, c.count-before-end.ensures.value, c.count-before-end.ensures.valid.at_most))
+    (omega (
+      arith,
+      c.from.ensures,
+      c.loop-before.invariant.faults.count,
+      c.requires.pairs,
+      c.loop-before-test.true,
+      c.count-before-end.ensures.value,
+      c.count-before-end.ensures.valid.at_most,
+    ))
     c.index_mut.ensures.value in
     let answered = same_store (c.loop-before.before + 1) r
     (sym c.in_err-is_empty.ensures.failed ∙ sym given.2 ∙ same_err given.0 _ (sym given.1 ∙ is)) in
@@ -39,7 +47,15 @@ returns-in_err-is_empty-clause-failed g c = λ r is.
 pub returns-in_err-is_empty-clause-same : goal.returns-in_err-is_empty-clause-same
 returns-in_err-is_empty-clause-same g c = λ tells.
     let at = number_at c.loop-before.disks.items c.from.result c.index_mut.result.now
-    (omega (arith, c.from.ensures, c.loop-before.invariant.faults.count, c.requires.pairs, c.loop-before-test.true, c.count-before-end.ensures.value, c.count-before-end.ensures.valid.at_most))
+    (omega (
+      arith,
+      c.from.ensures,
+      c.loop-before.invariant.faults.count,
+      c.requires.pairs,
+      c.loop-before-test.true,
+      c.count-before-end.ensures.value,
+      c.count-before-end.ensures.valid.at_most,
+    ))
     c.index_mut.ensures.value in
     steady_set g.D.Disk.seen c.args.disks.now.items c.loop-before.disks.items c.from.result c.index_mut.result.now
     c.look_at.new.pair (c.loop-before.invariant.seen tells) at (c.look_at.ensures.same tells)
@@ -47,7 +63,15 @@ returns-in_err-is_empty-clause-same g c = λ tells.
 pub returns-in_err-is_empty-clause-armings : goal.returns-in_err-is_empty-clause-armings
 returns-in_err-is_empty-clause-armings g c =
     let at = number_at c.loop-before.disks.items c.from.result c.index_mut.result.now
-    (omega (arith, c.from.ensures, c.loop-before.invariant.faults.count, c.requires.pairs, c.loop-before-test.true, c.count-before-end.ensures.value, c.count-before-end.ensures.valid.at_most))
+    (omega (
+      arith,
+      c.from.ensures,
+      c.loop-before.invariant.faults.count,
+      c.requires.pairs,
+      c.loop-before-test.true,
+      c.count-before-end.ensures.value,
+      c.count-before-end.ensures.valid.at_most,
+    ))
     c.index_mut.ensures.value in
     steady_set g.D.Disk.armings c.args.disks.now.items c.loop-before.disks.items c.from.result c.index_mut.result.now
     c.look_at.new.pair c.loop-before.invariant.armings at c.look_at.ensures.armings
@@ -55,7 +79,15 @@ returns-in_err-is_empty-clause-armings g c =
 pub loop-before-preserved : goal.loop-before-preserved
 loop-before-preserved g c =
     let at = number_at c.loop-before.disks.items c.from.result c.index_mut.result.now
-    (omega (arith, c.from.ensures, c.loop-before.invariant.faults.count, c.requires.pairs, c.loop-before-test.true, c.count-before-end.ensures.value, c.count-before-end.ensures.valid.at_most))
+    (omega (
+      arith,
+      c.from.ensures,
+      c.loop-before.invariant.faults.count,
+      c.requires.pairs,
+      c.loop-before-test.true,
+      c.count-before-end.ensures.value,
+      c.count-before-end.ensures.valid.at_most,
+    ))
     c.index_mut.ensures.value in
     let next = subst (λ k. IsNumbered c.loop-before.disks.items (k + 1) c.index_mut.result.now) c.from.ensures at in
     record {
@@ -141,7 +173,15 @@ pub returns-in_err-is_empty-clause-unfailing : goal.returns-in_err-is_empty-clau
 returns-in_err-is_empty-clause-unfailing g c = λ fused.
     let given = err_from_is_err_and c.from_residual.result c.from_residual.ensures.1 in
     let at = number_at c.loop-before.disks.items c.from.result c.index_mut.result.now
-    (omega (arith, c.from.ensures, c.loop-before.invariant.faults.count, c.requires.pairs, c.loop-before-test.true, c.count-before-end.ensures.value, c.count-before-end.ensures.valid.at_most))
+    (omega (
+      arith,
+      c.from.ensures,
+      c.loop-before.invariant.faults.count,
+      c.requires.pairs,
+      c.loop-before-test.true,
+      c.count-before-end.ensures.value,
+      c.count-before-end.ensures.valid.at_most,
+    ))
     c.index_mut.ensures.value in
     unfailing_set g.D.Disk.fuse c.look_at.result c.from_residual.result c.args.disks.now.items
     c.loop-before.disks.items c.from.result c.index_mut.result.now c.look_at.new.pair
@@ -172,7 +212,15 @@ returns-in-None-clause-synced g c = c.loop-before.invariant.synced
 pub returns-in_err-is_empty-clause-rests : goal.returns-in_err-is_empty-clause-rests
 returns-in_err-is_empty-clause-rests g c =
     let at = number_at c.loop-before.disks.items c.from.result c.index_mut.result.now
-    (omega (arith, c.from.ensures, c.loop-before.invariant.faults.count, c.requires.pairs, c.loop-before-test.true, c.count-before-end.ensures.value, c.count-before-end.ensures.valid.at_most))
+    (omega (
+      arith,
+      c.from.ensures,
+      c.loop-before.invariant.faults.count,
+      c.requires.pairs,
+      c.loop-before-test.true,
+      c.count-before-end.ensures.value,
+      c.count-before-end.ensures.valid.at_most,
+    ))
     c.index_mut.ensures.value in
     all_rest_then g.D.Disk g.met.D.Disk.left_earlier c.args.disks.now.items c.loop-before.disks.items _
     c.loop-before.invariant.rests

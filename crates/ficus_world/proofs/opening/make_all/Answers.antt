@@ -23,7 +23,15 @@ loop-before-init g c = record {
 pub make_one-requires-clause-empty : goal.make_one-requires-clause-empty
 make_one-requires-clause-empty g c = λ tells.
     let at = number_at c.loop-before.disks.items c.from.result c.index_mut-pair.result.now
-    (omega (arith, c.from.ensures, c.loop-before.invariant.faults.count, c.requires.pairs, c.loop-before-test.true, c.count-before-end.ensures.value, c.count-before-end.ensures.valid.at_most))
+    (omega (
+      arith,
+      c.from.ensures,
+      c.loop-before.invariant.faults.count,
+      c.requires.pairs,
+      c.loop-before-test.true,
+      c.count-before-end.ensures.value,
+      c.count-before-end.ensures.valid.at_most,
+    ))
     c.index_mut-pair.ensures.value in
     let so = c.loop-before.invariant.made tells in
     let was = so.rest (c.from.result + 1) c.index_mut-pair.result.now at (omega (arith, c.from.ensures)) in
@@ -35,7 +43,15 @@ pub returns-in_err-make_one-clause-failed : goal.returns-in_err-make_one-clause-
 returns-in_err-make_one-clause-failed g c = λ r is.
     let given = err_from_is_err_and c.from_residual.result c.from_residual.ensures.1 in
     let at = number_at c.loop-before.disks.items c.from.result c.index_mut-pair.result.now
-    (omega (arith, c.from.ensures, c.loop-before.invariant.faults.count, c.requires.pairs, c.loop-before-test.true, c.count-before-end.ensures.value, c.count-before-end.ensures.valid.at_most))
+    (omega (
+      arith,
+      c.from.ensures,
+      c.loop-before.invariant.faults.count,
+      c.requires.pairs,
+      c.loop-before-test.true,
+      c.count-before-end.ensures.value,
+      c.count-before-end.ensures.valid.at_most,
+    ))
     c.index_mut-pair.ensures.value in
     let failed = c.make_one.ensures.failed r
     (handed_on c.make_one.result c.from_residual.result given.0 c.in_err-make_one.field-0.0 (Store r) c.in_err-make_one.was
@@ -49,7 +65,15 @@ returns-in_err-make_one-clause-failed g c = λ r is.
 pub returns-in_err-make_one-clause-armings : goal.returns-in_err-make_one-clause-armings
 returns-in_err-make_one-clause-armings g c =
     let at = number_at c.loop-before.disks.items c.from.result c.index_mut-pair.result.now
-    (omega (arith, c.from.ensures, c.loop-before.invariant.faults.count, c.requires.pairs, c.loop-before-test.true, c.count-before-end.ensures.value, c.count-before-end.ensures.valid.at_most))
+    (omega (
+      arith,
+      c.from.ensures,
+      c.loop-before.invariant.faults.count,
+      c.requires.pairs,
+      c.loop-before-test.true,
+      c.count-before-end.ensures.value,
+      c.count-before-end.ensures.valid.at_most,
+    ))
     c.index_mut-pair.ensures.value in
     steady_set g.D.Disk.armings c.args.disks.now.items c.loop-before.disks.items c.from.result
     c.index_mut-pair.result.now c.make_one.new.pair c.loop-before.invariant.armings at c.make_one.ensures.armings
@@ -57,7 +81,15 @@ returns-in_err-make_one-clause-armings g c =
 pub loop-before-preserved : goal.loop-before-preserved
 loop-before-preserved g c =
     let at = number_at c.loop-before.disks.items c.from.result c.index_mut-pair.result.now
-    (omega (arith, c.from.ensures, c.loop-before.invariant.faults.count, c.requires.pairs, c.loop-before-test.true, c.count-before-end.ensures.value, c.count-before-end.ensures.valid.at_most))
+    (omega (
+      arith,
+      c.from.ensures,
+      c.loop-before.invariant.faults.count,
+      c.requires.pairs,
+      c.loop-before-test.true,
+      c.count-before-end.ensures.value,
+      c.count-before-end.ensures.valid.at_most,
+    ))
     c.index_mut-pair.ensures.value in
     record {
       made = λ tells.
@@ -107,7 +139,15 @@ pub returns-in_err-make_one-clause-unfailing : goal.returns-in_err-make_one-clau
 returns-in_err-make_one-clause-unfailing g c = λ fused.
     let given = err_from_is_err_and c.from_residual.result c.from_residual.ensures.1 in
     let at = number_at c.loop-before.disks.items c.from.result c.index_mut-pair.result.now
-    (omega (arith, c.from.ensures, c.loop-before.invariant.faults.count, c.requires.pairs, c.loop-before-test.true, c.count-before-end.ensures.value, c.count-before-end.ensures.valid.at_most))
+    (omega (
+      arith,
+      c.from.ensures,
+      c.loop-before.invariant.faults.count,
+      c.requires.pairs,
+      c.loop-before-test.true,
+      c.count-before-end.ensures.value,
+      c.count-before-end.ensures.valid.at_most,
+    ))
     c.index_mut-pair.ensures.value in
     unfailing_set g.D.Disk.fuse c.make_one.result c.from_residual.result c.args.disks.now.items
     c.loop-before.disks.items c.from.result c.index_mut-pair.result.now c.make_one.new.pair
@@ -143,7 +183,15 @@ pub returns-in_err-make_one-clause-spared : goal.returns-in_err-make_one-clause-
 returns-in_err-make_one-clause-spared g c = λ fault unfailed is.
     let given = err_from_is_err_and c.from_residual.result c.from_residual.ensures.1 in
     let at = number_at c.loop-before.disks.items c.from.result c.index_mut-pair.result.now
-    (omega (arith, c.from.ensures, c.loop-before.invariant.faults.count, c.requires.pairs, c.loop-before-test.true, c.count-before-end.ensures.value, c.count-before-end.ensures.valid.at_most))
+    (omega (
+      arith,
+      c.from.ensures,
+      c.loop-before.invariant.faults.count,
+      c.requires.pairs,
+      c.loop-before-test.true,
+      c.count-before-end.ensures.value,
+      c.count-before-end.ensures.valid.at_most,
+    ))
     c.index_mut-pair.ensures.value in
     steady_set g.D.Disk.faults c.args.disks.now.items c.loop-before.disks.items c.from.result
     c.index_mut-pair.result.now c.make_one.new.pair c.loop-before.invariant.faults at
@@ -164,7 +212,15 @@ pub returns-in_err-make_one-clause-partly : goal.returns-in_err-make_one-clause-
 returns-in_err-make_one-clause-partly g c = λ tells at_first.
     let given = err_from_is_err_and c.from_residual.result c.from_residual.ensures.1 in
     let at = number_at c.loop-before.disks.items c.from.result c.index_mut-pair.result.now
-    (omega (arith, c.from.ensures, c.loop-before.invariant.faults.count, c.requires.pairs, c.loop-before-test.true, c.count-before-end.ensures.value, c.count-before-end.ensures.valid.at_most))
+    (omega (
+      arith,
+      c.from.ensures,
+      c.loop-before.invariant.faults.count,
+      c.requires.pairs,
+      c.loop-before-test.true,
+      c.count-before-end.ensures.value,
+      c.count-before-end.ensures.valid.at_most,
+    ))
     c.index_mut-pair.ensures.value in
     let all = c.loop-before.invariant.synced tells at_first in
     let only = all.each (c.from.result + 1) c.index_mut-pair.result.now at

@@ -83,7 +83,14 @@ returns-in_err-open_next-2-clause-image g c = λ tells r is.
     c.loop-before.opened.members.items c.loop-before.before c.count-count.result
     (c.loop-before.invariant.same tells) c.loop-before.invariant.opened held c.loop-before.invariant.counted
     c.loop-before.auto.before c.loop-before-test.true
-    (omega (arith, c.loop-before-test.true, c.loop-before.invariant.faults.count, c.requires.pairs, c.count-count.ensures.value, c.count-count.ensures.valid.at_most))
+    (omega (
+      arith,
+      c.loop-before-test.true,
+      c.loop-before.invariant.faults.count,
+      c.requires.pairs,
+      c.count-count.ensures.value,
+      c.count-count.ensures.valid.at_most,
+    ))
     c.loop-before.invariant.says
     (subst (IsBad g.K.Keep.kept g.D.Disk.seen c.loop-before.disks.items) bad.0 bad.1))
 
@@ -294,7 +301,14 @@ returns-in_err-open_next-2-clause-member g c = λ tells r is first opens.
     c.loop-before.opened.members.items c.loop-before.before c.count-count.result
     (c.loop-before.invariant.same tells) c.loop-before.invariant.opened held c.loop-before.invariant.counted
     c.loop-before.auto.before c.loop-before-test.true
-    (omega (arith, c.loop-before-test.true, c.loop-before.invariant.faults.count, c.requires.pairs, c.count-count.ensures.value, c.count-count.ensures.valid.at_most))
+    (omega (
+      arith,
+      c.loop-before-test.true,
+      c.loop-before.invariant.faults.count,
+      c.requires.pairs,
+      c.count-count.ensures.value,
+      c.count-count.ensures.valid.at_most,
+    ))
     c.loop-before.invariant.says c.one_saved.ensures first opens in
     omega (arith, named, within)
 
@@ -316,6 +330,13 @@ returns-in_err-open_next-2-clause-earlier g c = λ tells q r is bad.
     c.loop-before.opened.members.items c.loop-before.before c.count-count.result
     (c.loop-before.invariant.same tells) c.loop-before.invariant.opened held c.loop-before.invariant.counted
     c.loop-before.auto.before c.loop-before-test.true
-    (omega (arith, c.loop-before-test.true, c.loop-before.invariant.faults.count, c.requires.pairs, c.count-count.ensures.value, c.count-count.ensures.valid.at_most))
+    (omega (
+      arith,
+      c.loop-before-test.true,
+      c.loop-before.invariant.faults.count,
+      c.requires.pairs,
+      c.count-count.ensures.value,
+      c.count-count.ensures.valid.at_most,
+    ))
     c.loop-before.invariant.says r bad in
     omega (arith, named, behind)
