@@ -6,6 +6,7 @@ from typing import NamedTuple
 UPDATES = 100_000
 BYTES = 4_194_304
 FILE_BYTES = 16_384
+LINK_BYTES = 1_024
 NAME_BYTES = 64
 VERSIONS = 8
 LAST_GENERATION = 2**63 - 1
@@ -15,7 +16,8 @@ OPENED_BELOW = 2**62
 ROOT = (0, 0)
 ATTIC = (0, 1)
 DIRECTORY = 0
-KINDS = 5
+LINK = 5
+KINDS = 6
 
 
 class Refused(Exception):
@@ -145,7 +147,13 @@ def read_file(reader, members):
         need(1 <= len(versions) <= VERSIONS)
         vectors = [vector for vector, _ in versions]
         need(all(one < other and not covers(other, one) for at, one in enumerate(vectors) for other in vectors[at + 1:]))
+    need(kind != LINK or is_one_text(versions))
     return identifier, file
+
+
+def is_one_text(versions):
+    """Whether these may be the versions of a symbolic link."""
+    return len(versions) == 1 and 1 <= len(versions[0][1]) <= LINK_BYTES
 
 
 def read_version(reader, members):
@@ -165,7 +173,8 @@ def holds_own_past(me, next_one, entries, files):
 
 def read_image(data):
     reader = Reader(data)
-    need(reader.take(4) == b"FIC1")
+    begin = reader.take(4)
+    need(begin in (b"FIC1", b"FIC2"))
     me, members = reader.number(1), reader.number(1)
     ids, most, next_one, used, generation = (reader.number(size) for size in (4, 4, 4, 4, 8))
     need(2 <= members <= 8 and 1 <= me <= members and 1 <= ids <= UPDATES and most <= BYTES)
@@ -173,6 +182,7 @@ def read_image(data):
     entries, files = read_tables(reader, members)
     reader.end()
     need(holds_own_past(me, next_one, entries, files))
+    need(begin == b"FIC2" or all(file.kind != LINK for file in files.values()))
     return Saved(me, members, ids, most, next_one, used, generation, entries, files)
 
 
@@ -199,6 +209,18 @@ class Change:
     def is_file(self, identifier):
         return self.is_held(identifier) and self.files[identifier].kind != DIRECTORY
 
+    def make(self, directory, name, kind, texts):
+        """An object with one version of each of these texts, and an entry that leads to it."""
+        need(self.is_place(directory))
+        first = tuple(int(replica == self.saved.me) for replica in range(1, self.saved.members + 1))
+        self.files[self.own] = File(kind, tuple((first, text) for text in texts), (0,) * self.saved.members)
+        self.insert(directory, name, self.own)
+        self.spend(sum(map(len, texts)))
+
+    def spend(self, count):
+        need(self.saved.used + count <= self.saved.bytes)
+        self.written = count
+
     def insert(self, directory, name, target, marks=None):
         self.entries[self.own] = Entry(directory, name, target, marks)
 
@@ -217,15 +239,15 @@ class Change:
 
     def write(self, identifier, text):
         need(self.is_file(identifier) and len(text) <= FILE_BYTES)
-        need(self.saved.used + len(text) <= self.saved.bytes)
         file = self.files[identifier]
+        need(file.kind != LINK)
+        self.spend(len(text))
         vector = (0,) * self.saved.members
         for each, _ in file.versions:
             vector = joined(vector, each)
         at = self.saved.me - 1
         vector = (*vector[:at], vector[at] + 1, *vector[at + 1:])
         self.files[identifier] = file._replace(versions=((vector, text),))
-        self.written = len(text)
 
     def made(self):
         saved = self.saved
@@ -267,11 +289,8 @@ def changed(saved, tag, reader):
     change = Change(saved)
     if tag == 1:
         directory, name, kind = reader.identifier(), reader.name(), reader.number(1)
-        need(change.is_place(directory) and kind < KINDS)
-        none = (0,) * saved.members
-        first = tuple(int(replica == saved.me) for replica in range(1, saved.members + 1))
-        change.files[change.own] = File(kind, () if kind == DIRECTORY else ((first, b""),), none)
-        change.insert(directory, name, change.own)
+        need(kind < LINK)
+        change.make(directory, name, kind, () if kind == DIRECTORY else (b"",))
     elif tag == 2:
         directory, name, target = reader.identifier(), reader.name(), reader.identifier()
         need(change.is_place(directory) and change.is_file(target))
@@ -297,6 +316,10 @@ def changed(saved, tag, reader):
         need(change.is_file(target))
         change.insert(ATTIC, b"discarded", target, (bits(saved.me), 0))
         change.cover(target)
+    elif tag == 13:
+        directory, name, text = reader.identifier(), reader.name(), reader.take(reader.number(2))
+        need(1 <= len(text) <= LINK_BYTES)
+        change.make(directory, name, LINK, (text,))
     else:
         raise Refused
     return change.made()
@@ -347,7 +370,7 @@ def merged_file(mine, theirs):
         need(texts.setdefault(vector, text) == text)
     kept = tuple((vector, text) for vector, text in sorted(texts.items())
                  if not any(other != vector and covers(other, vector) for other in texts))
-    need(len(kept) <= VERSIONS)
+    need(len(kept) <= (1 if mine.kind == LINK else VERSIONS))
     return File(mine.kind, kept, joined(mine.cover, theirs.cover))
 
 

@@ -77,11 +77,12 @@ def shown_after_each(program, commands, looks=LOOKS):
     return [given[at:at + len(looks)] for at in range(0, len(given), len(looks) + 1)]
 
 
-def image(member, members, made, tables, saves=None, used=0):
+def image(member, members, made, tables, saves=None, used=0, version=2):
     """The image of a member that has made so many updates, and written so many bytes, with the default limits, and saved
     so often, or once for each."""
     saves = made if saves is None else saves
-    return struct.pack(">4sBBIIIIQ", b"FIC1", member, members, 100_000, 4_194_304, made + 1, used, saves) + tables
+    begin = b"FIC%d" % version
+    return struct.pack(">4sBBIIIIQ", begin, member, members, 100_000, 4_194_304, made + 1, used, saves) + tables
 
 
 def slot(generation, image):
@@ -100,13 +101,13 @@ def making(name):
     return struct.pack(">B5xB", 1, len(name)) + name + b"\0"
 
 
-def directories(members, made):
+def directories(members, made, version=2):
     """The slot with the image of member 1 that has made so many directories, each with a name of eight digits."""
     identifiers = [struct.pack(">BI", 1, number) for number in range(1, made + 1)]
     entries = [it + bytes(5) + b"\x08%08d" % number + it + b"\0" for number, it in enumerate(identifiers)]
     files = [it + bytes(2 + 4 * members) for it in identifiers]
     tables = b"".join([struct.pack(">I", made), *entries, struct.pack(">I", made), *files])
-    return slot(made, image(1, members, made, tables))
+    return slot(made, image(1, members, made, tables, version=version))
 
 
 def smallest_files(members, made):

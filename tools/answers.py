@@ -54,6 +54,10 @@ class Row:
     def is_directory(self) -> bool:
         return self.kind == "dir"
 
+    @property
+    def is_link(self) -> bool:
+        return self.kind == "symlink"
+
 
 def read_row(line: str) -> Row:
     shown, identifier, kind, *rest = line.split(" ")

@@ -278,7 +278,8 @@ class Chart:
         forward = 1 if message.to > lane else -1
         start = (self._edge_to(begin, message.to), begin.middle + SHIFT)
         if not message.taken:
-            self._draw_lost(start, self._brink(lane, forward), forward, style)
+            told = "lost" if message.count == 1 else f"{message.count} lost"
+            self._draw_lost(start, self._brink(lane, forward), forward, style, told)
             return
         end_box = self.box(message.taken)
         end = (self._edge_to(end_box, lane), end_box.middle - SHIFT)
@@ -286,19 +287,19 @@ class Chart:
         brink = (self._brink(message.to, -forward) - forward * self.gutter, start[1])
         near = (self._brink(message.to, -forward), end[1])
         self.drawing.path([start, brink, near, end], style, marker_end="url(#arrow)")
-        if message.fate is Fate.STALE:
+        if message.fate in (Fate.STALE, Fate.MIXED):
             self.drawing.cross(((brink[0] + 3 * near[0]) / 4, (brink[1] + 3 * near[1]) / 4), "cross")
 
     def _brink(self, lane: int, side: int) -> float:
         """Where the boxes of a lane end, to the right of it or to the left."""
         return self.lane(lane).right if side > 0 else self.lane(lane).left
 
-    def _draw_lost(self, start: Point, brink: float, forward: int, style: str) -> None:
+    def _draw_lost(self, start: Point, brink: float, forward: int, style: str, told: str) -> None:
         """A message that ends in the air between two lanes."""
         end = (brink + forward * self.gutter * 0.4, start[1] + SLANT)
         self.drawing.path([start, (brink, start[1]), end], style)
         self.drawing.cross(end, "cross", 4)
-        self.drawing.text((end[0] + forward * 8, end[1] + 4), "lost", "lost",
+        self.drawing.text((end[0] + forward * 8, end[1] + 4), told, "lost",
                           text_anchor="start" if forward > 0 else "end")
 
     def _draw_box(self, box: Box) -> None:
@@ -328,11 +329,14 @@ class Chart:
         asks = {message.is_ask for message in self.story.messages}
         moods = {span.mood for span in self.story.spans}
         if True in links or False in asks:
-            yield self._line("message", marker_end="url(#arrow)"), "what a replica holds, brought to another"
+            part = ", or a piece of it" if any(message.is_piece for message in self.story.messages) else ""
+            yield self._line("message", marker_end="url(#arrow)"), f"what a replica holds{part}, brought to another"
         if True in asks:
             yield self._line("ask", marker_end="url(#arrow)"), "an ask for it"
-        if Fate.STALE in {message.fate for message in self.story.messages}:
-            yield self._stale_sign, "a stale message, of which nothing is taken"
+        fates = {message.fate for message in self.story.messages}
+        refused = [fate.value for fate in (Fate.STALE, Fate.MIXED) if fate in fates]
+        if refused:
+            yield self._refused_sign, f"a {' or '.join(refused)} message, of which nothing is taken"
         if False in links:
             yield self._line("link"), "a comparison of two"
         for mood in (Mood.CONFLICT, Mood.ORPHAN):
@@ -344,7 +348,7 @@ class Chart:
     def _line(self, style: str, **attributes: str) -> Callable[[float, float], None]:
         return lambda x, y: self.drawing.path([(x, y), (x + 38, y)], style, **attributes)
 
-    def _stale_sign(self, x: float, y: float) -> None:
+    def _refused_sign(self, x: float, y: float) -> None:
         self.drawing.cross((x + 19, y), "cross")
 
     def _bar_sign(self, mood: Mood) -> Callable[[float, float], None]:

@@ -18,8 +18,8 @@ from unfit import Unfit
 DESCRIPTION = """\
 Writes what replica R of the volume in ROOT shows, at PATH or at its root and below, into the real FOLDER, which is
 made, or is there and empty. Where a name leads to several objects each goes out as `ls` shows it, as NAME#r.k, and of
-a file in conflict each version, as NAME#[VECTOR]. A file with several names goes out under each. What can't go out is
-listed before anything is done."""
+a file in conflict each version, as NAME#[VECTOR]. A file with several names goes out under each. A symbolic link goes
+out as one, with its text, wherever that leads. What can't go out is listed before anything is done."""
 
 
 def add(parser: ArgumentParser) -> None:
@@ -44,6 +44,8 @@ def run(words: Namespace) -> int:
     why_not = {str(path): why for path, why in shown.unseen}
     why_not |= {str(node.path): "its bytes aren't told" for node, versions in zip(files, told)
                 if not versions and str(node.path) not in why_not}
+    why_not |= {str(node.path): "the text of the symbolic link has a byte 0" for node, versions in zip(files, told)
+                if node.row.is_link and any(b"\0" in content(version) for version in versions)}
     unfit.settle([Unfit(path, why) for path, why in why_not.items()], words.skip, "out")
     contents = {str(node.path): versions for node, versions in zip(files, told)}
     os.makedirs(words.folder, exist_ok=True)
@@ -64,11 +66,15 @@ def check_empty(folder: bytes) -> None:
 
 
 def write(folder: bytes, node: Node, skip: int, versions: list[Version]) -> None:
-    """Makes a directory, or a file for each version, below the folder. The first parts of the path are left out."""
+    """Makes a directory, a symbolic link, or a file for each version, below the folder. The first parts of the path are
+    left out."""
     # (no byte of a `#r.k` is spelled otherwise)
     target = os.path.join(folder, *map(read_name, node.path.parts[skip:]))
     if node.row.is_directory:
         os.mkdir(target)
+    if node.row.is_link:
+        os.symlink(content(versions[0]), target)
+        return
     for version in versions:
         suffix = f"#{version.vector}" if version.vector else ""
         with open(target + to_bytes(suffix), "xb") as file:
@@ -77,8 +83,12 @@ def write(folder: bytes, node: Node, skip: int, versions: list[Version]) -> None
 
 def tell(nodes: list[Node], left_out: int, orphans: int) -> None:
     directories = sum(node.row.is_directory for node in nodes)
+    links = sum(node.row.is_link for node in nodes)
     conflicts = sum(node.row.is_in_conflict for node in nodes)
-    print(f"{directories} directories and {len(nodes) - directories} files written, {conflicts} of them in conflict")
+    files = len(nodes) - directories - links
+    print(f"{directories} directories and {files} files written, {conflicts} of them in conflict")
+    if links:
+        print(f"{links} symbolic links written")
     if orphans:
         print(f"{orphans} orphans have no name, and go out by ~r.k as PATH")
     if left_out:

@@ -15,7 +15,7 @@ from lock import locked
 from program import Folder, ask, ask_all
 from progress import followed
 from refusals import in_words
-from spelling import FILE_BYTES, PATH_PARTS, Path, spell_name, spell_text, why_no_name
+from spelling import FILE_BYTES, LINK_BYTES, PATH_PARTS, Path, spell_name, spell_text, why_no_name
 from tree import Node, content, list_below, read_files
 from unfit import Unfit
 
@@ -24,9 +24,9 @@ LIFE_UPDATES = 100_000
 LIFE_BYTES = 4_194_304
 
 DESCRIPTION = """\
-Brings the directories and files of the real FOLDER into the volume in ROOT, as changes of replica R, at PATH or at its
-root. Only what differs is changed, so that the same again does the rest after an interruption; what the volume has
-besides stays. What can't go in is listed before anything is done."""
+Brings the directories, files and symbolic links of the real FOLDER into the volume in ROOT, as changes of replica R, at
+PATH or at its root. Only what differs is changed, so that the same again does the rest after an interruption; what the
+volume has besides stays. What can't go in is listed before anything is done."""
 WHAT_STAYS = "what was done until then stays, and the same again does the rest"
 NOT_KEPT = "owners, modes and times aren't kept, nor that several names are one file's"
 
@@ -61,12 +61,14 @@ def run(words: Namespace) -> int:
 
 @dataclass
 class Real:
-    """A name of the real folder: a directory with what lies in it, a file with its bytes, or why it is unfit."""
+    """A name of the real folder: a directory with what lies in it, a file with its bytes, a symbolic link with its
+    text, or why it is unfit."""
 
     where: bytes
     name: bytes
     below: list[Real] | None = None
     bytes: bytes = b""
+    is_link: bool = False
     why: str | None = None
 
 
@@ -84,8 +86,13 @@ def _real(entry: os.DirEntry[bytes]) -> Real:
         found = entry.stat(follow_symlinks=False)
         if stat.S_ISDIR(found.st_mode):
             real.below = scan(entry.path)
+        elif stat.S_ISLNK(found.st_mode):
+            real.is_link = True
+            real.bytes = os.readlink(entry.path)
+            if len(real.bytes) > LINK_BYTES:
+                real.why = f"the symbolic link has {len(real.bytes):,} bytes, and {LINK_BYTES:,} is the most"
         elif not stat.S_ISREG(found.st_mode):
-            real.why = _special(found.st_mode)
+            real.why = "it is neither a directory, a file nor a symbolic link"
         elif found.st_size > FILE_BYTES:
             real.why = f"the file has {found.st_size:,} bytes, and {FILE_BYTES:,} is the most"
         else:
@@ -94,10 +101,6 @@ def _real(entry: os.DirEntry[bytes]) -> Real:
     except OSError as error:
         real.why = f"it can't be read: {error.strerror}"
     return real
-
-
-def _special(mode: int) -> str:
-    return "it is a symbolic link" if stat.S_ISLNK(mode) else "it is neither a directory nor a file"
 
 
 def missing_above(volume: Folder, replica: int, path: Path) -> list[Path]:
@@ -121,9 +124,11 @@ class Plan:
     same: list[tuple[Node, Real]] = field(default_factory=list)
     directories: int = 0
     files: int = 0
+    links: int = 0
     written: int = 0
     written_bytes: int = 0
     equal: int = 0
+    equal_links: int = 0
 
     def ask(self, path: Path, name: str, *arguments: str) -> None:
         self.commands.append((str(path), " ".join([str(self.replica), name, str(path), *arguments])))
@@ -156,6 +161,10 @@ class Plan:
             self.compare(real.below, path, there[0].below if there else [])
         elif there:
             self.same.append((there[0], real))
+        elif real.is_link:
+            self.ask(path, "symlink", spell_text(real.bytes))
+            self.links += 1
+            self.written_bytes += len(real.bytes)
         else:
             self.ask(path, "create", self.kind)
             self.files += 1
@@ -168,13 +177,16 @@ class Plan:
         self.written_bytes += len(bytes_there)
 
     def compare_bytes(self, volume: Folder) -> None:
-        """Which of the files that are there have other bytes."""
+        """Which of the files that are there have other bytes. The text of a symbolic link stays."""
         versions = read_files(volume, self.replica, [node for node, _ in self.same])
         for told, (node, real) in followed(zip(versions, self.same), len(self.same), "comparing"):
             if len(told) != 1:
                 self.refuse(real.where, "the volume has no file of bytes there")
             elif content(told[0]) == real.bytes:
-                self.equal += 1
+                self.equal += not real.is_link
+                self.equal_links += real.is_link
+            elif real.is_link:
+                self.refuse(real.where, "the volume has a symbolic link of another text there")
             else:
                 self.write(node.path, real.bytes)
 
@@ -201,6 +213,8 @@ class Plan:
     def tell(self) -> None:
         print(f"{self.directories} directories and {self.files} files made, {self.written} files written, "
               f"{self.equal} files equal")
+        if self.links or self.equal_links:
+            print(f"{self.links} symbolic links made, {self.equal_links} equal")
         if self.unfit:
             print(f"{len(self.unfit)} left out")
 
@@ -213,6 +227,8 @@ def _why_not_there(real: Real, path: Path, there: list[Node]) -> str | None:
         return "the volume has several objects of this name"
     if there and there[0].row.is_directory != (real.below is not None):
         return "the volume has a directory there" if there[0].row.is_directory else "the volume has no directory there"
+    if there and there[0].row.is_link != real.is_link:
+        return f"the volume has {'a' if there[0].row.is_link else 'no'} symbolic link there"
     if there and there[0].row.is_in_conflict:
         return "the volume's file is in conflict, which comes first"
     return None

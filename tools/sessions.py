@@ -12,7 +12,7 @@ from program import SCRIPT_BYTES, Folder, Memory, ask
 from spelling import to_bytes
 
 # Commands that change nothing, so that they need not be carried out again.
-LOOKS = {"read", "versions", "ls", "tree", "conflicts", "orphans", "detached", "marks", "why", "alike"}
+LOOKS = {"read", "versions", "readlink", "ls", "tree", "conflicts", "orphans", "detached", "marks", "why", "alike"}
 # Why commands that speak of one run tell nothing where each line is a run of its own.
 _LOST = "an ask is lost with the run that made it: use pull, or a shell with --members"
 WITHIN_A_RUN = {

@@ -9,6 +9,7 @@ import re
 from typing import NamedTuple
 
 FILE_BYTES = 16_384
+LINK_BYTES = 1_024
 NAME_BYTES = 64
 PATH_PARTS = 32
 

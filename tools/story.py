@@ -19,11 +19,16 @@ class Mood(Enum):
 
 
 class Fate(Enum):
-    """What became of a message."""
+    """What became of a message. A piece of an answer is taken with others, or held for them."""
 
     TAKEN = "taken"
     STALE = "stale"
+    MIXED = "mixed"
     LOST = "lost"
+
+
+# Of a message that is refused so, nothing is taken.
+_REFUSED: dict[str | None, Fate] = {None: Fate.TAKEN, "stale": Fate.STALE, "mixed": Fate.MIXED}
 
 
 @dataclass(frozen=True)
@@ -54,13 +59,16 @@ class Step:
 
 @dataclass(frozen=True)
 class Message:
-    """A message from the step with which it was posted to that with which it was given, or to nowhere."""
+    """A message from the step with which it was posted to that with which it was given, or to nowhere. What of one answer
+    came nowhere is one, with how many of its pieces that are."""
 
     sender: Step
     to: int
     taken: Step | None
     fate: Fate
     is_ask: bool
+    is_piece: bool = False
+    count: int = 1
 
 
 @dataclass(frozen=True)
@@ -115,7 +123,16 @@ class _Posted:
     sender: Step
     to: int
     is_ask: bool
+    is_piece: bool = False
     is_given: bool = False
+
+
+def _numbers(value: str) -> range:
+    """The numbers of the messages of which an answer tells: of one, `M`, or of several, `M to L`."""
+    first, between, last = value.partition(" to ")
+    if not first.isdigit() or between and not last.isdigit():
+        return range(0)
+    return range(int(first), int(last or first) + 1)
 
 
 class _Post:
@@ -150,25 +167,31 @@ class _Post:
             self.story.links.append(Link(step, other, step.name == "pull"))
 
     def give(self, step: Step, number: int) -> None:
-        """A message comes to whom it is for, who takes it, refuses it as stale, or is down."""
+        """A message comes to whom it is for, who takes it, refuses it as stale or mixed, or is down."""
         message = self.posted.get(number)
         if not message:
             return
         step.lane = message.to
         refusal = step.answer.refusal
-        if refusal not in (None, "stale"):
+        if refusal not in _REFUSED:
             return
         message.is_given = True
-        fate = Fate.STALE if refusal else Fate.TAKEN
-        self.story.messages.append(Message(message.sender, message.to, step, fate, message.is_ask))
-        if step.answer.value.isdigit() and message.sender.lane:
-            self.posted[int(step.answer.value)] = _Posted(step, message.sender.lane, False)
+        self.story.messages.append(
+            Message(message.sender, message.to, step, _REFUSED[refusal], message.is_ask, message.is_piece))
+        if message.is_ask and message.sender.lane:
+            numbers = _numbers(step.answer.value)
+            for posted in numbers:
+                self.posted[posted] = _Posted(step, message.sender.lane, False, len(numbers) > 1)
 
     def lose(self) -> None:
         """What was never given is lost."""
+        lost: dict[int, list[_Posted]] = {}
         for message in self.posted.values():
             if not message.is_given:
-                self.story.messages.append(Message(message.sender, message.to, None, Fate.LOST, message.is_ask))
+                lost.setdefault(id(message.sender), []).append(message)
+        for first, *others in lost.values():
+            self.story.messages.append(Message(first.sender, first.to, None, Fate.LOST, first.is_ask, first.is_piece,
+                                               1 + len(others)))
 
 
 @dataclass(frozen=True)
@@ -226,7 +249,7 @@ class _Names:
 
     def follow(self, step: Step) -> None:
         words = step.text.split(" ")
-        if words[0] in ("mkdir", "create") and step.answer.value and len(words) > 1:
+        if words[0] in ("mkdir", "create", "symlink") and step.answer.value and len(words) > 1:
             self.paths.setdefault(step.answer.value, words[1])
 
     def of(self, identifier: str) -> str:

@@ -69,10 +69,18 @@ def _why_unseen(node: Node, above: tuple[str, ...]) -> str | None:
 
 
 def read_files(volume: Folder, replica: int, files: list[Node]) -> Iterator[list[Version]]:
-    """The versions of each file: more than one where it is in conflict, none where its bytes aren't told."""
-    looks = (f"{replica} {'versions' if file.row.is_in_conflict else 'read'} {file.path}" for file in files)
+    """The versions of each file: more than one where it is in conflict, none where its bytes aren't told. A symbolic
+    link has one, its text."""
+    looks = (f"{replica} {_telling(file.row)} {file.path}" for file in files)
     for answer, file in zip(ask_all(volume, looks), files):
         yield _versions(file, answer)
+
+
+def _telling(row: Row) -> str:
+    """The command that tells its bytes."""
+    if row.is_link:
+        return "readlink"
+    return "versions" if row.is_in_conflict else "read"
 
 
 def _versions(file: Node, answer: Answer) -> list[Version]:

@@ -7,7 +7,8 @@ use Rattle.ficus_ids.specs.declared.id.Id.{Id}
 use Rattle.ficus_ids.specs.declared.refusal.Refusal.{Refusal}
 use Rattle.ficus_ids.specs.declared.refusal.Refusal.TheVariants.{Memory}
 use Rattle.ficus_model.specs.declared.event.Op.{Op}
-use Rattle.ficus_rules.specs.Limits.{LimitsRule}
+use Rattle.ficus_model.specs.Lawful.{most_file_bytes}
+use Rattle.ficus_rules.specs.Limits.{LimitsRule, LimitsUpTo}
 use Rattle.ficus_rules.specs.Rule.{Then, RefusedOr, Gives, UnlessMemoryWhere}
 use Rattle.ficus_rules.specs.View.{View}
 use Rattle.ficus_rules.specs.Resolved.{ResolvedRule}
@@ -47,20 +48,33 @@ wanted may rule result is so =
     let given = err_from_is_err_and result is in
     rw (given.1, given.2) so
 
+-- Limits, and whatever comes after them.
+module _ (most : ℕ) (view : View) (bytes : ℕ) (rest : Result Op Refusal → Type 0) where
+  -- what they refuse is refused
+  pub any_over_limits : (refusal : Refusal) → LimitsUpTo most view bytes (Gives {B = Unit {0}} tt) (Err refusal) →
+      LimitsUpTo most view bytes rest (Err refusal)
+  any_over_limits refusal (inl long) = inl long
+  any_over_limits refusal (inr (short, inl spent)) = inr (short, inl spent)
+  any_over_limits refusal (inr (short, inr (left, inl quota))) = inr (short, inr (left, inl quota))
+  any_over_limits refusal (inr (short, inr (left, inr (room, none)))) = absurd none
+
+  -- within them it is as the rest has it
+  pub any_within_limits : (nothing : Unit {0}) (given : Op) →
+      LimitsUpTo most view bytes (Gives {B = Unit {0}} tt) (Ok nothing) → rest (Ok given) →
+      LimitsUpTo most view bytes rest (Ok given)
+  any_within_limits nothing given (short, (left, (room, is))) so = (short, (left, (room, so)))
+
+-- So it is with an operation after those of a file.
 module _ (view : View) (bytes : ℕ) (op : Op) where
-  -- what the limits refuse is no operation
   pub over_limits : (refusal : Refusal) → LimitsRule view bytes (Gives {B = Unit {0}} tt) (Err refusal) →
       LimitsRule view bytes (Gives op) (Err refusal)
-  over_limits refusal (inl long) = inl long
-  over_limits refusal (inr (short, inl spent)) = inr (short, inl spent)
-  over_limits refusal (inr (short, inr (left, inl quota))) = inr (short, inr (left, inl quota))
-  over_limits refusal (inr (short, inr (left, inr (room, none)))) = absurd none
+  over_limits refusal over = any_over_limits most_file_bytes view bytes (Gives op) refusal over
 
-  -- within the limits it is one
   pub within_limits : (nothing : Unit {0}) (given : Op) →
       LimitsRule view bytes (Gives {B = Unit {0}} tt) (Ok nothing) → given ≡ op →
       LimitsRule view bytes (Gives op) (Ok given)
-  within_limits nothing given (short, (left, (room, is))) same = (short, (left, (room, same)))
+  within_limits nothing given within same =
+      any_within_limits most_file_bytes view bytes (Gives op) nothing given within same
 
 module _ (view : View) (file : Id) where
   -- where the resolver is refused, what stands on its text is

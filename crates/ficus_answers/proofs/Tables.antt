@@ -3,7 +3,9 @@ use Rattle.std.proofs.Common.{◌≡◌, ◌↔◌, ℕ, List, refl, sym, ap, su
 use Rattle.std.specs.Prelude.{All, Contains}
 use Rattle.std.proofs.lemmas.List.Elements.{All-contains}
 use Rattle.ficus_ids.specs.RisingLaws.{one_item}
+use Rattle.ficus_ids.specs.Kind.{sort_of}
 use Rattle.ficus_ids.specs.declared.id.Id.{Id}
+use Rattle.ficus_ids.specs.declared.kind.Sort.{Sort}
 use Rattle.ficus_entry.specs.declared.entry.Entry.{Entry}
 use Rattle.ficus_entry.specs.declared.entry.State.{State}
 use Rattle.ficus_entry.specs.declared.entry.State.TheVariants.{Live}
@@ -16,7 +18,7 @@ use Rattle.ficus_saved.specs.Saved.{FitsImage}
 use Rattle.ficus_saved.specs.Tables.{FitsFile, HasObjectsIn}
 use Rattle.ficus_saved.specs.declared.saved.Saved.{Saved}
 use Rattle.ficus_orphan.specs.Orphan.{IsKept, IsNamedBy, IsOrphanBy, IsOrphanIn}
-use Rattle.ficus_rules.specs.View.{IsBoundIn, IsNamedIn}
+use Rattle.ficus_rules.specs.View.{IsBoundIn, IsForIn, IsNamedIn}
 use Rattle.ficus_rules.specs.Marks.{without_state}
 use Rattle.ficus_answers.specs.View.{HasObject, IsVisibleBy, held_as, held_live, tables_view}
 
@@ -125,6 +127,13 @@ module _ {saved : Saved} (fits : FitsImage saved) where
         so = subst is (sym has.so) so;
       },
       λ object_has. subst is (file_of_object object_has.file object_has.inside object_has.has_id) object_has.so,
+    )
+
+    -- and it is for this exactly where the object is
+    pub for_of_file : (sort : Sort) → (sort_of file.kind ≡ sort) ↔ IsForIn (tables_view saved) sort object
+    for_of_file sort = (
+      λ is. record { kind = file.kind; of_kind = (so_of_file (λ held. held.kind ≡ file.kind)).0 refl; is = is },
+      λ has. ap sort_of ((so_of_file (λ held. held.kind ≡ has.kind)).1 has.of_kind) ∙ has.is,
     )
 
     -- the file is one that fits

@@ -4,7 +4,7 @@ ghost use Rattle.ficus_rules.specs.Rule.{UnlessMemory};
 ghost use Rattle.ficus_rules.specs.Versions.{VersionsRule};
 ghost use Rattle.ficus_answers.specs.View.{tables_view};
 
-use crate::walk::file_at;
+use crate::walk::versioned_at;
 use ficus_commands::Told;
 use ficus_file::Version;
 use ficus_ids::{Listed, Memory, Refusal};
@@ -17,7 +17,7 @@ pub fn versions(alloc: Global, saved: &Saved, path: &Path) -> Result<Told, Refus
     requires { FitsImage saved.now }
     ensures { UnlessMemory (VersionsRule (tables_view saved.now) path.now) result }
 {
-    let file = file_at(saved, path)?;
+    let file = versioned_at(saved, path)?;
     Ok(Told::Versions {
         members: saved.members,
         list: Listed::of(copies(alloc, file.versions.items())?),

@@ -11,6 +11,7 @@ use crate::removing::remove;
 use crate::renaming::rename;
 use crate::resolving::resolve;
 use crate::settling::settle;
+use crate::symlinking::symlink;
 use crate::writing::write;
 use ficus_commands::Change;
 use ficus_ids::{Kind, Refusal};
@@ -25,8 +26,9 @@ pub fn change(alloc: Global, saved: &Saved, change: &Change) -> Result<Op, Refus
     ensures { ChangeAnswer (tables_view saved.now) change.now result }
 {
     match change {
-        Change::MkDir { path } => make(saved, path, Kind::Dir),
-        Change::Create { path, kind } => make(saved, path, *kind),
+        Change::MkDir { path } => make(alloc, saved, path, Kind::Dir),
+        Change::Create { path, kind } => make(alloc, saved, path, *kind),
+        Change::Symlink { path, text } => symlink(alloc, saved, path, text.items()),
         Change::Write { path, text } => write(alloc, saved, path, text.items()),
         Change::Settle { path, text } => settle(alloc, saved, path, text.items()),
         Change::Resolve { path } => resolve(alloc, saved, path),

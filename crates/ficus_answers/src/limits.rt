@@ -1,6 +1,6 @@
 ghost use Rattle.std.specs.Prelude.{◌↔◌, IsTrue};
 ghost use Rattle.ficus_saved.specs.Saved.{FitsImage};
-ghost use Rattle.ficus_rules.specs.Limits.{LimitsRule};
+ghost use Rattle.ficus_rules.specs.Limits.{LimitsRule, LimitsUpTo};
 ghost use Rattle.ficus_rules.specs.Rule.{Gives};
 ghost use Rattle.ficus_answers.specs.View.{tables_view};
 
@@ -22,12 +22,20 @@ fn is_over_quota(saved: &Saved, bytes: usize) -> bool
     bytes > (saved.bytes - saved.used) as usize
 }
 
-/// Whether so many bytes may be written by one more update.
+/// Whether so many bytes may be written to a file by one more update.
 pub(crate) fn within_limits(saved: &Saved, bytes: usize) -> Result<(), Refusal>
     requires { FitsImage saved.now }
     ensures { LimitsRule (tables_view saved.now) bytes (Gives tt) result }
 {
-    if bytes > FILE_LIMIT {
+    within(saved, FILE_LIMIT, bytes)
+}
+
+/// Whether so many bytes, and these are not more than so many, may be written by one more update.
+pub(crate) fn within(saved: &Saved, most: usize, bytes: usize) -> Result<(), Refusal>
+    requires { FitsImage saved.now }
+    ensures { LimitsUpTo most (tables_view saved.now) bytes (Gives tt) result }
+{
+    if bytes > most {
         return Err(Refusal::TooLong);
     }
     if is_spent(saved) {

@@ -8,6 +8,7 @@ use crate::clashing::conflicts;
 use crate::listing::list;
 use crate::orphanage::{detached, orphans};
 use crate::reading::read;
+use crate::reading_link::readlink;
 use crate::removed::marks;
 use crate::whole_tree::tree;
 use ficus_commands::{Look, Told};
@@ -24,6 +25,7 @@ pub fn look(alloc: Global, saved: &Saved, look: &Look) -> Result<Told, Refusal>
         Look::Ls { path } => list(alloc, saved, path),
         Look::Read { path } => read(alloc, saved, path),
         Look::Versions { path } => versions(alloc, saved, path),
+        Look::ReadLink { path } => readlink(alloc, saved, path),
         Look::Tree => Ok(tree(alloc, saved)?),
         Look::Conflicts => Ok(conflicts(alloc, saved)?),
         Look::Orphans => Ok(orphans(alloc, saved)?),

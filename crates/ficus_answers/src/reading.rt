@@ -5,7 +5,7 @@ ghost use Rattle.ficus_answers.specs.View.{tables_view};
 
 use crate::conflict::is_conflict;
 use crate::text::text_of;
-use crate::walk::file_at;
+use crate::walk::versioned_at;
 use ficus_commands::Told;
 use ficus_ids::{Listed, Refusal};
 use ficus_path::Path;
@@ -17,7 +17,7 @@ pub fn read(alloc: Global, saved: &Saved, path: &Path) -> Result<Told, Refusal>
     requires { FitsImage saved.now }
     ensures { UnlessMemory (ReadRule (tables_view saved.now) path.now) result }
 {
-    let file = file_at(saved, path)?;
+    let file = versioned_at(saved, path)?;
     if is_conflict(saved, file) {
         return Err(Refusal::Conflict);
     }

@@ -1,4 +1,6 @@
 ghost use Rattle.std.specs.Prelude.{◌≡◌, map, IfOk};
+ghost use Rattle.ficus_ids.specs.Kind.{sort_of};
+ghost use Rattle.ficus_ids.specs.declared.kind.Sort.TheVariants.{Versioned};
 ghost use Rattle.ficus_saved.specs.Saved.{FitsImage};
 ghost use Rattle.ficus_rules.specs.Rule.{UnlessMemoryFirst};
 ghost use Rattle.ficus_answers.specs.Files.{IsFileIn, ResolvedWithin};
@@ -18,6 +20,7 @@ pub(crate) fn resolved(
 ) -> Result<Listed<u8>, Refusal>
     requires fits { FitsImage saved.now }
     requires file { IsFileIn saved.now file.now }
+    requires versioned { sort_of file.now.kind ≡ Versioned }
     ensures { UnlessMemoryFirst (ResolvedWithin (tables_view saved.now) file.now.id) result }
 {
     let contents = contents_of(alloc, file.versions.items())?;

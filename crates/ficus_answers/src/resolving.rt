@@ -6,7 +6,7 @@ ghost use Rattle.ficus_answers.specs.View.{tables_view};
 use crate::conflict::is_conflict;
 use crate::limits::within_limits;
 use crate::resolved::resolved;
-use crate::walk::file_at;
+use crate::walk::versioned_at;
 use ficus_ids::Refusal;
 use ficus_model::Op;
 use ficus_path::Path;
@@ -18,7 +18,7 @@ pub fn resolve(alloc: Global, saved: &Saved, path: &Path) -> Result<Op, Refusal>
     requires { FitsImage saved.now }
     ensures { ChangeAnswer (tables_view saved.now) (Resolve path.now) result }
 {
-    let file = file_at(saved, path)?;
+    let file = versioned_at(saved, path)?;
     if !is_conflict(saved, file) {
         return Err(Refusal::NoConflict);
     }

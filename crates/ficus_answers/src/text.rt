@@ -1,3 +1,6 @@
+ghost use Rattle.std.specs.Prelude.{◌≡◌};
+ghost use Rattle.ficus_ids.specs.Kind.{sort_of};
+ghost use Rattle.ficus_ids.specs.declared.kind.Sort.TheVariants.{Fixed};
 ghost use Rattle.ficus_saved.specs.Saved.{FitsImage};
 ghost use Rattle.ficus_rules.specs.Text.{IsTextOf};
 ghost use Rattle.ficus_answers.specs.Files.{IsFileIn};
@@ -11,6 +14,16 @@ pub(crate) fn text_of<'a>(saved: &Saved, file: &'a FileReplica) -> &'a [u8]
     requires fits { FitsImage saved.now }
     requires file { IsFileIn saved.now file.now }
     requires settled { (tables_view saved.now).conflicts file.now.id → ⊥ }
+    ensures { IsTextOf (tables_view saved.now) file.now.id result.now }
+{
+    file.bytes()
+}
+
+/// The text of an object whose text stays.
+pub(crate) fn fixed_text_of<'a>(saved: &Saved, file: &'a FileReplica) -> &'a [u8]
+    requires fits { FitsImage saved.now }
+    requires file { IsFileIn saved.now file.now }
+    requires fixed { sort_of file.now.kind ≡ Fixed }
     ensures { IsTextOf (tables_view saved.now) file.now.id result.now }
 {
     file.bytes()

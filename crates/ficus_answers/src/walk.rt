@@ -1,17 +1,19 @@
 ghost use Rattle.std.specs.Prelude.{◌≡◌, ◌↔◌, IsTrue, IfOk, Some, None};
 ghost use Rattle.std.specs.List.{last_or};
+ghost use Rattle.ficus_ids.specs.Kind.{sort_of};
+ghost use Rattle.ficus_ids.specs.declared.kind.Sort.TheVariants.{Versioned, Fixed};
 ghost use Rattle.ficus_saved.specs.Saved.{FitsImage};
 ghost use Rattle.ficus_path.specs.Path.{IsEntry, IsNew};
 ghost use Rattle.ficus_names.specs.Find.{FindAnswer};
 ghost use Rattle.ficus_orphan.specs.Orphan.{IsOrphanIn};
 ghost use Rattle.ficus_rules.specs.Rule.{Where};
 ghost use Rattle.ficus_rules.specs.View.{IsBoundIn, IsDirectoryIn, IsTakenIn};
-ghost use Rattle.ficus_rules.specs.Walk.{BaseRule, WalkRule, DirectoryRule, ParentRule, FileRule, EntryRule, PlacesRule, last_name, last_target};
+ghost use Rattle.ficus_rules.specs.Walk.{BaseRule, WalkRule, DirectoryRule, ParentRule, FileRule, VersionedRule, FixedRule, EntryRule, PlacesRule, last_name, last_target};
 ghost use Rattle.ficus_answers.specs.Files.{as_found, as_places, id_found, IsFileIn};
 ghost use Rattle.ficus_answers.specs.View.{tables_view, HasObject, IsRootOrVisible, IsVisibleBy};
 
 use ficus_file::FileReplica;
-use ficus_ids::{Id, Kind, Name, ROOT, Refusal};
+use ficus_ids::{Id, Kind, Name, ROOT, Refusal, Sort};
 use ficus_names::find;
 use ficus_orphan::is_orphan;
 use ficus_path::{Base, Part, Path};
@@ -180,6 +182,45 @@ pub(crate) fn file_at<'a>(saved: &'a Saved, path: &Path) -> Result<&'a FileRepli
         return Err(Refusal::IsDir);
     }
     Ok(visible(saved, object))
+}
+
+/// The file at a path whose versions change.
+pub(crate) fn versioned_at<'a>(saved: &'a Saved, path: &Path) -> Result<&'a FileReplica, Refusal>
+    requires { FitsImage saved.now }
+    ensures rule { VersionedRule (tables_view saved.now) path.now (id_found result) }
+    ensures file { IfOk result (λ file. IsFileIn saved.now file.now) }
+    ensures versioned { IfOk result (λ file. sort_of file.now.kind ≡ Versioned) }
+{
+    let file = file_at(saved, path)?;
+    if is_fixed(file) {
+        return Err(Refusal::IsLink);
+    }
+    Ok(file)
+}
+
+/// The symbolic link at a path.
+pub(crate) fn fixed_at<'a>(saved: &'a Saved, path: &Path) -> Result<&'a FileReplica, Refusal>
+    requires { FitsImage saved.now }
+    ensures rule { FixedRule (tables_view saved.now) path.now (id_found result) }
+    ensures file { IfOk result (λ file. IsFileIn saved.now file.now) }
+    ensures fixed { IfOk result (λ file. sort_of file.now.kind ≡ Fixed) }
+{
+    let object = walk(saved, path.base, path.parts.items())?;
+    if is_directory(saved, object) {
+        return Err(Refusal::NotLink);
+    }
+    let file = visible(saved, object);
+    if !is_fixed(file) {
+        return Err(Refusal::NotLink);
+    }
+    Ok(file)
+}
+
+// Whether the text of the object stays.
+fn is_fixed(file: &FileReplica) -> bool
+    ensures { IsTrue result ↔ (sort_of file.now.kind ≡ Fixed) }
+{
+    file.kind.sort() == Sort::Fixed
 }
 
 /// Whether a live entry of the directory has the name of a new path.

@@ -5,7 +5,7 @@ ghost use Rattle.ficus_answers.specs.View.{tables_view};
 
 use crate::conflict::is_conflict;
 use crate::limits::within_limits;
-use crate::walk::file_at;
+use crate::walk::versioned_at;
 use ficus_ids::{Listed, Refusal};
 use ficus_model::Op;
 use ficus_path::Path;
@@ -17,7 +17,7 @@ pub fn write(alloc: Global, saved: &Saved, path: &Path, bytes: &[u8]) -> Result<
     requires { FitsImage saved.now }
     ensures { UnlessMemory (WriteRule (tables_view saved.now) path.now bytes.now) result }
 {
-    let file = file_at(saved, path)?;
+    let file = versioned_at(saved, path)?;
     if is_conflict(saved, file) {
         return Err(Refusal::Conflict);
     }

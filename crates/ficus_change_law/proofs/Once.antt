@@ -89,7 +89,7 @@ entries_once by number op entries after other rising rising_too first second =
     ))
 
 -- whether an object is written
-made_is : {number dir object : Id} {name bytes : List ℕ} {kind : Kind} → Writes number (Make dir name kind) object bytes
+made_is : {number dir object : Id} {name text bytes : List ℕ} {kind : Kind} → Writes number (Make dir name kind text) object bytes
     → (object ≡ number) × (kind ≢ Dir)
 made_is (ByMake is_file) = (refl, is_file)
 
@@ -104,9 +104,9 @@ resolve_is ByResolve = refl
 
 writes_or_not : (number : Id) (op : Op) (object : Id)
     → ((bytes : List ℕ) × Writes number op object bytes) ⊎ ((bytes : List ℕ) → Writes number op object bytes → ⊥)
-writes_or_not number (Make dir name Dir) object = inr (λ bytes writes. (made_is writes).1 refl)
-writes_or_not number (Make dir name kind) object = elim (same_id_or_not object number) [
-  | inl same ↦ inl ([], subst (λ (o : Id). Writes number (Make dir name kind) o []) (sym same) (ByMake (λ is. cc)))
+writes_or_not number (Make dir name Dir text) object = inr (λ bytes writes. (made_is writes).1 refl)
+writes_or_not number (Make dir name kind text) object = elim (same_id_or_not object number) [
+  | inl same ↦ inl (text, subst (λ (o : Id). Writes number (Make dir name kind text) o text) (sym same) (ByMake (λ is. cc)))
   | inr differs ↦ inr (λ bytes writes. differs (made_is writes).0)
 ]
 writes_or_not number (Write file bytes) object = elim (same_id_or_not object file) [
@@ -156,21 +156,24 @@ object_once by number op o a b first second =
     ] in
     λ i. record { id = id i; kind = kind i; versions = versions i; cover = cover i }
 
-make_kind : {dir other_dir : Id} {name other_name : List ℕ} {kind other_kind : Kind}
-    → (let one : Op = Make dir name kind in let other : Op = Make other_dir other_name other_kind in one ≡ other) → kind ≡ other_kind
-make_kind {kind = kind} is = ap (kind_or kind) is
-  where
-    kind_or : Kind → Op → Kind
-    kind_or other (Make dir name kind) = kind
-    kind_or other op = other
+-- a Make has one kind and one text
+make_once : {dir other_dir : Id} {name other_name text other_text : List ℕ} {kind other_kind : Kind}
+    → (let one : Op = Make dir name kind text in let other : Op = Make other_dir other_name other_kind other_text in one ≡ other)
+    → (kind ≡ other_kind) × (text ≡ other_text)
+make_once {dir} {other_dir} {name} {other_name} {text} {other_text} {kind} {other_kind} is =
+    let same : Make dir name kind text ≡ Make other_dir other_name other_kind other_text = is in
+    let kinds : kind ≡ other_kind = cc in
+    let texts : text ≡ other_text = cc in
+    (kinds, texts)
 
 made_once : (by : ℕ) (number : Id) (op : Op) (a b : KeptObject) → IsObjectMade by number op a
     → IsObjectMade by number op b → a ≡ b
 made_once by number op a b first second =
     let id : a.id ≡ b.id = first.id ∙ sym second.id in
-    let kind : a.kind ≡ b.kind = make_kind (sym first.makes ∙ second.makes) in
+    let makes = make_once (sym first.makes ∙ second.makes) in
+    let kind : a.kind ≡ b.kind = makes.0 in
     let versions : a.versions ≡ b.versions =
-    first.versions ∙ ap (first_versions by) kind ∙ sym second.versions in
+    first.versions ∙ ap₂ (first_versions by) makes.1 kind ∙ sym second.versions in
     let cover : a.cover ≡ b.cover = first.cover ∙ sym second.cover in
     λ i. record { id = id i; kind = kind i; versions = versions i; cover = cover i }
 
@@ -180,7 +183,7 @@ module _ (by : ℕ) (number : Id) (op : Op) (objects after other : List KeptObje
     (fresh : (object : KeptObject) → Contains objects object → object.id ≡ number → ⊥) where
   made_inside : (object : KeptObject) → IsObjectMade by number op object → Contains other object
   made_inside object made =
-      let has = second.made made.dir made.name object.kind made.makes in
+      let has = second.made made.dir made.name object.kind made.text made.makes in
       elim (second.from has.object has.inside) [
         | inl from ↦ absurd (fresh from.object from.inside (sym from.stepped.id ∙ has.named))
         | inr again ↦ subst (λ (o : KeptObject). Contains other o) (made_once by number op has.object object again made)

@@ -4,6 +4,8 @@
 mod disks;
 mod ending;
 mod run;
+#[cfg(test)]
+mod tests;
 
 use disks::{Disks, disks_for};
 use ending::{end, status_without_call};

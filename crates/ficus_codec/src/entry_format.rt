@@ -143,7 +143,8 @@ pub(crate) fn entry_behind<'a>(
 
 // What stands before the name's bytes: the identifier, the directory, and how long the name is.
 fn entry_head(entry: &Entry) -> [u8; 11]
-    ensures { result ≡ id_format.spell entry.now.id ++ (id_format.spell entry.now.dir ++ byte.spell (length entry.now.name)) }
+    ensures { result
+        ≡ id_format.spell entry.now.id ++ (id_format.spell entry.now.dir ++ byte.spell (length entry.now.name)) }
 {
     let [id_1, id_2, id_3, id_4] = entry.id.number.to_be_bytes();
     let [dir_1, dir_2, dir_3, dir_4] = entry.dir.number.to_be_bytes();

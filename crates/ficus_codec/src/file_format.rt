@@ -1,4 +1,5 @@
 ghost use Rattle.std.specs.Prelude.{◌≡◌, ◌↔◌, ◌++◌, ◌∷◌, [], length, take, drop, map, All, Contains, IsTrue, IfErr, IfSome, OnErr, OnOk};
+ghost use Rattle.ficus_file.specs.File.{HaveOneText};
 ghost use Rattle.ficus_file.specs.Version.{AreCurrent};
 ghost use Rattle.ficus_file.specs.declared.version.Version.{Version as VersionValue};
 ghost use Rattle.std.specs.Int.{w32, to_be_bytes};
@@ -15,7 +16,7 @@ use ficus_file::{FileReplica, Version, Versions};
 use ficus_formats::{
     ReadFault, Reader, RowSpelling, Spelling, put_bytes, put_long_string, put_run, read_run,
 };
-use ficus_ids::{Id, Kind, Listed, Members, Memory};
+use ficus_ids::{FIXED_LIMIT, Id, Kind, Listed, Members, Memory, Sort};
 use ficus_vv::{Standing, Vector};
 use std::alloc::Global;
 use std::cmp::Ordering;
@@ -31,6 +32,7 @@ pub fn read_kind(reader: &mut Reader<'_>) -> Result<Kind, ReadFault>
         2 => Ok(Kind::Lines),
         3 => Ok(Kind::Max),
         4 => Ok(Kind::Keep),
+        5 => Ok(Kind::Symlink),
         _ => Err(ReadFault::Unspelled),
     }
 }
@@ -159,13 +161,26 @@ fn is_bare(file: &FileReplica) -> bool
     file.versions.items().is_empty() && file.covered.compare(Vector::zero()) == Standing::Equal
 }
 
-// Whether what is a directory is bare, and what is a file has the versions of one.
+// Whether there is one version, with a text that may stay.
+fn have_one_text(versions: &[Version]) -> bool
+    ensures { IsTrue result ↔ HaveOneText versions.now }
+{
+    match versions {
+        [version] => (1..=FIXED_LIMIT).contains(&version.bytes.items().len()),
+        _ => false,
+    }
+}
+
+// Whether what is a directory is bare, what is a file has the versions of one, and what has a text that stays has it
+// alone.
 fn is_whole(file: &FileReplica) -> bool
     ensures { IsTrue result ↔ IsWhole file.now }
 {
-    match file.kind {
-        Kind::Dir => is_bare(file),
-        Kind::Plain | Kind::Lines | Kind::Max | Kind::Keep => are_current(file.versions.items()),
+    let versions = file.versions.items();
+    match file.kind.sort() {
+        Sort::Directory => is_bare(file),
+        Sort::Versioned => are_current(versions),
+        Sort::Fixed => are_current(versions) && have_one_text(versions),
     }
 }
 

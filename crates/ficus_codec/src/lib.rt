@@ -16,5 +16,7 @@ pub use ficus_formats::{
 pub use ficus_saved::{BYTE_LIMIT, FILE_LIMIT, Saved, UPDATE_LIMIT};
 pub use file_format::read_kind;
 pub use known::Known;
-pub use tables::{one_tables, put_tables, read_all_rows, read_rows, read_tables, take_tables};
+pub use tables::{
+    one_tables, put_rows, put_tables, read_all_rows, read_rows, read_tables, take_tables,
+};
 pub use take_fault::TakeFault;

@@ -22,6 +22,7 @@ pub others_late : (view : View) (asked : Change) → (TakesMemoryEarly asked →
     MayWantMemory view asked ↔ RefusesNothing (ChangeRule view asked)
 others_late view (change.MkDir path) late = itself
 others_late view (change.Create path kind) late = itself
+others_late view (change.Symlink path text) late = itself
 others_late view (change.Write path text) late = itself
 others_late view (change.Settle path text) late = itself
 others_late view (change.Resolve path) late = absurd (late tt)

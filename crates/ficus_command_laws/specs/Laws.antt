@@ -15,7 +15,7 @@ use Rattle.ficus_rules.specs.Rename.{RenameRule}
 use Rattle.ficus_rules.specs.Resolve.{ResolveRule}
 use Rattle.ficus_rules.specs.Rule.{RefusesNothing}
 use Rattle.ficus_rules.specs.View.{IsDirectoryIn, history_view}
-use Rattle.ficus_rules.specs.Walk.{EntryRule, FileRule, Found, Places, PlacesRule}
+use Rattle.ficus_rules.specs.Walk.{EntryRule, VersionedRule, Found, Places, PlacesRule}
 use Rattle.ficus_script.specs.declared.answer.Answer.{Answer}
 use Rattle.ficus_script.specs.declared.answer.Answer.TheVariants.{Collected}
 use Rattle.ficus_script.specs.declared.command.Command.{Command}
@@ -47,6 +47,7 @@ WasAlive = (volume : Volume) (W after : ModelWorld) (commands : List Command) (o
 abbrev pub TakesMemoryEarly : Change → Type 0
 TakesMemoryEarly (change.MkDir path) = ⊥
 TakesMemoryEarly (change.Create path kind) = ⊥
+TakesMemoryEarly (change.Symlink path text) = ⊥
 TakesMemoryEarly (change.Write path text) = ⊥
 TakesMemoryEarly (change.Settle path text) = ⊥
 TakesMemoryEarly (change.Resolve path) = Unit {0}
@@ -66,7 +67,7 @@ OthersWantMemoryLate = (volume : Volume) (H : List Event) (replica : ℕ) (asked
 abbrev pub ResolvesWantMemoryLate : Type 0
 ResolvesWantMemoryLate = (volume : Volume) (H : List Event) (replica : ℕ) (path : Path) →
     let view = history_view volume H replica in
-    ((file : Id) → FileRule view path (Ok file) → view.conflicts file → ⊥) →
+    ((file : Id) → VersionedRule view path (Ok file) → view.conflicts file → ⊥) →
     MayWantMemory view (change.Resolve path) ↔ RefusesNothing (ResolveRule view path)
 
 abbrev pub RemovesWantMemoryLate : Type 0

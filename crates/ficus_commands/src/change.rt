@@ -8,12 +8,16 @@ pub enum Change {
     /// Makes a directory at the new path. Refused as the walk to the parent is; with `Exists` exactly where a live
     /// entry of the parent has the name; with `Spent` exactly where the replica has made all its updates.
     MkDir { path: Path },
-    /// Makes an empty file of the kind at the new path. Refused as `MkDir` is.
+    /// Makes an empty file of the kind, which isn't that of symbolic links, at the new path. Refused as `MkDir` is.
     Create { path: Path, kind: Kind },
+    /// Makes a symbolic link with this text, which isn't empty, at the new path. It is never followed. Refused as the
+    /// walk to the parent is; with `Exists` as `MkDir` is; with `TooLong` exactly where the text has more than 1,024
+    /// bytes; with `Spent` as `MkDir` is; with `Quota` exactly where the replica may not write so many bytes more.
+    Symlink { path: Path, text: Listed<u8> },
     /// Gives the file at the path this text. Refused as the walk is; with `IsDir` exactly where the object is a
-    /// directory; with `Conflict` exactly where the file is in conflict; with `TooLong` exactly where the text has more
-    /// than 16,384 bytes; with `Spent` as `MkDir` is; with `Quota` exactly where the replica may not write so many
-    /// bytes more.
+    /// directory; with `IsLink` exactly where it is a symbolic link; with `Conflict` exactly where the file is in
+    /// conflict; with `TooLong` exactly where the text has more than 16,384 bytes; with `Spent` as `MkDir` is; with
+    /// `Quota` exactly where the replica may not write so many bytes more.
     Write { path: Path, text: Listed<u8> },
     /// Ends the conflict of the file at the path with this text. Refused as `Write` is, but with `NoConflict` exactly
     /// where the file isn't in conflict in place of `Conflict`.

@@ -8,11 +8,14 @@ pub enum Look {
     /// file.
     Ls { path: Path },
     /// The text of the file at the path. Refused as the walk is; with `IsDir` exactly where the object is a directory;
-    /// with `Conflict` exactly where the file is in conflict.
+    /// with `IsLink` exactly where it is a symbolic link; with `Conflict` exactly where the file is in conflict.
     Read { path: Path },
     /// The versions of the file at the path, in the order of vectors. Refused as the walk is; with `IsDir` exactly
-    /// where the object is a directory.
+    /// where the object is a directory; with `IsLink` exactly where it is a symbolic link.
     Versions { path: Path },
+    /// The text of the symbolic link at the path. Refused as the walk is; with `NotLink` exactly where the object is
+    /// none.
+    ReadLink { path: Path },
     /// The names in each directory that is reached from the root. Never refused.
     Tree,
     /// What is in conflict: each name under which a directory has several objects, and each file in conflict that has a

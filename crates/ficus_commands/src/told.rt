@@ -6,7 +6,7 @@ use ficus_names::{Clashes, Line};
 /// What a look tells.
 #[derive(Drop)]
 pub enum Told {
-    /// The text of a file.
+    /// The text of a file or of a symbolic link.
     Text(Listed<u8>),
     /// The names in a directory.
     Names(Listed<Line>),

@@ -139,8 +139,8 @@ fn picked_byte(pick: Pick, mark: Mark, byte: u8) -> u8
     }
 }
 
-/// Makes room for so many items in all, and for four times as many where memory isn't refused: what stands on a disk that
-/// grows is moved seldom then.
+/// Makes room for so many items in all, and for four times as many where memory isn't refused: what stands on a disk
+/// that grows is moved seldom then.
 pub(crate) fn reserve_upto<T: Copy>(to: &mut Vec<T>, upto: usize) -> Result<(), Memory>
     ensures items { to.new.items ≡ to.old.items }
     ensures room { OnOk result (upto ≤ vec_capacity to.new) }

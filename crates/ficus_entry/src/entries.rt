@@ -16,8 +16,8 @@ use std::alloc::Global;
 use std::marker::Model;
 
 /// Entries with different identifiers. Contracts see them as a list in which the identifiers rise strictly. A copy
-/// shares what it has with them, and a change takes time for a logarithm of them alone. A removal takes no memory: until
-/// the next copy or insert the index notes what was removed as while it lived.
+/// shares what it has with them, and a change takes time for a logarithm of them alone. A removal takes no memory:
+/// until the next copy or insert the index notes what was removed as while it lived.
 #[derive(Drop)]
 pub struct Entries {
     pub(crate) table: Table<SharedEntry>,
@@ -187,7 +187,8 @@ impl Entries {
     }
 
     /// The entries whose identifiers are none of these, which no live entry has: where only removed entries leave, the
-    /// index stays as it is. It shares with these what stays, and takes time for a logarithm of them for each identifier.
+    /// index stays as it is. It shares with these what stays, and takes time for a logarithm of them for each
+    /// identifier.
     pub fn without(&self, ids: &[Id]) -> Result<Entries, Memory>
         requires { NoneIsLive self.now ids.now }
         ensures left { IfOk result (LeavesOutBy (λ entry. entry.id) self.now ids.now) }
@@ -287,6 +288,7 @@ fn index_of(table: &Table<SharedEntry>) -> Result<Index, Memory>
 {
     let in_order = table.in_order()?;
     let notes = notes(table.allocator(), &in_order)?;
+    drop(in_order);
     Index::of(table.allocator(), notes)
 }
 

@@ -9,10 +9,11 @@ use ficus_table::are_many;
 impl Entries {
     /// The entries with others, whose identifiers rise strictly, each in place of the one with its identifier if there
     /// is one. It takes time for a logarithm of the entries for each of the others, or, where these
-    /// [`are_many`](ficus_table::are_many), for all entries once.
-    pub fn replaced(&self, others: &[SharedEntry]) -> Result<Entries, Memory>
+    /// [`are_many`](ficus_table::are_many), for all entries once; what the index was is given up before it is made
+    /// anew.
+    pub fn replaced(self, others: &[SharedEntry]) -> Result<Entries, Memory>
         requires { IsRising others.now }
-        ensures replaced { IfOk result (ReplacesEntries self.now others.now) }
+        ensures replaced { IfOk result (ReplacesEntries self others.now) }
         ensures rising { IfOk result IsRising }
     {
         if are_many(others.len(), self.len()) {
@@ -23,23 +24,25 @@ impl Entries {
     }
 
     // The same, in one walk along the entries.
-    fn replaced_at_once(&self, others: &[SharedEntry]) -> Result<Entries, Memory>
+    fn replaced_at_once(self, others: &[SharedEntry]) -> Result<Entries, Memory>
         requires { IsRising others.now }
-        ensures replaced { IfOk result (ReplacesEntries self.now others.now) }
+        ensures replaced { IfOk result (ReplacesEntries self others.now) }
         ensures rising { IfOk result IsRising }
     {
-        let mut table = self.table.copy()?;
+        let Entries { table, index } = self;
+        drop(index);
+        let mut table = table;
         table.replace(others)?;
         Entries::indexed(table)
     }
 
     // The same, one after the other.
-    fn replaced_in_turn(&self, others: &[SharedEntry]) -> Result<Entries, Memory>
+    fn replaced_in_turn(self, others: &[SharedEntry]) -> Result<Entries, Memory>
         requires { IsRising others.now }
-        ensures replaced { IfOk result (ReplacesEntries self.now others.now) }
+        ensures replaced { IfOk result (ReplacesEntries self others.now) }
         ensures rising { IfOk result IsRising }
     {
-        let mut entries = self.copy()?;
+        let mut entries = self;
         entries.put_each(others)?;
         Ok(entries)
     }

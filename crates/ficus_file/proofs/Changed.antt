@@ -1,5 +1,5 @@
 -- One file of a list changes.
-use Rattle.std.proofs.Common.{◌≡◌, ◌≢◌, ℕ, ◌<◌, List, length, map, get_or, slice_get, Result, Ok, Err, Option, Some, None, ◌∙◌, refl, sym, ap, subst, inl, inr}
+use Rattle.std.proofs.Common.{◌≡◌, ℕ, ◌<◌, List, length, map, get_or, slice_get, Result, Ok, Err, Option, Some, None, ◌∙◌, refl, sym, ap, subst, inl, inr}
 use Rattle.std.specs.Prelude.{Contains, OnOk, OnErr, slice_set}
 use Rattle.std.specs.Option.{option_or}
 use Rattle.std.proofs.lemmas.Bool.{cases_eq}
@@ -7,7 +7,8 @@ use Rattle.std.proofs.lemmas.List.{length-set, get_or-set_same, get_or-set_other
 use Rattle.std.proofs.lemmas.List.Elements.{Contains-get_or}
 use Rattle.std.proofs.lemmas.Option.{slice_get_within, get_or_from_slice_get, slice_get-get_or}
 use Rattle.ficus_ids.specs.declared.id.Id.{Id}
-use Rattle.ficus_ids.specs.declared.kind.Kind.TheVariants.{Dir}
+use Rattle.ficus_ids.specs.Kind.{sort_of}
+use Rattle.ficus_ids.specs.declared.kind.Sort.TheVariants.{Versioned}
 use Rattle.ficus_ids.specs.Rising.{IsPlaceBy, IsFoundAtBy, HoldsUnderBy, PutsBy, ReplacesBy, LeavesOutBy}
 use Rattle.ficus_ids.specs.RisingLaws.{one_item, none_at_place, item_at, held_or_not}
 use Rattle.ficus_table.specs.Table.{Rows}
@@ -19,10 +20,11 @@ use Rattle.ficus_file.proofs.Joined.{covered_twice}
 use Rattle.ficus_file.specs.Files.{id_of, IsRising, IsSoundFile, AreFiles, HoldsFile, IsChanged}
 
 -- a write or a removal leaves what may be held
-pub advanced_held : (by : ℕ) (bytes : List ℕ) (file : FileReplica) → file.kind ≢ Dir → IsSoundFile file →
+pub advanced_held : (by : ℕ) (bytes : List ℕ) (file : FileReplica) → sort_of file.kind ≡ Versioned →
+    IsSoundFile file →
     IsSoundFile (advanced by bytes file)
-advanced_held by bytes file is_file held = record {
-  well_formed = advanced_well_formed by bytes file is_file;
+advanced_held by bytes file changes held = record {
+  well_formed = advanced_well_formed by bytes file changes;
   not_root = held.not_root;
   not_attic = held.not_attic;
 }
@@ -83,7 +85,7 @@ module _ (files : List FileReplica) (id : Id) (i : ℕ) (file : FileReplica) (fo
       AreFiles new
   advanced_there by bytes new are held rising is =
       changed_files files new i file (advanced by bytes file) are rising at is
-      (advanced_held by bytes file (found_fits (MayAdvance by) are.rising held).is_file
+      (advanced_held by bytes file (found_fits (MayAdvance by) are.rising held).changes
       (are.each file (contains_at files i file at)))
 
 -- the file that a search finds is covered

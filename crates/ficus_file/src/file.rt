@@ -1,4 +1,5 @@
 ghost use Rattle.std.specs.Prelude.{◌≡◌, ◌≢◌, ◌↔◌, ◌≤◌, [], ◌∷◌, Ok, IfOk, IsTrue, Contains};
+ghost use Rattle.ficus_ids.specs.Kind.{FitsKind};
 ghost use Rattle.ficus_ids.specs.declared.kind.Kind.TheVariants.{Dir};
 ghost use Rattle.ficus_file.specs.declared.version.Version.{Version as VersionValue};
 ghost use Rattle.ficus_file.specs.Version.{join_all, HasTwoTexts};
@@ -6,7 +7,7 @@ ghost use Rattle.ficus_file.specs.File.{over_all, made_file, advanced, covered_f
 
 use crate::versions::{are_same, joined};
 use crate::{Version, Versions};
-use ficus_ids::{Id, Kind, Listed, Memory};
+use ficus_ids::{Id, Kind, Listed, Memory, Sort};
 use ficus_vv::Vector;
 use std::alloc::Global;
 
@@ -22,16 +23,18 @@ pub struct FileReplica {
 }
 
 impl FileReplica {
-    /// A file or a directory that a replica from 1 to 8 makes. A file has one empty version. `Memory` never comes.
-    pub fn made(alloc: Global, id: Id, kind: Kind, by: u8) -> Result<FileReplica, Memory>
+    /// An object that a replica from 1 to 8 makes with a text, which is empty but for a symbolic link, where it has 1
+    /// to 1,024 bytes. All but a directory have one version, with the text as bytes. `Memory` never comes.
+    pub fn made(id: Id, kind: Kind, by: u8, text: Vec<u8>) -> Result<FileReplica, Memory>
         requires at_least { 1 ≤ by }
         requires at_most { by ≤ 8 }
-        ensures made { result ≡ Ok (made_file id kind by) }
-        ensures well_formed { IsWellFormed (made_file id kind by) }
+        requires text { FitsKind kind text.items }
+        ensures made { result ≡ Ok (made_file id kind by text.items) }
+        ensures well_formed { IsWellFormed (made_file id kind by text.items) }
     {
-        let versions = match kind {
-            Kind::Dir => Versions::none(),
-            Kind::Plain | Kind::Lines | Kind::Max | Kind::Keep => first(alloc, by),
+        let versions = match kind.sort() {
+            Sort::Directory => Versions::none(),
+            Sort::Versioned | Sort::Fixed => first(by, text),
         };
         Ok(FileReplica {
             id,
@@ -147,18 +150,18 @@ impl FileReplica {
     }
 }
 
-// The one version that a new file has.
-fn first(alloc: Global, by: u8) -> Versions
+// The one version that an object has which was made with a text.
+fn first(by: u8, text: Vec<u8>) -> Versions
     requires at_least { 1 ≤ by }
     requires at_most { by ≤ 8 }
-    ensures { result ≡ over_all by [] [] ∷ [] }
+    ensures { result ≡ over_all by text.items [] ∷ [] }
 {
     let Some(vector) = Vector::zero().bump(by) else {
         unreachable!()
     };
     Versions::one(Version {
         vector,
-        bytes: Listed::of(Vec::new(alloc)),
+        bytes: Listed::of(text),
     })
 }
 

@@ -1,19 +1,27 @@
 -- A list of versions that are shown has at most as many as there are members.
-use Rattle.std.proofs.Common.{◌≡◌, ◌⊎◌, inl, inr, ℕ, ◌+◌, ◌-◌, ◌<◌, ◌≤◌, List, length, get_or, arith, sym, subst}
+use Rattle.std.proofs.Common.{◌≡◌, ◌⊎◌, inl, inr, ℕ, ◌+◌, ◌-◌, ◌<◌, ◌≤◌, List, [], ◌∷◌, length, get_or, arith, refl, sym, subst, ◌∙◌}
 use Rattle.std.specs.declared.cmp.Ordering.TheVariants.{Less}
 use Rattle.std.specs.Prelude.{AllPairs}
+use Rattle.ficus_ids.specs.Kind.{sort_of}
+use Rattle.ficus_ids.specs.ListLaws.{here, there}
 use Rattle.ficus_ids.specs.declared.id.Id.{Id}
+use Rattle.ficus_ids.specs.declared.kind.Kind.{Kind}
+use Rattle.ficus_ids.specs.declared.kind.Kind.TheVariants.{Dir, Symlink}
+use Rattle.ficus_file.specs.File.{most_versions}
 use Rattle.ficus_vv.specs.Vector.{vector_cmp}
 use Rattle.ficus_vv.specs.VectorLaws.{not_before_itself}
 use Rattle.ficus_file.specs.declared.version.Version.{Version}
 use Rattle.ficus_model.specs.declared.event.Event.{Event}
 use Rattle.ficus_model.specs.Events.{IsOf}
-use Rattle.ficus_model.specs.Known.{HasInPast}
+use Rattle.ficus_model.specs.Known.{Knows, HasInPast}
+use Rattle.ficus_model.specs.Live.{IsMade}
+use Rattle.ficus_model.specs.Versions.{IsVersion}
 use Rattle.ficus_model.specs.Lawful.{Volume, IsLawful}
 use Rattle.ficus_laws.proofs.Positions.{of_same}
 use Rattle.ficus_version_laws.specs.Listed.{IsItemOf, IsShownItem}
 use Rattle.ficus_version_laws.proofs.Comparing.{writer, writer_member, own_count_past}
 use Rattle.ficus_version_laws.proofs.Latest.{shown_once}
+use Rattle.ficus_version_laws.proofs.Links.{no_version, one_version as one_version_event}
 use Rattle.ficus_version_laws.proofs.Pigeonhole.{at_most_marks}
 use Rattle.ficus_file_laws.specs.Items.{item_of, AreVersionsOf}
 use Rattle.ficus_file_laws.proofs.Items.{one_version, shown_item}
@@ -66,3 +74,33 @@ module _ (volume : Volume) (H : List Event) (lawful : IsLawful volume H) (U : �
           not_before_itself one.vector
           (subst (λ (version : Version). vector_cmp one.vector version.vector ≡ Less) (sym same)
           (are.ordered i j d before within))
+
+  -- where all versions are one update, there is one at most
+  at_most_one : {only : ℕ} (versions : List Version) → AreVersionsOf H U file versions →
+      ((position : ℕ) → IsVersion H file position → position ≡ only) → length versions ≤ 1
+  at_most_one [] are one = omega arith
+  at_most_one (version ∷ []) are one = omega arith
+  at_most_one (version ∷ other ∷ more) are one =
+      let a = shown_item (version ∷ other ∷ more) version are (here version (other ∷ more)) in
+      let b = shown_item (version ∷ other ∷ more) other are (there version other (other ∷ more) (here other more)) in
+      let e = one a.position a.shown.version ∙ sym (one b.position b.shown.version) in
+      let same = one_version version other a.is (subst (λ p. IsItemOf H file p (item_of other)) (sym e) b.is) in
+      absurd (not_before_itself version.vector
+      (subst (λ (v : Version). vector_cmp version.vector v.vector ≡ Less) (sym same)
+      (are.ordered 0 1 version (omega arith) (omega arith))))
+
+  at_most_none : (versions : List Version) → AreVersionsOf H U file versions →
+      ((position : ℕ) → IsVersion H file position → ⊥) → length versions ≤ 0
+  at_most_none [] are none = omega arith
+  at_most_none (version ∷ more) are none =
+      let a = shown_item (version ∷ more) version are (here version more) in
+      absurd (none a.position a.shown.version)
+
+  -- an object of a kind has no more than one of its sort
+  pub few_of_kind : {replica : ℕ} (kind : Kind) → IsMade H (Knows H replica) file kind → volume.members ≤ 8 →
+      (versions : List Version) → AreVersionsOf H U file versions → length versions ≤ most_versions (sort_of kind)
+  few_of_kind Dir made fits versions are = at_most_none versions are
+      (λ position version. no_version volume H lawful (λ changes. cc) made refl version)
+  few_of_kind Symlink made fits versions are = at_most_one versions are
+      (λ position version. one_version_event volume H lawful (λ changes. cc) made version)
+  few_of_kind kind made fits versions are = omega (arith, few_versions versions are)

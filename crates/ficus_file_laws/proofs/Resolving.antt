@@ -62,15 +62,15 @@ shown_bytes {H} versions bytes {position = position} are have shown =
     (sym (ap (λ item. item.bytes) found.is) ∙ have found.version found.inside) listed.is.bytes
 
 -- Where an answer is taken, all versions of the two lists have the same bytes.
-module _ (H : List Event) (replica served server : ℕ) (file : Id) (bytes : List ℕ) (mine theirs : List Version)
+module _ (H : List Event) (replica served piece server : ℕ) (file : Id) (bytes : List ℕ) (mine theirs : List Version)
     (by_server : IsOf H served server) (own : AreVersionsOf H (Knows H replica) file mine)
     (brought : AreVersionsOf (through served H) (Knows (through served H) server) file theirs)
     (have : HaveBytes mine bytes) (have_too : HaveBytes theirs bytes) where
   abbrev taken : List Event
-  taken = H ++ Accept replica served ∷ []
+  taken = H ++ Accept replica served piece ∷ []
 
   later : {position : ℕ} → position < length H → HasBytes H position bytes → HasBytes taken position bytes
-  later within has = agree_bytes (agree_more H (Accept replica served ∷ [])) within has
+  later within has = agree_bytes (agree_more H (Accept replica served piece ∷ [])) within has
 
   has_bytes : {position : ℕ} →
       IsShownInEither H (Knows H replica) (through served H) (Knows (through served H) server) file position →
@@ -83,7 +83,7 @@ module _ (H : List Event) (replica served server : ℕ) (file : Id) (bytes : Lis
 
   text : (other : List ℕ) → ShowsBytes taken (Knows taken replica) file other → other ≡ bytes
   text other shows =
-      bytes_once shows.has (has_bytes (accept_shown H replica served server by_server shows.shown).shown)
+      bytes_once shows.has (has_bytes (accept_shown H replica served piece server by_server shows.shown).shown)
 
   -- then the file isn't in conflict
   pub alike_taken : IsInConflict taken (Knows taken replica) file → ⊥

@@ -1,13 +1,17 @@
 -- What taking an answer leaves of a file's versions.
 use Rattle.std.proofs.Common.{ℕ, ◌+◌, ◌≤◌, List, [], ◌∷◌, ◌++◌, length, sym, ap, subst}
+use Rattle.ficus_ids.specs.Kind.{sort_of}
 use Rattle.ficus_ids.specs.declared.id.Id.{Id}
+use Rattle.ficus_ids.specs.declared.kind.Kind.{Kind}
 use Rattle.ficus_vv.specs.Vector.{count_of}
+use Rattle.ficus_file.specs.File.{most_versions}
 use Rattle.ficus_file.specs.declared.version.Version.{Version}
 use Rattle.ficus_model.specs.declared.event.Event.{Event}
 use Rattle.ficus_model.specs.declared.event.Event.TheVariants.{Accept}
 use Rattle.ficus_model.specs.Events.{IsOf, through}
 use Rattle.ficus_model.specs.Known.{Knows}
 use Rattle.ficus_model.specs.Lawful.{Volume, IsLawful}
+use Rattle.ficus_model.specs.Live.{IsMade}
 use Rattle.ficus_model.specs.Versions.{HasBytes}
 use Rattle.ficus_laws.specs.Updates.{Joined}
 use Rattle.ficus_laws.proofs.Positions.{agree_before}
@@ -21,7 +25,7 @@ use Rattle.ficus_version_laws.specs.Listed as listed
 use Rattle.ficus_file_laws.specs.Items.{items_of, AreVersionsOf}
 use Rattle.ficus_file_laws.proofs.Items.{shown_item}
 use Rattle.ficus_file_laws.proofs.Merging.{count_members, merges_agree}
-use Rattle.ficus_file_laws.proofs.Few.{few_versions}
+use Rattle.ficus_file_laws.proofs.Few.{few_of_kind, few_versions}
 
 module _ (volume : Volume) (H : List Event) (replica served server : ℕ) {file : Id} (mine theirs : List Version)
     (lawful : IsLawful volume H) (by_server : IsOf H served server) (own : AreVersionsOf H (Knows H replica) file mine)
@@ -42,11 +46,11 @@ module _ (volume : Volume) (H : List Event) (replica served server : ℕ) {file 
       (count_members volume H mine lawful own) (count_members volume H theirs lawful brought_later)
 
   -- what the two lists make together are the versions that are then shown
-  pub merged_shown : (both : List Version) → AreMerged mine theirs both →
-      let K = H ++ Accept replica served ∷ [] in
+  pub merged_shown : (piece : ℕ) (both : List Version) → AreMerged mine theirs both →
+      let K = H ++ Accept replica served piece ∷ [] in
       AreVersionsOf K (Knows K replica) file both
-  merged_shown both merged = record {
-    shown = accept_merges H replica served server by_server volume lawful own.shown brought.shown
+  merged_shown piece both merged = record {
+    shown = accept_merges H replica served piece server by_server volume lawful own.shown brought.shown
         (merged_items both merged);
     ordered = merged.ordered;
   }
@@ -66,3 +70,12 @@ module _ (volume : Volume) (H : List Event) (replica served server : ℕ) {file 
     shown = are_shown_merged volume lawful own.shown brought_later.shown (merged_items both merged);
     ordered = merged.ordered;
   })
+
+  -- and as one of its kind
+  pub few_of_kind_merged : (kind : Kind) → IsMade H (Knows H replica) file kind → volume.members ≤ 8 →
+      (both : List Version) → AreMerged mine theirs both → length both ≤ most_versions (sort_of kind)
+  few_of_kind_merged kind made fits both merged =
+      few_of_kind volume H lawful (Joined (Knows H replica) Brought) file kind made fits both (record {
+        shown = are_shown_merged volume lawful own.shown brought_later.shown (merged_items both merged);
+        ordered = merged.ordered;
+      })

@@ -53,11 +53,11 @@ MergesAgree = (members : ℕ) (mine theirs both : List Version) →
 
 -- where an answer is taken, what the two lists make together are the versions that are then shown
 abbrev pub AcceptMergesLists : Type 0
-AcceptMergesLists = (volume : Volume) (H : List Event) (replica served server : ℕ) (file : Id)
+AcceptMergesLists = (volume : Volume) (H : List Event) (replica served piece server : ℕ) (file : Id)
     (mine theirs both : List Version) → IsLawful volume H → IsOf H served server →
     AreVersionsOf H (Knows H replica) file mine →
     AreVersionsOf (through served H) (Knows (through served H) server) file theirs → AreMerged mine theirs both →
-    let K = H ++ Accept replica served ∷ [] in
+    let K = H ++ Accept replica served piece ∷ [] in
     AreVersionsOf K (Knows K replica) file both
 
 -- then versions of the two lists with one vector have the same bytes
@@ -100,11 +100,11 @@ ResolvesMerge = (H G : List Event) (replica other : ℕ) (file : Id) (bytes : Li
 
 -- and where an answer is taken and all versions of both have the same bytes, the file isn't in conflict then
 abbrev pub TakenAlikeEndsConflict : Type 0
-TakenAlikeEndsConflict = (H : List Event) (replica served server : ℕ) (file : Id) (bytes : List ℕ)
+TakenAlikeEndsConflict = (H : List Event) (replica served piece server : ℕ) (file : Id) (bytes : List ℕ)
     (mine theirs : List Version) → IsOf H served server →
     AreVersionsOf H (Knows H replica) file mine →
     AreVersionsOf (through served H) (Knows (through served H) server) file theirs →
     ((version : Version) → Contains mine version → version.bytes ≡ bytes) →
     ((version : Version) → Contains theirs version → version.bytes ≡ bytes) →
-    let K = H ++ Accept replica served ∷ [] in
+    let K = H ++ Accept replica served piece ∷ [] in
     IsInConflict K (Knows K replica) file → ⊥

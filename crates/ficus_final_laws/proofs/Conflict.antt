@@ -11,7 +11,7 @@ use Rattle.ficus_model.specs.declared.event.Event.TheVariants.{Update}
 use Rattle.ficus_model.specs.declared.event.Op.{Op}
 use Rattle.ficus_model.specs.Events.{IsUpdate, count_of}
 use Rattle.ficus_model.specs.Known.{Knows, HasInPast}
-use Rattle.ficus_model.specs.Live.{ModelEntry, IsEntered, IsRemoved, IsLive, IsBoundBy, HasName, IsMade, IsFile, IsDirectory}
+use Rattle.ficus_model.specs.Live.{ModelEntry, IsEntered, IsRemoved, IsLive, IsBoundBy, HasName, IsMade, IsFile, IsVersioned, IsDirectory}
 use Rattle.ficus_model.specs.Reached.IsReached.{Base, Through}
 use Rattle.ficus_model.specs.Versions.{written_of, IsVersion, IsShown, IsInConflict}
 use Rattle.ficus_model.specs.View.{IsOrphan, IsReachedFile}
@@ -39,10 +39,13 @@ module _ (n replica : ℕ) (early : n ≤ 10) (known : Known n replica 0) where
       agree_update (agree_back (agree_before n conflict_history)) (known_before conflict_history n known) makes
 
   made : IsMade (cut n) (Known n replica) example_file Plain
-  made = record { position = 0; dir = _; name = _; known = known; update = makes_there }
+  made = record { position = 0; dir = _; name = _; text = _; known = known; update = makes_there }
 
   is_file : IsFile (cut n) (Known n replica) example_file
   is_file = record { kind = Plain; made = made; other = λ same. cc }
+
+  versioned : IsVersioned (cut n) (Known n replica) example_file
+  versioned = record { kind = Plain; made = made; changes = refl }
 
   nothing_removed : {removed : Id} → IsRemoved (cut n) (Known n replica) removed → ⊥
   nothing_removed r =
@@ -143,7 +146,7 @@ orphaned = record {
   kept = inr (record {
     is_file = record {
       kind = Plain;
-      made = record { position = 0; dir = _; name = _; known = first_knows 14 (omega arith); update = makes };
+      made = record { position = 0; dir = _; name = _; text = _; known = first_knows 14 (omega arith); update = makes };
       other = λ same. cc;
     };
     position = 9;
@@ -203,7 +206,12 @@ not_in_conflict n replica early untold conflict = one_no_conflict {only = 0}
         absurd (let h = known_before conflict_history n k in omega (arith, early))
 
 may_make : MayUpdate conflict_volume [] 1 makes_file
-may_make = record { member = first; left = omega arith; bytes = tt; allowed = place }
+may_make = record {
+  member = first;
+  left = omega arith;
+  bytes = record { one_file = omega arith; left = omega arith };
+  allowed = record { place = place; fits = refl };
+}
 
 may_write_first : MayUpdate conflict_volume (cut 4) 1 first_writes
 may_write_first = record {
@@ -212,6 +220,7 @@ may_write_first = record {
   bytes = fits refl (let written : written_of 1 (cut 4) ≡ 0 = refl in omega arith);
   allowed = record {
     in_reach = reached_file 4 1 (omega arith) (first_knows 4 (omega arith));
+    versioned = versioned 4 1 (omega arith) (first_knows 4 (omega arith));
     settled = not_in_conflict 4 1 (omega arith) (λ k. let h = known_before conflict_history 4 k in omega arith);
   };
 }
@@ -223,6 +232,7 @@ may_write_second = record {
   bytes = fits refl (let written : written_of 2 (cut 5) ≡ 0 = refl in omega arith);
   allowed = record {
     in_reach = reached_file 5 2 (omega arith) (second_knows 5 (omega arith));
+    versioned = versioned 5 2 (omega arith) (second_knows 5 (omega arith));
     settled = not_in_conflict 5 2 (omega arith) second_untold;
   };
 }
@@ -234,6 +244,7 @@ may_settle = record {
   bytes = fits refl (let written : written_of 1 (cut 9) ≡ 1 = refl in omega arith);
   allowed = record {
     in_reach = reached_file 9 1 (omega arith) (first_knows 9 (omega arith));
+    versioned = versioned 9 1 (omega arith) (first_knows 9 (omega arith));
     conflict = in_conflict;
   };
 }
@@ -252,10 +263,10 @@ may_remove = record {
 pub history_lawful : IsLawful conflict_volume conflict_history
 history_lawful =
     let made_is = lawful_more conflict_volume [] (Update 1 makes_file) (lawful_none conflict_volume) may_make in
-    let told = lawful_pulled (cut 1) 2 1 conflict_volume second first (omega arith) made_is in
+    let told = lawful_pulled (cut 1) 2 1 0 conflict_volume second first (omega arith) made_is in
     let once = lawful_more conflict_volume (cut 4) (Update 1 first_writes) told may_write_first in
     let twice = lawful_more conflict_volume (cut 5) (Update 2 second_writes) once may_write_second in
-    let joined = lawful_pulled (cut 6) 1 2 conflict_volume first second (omega arith) twice in
+    let joined = lawful_pulled (cut 6) 1 2 0 conflict_volume first second (omega arith) twice in
     let resolved = lawful_more conflict_volume (cut 9) (Update 1 settles) joined may_settle in
     let removed = lawful_more conflict_volume (cut 10) (Update 2 removes_file) resolved may_remove in
-    lawful_pulled (cut 11) 1 2 conflict_volume first second (omega arith) removed
+    lawful_pulled (cut 11) 1 2 0 conflict_volume first second (omega arith) removed

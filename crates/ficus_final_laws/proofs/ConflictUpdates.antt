@@ -128,17 +128,17 @@ pub first_knows : (n : ℕ) → 1 ≤ n → Known n 1 0
 first_knows n h = known_stays conflict_history h first_makes
 
 pub second_told : Known 4 2 0
-second_told = pulled_brings (cut 1) 2 1 first_makes
+second_told = pulled_brings (cut 1) 2 1 0 first_makes
 
 pub second_knows : (n : ℕ) → 4 ≤ n → Known n 2 0
 second_knows n h = known_stays conflict_history h second_told
 
 pub first_told : Known 9 1 5
-first_told = pulled_brings (cut 6) 1 2 (knows_own (of_at {event = Update 2 second_writes} (record { is = refl })))
+first_told = pulled_brings (cut 6) 1 2 0 (knows_own (of_at {event = Update 2 second_writes} (record { is = refl })))
 
 pub first_told_removal : Known 14 1 10
 first_told_removal =
-    pulled_brings (cut 11) 1 2 (knows_own (of_at {event = Update 2 removes_file} (record { is = refl })))
+    pulled_brings (cut 11) 1 2 0 (knows_own (of_at {event = Update 2 removes_file} (record { is = refl })))
 
 pub first_wrote : Known 9 1 4
 first_wrote = knows_own (of_at {event = Update 1 first_writes} (record { is = refl }))

@@ -24,10 +24,10 @@ use Rattle.ficus_removal_laws.proofs.Example.{first, second, drop_lawful, drop_d
 use Rattle.ficus_final_laws.specs.Examples.{example_file, makes_file, removes_file, done_volume, done_history}
 
 pub history_lawful : IsLawful done_volume done_history
-history_lawful = lawful_pulled drop_history 2 1 drop_volume second first (omega arith) drop_lawful
+history_lawful = lawful_pulled drop_history 2 1 0 drop_volume second first (omega arith) drop_lawful
 
 pub entry_dropped : IsDropped 2 done_history 1 example_file
-entry_dropped = dropped_more (Ask 2 1 ∷ Serve 1 9 ∷ Accept 2 10 ∷ []) drop_dropped
+entry_dropped = dropped_more (Ask 2 1 ∷ Serve 1 9 5 1 ∷ Accept 2 10 0 ∷ []) drop_dropped
 
 makes : IsUpdate done_history 0 example_file makes_file
 makes = record { at = record { is = refl }; counted = refl }
@@ -75,6 +75,7 @@ made = record {
   position = 0;
   dir = _;
   name = _;
+  text = _;
   known = knows_own (record { event = Update 1 makes_file; at = at_first; of = refl });
   update = makes;
 }

@@ -201,6 +201,7 @@ module _ (volume : Volume) (H : List Event) (lawful : IsLawful volume H) {replic
     position = made.position;
     dir = made.dir;
     name = made.name;
+    text = made.text;
     known = subst (Knows earlier member) (update_once there made.update).0 found.entered.known;
     update = made.update;
   }
@@ -211,7 +212,7 @@ module _ (volume : Volume) (H : List Event) (lawful : IsLawful volume H) {replic
       own_entry : IsEntered H (Knows earlier replica) (entry_of object made.dir made.name object)
       own_entry = record {
         position = made.position;
-        op = Make made.dir made.name done.kind;
+        op = Make made.dir made.name done.kind made.text;
         known = made.known;
         update = made.update;
         enters = refl;

@@ -89,8 +89,8 @@ module _ {H : List Event} {U : ℕ → Type 0} {object : Id} (no_root : object �
 
   enters_alive : (number : Id) (op : Op) (entry : ModelEntry) → IsAllowed H U op → entered_by number op ≡ Some entry →
       Touches entry object → (number ≡ object) ⊎ IsAlive H U object
-  enters_alive number (Make dir name kind) entry place enters touches =
-      entry_alive enters place.parent.reached inl touches
+  enters_alive number (Make dir name kind text) entry may enters touches =
+      entry_alive enters may.place.parent.reached inl touches
   enters_alive number (Link dir name target) entry may enters touches =
       entry_alive enters may.place.parent.reached (alive_as (bound_alive may.named.bound)) touches
   enters_alive number (Move entries dir name target) entry may enters touches =

@@ -1,4 +1,5 @@
 pub mod Adjacent
+pub mod Joining
 pub mod Keeping
 pub mod Once
 pub mod Reading

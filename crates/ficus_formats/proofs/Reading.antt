@@ -7,7 +7,8 @@ use Rattle.ficus_formats.specs.declared.fault.ReadFault.{ReadFault}
 use Rattle.ficus_formats.specs.declared.fault.ReadFault.TheVariants.{Unspelled}
 use Rattle.ficus_formats.specs.Format.{Format, IsUnique, Begins, Fails, Reads, Spells, ReadsAll, ◌then◌, shaped, meeting}
 
-pub begins-then : {X Y : Type 0} (f : Format X) (g : Format Y) (x : X) (y : Y) (before mid after : List ℕ) → Begins f before x mid → Begins g mid y after → Begins (f then g) before (x, y) after
+pub begins-then : {X Y : Type 0} (f : Format X) (g : Format Y) (x : X) (y : Y) (before mid after : List ℕ) → Begins f before x mid → Begins g mid y after →
+    Begins (f then g) before (x, y) after
 begins-then f g x y before mid after first second = record {
   fits = (first.fits, second.fits);
   spelled = first.spelled ∙ ap (λ (bytes : List ℕ). f.spell x ++ bytes) second.spelled ∙ sym (append_assoc (f.spell x) (g.spell y) after);
@@ -15,13 +16,16 @@ begins-then f g x y before mid after first second = record {
 
 pub fails-first : {X Y : Type 0} (f : Format X) (g : Format Y) (before : List ℕ) (fault : ReadFault) → Fails f before fault → Fails (f then g) before fault
 fails-first f g before fault first = record {
-  none = λ is p rest begins. first.none is p.0 (g.spell p.1 ++ rest) (record { fits = begins.fits.0; spelled = begins.spelled ∙ append_assoc (f.spell p.0) (g.spell p.1) rest });
+  none = λ is p rest begins. first.none is p.0 (g.spell p.1 ++ rest) (record
+      { fits = begins.fits.0; spelled = begins.spelled ∙ append_assoc (f.spell p.0) (g.spell p.1) rest });
 }
 
-pub fails-second : {X Y : Type 0} (f : Format X) (g : Format Y) (x : X) (before mid : List ℕ) (fault : ReadFault) → IsUnique f → Begins f before x mid → Fails g mid fault → Fails (f then g) before fault
+pub fails-second : {X Y : Type 0} (f : Format X) (g : Format Y) (x : X) (before mid : List ℕ) (fault : ReadFault) → IsUnique f → Begins f before x mid →
+    Fails g mid fault → Fails (f then g) before fault
 fails-second f g x before mid fault one_f first second = record {
   none = λ is p rest begins.
-      let cut = one_f.one x p.0 mid (g.spell p.1 ++ rest) first.fits begins.fits.0 (sym first.spelled ∙ begins.spelled ∙ append_assoc (f.spell p.0) (g.spell p.1) rest) in
+      let cut = one_f.one x p.0 mid (g.spell p.1 ++ rest) first.fits begins.fits.0
+      (sym first.spelled ∙ begins.spelled ∙ append_assoc (f.spell p.0) (g.spell p.1) rest) in
       second.none is p.1 rest (record { fits = begins.fits.1; spelled = cut.1 });
 }
 
@@ -65,7 +69,8 @@ module _ {X : Type 0} (f : Format X) (before : List ℕ) where
       some (ap length (one_f.one y x after [] first.fits spells.fits (sym first.spelled ∙ (begins_all x spells).spelled)).1)
 
 -- an error that is passed on
-pub passed : {X : Type 0} (f : Format X) (before after : List ℕ) (result : Result X ReadFault) (fault : ReadFault) → IsErrAnd result (λ given. given ≡ fault) → Fails f before fault → Reads f before result after
+pub passed : {X : Type 0} (f : Format X) (before after : List ℕ) (result : Result X ReadFault) (fault : ReadFault) →
+    IsErrAnd result (λ given. given ≡ fault) → Fails f before fault → Reads f before result after
 passed f before after (Ok x) fault is fails = absurd is
 passed f before after (Err given) fault is fails = rw is fails
 

@@ -57,7 +57,10 @@ counted count f = record {
 
 -- a length, which stays below a bound, and as many bytes
 abbrev pub string : Format ℕ → Format (List ℕ)
-string count = record { spell = λ bytes. count.spell (length bytes) ++ bytes; fits = λ bytes. count.fits (length bytes) }
+string count = record {
+  spell = λ bytes. count.spell (length bytes) ++ bytes;
+  fits = λ bytes. count.fits (length bytes);
+}
 
 -- an identifier: the replica in one byte, the number in four
 abbrev pub id : Format Id

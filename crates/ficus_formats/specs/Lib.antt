@@ -1,2 +1,3 @@
 pub mod Format
+pub mod Pieces
 pub mod Unique

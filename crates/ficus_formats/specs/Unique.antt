@@ -22,22 +22,31 @@ unique-byte = record { one = λ x y a b fits also same. (cc, cc) }
 pub unique-number16 : IsUnique number16
 unique-number16 = record {
   one = λ x y a b fits also same.
-      let cut = one_cut (to_be_bytes w16 x) (to_be_bytes w16 y) a b refl same in
-      (sym (from_be_bytes-to_be_bytes_2 x fits) ∙ ap (from_be_bytes w16) cut.0 ∙ from_be_bytes-to_be_bytes_2 y also, cut.1);
+      let cut = one_cut (to_be_bytes w16 x) (to_be_bytes w16 y) a b refl same in (
+        sym (from_be_bytes-to_be_bytes_2 x fits) ∙ ap (from_be_bytes w16) cut.0 ∙
+            from_be_bytes-to_be_bytes_2 y also,
+        cut.1,
+      );
 }
 
 pub unique-number32 : IsUnique number32
 unique-number32 = record {
   one = λ x y a b fits also same.
-      let cut = one_cut (to_be_bytes w32 x) (to_be_bytes w32 y) a b refl same in
-      (sym (from_be_bytes-to_be_bytes_4 x fits) ∙ ap (from_be_bytes w32) cut.0 ∙ from_be_bytes-to_be_bytes_4 y also, cut.1);
+      let cut = one_cut (to_be_bytes w32 x) (to_be_bytes w32 y) a b refl same in (
+        sym (from_be_bytes-to_be_bytes_4 x fits) ∙ ap (from_be_bytes w32) cut.0 ∙
+            from_be_bytes-to_be_bytes_4 y also,
+        cut.1,
+      );
 }
 
 pub unique-number64 : IsUnique number64
 unique-number64 = record {
   one = λ x y a b fits also same.
-      let cut = one_cut (to_be_bytes w64 x) (to_be_bytes w64 y) a b refl same in
-      (sym (from_be_bytes-to_be_bytes_8 x fits) ∙ ap (from_be_bytes w64) cut.0 ∙ from_be_bytes-to_be_bytes_8 y also, cut.1);
+      let cut = one_cut (to_be_bytes w64 x) (to_be_bytes w64 y) a b refl same in (
+        sym (from_be_bytes-to_be_bytes_8 x fits) ∙ ap (from_be_bytes w64) cut.0 ∙
+            from_be_bytes-to_be_bytes_8 y also,
+        cut.1,
+      );
 }
 
 same_pair : {X Y : Type 0} (p q : X × Y) → p.0 ≡ q.0 → p.1 ≡ q.1 → p ≡ q
@@ -46,7 +55,8 @@ same_pair (x, y) (v, w) first second = cc
 pub unique-then : {X Y : Type 0} (f : Format X) (g : Format Y) → IsUnique f → IsUnique g → IsUnique (f then g)
 unique-then f g one_f one_g = record {
   one = λ p q a b fits also same.
-      let first = one_f.one p.0 q.0 (g.spell p.1 ++ a) (g.spell q.1 ++ b) fits.0 also.0 (sym (append_assoc (f.spell p.0) (g.spell p.1) a) ∙ same ∙ append_assoc (f.spell q.0) (g.spell q.1) b) in
+      let first = one_f.one p.0 q.0 (g.spell p.1 ++ a) (g.spell q.1 ++ b) fits.0 also.0
+      (sym (append_assoc (f.spell p.0) (g.spell p.1) a) ∙ same ∙ append_assoc (f.spell q.0) (g.spell q.1) b) in
       let second = one_g.one p.1 q.1 a b fits.1 also.1 first.1 in
       (same_pair p q first.0 second.0, second.1);
 }
@@ -79,17 +89,22 @@ unique-shaped parts f whole back one_f =
 pub unique-string : (count : Format ℕ) → IsUnique count → IsUnique (string count)
 unique-string count one_count = record {
   one = λ x y a b fits also same.
-      let first = one_count.one (length x) (length y) (x ++ a) (y ++ b) fits also (sym (append_assoc (count.spell (length x)) x a) ∙ same ∙ append_assoc (count.spell (length y)) y b) in
+      let first = one_count.one (length x) (length y) (x ++ a) (y ++ b) fits also
+      (sym (append_assoc (count.spell (length x)) x a) ∙ same ∙ append_assoc (count.spell (length y)) y b) in
       one_cut x y a b first.0 first.1;
 }
 
 -- as many values
-pub one_run : {X : Type 0} (f : Format X) → IsUnique f → (xs ys : List X) (a b : List ℕ) → length xs ≡ length ys → AllByRecursion f.fits xs → AllByRecursion f.fits ys → flat_map f.spell xs ++ a ≡ flat_map f.spell ys ++ b → (xs ≡ ys) × (a ≡ b)
+pub one_run : {X : Type 0} (f : Format X) → IsUnique f → (xs ys : List X) (a b : List ℕ) → length xs ≡ length ys →
+    AllByRecursion f.fits xs → AllByRecursion f.fits ys → flat_map f.spell xs ++ a ≡ flat_map f.spell ys ++ b →
+    (xs ≡ ys) × (a ≡ b)
 one_run f one_f [] [] a b len fits also same = (refl, same)
 one_run f one_f [] (y ∷ ys) a b len fits also same = absurd (omega arith)
 one_run f one_f (x ∷ xs) [] a b len fits also same = absurd (omega arith)
 one_run f one_f (x ∷ xs) (y ∷ ys) a b len fits also same =
-    let first = one_f.one x y (flat_map f.spell xs ++ a) (flat_map f.spell ys ++ b) fits.0 also.0 (sym (append_assoc (f.spell x) (flat_map f.spell xs) a) ∙ same ∙ append_assoc (f.spell y) (flat_map f.spell ys) b) in
+    let first = one_f.one x y (flat_map f.spell xs ++ a) (flat_map f.spell ys ++ b) fits.0 also.0
+    (sym (append_assoc (f.spell x) (flat_map f.spell xs) a) ∙ same ∙
+    append_assoc (f.spell y) (flat_map f.spell ys) b) in
     let rest = one_run f one_f xs ys a b (omega arith) fits.1 also.1 first.1 in
     (cc (first.0, rest.0), rest.1)
 
@@ -98,10 +113,13 @@ unique-times count f one_f = record {
   one = λ xs ys a b fits also same. one_run f one_f xs ys a b (fits.0 ∙ sym also.0) fits.1 also.1 same;
 }
 
-pub unique-counted : {X : Type 0} (count : Format ℕ) (f : Format X) → IsUnique count → IsUnique f → IsUnique (counted count f)
+pub unique-counted : {X : Type 0} (count : Format ℕ) (f : Format X) → IsUnique count → IsUnique f →
+    IsUnique (counted count f)
 unique-counted count f one_count one_f = record {
   one = λ xs ys a b fits also same.
-      let first = one_count.one (length xs) (length ys) (flat_map f.spell xs ++ a) (flat_map f.spell ys ++ b) fits.0 also.0 (sym (append_assoc (count.spell (length xs)) (flat_map f.spell xs) a) ∙ same ∙ append_assoc (count.spell (length ys)) (flat_map f.spell ys) b) in
+      let first = one_count.one (length xs) (length ys) (flat_map f.spell xs ++ a)
+      (flat_map f.spell ys ++ b) fits.0 also.0 (sym (append_assoc (count.spell (length xs)) (flat_map f.spell xs) a)
+      ∙ same ∙ append_assoc (count.spell (length ys)) (flat_map f.spell ys) b) in
       one_run f one_f xs ys a b first.0 fits.1 also.1 first.1;
 }
 

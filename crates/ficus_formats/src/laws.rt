@@ -3,8 +3,8 @@ ghost use Rattle.ficus_formats.specs.Format.{IsReadOnce, IsTakenOnce, byte, numb
 
 use crate::RowSpelling;
 
-/// The law that numbers, identifiers and bytes behind their length are read in one way, and taken in one way from a place.
-/// It does nothing when it runs.
+/// The law that numbers, identifiers and bytes behind their length are read in one way, and taken in one way from a
+/// place. It does nothing when it runs.
 pub fn one_number()
     ensures byte { IsReadOnce byte }
     ensures number16 { IsReadOnce number16 }
@@ -20,8 +20,8 @@ pub fn one_number()
     ensures id_taken { IsTakenOnce id 5 }
 {}
 
-/// The law that a value is read in one way by its spelling, and so are as many as said, and a list in rising order. It does
-/// nothing when it runs.
+/// The law that a value is read in one way by its spelling, and so are as many as said, and a list in rising order.
+/// It does nothing when it runs.
 pub fn one_reading<S: RowSpelling>()
     ensures value { (spelling : S) → IsReadOnce (S.format spelling) }
     ensures run { (spelling : S) (count : ℕ) → IsReadOnce (times count (S.format spelling)) }

@@ -3,6 +3,7 @@
 
 mod fault;
 mod laws;
+mod pieces;
 mod reader;
 mod rising;
 mod spelling;
@@ -11,6 +12,7 @@ mod writing;
 
 pub use fault::ReadFault;
 pub use laws::{one_number, one_reading};
+pub use pieces::{pieces_have_sizes, pieces_join};
 pub use reader::Reader;
 pub use rising::{RowSpelling, read_rising};
 pub use spelling::{Spelling, put_run, read_run};

@@ -133,7 +133,11 @@ module _ (by dir file : ℕ) (number : IsReplicaNumber by) (lt : dir < 10) (also
   create_is : IsLine (decimal by ++ codes " create " ++ file_text dir file ++ codes " lines")
   create_is = (
     change_line by (change.Create (file_path dir file) Lines) _
-        (record { number = number; behind = (is_file_path dir file lt also, λ e. cc); takes = file_is_new dir file })
+        (record {
+          number = number;
+          behind = (is_file_path dir file lt also, refl);
+          takes = record { new = file_is_new dir file; without = refl };
+        })
         (one_path_and by (codes " create ") (file_text dir file) _ (codes " lines") (file_spelled dir file lt also)),
     free_both (decimal by ++ codes " create " ++ file_text dir file) (codes " lines")
         (free_verb_file by (codes " create ") dir file number lt also refl) (free_text (codes " lines") refl),

@@ -9,8 +9,8 @@ use Rattle.ficus_path.specs.declared.path.Path.{Path}
 use Rattle.ficus_path.specs.Path.{IsBase, IsEntry, IsNew, IsPart, IsPath, path_from}
 use Rattle.ficus_commands.specs.declared.change.Change.{Change}
 use Rattle.ficus_commands.specs.declared.look.Look.{Look}
-use Rattle.ficus_commands.specs.declared.change.Change.TheVariants.{MkDir, Create, Write, Settle, Resolve, Rm, Ln, Mv, Adopt, Discard}
-use Rattle.ficus_commands.specs.declared.look.Look.TheVariants.{Ls, Read, Versions, Tree, Conflicts, Orphans, Detached, Marks}
+use Rattle.ficus_commands.specs.declared.change.Change.TheVariants.{MkDir, Create, Symlink, Write, Settle, Resolve, Rm, Ln, Mv, Adopt, Discard}
+use Rattle.ficus_commands.specs.declared.look.Look.TheVariants.{Ls, Read, Versions, ReadLink, Tree, Conflicts, Orphans, Detached, Marks}
 use Rattle.ficus_script.specs.Command.{IsCommand, IsStep, spelling_of}
 use Rattle.ficus_script.specs.declared.command.Command.{Command}
 use Rattle.ficus_script.specs.declared.command.Command.TheVariants as command
@@ -90,7 +90,12 @@ command_behind first second (command.Change by (MkDir path)) is passed = record 
 command_behind first second (command.Change by (Create path kind)) is passed = record {
   number = is.number;
   behind = (path_behind first path is.behind.0, is.behind.1);
-  takes = new_behind first path is.takes passed;
+  takes = record { new = new_behind first path is.takes.new passed; without = is.takes.without };
+}
+command_behind first second (command.Change by (Symlink path text)) is passed = record {
+  number = is.number;
+  behind = (path_behind first path is.behind.0, is.behind.1);
+  takes = record { new = new_behind first path is.takes.new passed; some = is.takes.some };
 }
 command_behind first second (command.Change by (Write path text)) is passed = record {
   number = is.number;
@@ -139,6 +144,11 @@ command_behind first second (command.Look by (Read path)) is passed = record {
   takes = tt;
 }
 command_behind first second (command.Look by (Versions path)) is passed = record {
+  number = is.number;
+  behind = path_behind first path is.behind;
+  takes = tt;
+}
+command_behind first second (command.Look by (ReadLink path)) is passed = record {
   number = is.number;
   behind = path_behind first path is.behind;
   takes = tt;
@@ -203,6 +213,7 @@ module _ (f g : Path → Path) where
   pub along_one : (it : Command) (path : Path) → paths_of it ≡ path ∷ [] → along f g it ≡ with_paths (f path) (f path) it
   along_one (command.Change by (MkDir own)) path is = same_one (λ p. command.Change by (MkDir p)) own path is
   along_one (command.Change by (Create own kind)) path is = same_one (λ p. command.Change by (Create p kind)) own path is
+  along_one (command.Change by (Symlink own text)) path is = same_one (λ p. command.Change by (Symlink p text)) own path is
   along_one (command.Change by (Write own text)) path is = same_one (λ p. command.Change by (Write p text)) own path is
   along_one (command.Change by (Settle own text)) path is = same_one (λ p. command.Change by (Settle p text)) own path is
   along_one (command.Change by (Resolve own)) path is = same_one (λ p. command.Change by (Resolve p)) own path is
@@ -214,6 +225,7 @@ module _ (f g : Path → Path) where
   along_one (command.Look by (Ls own)) path is = same_one (λ p. command.Look by (Ls p)) own path is
   along_one (command.Look by (Read own)) path is = same_one (λ p. command.Look by (Read p)) own path is
   along_one (command.Look by (Versions own)) path is = same_one (λ p. command.Look by (Versions p)) own path is
+  along_one (command.Look by (ReadLink own)) path is = same_one (λ p. command.Look by (ReadLink p)) own path is
   along_one (command.Look by Tree) path is = refl
   along_one (command.Look by Conflicts) path is = refl
   along_one (command.Look by Orphans) path is = refl
@@ -233,6 +245,7 @@ module _ (f g : Path → Path) where
       → along f g it ≡ with_paths (f path) (g other) it
   along_two (command.Change by (MkDir own)) path other is = cc
   along_two (command.Change by (Create own kind)) path other is = cc
+  along_two (command.Change by (Symlink own text)) path other is = cc
   along_two (command.Change by (Write own text)) path other is = cc
   along_two (command.Change by (Settle own text)) path other is = cc
   along_two (command.Change by (Resolve own)) path other is = cc
@@ -247,6 +260,7 @@ module _ (f g : Path → Path) where
   along_two (command.Look by (Ls own)) path other is = cc
   along_two (command.Look by (Read own)) path other is = cc
   along_two (command.Look by (Versions own)) path other is = cc
+  along_two (command.Look by (ReadLink own)) path other is = cc
   along_two (command.Look by Tree) path other is = refl
   along_two (command.Look by Conflicts) path other is = refl
   along_two (command.Look by Orphans) path other is = refl
@@ -266,6 +280,7 @@ module _ (f g : Path → Path) where
 pub along_none : (it : Command) → along (rest_behind 0) (rest_behind 0) it ≡ it
 along_none (command.Change by (MkDir path)) = refl
 along_none (command.Change by (Create path kind)) = refl
+along_none (command.Change by (Symlink path text)) = refl
 along_none (command.Change by (Write path text)) = refl
 along_none (command.Change by (Settle path text)) = refl
 along_none (command.Change by (Resolve path)) = refl
@@ -277,6 +292,7 @@ along_none (command.Change by (Discard orphan)) = refl
 along_none (command.Look by (Ls path)) = refl
 along_none (command.Look by (Read path)) = refl
 along_none (command.Look by (Versions path)) = refl
+along_none (command.Look by (ReadLink path)) = refl
 along_none (command.Look by Tree) = refl
 along_none (command.Look by Conflicts) = refl
 along_none (command.Look by Orphans) = refl

@@ -16,12 +16,12 @@ use Rattle.ficus_runs.specs.ModelWorld.{ModelWorld}
 use Rattle.ficus_runs.specs.Numbered.{IsNumbered}
 use Rattle.ficus_path.specs.declared.path.Path.{Path}
 use Rattle.ficus_world.specs.Follows.{FollowsOn, StopsOn, TellsFor}
-use Rattle.ficus_world.specs.World.{Backed, WorldStandsFor, most_events}
+use Rattle.ficus_world.specs.World.{Backed, WorldStandsFor, foreseen, most_unforeseen}
 use Rattle.ficus_world.proofs.Sets.{set_same}
 use Rattle.ficus_graft.specs.Answered.{Sent, sent_so}
 use Rattle.ficus_graft.specs.Paths.{along}
 use Rattle.ficus_graft.specs.Route.{ls}
-use Rattle.ficus_graft.specs.Runs.{AreHeld, Disks, EachRuns, HaveRoom, IsCutShort, IsHeld, MayBeCut, Sends}
+use Rattle.ficus_graft.specs.Runs.{AreHeld, Disks, EachRuns, ForeseeFew, IsCutShort, IsHeld, MayBeCut, Sends}
 use Rattle.ficus_graft.proofs.Commands.{tells_along}
 use Rattle.ficus_graft.proofs.Running.{each_one, each_where}
 
@@ -98,15 +98,13 @@ module _ {K D : Type 0} (keep : Keep K) (disk : Disk D) (worlds : List (Backed K
   }
 
   -- there is room for what comes
-  pub room_at : (limit : ℕ) → HaveRoom limit worlds
-      → length next.whole.events ≤ length world.whole.events + most_events
-      → HaveRoom (limit + most_events) (slice_set worlds (v - 1) next)
+  pub room_at : (limit : ℕ) → ForeseeFew limit worlds → foreseen next.whole ≤ foreseen world.whole + most_unforeseen
+      → ForeseeFew (limit + most_unforeseen) (slice_set worlds (v - 1) next)
   room_at limit room grows u own now =
       elim (replaced worlds v u next own is.member.at_least now) [
         | inl mine ↦
             let few = room v world is in
-            let same : length own.whole.events ≡ length next.whole.events =
-            ap (λ (w : Backed K). length w.whole.events) mine.1 in
+            let same : foreseen own.whole ≡ foreseen next.whole = ap (λ (w : Backed K). foreseen w.whole) mine.1 in
             omega (arith, few, same, grows)
         | inr others ↦ let few = room u own others.1 in omega (arith, few)
       ]

@@ -6,9 +6,9 @@ use Rattle.ficus_path.specs.declared.path.Part.{Part}
 use Rattle.ficus_path.specs.declared.path.Path.{Path}
 use Rattle.ficus_path.specs.Path.{path_from}
 use Rattle.ficus_commands.specs.declared.change.Change.{Change}
-use Rattle.ficus_commands.specs.declared.change.Change.TheVariants.{MkDir, Create, Write, Settle, Resolve, Rm, Ln, Mv, Adopt, Discard}
+use Rattle.ficus_commands.specs.declared.change.Change.TheVariants.{MkDir, Create, Symlink, Write, Settle, Resolve, Rm, Ln, Mv, Adopt, Discard}
 use Rattle.ficus_commands.specs.declared.look.Look.{Look}
-use Rattle.ficus_commands.specs.declared.look.Look.TheVariants.{Ls, Read, Versions, Tree, Conflicts, Orphans, Detached, Marks}
+use Rattle.ficus_commands.specs.declared.look.Look.TheVariants.{Ls, Read, Versions, ReadLink, Tree, Conflicts, Orphans, Detached, Marks}
 use Rattle.ficus_script.specs.Arguments.{Arguments}
 use Rattle.ficus_script.specs.Arguments.{Nothing, OnePath, PathAndKind, PathAndText, TwoPaths, OneNumber, OneOrder, TwoReplicas, Arming}
 use Rattle.ficus_script.specs.Command.{spelling_of}
@@ -39,6 +39,7 @@ actor_of command = unwrap_or (spelling_of command).by 0
 abbrev pub change_names_entries : Change → Bool
 change_names_entries (MkDir path) = true
 change_names_entries (Create path kind) = true
+change_names_entries (Symlink path text) = true
 change_names_entries (Write path text) = false
 change_names_entries (Settle path text) = false
 change_names_entries (Resolve path) = false
@@ -70,6 +71,7 @@ module _ (f g : Path → Path) where
   abbrev pub change_along : Change → Change
   change_along (MkDir path) = MkDir (f path)
   change_along (Create path kind) = Create (f path) kind
+  change_along (Symlink path text) = Symlink (f path) text
   change_along (Write path text) = Write (f path) text
   change_along (Settle path text) = Settle (f path) text
   change_along (Resolve path) = Resolve (f path)
@@ -84,6 +86,7 @@ module _ (f g : Path → Path) where
   look_along (Ls path) = Ls (f path)
   look_along (Read path) = Read (f path)
   look_along (Versions path) = Versions (f path)
+  look_along (ReadLink path) = ReadLink (f path)
   look_along Tree = Tree
   look_along Conflicts = Conflicts
   look_along Orphans = Orphans

@@ -17,7 +17,7 @@ use Rattle.ficus_world.specs.Causes.{AreCaused}
 use Rattle.ficus_world.specs.Disks.{AreDisksOf, DisksFollow}
 use Rattle.ficus_world.specs.Follows.{FollowsOn, StopsOn, StoresAsMany}
 use Rattle.ficus_world.specs.Fuses.{FusesFollow}
-use Rattle.ficus_world.specs.World.{Backed, Whole, WorldStandsFor}
+use Rattle.ficus_world.specs.World.{Backed, Whole, WorldStandsFor, foreseen}
 use Rattle.ficus_script.specs.declared.volume_line.VolumeLine.{VolumeLine}
 use Rattle.ficus_graft.specs.Answered.{AreAnswered, IsAnswered, IsLastTo, IsUnrefused, Sent, answers_to, commands_to, sendings}
 use Rattle.ficus_graft.specs.Route.{Route}
@@ -124,6 +124,10 @@ StopsLine told keep disk line old new old_disks new_disks =
 -- each world stores fewer events than this
 abbrev pub HaveRoom : {K : Type 0} → ℕ → List (Backed K) → Type 0
 HaveRoom {K} limit worlds = (v : ℕ) (world : Backed K) → IsNumbered worlds v world → length world.whole.events < limit
+
+-- and for each fewer are foreseen
+abbrev pub ForeseeFew : {K : Type 0} → ℕ → List (Backed K) → Type 0
+ForeseeFew {K} limit worlds = (v : ℕ) (world : Backed K) → IsNumbered worlds v world → foreseen world.whole < limit
 
 -- the disks are those of the world
 pub record IsHeld {K D : Type 0} (keep : Keep K) (disk : Disk D) (world : Backed K) (pairs : List (Pair D)) :

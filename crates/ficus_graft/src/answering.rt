@@ -1,10 +1,10 @@
 ghost use Rattle.std.specs.Prelude.{◌≡◌, ◌<◌, ◌≤◌, ◌+◌, All, length, ℕ, OnOk, OnErr, IsErrOf};
 ghost use Rattle.ficus_faults.specs.Faults.{Rose};
-ghost use Rattle.ficus_graft.specs.Runs.{AnswersFront, AnswersLine, AnswersLines, AreHeld, HaveRoom, IsLineOf};
+ghost use Rattle.ficus_graft.specs.Runs.{AnswersFront, AnswersLine, AnswersLines, AreHeld, ForeseeFew, HaveRoom, IsLineOf};
 ghost use Rattle.ficus_graft.specs.Serving.{Told, PutsLine, PutsLineFront};
 ghost use Rattle.ficus_serving.specs.Serving.{script_limit, serving_limit};
 ghost use Rattle.ficus_world.specs.Follows.{TellsFor};
-ghost use Rattle.ficus_world.specs.World.{event_limit, most_events};
+ghost use Rattle.ficus_world.specs.World.{event_limit, most_unforeseen};
 
 use crate::volumes::Volumes;
 use ficus_disk::{Disk, Pair};
@@ -59,7 +59,7 @@ fn answer_line<S: Sink, D: Disk, K: Keep + Drop, L: Link + Drop>(
         D.Disk line.now volumes.old volumes.new disks.old.items disks.new.items (S.written output.old)
         (S.written output.new)) }
     ensures held { AreHeld K.Keep D.Disk volumes.new disks.new.items }
-    ensures grows { (limit : ℕ) → HaveRoom limit volumes.old → HaveRoom (limit + most_events) volumes.new }
+    ensures grows { (limit : ℕ) → ForeseeFew limit volumes.old → ForeseeFew (limit + most_unforeseen) volumes.new }
     ensures count { length volumes.new ≡ length volumes.old }
     ensures failed { IsErrOf result AnsweringFault.Sink → Rose (S.faults output.old) (S.faults output.new) }
     ensures told { S.faults output.old < S.faults output.new → IsErrOf result AnsweringFault.Sink }

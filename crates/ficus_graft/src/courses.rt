@@ -39,9 +39,10 @@ fn change_courses(by: u8, change: &Change) -> Courses<'_>
     ensures { AreCourses (Changes by change.now) result }
 {
     match change {
-        Change::MkDir { path } | Change::Create { path, .. } | Change::Rm { path } => {
-            Courses::One(by, to_entry(path))
-        }
+        Change::MkDir { path }
+        | Change::Create { path, .. }
+        | Change::Symlink { path, .. }
+        | Change::Rm { path } => Courses::One(by, to_entry(path)),
         Change::Write { path, .. } | Change::Settle { path, .. } | Change::Resolve { path } => {
             Courses::One(by, to_object(path))
         }
@@ -57,9 +58,10 @@ fn look_courses(by: u8, look: &Look) -> Courses<'_>
     ensures { AreCourses (Looks by look.now) result }
 {
     match look {
-        Look::Ls { path } | Look::Read { path } | Look::Versions { path } => {
-            Courses::One(by, to_object(path))
-        }
+        Look::Ls { path }
+        | Look::Read { path }
+        | Look::Versions { path }
+        | Look::ReadLink { path } => Courses::One(by, to_object(path)),
         Look::Tree | Look::Conflicts | Look::Orphans | Look::Detached | Look::Marks =>
             Courses::None,
     }

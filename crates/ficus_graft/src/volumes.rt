@@ -8,10 +8,10 @@ ghost use Rattle.ficus_graft.specs.Answered.{sent_so};
 ghost use Rattle.ficus_graft.specs.Following.{Halts, IsRefusedBy, LineHalts, Passes, Reaches, course_path};
 ghost use Rattle.ficus_graft.specs.Paths.{ArePassed, along, names_entries, paths_of, rest_behind};
 ghost use Rattle.ficus_graft.specs.Route.{ls, sending};
-ghost use Rattle.ficus_graft.specs.Runs.{AnswersLine, AreHeld, HaveRoom, IsCutShort, MayBeCut, Sends, StopsLine};
+ghost use Rattle.ficus_graft.specs.Runs.{AnswersLine, AreHeld, ForeseeFew, HaveRoom, IsCutShort, MayBeCut, Sends, StopsLine};
 ghost use Rattle.ficus_serving.specs.Tally.{is_refusal};
 ghost use Rattle.ficus_world.specs.Follows.{TellsFor};
-ghost use Rattle.ficus_world.specs.World.{event_limit, most_events};
+ghost use Rattle.ficus_world.specs.World.{event_limit, most_unforeseen};
 
 use crate::behind::{base_behind, command_behind, path_of};
 use crate::courses::{Course, Courses, courses_of};
@@ -91,7 +91,7 @@ impl<K: Keep + Drop, L: Link + Drop> Volumes<K, L> {
         ensures memory { OnErr result (StopsLine L.tells K.Keep D.Disk line.now self.old self.new disks.old.items
             disks.new.items) }
         ensures held { AreHeld K.Keep D.Disk self.new disks.new.items }
-        ensures grows { (limit : ℕ) → HaveRoom limit self.old → HaveRoom (limit + most_events) self.new }
+        ensures grows { (limit : ℕ) → ForeseeFew limit self.old → ForeseeFew (limit + most_unforeseen) self.new }
         ensures count { length self.new ≡ length self.old }
     {
         match self.answer(alloc, disks, line) {
@@ -120,7 +120,7 @@ impl<K: Keep + Drop, L: Link + Drop> Volumes<K, L> {
         ensures stays { OnErr result (StopsLine L.tells K.Keep D.Disk line.now self.old self.new disks.old.items
             disks.new.items) }
         ensures held { AreHeld K.Keep D.Disk self.new disks.new.items }
-        ensures grows { (limit : ℕ) → HaveRoom limit self.old → HaveRoom (limit + most_events) self.new }
+        ensures grows { (limit : ℕ) → ForeseeFew limit self.old → ForeseeFew (limit + most_unforeseen) self.new }
         ensures count { length self.new ≡ length self.old }
     {
         match courses_of(&line.command) {
@@ -172,7 +172,7 @@ impl<K: Keep + Drop, L: Link + Drop> Volumes<K, L> {
             (along (rest_behind first) (rest_behind second) command.now) self.old self.new disks.old.items
             disks.new.items) }
         ensures held { AreHeld K.Keep D.Disk self.new disks.new.items }
-        ensures grows { (limit : ℕ) → HaveRoom limit self.old → HaveRoom (limit + most_events) self.new }
+        ensures grows { (limit : ℕ) → ForeseeFew limit self.old → ForeseeFew (limit + most_unforeseen) self.new }
         ensures count { length self.new ≡ length self.old }
     {
         if first == 0 && second == 0 {
@@ -286,7 +286,7 @@ impl<K: Keep + Drop, L: Link + Drop> Volumes<K, L> {
             disks.old.items disks.new.items) }
         ensures same { OnlyLooks command.now → (self.new ≡ self.old) × (disks.new.items ≡ disks.old.items) }
         ensures held { AreHeld K.Keep D.Disk self.new disks.new.items }
-        ensures grows { (limit : ℕ) → HaveRoom limit self.old → HaveRoom (limit + most_events) self.new }
+        ensures grows { (limit : ℕ) → ForeseeFew limit self.old → ForeseeFew (limit + most_unforeseen) self.new }
         ensures count { length self.new ≡ length self.old }
     {
         let index = volume as usize - 1;
@@ -304,6 +304,8 @@ fn refusal_of(answer: &Answer) -> Option<Refusal>
         Answer::Done
         | Answer::Made(_)
         | Answer::Mail(_)
+        | Answer::Mails(..)
+        | Answer::Part { .. }
         | Answer::Collected { .. }
         | Answer::Told(_)
         | Answer::Alike(_)

@@ -1,5 +1,5 @@
 -- What an Accept makes of the files that its replica holds.
-use Rattle.std.proofs.Common.{◌≡◌, ◌⊎◌, ℕ, ◌+◌, ◌≤◌, List, [], ◌∷◌, ◌++◌, Option, Some, None, refl, sym, ap, ◌∙◌, subst, inl, inr, arith}
+use Rattle.std.proofs.Common.{◌≡◌, ◌⊎◌, ℕ, ◌+◌, ◌≤◌, List, [], ◌∷◌, ◌++◌, Option, Some, None, refl, sym, ap, ◌∙◌, subst, inl, inr}
 use Rattle.std.proofs.lemmas.Option.{same_Some, none-some}
 use Rattle.std.specs.Prelude.{Contains}
 use Rattle.ficus_ids.specs.ListLaws.{into_map, from_map}
@@ -11,32 +11,32 @@ use Rattle.ficus_file.specs.Files.{id_of, AreFiles, Holds, HoldsUnder}
 use Rattle.ficus_file.specs.declared.file.FileReplica.{FileReplica}
 use Rattle.ficus_model.specs.declared.event.Event.{Event}
 use Rattle.ficus_model.specs.declared.event.Event.TheVariants.{Accept}
-use Rattle.ficus_model.specs.Events.{through}
+use Rattle.ficus_model.specs.Events.{IsOf, through}
 use Rattle.ficus_model.specs.Known.{Knows}
-use Rattle.ficus_model.specs.Lawful.{Volume}
+use Rattle.ficus_model.specs.Lawful.{Volume, IsLawful}
 use Rattle.ficus_model.specs.Live.{IsMade}
 use Rattle.ficus_laws.proofs.Deciding.{Decided}
 use Rattle.ficus_laws.proofs.Issued.{made_once}
+use Rattle.ficus_laws.proofs.Lawful.{lawful_before}
 use Rattle.ficus_laws.proofs.Positions.{agree_before, at_from_before}
 use Rattle.ficus_laws.proofs.Updates.{agree_update}
 use Rattle.ficus_recon_file.specs.Merge.{CanMerge, Fit, IsMergedFile, IsTaken, AreMergedFiles}
 use Rattle.ficus_recon_file.proofs.Current.{ordered_of}
 use Rattle.ficus_removal_laws.specs.Laws.{IsAnswer}
-use Rattle.ficus_removal_laws.proofs.Answering.{lawful_there}
 use Rattle.ficus_held_laws.specs.Objects.{KeptObject, HasObject, IsObjectMerged, IsOfBoth, IsOnlyOf, IsTaken as IsTakenObject, HasMerged, AreObjectsMerged}
 use Rattle.ficus_held_laws.proofs.Merging.{objects_merged}
 use Rattle.ficus_held_laws.proofs.Standing.{inside_decided}
 use Rattle.ficus_file_laws.specs.Items.{AreVersionsOf}
 use Rattle.ficus_file_laws.proofs.Counted.{joined_counts}
 use Rattle.ficus_file_laws.proofs.Merging.{count_members, merges_agree}
-use Rattle.ficus_file_laws.proofs.Taking.{lists_agree, few_merged}
+use Rattle.ficus_file_laws.proofs.Taking.{lists_agree, few_of_kind_merged}
 use Rattle.ficus_held_file_laws.specs.Tables.{object_of, objects_of, AreHeldEntries, AreHeldFiles}
 use Rattle.ficus_held_file_laws.specs.Laws.{AreTouched}
 use Rattle.ficus_held_file_laws.proofs.Files.{object_held, held_object, kept_file, versions_held}
 
--- In each of these an answer is taken. The lists are the files of the replica and of the server.
-module _ (volume : Volume) (H : List Event) (replica served server : ℕ)
-    (answer : IsAnswer volume H replica served server) {mine theirs : List FileReplica}
+-- In each of these the lists are the files of a replica, and of the server when it served.
+module _ (volume : Volume) (H : List Event) (replica served server : ℕ) (lawful : IsLawful volume H)
+    (by_server : IsOf H served server) {mine theirs : List FileReplica}
     (here : AreHeldFiles volume.members H replica mine)
     (there : AreHeldFiles volume.members (through served H) server theirs) where
   abbrev at_server : List Event
@@ -59,6 +59,7 @@ module _ (volume : Volume) (H : List Event) (replica served server : ℕ)
           position = m.position;
           dir = m.dir;
           name = m.name;
+          text = m.text;
           known = m.known;
           update = agree_update (agree_before (served + 1) H) (at_from_before (served + 1) m.update.at).0 m.update;
         }
@@ -66,12 +67,10 @@ module _ (volume : Volume) (H : List Event) (replica served server : ℕ)
     can_merge : volume.members ≤ 8 → CanMerge file other
     can_merge fits = record {
       kind = made_once (kept_file here inside).held.made his_made;
-      agree = lists_agree volume H replica served server file.versions other.versions answer.lawful answer.by
-          own_versions his_versions;
+      agree = lists_agree volume H replica served server file.versions other.versions lawful by_server own_versions his_versions;
       few = λ both merged.
-          let few = few_merged volume H replica served server file.versions other.versions answer.lawful answer.by
-          own_versions his_versions both merged in
-          omega arith;
+          few_of_kind_merged volume H replica served server file.versions other.versions lawful by_server
+          own_versions his_versions file.kind (kept_file here inside).held.made fits both merged;
     }
 
     -- what both make together is, in the terms of the laws, what their objects make
@@ -81,9 +80,8 @@ module _ (volume : Volume) (H : List Event) (replica served server : ℕ)
       id = merged.id;
       kind = merged.kind;
       versions = merges_agree volume.members file.versions other.versions
-          (count_members volume H file.versions answer.lawful own_versions)
-          (count_members volume at_server other.versions
-          (lawful_there volume H replica served server file.id answer) his_versions)
+          (count_members volume H file.versions lawful own_versions)
+          (count_members volume at_server other.versions (lawful_before volume H (served + 1) lawful) his_versions)
           both.versions merged.versions;
       cover = ap count_of merged.covered ∙ joined_counts file.covered other.covered;
     }
@@ -208,11 +206,12 @@ module _ (volume : Volume) (H : List Event) (replica served server : ℕ)
           (into_map object_of both found.0 (taken_stays found.0 found.1 none touches));
     }
 
-    pub files_merged : AreHeldEntries volume.members (H ++ Accept replica served ∷ []) replica entries →
-        AreFiles both → AreHeldFiles volume.members (H ++ Accept replica served ∷ []) replica both
-    files_merged held are = record {
+    pub files_merged : (piece : ℕ) → IsAnswer volume H replica served piece server →
+        AreHeldEntries volume.members (H ++ Accept replica served piece ∷ []) replica entries →
+        AreFiles both → AreHeldFiles volume.members (H ++ Accept replica served piece ∷ []) replica both
+    files_merged piece answer held are = record {
       rising = are.rising;
       ordered = λ file inside. ordered_of file (are.each file inside).well_formed;
-      kept = objects_merged volume H replica served server entries (objects_of mine) (objects_of theirs)
+      kept = objects_merged volume H replica served piece server entries (objects_of mine) (objects_of theirs)
           (objects_of both) answer held.kept here.kept there.kept objects_merge;
     }

@@ -41,65 +41,66 @@ stays object unwritten uncovered = record {
 }
 
 -- a Make writes its own object alone, and gives none up
-made_writes : {number dir object : Id} {name bytes : List ℕ} {kind : Kind} →
-    Writes number (Make dir name kind) object bytes → object ≡ number
+made_writes : {number dir object : Id} {name text bytes : List ℕ} {kind : Kind} →
+    Writes number (Make dir name kind text) object bytes → object ≡ number
 made_writes (ByMake is_file) = refl
 
-made_gives_up : {dir object : Id} {name : List ℕ} {kind : Kind} → GivesUp (Make dir name kind) object → ⊥
+made_gives_up : {dir object : Id} {name text : List ℕ} {kind : Kind} → GivesUp (Make dir name kind text) object → ⊥
 made_gives_up gives_up = elim gives_up [ ]
 
 module _ {by : ℕ} (one : 1 ≤ by) (most : by ≤ 8) where
-  first_counted : (kind : Kind) → items_of (first_versions kind by) ≡ first_items by kind
-  first_counted Dir = refl
-  first_counted kind = written_counts by [] [] one most
+  first_counted : (kind : Kind) (text : List ℕ) → items_of (first_versions kind by text) ≡ first_items by text kind
+  first_counted Dir text = refl
+  first_counted kind text = written_counts by text [] one most
 
-  module _ (number dir : Id) (name : List ℕ) (kind : Kind) (files after : List FileReplica)
-      (none : Holds files number → ⊥) (adds : Adds files after (made_file number kind by)) where
+  module _ (number dir : Id) (name : List ℕ) (kind : Kind) (text : List ℕ) (files after : List FileReplica)
+      (none : Holds files number → ⊥) (adds : Adds files after (made_file number kind by text)) where
     unwritten : {file : FileReplica} → Contains files file →
-        IsObjectStepped by number (Make dir name kind) (object_of file) (object_of file)
+        IsObjectStepped by number (Make dir name kind text) (object_of file) (object_of file)
     unwritten {file} inside = stays (object_of file)
         (λ bytes writes. none (record { item = file; inside = inside; has_id = made_writes writes }))
         made_gives_up
 
-    made_listed : Contains (objects_of after) (object_of (made_file number kind by))
-    made_listed = into_map object_of after (made_file number kind by) ((adds (made_file number kind by)).1 (inr refl))
+    made_listed : Contains (objects_of after) (object_of (made_file number kind by text))
+    made_listed = into_map object_of after (made_file number kind by text) ((adds (made_file number kind by text)).1 (inr refl))
 
-    made_object : IsObjectMade by number (Make dir name kind) (object_of (made_file number kind by))
+    made_object : IsObjectMade by number (Make dir name kind text) (object_of (made_file number kind by text))
     made_object = record {
       dir = dir;
       name = name;
+      text = text;
       makes = refl;
       id = refl;
-      versions = first_counted kind;
+      versions = first_counted kind text;
       cover = λ i replica. count_of-none replica i;
     }
 
-    from_file : (file : FileReplica) → Contains files file ⊎ (file ≡ made_file number kind by) →
-        IsFromObject by number (Make dir name kind) (objects_of files) (object_of file) ⊎
-        IsObjectMade by number (Make dir name kind) (object_of file)
+    from_file : (file : FileReplica) → Contains files file ⊎ (file ≡ made_file number kind by text) →
+        IsFromObject by number (Make dir name kind text) (objects_of files) (object_of file) ⊎
+        IsObjectMade by number (Make dir name kind text) (object_of file)
     from_file file (inl inside) = inl (record {
       object = object_of file;
       inside = into_map object_of files file inside;
       stepped = unwritten inside;
     })
     from_file file (inr is) =
-        inr (subst (λ new. IsObjectMade by number (Make dir name kind) (object_of new)) (sym is) made_object)
+        inr (subst (λ new. IsObjectMade by number (Make dir name kind text) (object_of new)) (sym is) made_object)
 
-    pub make_steps : AreObjectsStepped by number (Make dir name kind) (objects_of files) (objects_of after)
+    pub make_steps : AreObjectsStepped by number (Make dir name kind text) (objects_of files) (objects_of after)
     make_steps = record {
       from = λ object inside.
           let found = from_map object_of after object inside in
-          subst (λ o. IsFromObject by number (Make dir name kind) (objects_of files) o ⊎
-          IsObjectMade by number (Make dir name kind) o) found.2 (from_file found.0 ((adds found.0).0 found.1));
+          subst (λ o. IsFromObject by number (Make dir name kind text) (objects_of files) o ⊎
+          IsObjectMade by number (Make dir name kind text) o) found.2 (from_file found.0 ((adds found.0).0 found.1));
       kept = λ object inside.
           let found = from_map object_of files object inside in
-          subst (λ o. HasStepped by number (Make dir name kind) o (objects_of after)) found.2 (record {
+          subst (λ o. HasStepped by number (Make dir name kind text) o (objects_of after)) found.2 (record {
             next = object_of found.0;
             inside = into_map object_of after found.0 ((adds found.0).1 (inl found.1));
             stepped = unwritten found.1;
           });
-      made = λ any_dir any_name any_kind is.
-          record { object = object_of (made_file number kind by); inside = made_listed; named = refl };
+      made = λ any_dir any_name any_kind any_text is.
+          record { object = object_of (made_file number kind by text); inside = made_listed; named = refl };
     }
 
 -- an operation that overwrites a file writes these bytes to it and nothing else, gives nothing up and makes nothing
@@ -120,8 +121,8 @@ overwrites_gives_up Rewrites gives_up = elim gives_up [ ]
 overwrites_gives_up Settles gives_up = elim gives_up [ ]
 overwrites_gives_up Resolves gives_up = elim gives_up [ ]
 
-overwrites_makes : {file dir : Id} {op : Op} {bytes name : List ℕ} {kind : Kind} → Overwrites op file bytes →
-    op ≡ Make dir name kind → ⊥
+overwrites_makes : {file dir : Id} {op : Op} {bytes name text : List ℕ} {kind : Kind} → Overwrites op file bytes →
+    op ≡ Make dir name kind text → ⊥
 overwrites_makes Rewrites is = cc
 overwrites_makes Settles is = cc
 overwrites_makes Resolves is = cc
@@ -132,7 +133,7 @@ module _ {by : ℕ} {number : Id} {op : Op} {file : Id} (into : FileReplica → 
     (keeps_id : (into change.file).id ≡ change.file.id)
     (stepped : IsObjectStepped by number op (object_of change.file) (object_of (into change.file)))
     (others : (object : KeptObject) → object.id ≢ file → IsObjectStepped by number op object object)
-    (makes_none : (dir : Id) (name : List ℕ) (kind : Kind) → op ≡ Make dir name kind → ⊥) where
+    (makes_none : (dir : Id) (name : List ℕ) (kind : Kind) (text : List ℕ) → op ≡ Make dir name kind text → ⊥) where
   -- the file, before and after
   abbrev old : FileReplica
   old = change.file
@@ -199,7 +200,7 @@ module _ {by : ℕ} {number : Id} {op : Op} {file : Id} (into : FileReplica → 
         let found = from_map object_of files object inside in
         subst (λ o. HasStepped by number op o (objects_of after)) found.2
         (becomes found.0 found.1 (same_id_or_not found.0.id old.id));
-    made = λ dir name kind is. absurd (makes_none dir name kind is);
+    made = λ dir name kind text is. absurd (makes_none dir name kind text is);
   }
 
 module _ {by : ℕ} (one : 1 ≤ by) (most : by ≤ 8) (number : Id) {op : Op} {file : Id} {bytes : List ℕ}
@@ -223,7 +224,7 @@ module _ {by : ℕ} (one : 1 ≤ by) (most : by ≤ 8) (number : Id) {op : Op} {
   write_steps = change_steps (advanced by bytes) files after are change refl written
       (λ object differs. stays object
       (λ again writes. differs (overwrites_once overwrites writes).0) (overwrites_gives_up overwrites))
-      (λ dir name kind is. overwrites_makes overwrites is)
+      (λ dir name kind text is. overwrites_makes overwrites is)
 
 -- an operation that gives the file up writes nothing and makes nothing
 gives_up_once : {op : Op} {file other : Id} → GivesUp op file → GivesUp op other → other ≡ file
@@ -235,8 +236,8 @@ gives_up_writes : {number file other : Id} {op : Op} {bytes : List ℕ} → Give
 gives_up_writes ByRemove writes = elim writes [ ]
 gives_up_writes ByDiscard writes = elim writes [ ]
 
-gives_up_makes : {file dir : Id} {op : Op} {name : List ℕ} {kind : Kind} → GivesUp op file →
-    op ≡ Make dir name kind → ⊥
+gives_up_makes : {file dir : Id} {op : Op} {name text : List ℕ} {kind : Kind} → GivesUp op file →
+    op ≡ Make dir name kind text → ⊥
 gives_up_makes ByRemove is = cc
 gives_up_makes ByDiscard is = cc
 
@@ -256,7 +257,7 @@ module _ {by : ℕ} (number : Id) {op : Op} {file : Id} (files after : List File
   cover_steps = change_steps covered_file files after are change refl covered
       (λ object differs. stays object (λ again writes. gives_up_writes gives_up writes)
       (λ given. differs (gives_up_once gives_up given)))
-      (λ dir name kind is. gives_up_makes gives_up is)
+      (λ dir name kind text is. gives_up_makes gives_up is)
 
 -- an operation that gives an object one more name writes nothing, gives nothing up and makes nothing
 names_writes : {number file : Id} {op : Op} {bytes : List ℕ} → Names op → Writes number op file bytes → ⊥
@@ -269,7 +270,8 @@ names_gives_up Links gives_up = elim gives_up [ ]
 names_gives_up Moves gives_up = elim gives_up [ ]
 names_gives_up Adopts gives_up = elim gives_up [ ]
 
-names_makes : {dir : Id} {op : Op} {name : List ℕ} {kind : Kind} → Names op → op ≡ Make dir name kind → ⊥
+names_makes : {dir : Id} {op : Op} {name text : List ℕ} {kind : Kind} → Names op →
+    op ≡ Make dir name kind text → ⊥
 names_makes Links is = cc
 names_makes Moves is = cc
 names_makes Adopts is = cc
@@ -279,7 +281,7 @@ pub name_steps : {by : ℕ} (number : Id) {op : Op} (files : List FileReplica) �
 name_steps {by} number {op} files names = record {
   from = λ object inside. inl (record { object = object; inside = inside; stepped = unchanged object });
   kept = λ object inside. record { next = object; inside = inside; stepped = unchanged object };
-  made = λ dir name kind is. absurd (names_makes names is);
+  made = λ dir name kind text is. absurd (names_makes names is);
 }
   where
     unchanged : (object : KeptObject) → IsObjectStepped by number op object object

@@ -15,7 +15,7 @@ use Rattle.ficus_model.specs.declared.event.Event.{Event}
 use Rattle.ficus_model.specs.declared.event.Event.TheVariants.{Accept}
 use Rattle.ficus_model.specs.declared.event.Op.{Op}
 use Rattle.ficus_model.specs.declared.event.Op.TheVariants.{Make, Link, Move, Write, Settle, Resolve, Adopt}
-use Rattle.ficus_model.specs.Events.{through, count_of as updates_of}
+use Rattle.ficus_model.specs.Events.{IsOf, through, count_of as updates_of}
 use Rattle.ficus_model.specs.Known.{Knows}
 use Rattle.ficus_model.specs.Held.{IsHeldEntry}
 use Rattle.ficus_model.specs.Lawful.{Volume, IsLawful}
@@ -93,9 +93,10 @@ RemovedEntriesAreListed = (members : ℕ) (H : List Event) (replica : ℕ) (entr
 
 -- what a Make makes of the files, in the terms of the laws
 abbrev pub MakeStepsFiles : Type 0
-MakeStepsFiles = (by : ℕ) (number dir : Id) (name : List ℕ) (kind : Kind) (files after : List FileReplica) →
-    1 ≤ by → by ≤ 8 → (Holds files number → ⊥) → Adds files after (made_file number kind by) →
-    AreObjectsStepped by number (Make dir name kind) (objects_of files) (objects_of after)
+MakeStepsFiles = (by : ℕ) (number dir : Id) (name : List ℕ) (kind : Kind) (text : List ℕ)
+    (files after : List FileReplica) →
+    1 ≤ by → by ≤ 8 → (Holds files number → ⊥) → Adds files after (made_file number kind by text) →
+    AreObjectsStepped by number (Make dir name kind text) (objects_of files) (objects_of after)
 
 -- the operation gives a file, which it doesn't make, these bytes
 pub data Overwrites : Op → Id → List ℕ → Type 0 where
@@ -126,10 +127,10 @@ abbrev pub NameStepsFiles : Type 0
 NameStepsFiles = (by : ℕ) (number : Id) (op : Op) (files : List FileReplica) → Names op →
     AreObjectsStepped by number op (objects_of files) (objects_of files)
 
--- where an answer is taken, the files of both can be merged
+-- where a member served after a lawful history, its files and those that any replica then holds can be merged
 abbrev pub AnswersFit : Type 0
 AnswersFit = (volume : Volume) (H : List Event) (replica served server : ℕ) (mine theirs : List FileReplica) →
-    IsAnswer volume H replica served server →
+    IsLawful volume H → IsOf H served server →
     AreHeldFiles volume.members H replica mine → AreHeldFiles volume.members (through served H) server theirs →
     volume.members ≤ 8 → Fit mine theirs
 
@@ -139,12 +140,12 @@ AreTouched entries ids = (id : Id) → Contains ids id ↔ IsTouched entries id
 
 -- and their merge are the files that the replica then holds
 abbrev pub AcceptMergesFiles : Type 0
-AcceptMergesFiles = (volume : Volume) (H : List Event) (replica served server : ℕ) (entries : List Entry)
-    (touched : List Id) (mine theirs both : List FileReplica) → IsAnswer volume H replica served server →
-    AreHeldEntries volume.members (H ++ Accept replica served ∷ []) replica entries → AreTouched entries touched →
+AcceptMergesFiles = (volume : Volume) (H : List Event) (replica served piece server : ℕ) (entries : List Entry)
+    (touched : List Id) (mine theirs both : List FileReplica) → IsAnswer volume H replica served piece server →
+    AreHeldEntries volume.members (H ++ Accept replica served piece ∷ []) replica entries → AreTouched entries touched →
     AreHeldFiles volume.members H replica mine → AreHeldFiles volume.members (through served H) server theirs →
     AreFiles both → AreMergedFiles touched mine theirs both →
-    AreHeldFiles volume.members (H ++ Accept replica served ∷ []) replica both
+    AreHeldFiles volume.members (H ++ Accept replica served piece ∷ []) replica both
 
 -- each number in a file is of an update that its replica has made, and each count at most so many
 pub record IsFileOfHistory (H : List Event) (file : FileReplica) : Type 0 where

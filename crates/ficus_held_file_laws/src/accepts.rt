@@ -1,6 +1,6 @@
 ghost use Rattle.ficus_held_file_laws.specs.Laws.{AnswersFit, AcceptMergesFiles};
 
-/// Where an answer is taken, the files of both can be merged: what is served is never refused for their sake.
+/// What was served can be merged with what any replica holds later: it is never refused for the sake of its files.
 pub fn answers_fit()
     ensures { AnswersFit }
 {}

@@ -81,34 +81,34 @@ module _ (H : List Event) (replica : ℕ) (op : Op) where
         (next_cover (some_decided (covered_by op) object.id))
 
 -- an object just made is kept
-module _ (volume : Volume) (H : List Event) (replica : ℕ) (lawful : IsLawful volume H) (dir : Id) (name : List ℕ)
-  where
-    abbrev made : Kind → List Event
-    made kind = H ++ Update replica (Make dir name kind) ∷ []
+module _ (volume : Volume) (H : List Event) (replica : ℕ) (lawful : IsLawful volume H) (dir : Id)
+    (name text : List ℕ) where
+  abbrev made : Kind → List Event
+  made kind = H ++ Update replica (Make dir name kind text) ∷ []
 
-    made_held : (kind : Kind) → IsHeldObject volume.members (made kind) replica (next_number replica H) kind
-    made_held kind = record {
-      made = make_made_new H replica dir name kind;
-      held = λ position d.
-          let i = made_issued (done_was (Update replica (Make dir name kind)) (λ is. cc) d).made in
-          omega (arith, i.at_most);
-    }
+  made_held : (kind : Kind) → IsHeldObject volume.members (made kind) replica (next_number replica H) kind
+  made_held kind = record {
+    made = make_made_new H replica dir name kind text;
+    held = λ position d.
+        let i = made_issued (done_was (Update replica (Make dir name kind text)) (λ is. cc) d).made in
+        omega (arith, i.at_most);
+  }
 
-    made_shown : (kind : Kind) →
-        AreShown (made kind) (Knows (made kind) replica) (next_number replica H) (first_versions replica kind)
-    made_shown Dir = (are_shown_kept H (Update replica (Make dir name Dir)) replica
-        (other_back H replica (Make dir name Dir) (none_is (next_number replica H)))).0
-        (none_shown volume H replica lawful)
-    made_shown kind = make_shown volume H replica lawful dir name kind (λ is. cc)
+  made_shown : (kind : Kind) →
+      AreShown (made kind) (Knows (made kind) replica) (next_number replica H) (first_versions replica text kind)
+  made_shown Dir = (are_shown_kept H (Update replica (Make dir name Dir text)) replica
+      (other_back H replica (Make dir name Dir text) (none_is (next_number replica H)))).0
+      (none_shown volume H replica lawful)
+  made_shown kind = make_shown volume H replica lawful dir name kind text (λ is. cc)
 
-    made_kept : (object : KeptObject) → object.id ≡ next_number replica H →
-        object.versions ≡ first_versions replica object.kind → object.cover ≡ (λ by. 0) →
-        IsKeptObject volume.members (made object.kind) replica object
-    made_kept object id versions cover = renamed object id refl (made_held object.kind)
-        (subst (AreShown (made object.kind) (Knows (made object.kind) replica) (next_number replica H)) (sym versions)
-        (made_shown object.kind))
-        (subst (IsCoverOf (made object.kind) (Knows (made object.kind) replica) (next_number replica H)) (sym cover)
-        (make_covered volume H replica lawful dir name object.kind))
+  made_kept : (object : KeptObject) → object.id ≡ next_number replica H →
+      object.versions ≡ first_versions replica text object.kind → object.cover ≡ (λ by. 0) →
+      IsKeptObject volume.members (made object.kind) replica object
+  made_kept object id versions cover = renamed object id refl (made_held object.kind)
+      (subst (AreShown (made object.kind) (Knows (made object.kind) replica) (next_number replica H)) (sym versions)
+      (made_shown object.kind))
+      (subst (IsCoverOf (made object.kind) (Knows (made object.kind) replica) (next_number replica H)) (sym cover)
+      (make_covered volume H replica lawful dir name object.kind text))
 
 pub objects_stepped : (volume : Volume) (H : List Event) (replica : ℕ) (op : Op) (objects next : List KeptObject) →
     IsLawful volume H → AreKeptObjects volume.members H replica objects →
@@ -123,7 +123,7 @@ objects_stepped volume H replica op objects next lawful here steps =
     each object (inl from) = stepped_kept H replica op (here.each from.object from.inside) from.stepped
     each object (inr new) =
         subst (λ done. IsKeptObject volume.members (H ++ Update replica done ∷ []) replica object) (sym new.makes)
-        (made_kept volume H replica lawful new.dir new.name object new.id new.versions new.cover)
+        (made_kept volume H replica lawful new.dir new.name new.text object new.id new.versions new.cover)
 
     absent : (id : Id) (kind : Kind) →
         IsMade (H ++ Update replica op ∷ []) (Knows (H ++ Update replica op ∷ []) replica) id kind →
@@ -136,9 +136,9 @@ objects_stepped volume H replica op objects next lawful here steps =
             none (record { object = s.next; inside = s.inside; named = s.stepped.id ∙ has.named })
 
         go : Decided (HasObject objects id) → IsMade H (Knows H replica) id kind ⊎
-            ((id ≡ next_number replica H) × (dir : Id) × (name : List ℕ) × (op ≡ Make dir name kind)) →
+            ((id ≡ next_number replica H) × (dir : Id) × (name : List ℕ) × (text : List ℕ) × (op ≡ Make dir name kind text)) →
             HasDone volume.members (H ++ Update replica op ∷ []) replica id
         go (inl has) found = absurd (still_listed has)
         go (inr none_before) (inl was) = done_stays (Update replica op) (here.absent id kind was none_before)
-        go (inr none_before) (inr (is_next, dir, name, makes)) =
-            absurd (none (subst (HasObject next) (sym is_next) (steps.made dir name kind makes)))
+        go (inr none_before) (inr (is_next, dir, name, text, makes)) =
+            absurd (none (subst (HasObject next) (sym is_next) (steps.made dir name kind text makes)))

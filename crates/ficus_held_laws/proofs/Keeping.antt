@@ -99,19 +99,19 @@ kept_listed {members} {H} {replica} {entries} {entry} kept k = go (held_or_not (
     go (Some other, (inside, named)) = subst (Contains entries) (kept_once (kept.each other inside) k named) inside
 
 -- the updates that a server knew when it served are known once they are taken
-pub taken_within : (H : List Event) (replica served server : ℕ) → IsOf H served server →
+pub taken_within : (H : List Event) (replica served piece server : ℕ) → IsOf H served server →
     UpdatesWithin (through served H) (Knows (through served H) server)
-    (H ++ Accept replica served ∷ []) (Knows (H ++ Accept replica served ∷ []) replica)
-taken_within H replica served server by_server = within_chain (same_seen H served server by_server).back
-    (within_chain within_joined_right (same_accept H replica served).there)
+    (H ++ Accept replica served piece ∷ []) (Knows (H ++ Accept replica served piece ∷ []) replica)
+taken_within H replica served piece server by_server = within_chain (same_seen H served server by_server).back
+    (within_chain within_joined_right (same_accept H replica served piece).there)
 
 -- An answer is taken by replicas with these lists.
-module _ (volume : Volume) (H : List Event) (replica served server : ℕ) (mine theirs after : List Kept)
-    (answer : IsAnswer volume H replica served server) (here : AreKeptEntries volume.members H replica mine)
+module _ (volume : Volume) (H : List Event) (replica served piece server : ℕ) (mine theirs after : List Kept)
+    (answer : IsAnswer volume H replica served piece server) (here : AreKeptEntries volume.members H replica mine)
     (peers : AreKeptEntries volume.members (through served H) server theirs)
     (merges : MergesEntries replica volume.members mine theirs after) where
   abbrev accepted : List Event
-  accepted = H ++ Accept replica served ∷ []
+  accepted = H ++ Accept replica served piece ∷ []
 
   row : (id : Id) (found : Option Kept) → HoldsUnder after id found →
       (at_r : Option Kept) × HoldsUnder mine id at_r × (at_peer : Option Kept) × HoldsUnder theirs id at_peer ×
@@ -125,19 +125,19 @@ module _ (volume : Volume) (H : List Event) (replica served server : ℕ) (mine 
       StandsAs volume.members accepted replica id (state_of found)
   merged_stands id found held =
       let (at_r, in_mine, at_peer, in_theirs, merged) = row id found held in
-      merge_stands volume H replica served server id answer (state_of at_r) (state_of at_peer) (state_of found)
+      merge_stands volume H replica served piece server id answer (state_of at_r) (state_of at_peer) (state_of found)
       (listed_stands id at_r here in_mine) (listed_stands id at_peer peers in_theirs) merged.state
 
   entered_at_server : {entry : Kept} → IsKeptEntry volume.members (through served H) server entry →
       IsEntered accepted (Knows accepted replica) (place_of entry)
-  entered_at_server k = entered_within (taken_within H replica served server answer.by) k.held.entered
+  entered_at_server k = entered_within (taken_within H replica served piece server answer.by) k.held.entered
 
   merged_entered : (at_r at_peer : Option Kept) (entry : Kept) → HoldsUnder mine entry.id at_r →
       HoldsUnder theirs entry.id at_peer → KeepsPlace at_r at_peer (Some entry) →
       IsEntered accepted (Knows accepted replica) (place_of entry)
   merged_entered (Some own) at_peer entry (inside, named) held place =
       subst (IsEntered accepted (Knows accepted replica)) (sym (ap place_of place))
-      (entered_within (within_more H (Accept replica served ∷ []) replica) (here.each own inside).held.entered)
+      (entered_within (within_more H (Accept replica served piece ∷ []) replica) (here.each own inside).held.entered)
   merged_entered None (Some his) entry none (inside, named) place =
       subst (IsEntered accepted (Knows accepted replica)) (sym (ap place_of place))
       (entered_at_server (peers.each his inside))

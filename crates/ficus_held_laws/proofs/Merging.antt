@@ -44,14 +44,14 @@ use Rattle.ficus_held_laws.proofs.Keeping.{taken_within}
 use Rattle.ficus_merge_laws.proofs.Following.{undropped}
 use Rattle.ficus_held_laws.proofs.Leaving.{object_or_not}
 
-module _ (volume : Volume) (H : List Event) (replica served server : ℕ) (entries : List Kept)
-    (mine theirs next : List KeptObject) (answer : IsAnswer volume H replica served server)
-    (kept_entries : AreKeptEntries volume.members (H ++ Accept replica served ∷ []) replica entries)
+module _ (volume : Volume) (H : List Event) (replica served piece server : ℕ) (entries : List Kept)
+    (mine theirs next : List KeptObject) (answer : IsAnswer volume H replica served piece server)
+    (kept_entries : AreKeptEntries volume.members (H ++ Accept replica served piece ∷ []) replica entries)
     (here : AreKeptObjects volume.members H replica mine)
     (peers : AreKeptObjects volume.members (through served H) server theirs)
     (merges : AreObjectsMerged volume.members mine theirs entries next) where
   abbrev accepted : List Event
-  accepted = H ++ Accept replica served ∷ []
+  accepted = H ++ Accept replica served piece ∷ []
 
   abbrev at_server : List Event
   at_server = through served H
@@ -60,20 +60,20 @@ module _ (volume : Volume) (H : List Event) (replica served server : ℕ) (entri
   is_member = answer.may.member
 
   lawful_then : IsLawful volume accepted
-  lawful_then = lawful_more volume H (Accept replica served) answer.lawful answer.may
+  lawful_then = lawful_more volume H (Accept replica served piece) answer.lawful answer.may
 
   lawful_there : IsLawful volume at_server
-  lawful_there = answers.lawful_there volume H replica served server ROOT answer
+  lawful_there = answers.lawful_there volume H replica served piece server ROOT answer
 
   -- an Accept makes nothing done
   done_before : {object : Id} {position : ℕ} → IsDone volume.members accepted replica object position →
       IsDone volume.members H replica object position
-  done_before d = done_was (Accept replica served) (λ is. cc) d
+  done_before d = done_was (Accept replica served piece) (λ is. cc) d
 
   own_held : {object : Id} {kind : Kind} → IsHeldObject volume.members H replica object kind →
       IsHeldObject volume.members accepted replica object kind
   own_held h = record {
-    made = made_accept H replica served server answer.by (inl h.made);
+    made = made_accept H replica served piece server answer.by (inl h.made);
     held = λ position d. h.held position (done_before d);
   }
 
@@ -100,8 +100,8 @@ module _ (volume : Volume) (H : List Event) (replica served server : ℕ) (entri
   own_kept : {object : KeptObject} → IsOnlyOf mine theirs object → IsKeptObject volume.members accepted replica object
   own_kept {object} only = record {
     held = own_held k.held;
-    versions = accept_own H replica served server answer.by versions k.versions;
-    cover = cover_own H replica served server answer.by covers k.cover;
+    versions = accept_own H replica served piece server answer.by versions k.versions;
+    cover = cover_own H replica served piece server answer.by covers k.cover;
   }
     where
       k : IsKeptObject volume.members H replica object
@@ -130,9 +130,9 @@ module _ (volume : Volume) (H : List Event) (replica served server : ℕ) (entri
       let his_versions = subst (λ k. AreShown at_server (Knows at_server server) k both.his.versions) both.same his.versions in
       let his_cover = subst (λ k. IsCoverOf at_server (Knows at_server server) k both.his.cover) both.same his.cover in
       renamed object both.merged.id both.merged.kind (own_held own.held)
-      (accept_merges H replica served server answer.by volume answer.lawful own.versions his_versions both.merged.versions)
+      (accept_merges H replica served piece server answer.by volume answer.lawful own.versions his_versions both.merged.versions)
       (subst (IsCoverOf accepted (Knows accepted replica) both.own.id) (sym both.merged.cover)
-      (cover_accept H replica served server answer.by own.cover his_cover))
+      (cover_accept H replica served piece server answer.by own.cover his_cover))
 
   -- an object that an entry which is kept touches isn't done
   touched_not_done : {object : Id} {position : ℕ} → IsTouched entries object →
@@ -155,17 +155,17 @@ module _ (volume : Volume) (H : List Event) (replica served server : ℕ) (entri
       IsMade H (Knows H replica) object kind → ⊥
   unknown {object} {kind} none touched m =
       let g = here.absent object kind m none in
-      touched_not_done touched (done_stays (Accept replica served) g).done
+      touched_not_done touched (done_stays (Accept replica served piece) g).done
 
   taken_kept : {object : KeptObject} → IsTaken mine theirs entries object →
       IsKeptObject volume.members accepted replica object
   taken_kept {object} taken = record {
     held = record {
-      made = made_accept H replica served server answer.by (inr his.held.made);
+      made = made_accept H replica served piece server answer.by (inr his.held.made);
       held = λ position d. touched_not_done taken.touched d;
     };
-    versions = accept_brought H replica served server answer.by versions his.versions;
-    cover = cover_brought H replica served server answer.by covers his.cover;
+    versions = accept_brought H replica served piece server answer.by versions his.versions;
+    cover = cover_brought H replica served piece server answer.by covers his.cover;
   }
     where
       his : IsKeptObject volume.members at_server server object
@@ -186,12 +186,12 @@ module _ (volume : Volume) (H : List Event) (replica served server : ℕ) (entri
   -- An object that the server knew and the replica didn't: the entry of its Make isn't dropped, so it touches it.
   module _ {object : Id} {kind : Kind} (m : IsMade at_server (Knows at_server server) object kind)
       (news : Knows H replica m.position → ⊥) where
-    update_here : IsUpdate H m.position object (Make m.dir m.name kind)
+    update_here : IsUpdate H m.position object (Make m.dir m.name kind m.text)
     update_here = agree_update (agree_before (served + 1) H) (at_from_before (served + 1) m.update.at).0 m.update
 
     entered_then : IsEntered accepted (Knows accepted replica) (entry_of object m.dir m.name object)
-    entered_then = entered_within (taken_within H replica served server answer.by)
-        (record { position = m.position; op = Make m.dir m.name kind; known = m.known; update = m.update; enters = refl })
+    entered_then = entered_within (taken_within H replica served piece server answer.by)
+        (record { position = m.position; op = Make m.dir m.name kind m.text; known = m.known; update = m.update; enters = refl })
 
     not_entered_here : IsEnteredAs H (Knows H replica) object → ⊥
     not_entered_here e =
@@ -200,7 +200,7 @@ module _ (volume : Volume) (H : List Event) (replica served server : ℕ) (entri
 
     not_dropped : IsDropped volume.members accepted replica object → ⊥
     not_dropped d =
-        not_entered_here (removed_entered volume H answer.lawful (dropped_removed (undropped (Accept replica served) (λ is. cc) d) is_member))
+        not_entered_here (removed_entered volume H answer.lawful (dropped_removed (undropped (Accept replica served piece) (λ is. cc) d) is_member))
 
     news_touched : IsTouched entries object
     news_touched = go (held_or_not (λ (item : Kept). item.id) entries object)
@@ -220,7 +220,7 @@ module _ (volume : Volume) (H : List Event) (replica served server : ℕ) (entri
 
   absent : (id : Id) (kind : Kind) → IsMade accepted (Knows accepted replica) id kind → (HasObject next id → ⊥) →
       HasDone volume.members accepted replica id
-  absent id kind m none = go (object_or_not mine id) (object_or_not theirs id) (accept_made H replica served server answer.by m)
+  absent id kind m none = go (object_or_not mine id) (object_or_not theirs id) (accept_made H replica served piece server answer.by m)
     where
       own_listed : HasObject mine id → Decided (HasObject theirs id) → ⊥
       own_listed own (inl his) =
@@ -245,7 +245,7 @@ module _ (volume : Volume) (H : List Event) (replica served server : ℕ) (entri
 
       known_here : {any : Kind} → IsMade H (Knows H replica) id any → (HasObject mine id → ⊥) →
           HasDone volume.members accepted replica id
-      known_here {any} was no_own = done_stays (Accept replica served) (here.absent id any was no_own)
+      known_here {any} was no_own = done_stays (Accept replica served piece) (here.absent id any was no_own)
 
       of_server : (his : IsMade at_server (Knows at_server server) id kind) → HasObject theirs id →
           (HasObject mine id → ⊥) → Decided (Knows H replica his.position) →
@@ -255,6 +255,7 @@ module _ (volume : Volume) (H : List Event) (replica served server : ℕ) (entri
             position = his.position;
             dir = his.dir;
             name = his.name;
+            text = his.text;
             known = known;
             update =
                 agree_update (agree_before (served + 1) H) (at_from_before (served + 1) his.update.at).0 his.update;
@@ -276,6 +277,7 @@ module _ (volume : Volume) (H : List Event) (replica served server : ℕ) (entri
             position = was.position;
             dir = was.dir;
             name = was.name;
+            text = was.text;
             known = knows_later all.0 was.known;
             update = was.update;
           })

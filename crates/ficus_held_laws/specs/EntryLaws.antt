@@ -45,11 +45,12 @@ OthersKeepEntries = (members : ℕ) (H : List Event) (event : Event) (replica : 
 
 -- after an Accept its replica keeps the merge of what it kept and of what the server kept when it served
 abbrev pub AcceptMergesEntries : Type 0
-AcceptMergesEntries = (volume : Volume) (H : List Event) (replica served server : ℕ) (mine theirs after : List Kept) →
-    IsAnswer volume H replica served server →
+AcceptMergesEntries = (volume : Volume) (H : List Event) (replica served piece server : ℕ)
+    (mine theirs after : List Kept) →
+    IsAnswer volume H replica served piece server →
     AreKeptEntries volume.members H replica mine → AreKeptEntries volume.members (through served H) server theirs →
     MergesEntries replica volume.members mine theirs after →
-    AreKeptEntries volume.members (H ++ Accept replica served ∷ []) replica after
+    AreKeptEntries volume.members (H ++ Accept replica served piece ∷ []) replica after
 
 -- at the start no replica keeps an entry
 abbrev pub NoEntriesAtStart : Type 0

@@ -51,9 +51,9 @@ CollectLeavesObjects = (members : ℕ) (H : List Event) (replica : ℕ) (entries
 
 -- after an Accept its replica keeps the merge of its objects and those that the server kept when it served
 abbrev pub AcceptMergesObjects : Type 0
-AcceptMergesObjects = (volume : Volume) (H : List Event) (replica served server : ℕ) (entries : List Kept)
-    (mine theirs after : List KeptObject) → IsAnswer volume H replica served server →
-    AreKeptEntries volume.members (H ++ Accept replica served ∷ []) replica entries →
+AcceptMergesObjects = (volume : Volume) (H : List Event) (replica served piece server : ℕ) (entries : List Kept)
+    (mine theirs after : List KeptObject) → IsAnswer volume H replica served piece server →
+    AreKeptEntries volume.members (H ++ Accept replica served piece ∷ []) replica entries →
     AreKeptObjects volume.members H replica mine → AreKeptObjects volume.members (through served H) server theirs →
     AreObjectsMerged volume.members mine theirs entries after →
-    AreKeptObjects volume.members (H ++ Accept replica served ∷ []) replica after
+    AreKeptObjects volume.members (H ++ Accept replica served piece ∷ []) replica after

@@ -1,8 +1,10 @@
 -- The objects that a replica keeps, each with its versions and its cover, and what each event makes of them.
 use Rattle.std.specs.Prelude.{◌≡◌, ◌⊎◌, ◌↔◌, ℕ, List, [], Contains}
 use Rattle.ficus_ids.specs.declared.id.Id.{Id}
+use Rattle.ficus_ids.specs.Kind.{sort_of}
 use Rattle.ficus_ids.specs.declared.kind.Kind.{Kind}
-use Rattle.ficus_ids.specs.declared.kind.Kind.TheVariants.{Dir}
+use Rattle.ficus_ids.specs.declared.kind.Sort.{Sort}
+use Rattle.ficus_ids.specs.declared.kind.Sort.TheVariants.{Directory, Versioned, Fixed}
 use Rattle.ficus_entry.specs.declared.entry.Entry.{Entry as Kept}
 use Rattle.ficus_model.specs.declared.event.Event.{Event}
 use Rattle.ficus_model.specs.declared.event.Op.{Op}
@@ -63,18 +65,24 @@ pub record IsObjectStepped (replica : ℕ) (number : Id) (op : Op) (object after
   pub covered : GivesUp op object.id → after.cover ≡ join object.cover (join_all object.versions)
   pub uncovered : (GivesUp op object.id → ⊥) → after.cover ≡ object.cover
 
--- the versions of an object just made: a directory has none, and a file the first one
-abbrev pub first_versions : ℕ → Kind → List Item
-first_versions replica Dir = []
-first_versions replica kind = advanced replica [] []
+-- the versions of an object for this that was just made with a text: a directory has none, and all else the first one
+abbrev pub first_of : ℕ → List ℕ → Sort → List Item
+first_of replica text Directory = []
+first_of replica text Versioned = advanced replica text []
+first_of replica text Fixed = advanced replica text []
+
+-- and where the object is of this kind
+abbrev pub first_versions : ℕ → List ℕ → Kind → List Item
+first_versions replica text kind = first_of replica text (sort_of kind)
 
 -- an object that the update with this number makes
 pub record IsObjectMade (replica : ℕ) (number : Id) (op : Op) (object : KeptObject) : Type 0 where
   pub dir : Id
   pub name : List ℕ
-  pub makes : op ≡ Make dir name object.kind
+  pub text : List ℕ
+  pub makes : op ≡ Make dir name object.kind text
   pub id : object.id ≡ number
-  pub versions : object.versions ≡ first_versions replica object.kind
+  pub versions : object.versions ≡ first_versions replica text object.kind
   pub cover : object.cover ≡ (λ by. 0)
 
 -- an object of the list, as the update leaves it
@@ -96,7 +104,8 @@ pub record AreObjectsStepped (replica : ℕ) (number : Id) (op : Op) (objects af
   pub from : (object : KeptObject) → Contains after object →
       IsFromObject replica number op objects object ⊎ IsObjectMade replica number op object
   pub kept : (object : KeptObject) → Contains objects object → HasStepped replica number op object after
-  pub made : (dir : Id) (name : List ℕ) (kind : Kind) → op ≡ Make dir name kind → HasObject after number
+  pub made : (dir : Id) (name : List ℕ) (kind : Kind) (text : List ℕ) → op ≡ Make dir name kind text →
+      HasObject after number
 
 -- an entry of the list leads to the object or lies in it
 pub record IsTouched (entries : List Kept) (object : Id) : Type 0 where

@@ -1,7 +1,7 @@
 -- The refusals, by number and word.
 use Rattle.std.specs.Prelude.{ℕ, List, codes}
 use Rattle.ficus_ids.specs.declared.refusal.Refusal.{Refusal}
-use Rattle.ficus_ids.specs.declared.refusal.Refusal.TheVariants.{Memory, NoEntry, NotDir, IsDir, Exists, Ambiguous, NotEmpty, IntoSelf, Conflict, NoConflict, Declined, TooLong, NotOrphan, Spent, Quota, Stale, Down, NoMail, LinkFull, Store, NoFuse, BadMessage, Member, Link, Image, Crossing}
+use Rattle.ficus_ids.specs.declared.refusal.Refusal.TheVariants.{Memory, NoEntry, NotDir, IsDir, Exists, Ambiguous, NotEmpty, IntoSelf, Conflict, NoConflict, Declined, TooLong, NotOrphan, Spent, Quota, Stale, Down, NoMail, LinkFull, Store, NoFuse, BadMessage, Member, Link, Image, Mixed, IsLink, NotLink, Crossing}
 
 abbrev pub refusal_number : Refusal → ℕ
 refusal_number Memory = 0
@@ -29,6 +29,9 @@ refusal_number BadMessage = 21
 refusal_number Member = 22
 refusal_number Link = 23
 refusal_number Image = 24
+refusal_number Mixed = 25
+refusal_number IsLink = 26
+refusal_number NotLink = 27
 refusal_number Crossing = 28
 
 abbrev pub refusal_word : Refusal → List ℕ
@@ -57,4 +60,7 @@ refusal_word BadMessage = codes "badmessage"
 refusal_word Member = codes "member"
 refusal_word Link = codes "link"
 refusal_word Image = codes "image"
+refusal_word Mixed = codes "mixed"
+refusal_word IsLink = codes "islink"
+refusal_word NotLink = codes "notlink"
 refusal_word Crossing = codes "crossing"

@@ -12,7 +12,7 @@ mod number;
 mod refusal;
 
 pub use id::{ATTIC, Id, ROOT, id_order, pseudo_ids};
-pub use kind::Kind;
+pub use kind::{FIXED_LIMIT, Kind, Sort};
 pub use listed::Listed;
 pub use marks::{Marks, same_marks};
 pub use members::Members;

@@ -58,12 +58,18 @@ pub enum Refusal {
     Link,
     /// The disks hold no image that fits.
     Image,
+    /// Pieces of another state of the server are held.
+    Mixed,
+    /// The object is a symbolic link, whose text stays.
+    IsLink = 26,
+    /// A symbolic link is wanted, and the object is another.
+    NotLink = 27,
     /// The two paths of the command end in different volumes.
     Crossing = 28,
 }
 
 impl Refusal {
-    /// Its number, from 0 to 24, or 28.
+    /// Its number, from 0 to 28.
     pub fn number(self) -> u8
         ensures { result ≡ refusal_number self }
     {
@@ -100,6 +106,9 @@ impl Refusal {
             Refusal::Member => "member",
             Refusal::Link => "link",
             Refusal::Image => "image",
+            Refusal::Mixed => "mixed",
+            Refusal::IsLink => "islink",
+            Refusal::NotLink => "notlink",
             Refusal::Crossing => "crossing",
         }
     }

@@ -1,19 +1,29 @@
-ghost use Rattle.std.specs.Prelude.{◌≡◌, ◌↔◌, List, ℕ, ◌++◌, IsTrue, IfOk, IsErrOf};
+ghost use Rattle.std.specs.Prelude.{◌≡◌, ◌≢◌, ◌↔◌, List, ℕ, ◌++◌, Contains, IsTrue, IfOk, IsErrOf};
 ghost use Rattle.ficus_codec.specs.Formats.{tables};
 ghost use Rattle.ficus_formats.specs.Format.{ReadsAll};
 ghost use Rattle.ficus_ids.specs.Members.{IsMember};
+ghost use Rattle.ficus_ids.specs.declared.kind.Kind.TheVariants.{Symlink};
+ghost use Rattle.ficus_file.specs.declared.file.FileReplica.{FileReplica as FileValue};
 ghost use Rattle.ficus_saved.specs.Saved.{FitsImage, HasOwnPast};
 ghost use Rattle.ficus_saved.specs.Tables.{FitsTables};
 ghost use Rattle.ficus_saved.specs.declared.saved.Saved.{Saved as SavedValue};
-ghost use Rattle.ficus_image.specs.Image.{BeginsFront, image, image_parts, image_bytes};
+ghost use Rattle.ficus_image.specs.Image.{BeginsFront, FitsSpelled, HasVersion, IsImageOf, image, image_parts, version_bytes};
+ghost use Rattle.ficus_image.specs.declared.image_version.ImageVersion.{ImageVersion as Version};
 
-use crate::ImageFault;
 use crate::front::read_front;
+use crate::{ImageFault, ImageVersion};
 use ficus_codec::{BYTE_LIMIT, ReadFault, Reader, Saved, UPDATE_LIMIT, read_tables};
 use ficus_entry::Entries;
-use ficus_file::Files;
-use ficus_ids::{Members, Memory};
+use ficus_file::{Files, FilesInOrder};
+use ficus_ids::{Kind, Members, Memory};
 use std::alloc::Global;
+
+/// What bytes spell, and in which version.
+#[derive(Drop)]
+pub(crate) struct Spelled {
+    pub(crate) version: ImageVersion,
+    pub(crate) saved: Saved,
+}
 
 // The tables that the bytes spell which are left, from the first to the last.
 fn read_all_tables(
@@ -34,23 +44,26 @@ fn read_all_tables(
 }
 
 // What stands in front of the tables, and the tables to the end.
-fn read_parts(alloc: Global, reader: Reader<'_>) -> Result<Saved, ReadFault>
+fn read_parts(alloc: Global, reader: Reader<'_>) -> Result<Spelled, ReadFault>
     ensures reads { ReadsAll image_parts reader.entry result }
     ensures memory { IsErrOf result ReadFault.Memory → BeginsFront reader.entry }
 {
     let mut rest = reader;
     let front = read_front(&mut rest)?;
     let (entries, files) = read_all_tables(alloc, rest, front.members)?;
-    Ok(Saved {
-        me: front.me,
-        members: front.members,
-        ids: front.ids,
-        bytes: front.bytes,
-        next: front.next,
-        used: front.used,
-        generation: front.generation,
-        entries,
-        files,
+    Ok(Spelled {
+        version: front.version,
+        saved: Saved {
+            me: front.me,
+            members: front.members,
+            ids: front.ids,
+            bytes: front.bytes,
+            next: front.next,
+            used: front.used,
+            generation: front.generation,
+            entries,
+            files,
+        },
     })
 }
 
@@ -96,37 +109,71 @@ fn fits_image(saved: &Saved) -> Result<bool, Memory>
     Ok(past)
 }
 
+// Whether none of the files is a symbolic link.
+fn are_no_links(files: &FilesInOrder<'_>) -> bool
+    ensures { IsTrue result ↔ ((file : FileValue) → Contains files.now file → file.kind ≢ Symlink) }
+{
+    for index in 0..files.len() {
+        if files.at(index).kind == Kind::Symlink {
+            return false;
+        }
+    }
+    true
+}
+
+// Whether the version spells what is saved.
+fn has_version(version: ImageVersion, saved: &Saved) -> Result<bool, Memory>
+    ensures { IfOk result (λ has. IsTrue has ↔ HasVersion version saved.now) }
+{
+    match version {
+        ImageVersion::First => {
+            let files = saved.files.in_order()?;
+            Ok(are_no_links(&files))
+        }
+        ImageVersion::Second => Ok(true),
+    }
+}
+
+// Whether what was spelled, with tables that may be, may stand in an image of its version.
+fn fits_spelled(spelled: &Spelled) -> Result<bool, Memory>
+    requires { FitsTables spelled.now.saved.members spelled.now.saved.entries spelled.now.saved.files }
+    ensures { IfOk result (λ fits. IsTrue fits ↔ FitsSpelled spelled.now) }
+{
+    if !fits_image(&spelled.saved)? {
+        return Ok(false);
+    }
+    has_version(spelled.version, &spelled.saved)
+}
+
 // What the bytes spell that are left.
-fn read_image(alloc: Global, reader: Reader<'_>) -> Result<Saved, ReadFault>
+fn read_image(alloc: Global, reader: Reader<'_>) -> Result<Spelled, ReadFault>
     ensures reads { ReadsAll image reader.entry result }
     ensures memory { IsErrOf result ReadFault.Memory → BeginsFront reader.entry }
 {
-    let saved = read_parts(alloc, reader)?;
-    if fits_image(&saved)? {
-        Ok(saved)
+    let spelled = read_parts(alloc, reader)?;
+    if fits_spelled(&spelled)? {
+        Ok(spelled)
     } else {
         Err(ReadFault::Unspelled)
     }
 }
 
-/// What the bytes spell, from the first to the last. `NotImage` comes exactly where they spell nothing that a replica
-/// may save; `Memory` only where there stands what every image has in front of its tables.
+/// What the bytes spell, from the first to the last, as an image of either version. `NotImage` comes exactly where they
+/// spell nothing that a replica may save; `Memory` only where there stands what every image has in front of its tables.
 pub fn decode_image(alloc: Global, bytes: &[u8]) -> Result<Saved, ImageFault>
     ensures fits { IfOk result (λ saved. FitsImage saved) }
-    ensures spelled { IfOk result (λ saved. bytes.now ≡ image_bytes saved) }
-    ensures one { (saved : SavedValue) → FitsImage saved → bytes.now ≡ image_bytes saved
-        → IfOk result (λ read. read ≡ saved) }
-    ensures not_image { IsErrOf result ImageFault.NotImage →
-        (saved : SavedValue) → FitsImage saved → bytes.now ≡ image_bytes saved → ⊥ }
+    ensures spelled { IfOk result (λ saved. IsImageOf bytes.now saved) }
+    ensures one { (saved : SavedValue) → IsImageOf bytes.now saved → IfOk result (λ read. read ≡ saved) }
+    ensures not_image { IsErrOf result ImageFault.NotImage → (saved : SavedValue) → IsImageOf bytes.now saved → ⊥ }
     ensures memory { IsErrOf result ImageFault.Memory → BeginsFront bytes.now }
 {
-    let saved = read_image(alloc, Reader::new(bytes))?;
-    Ok(saved)
+    let spelled = read_image(alloc, Reader::new(bytes))?;
+    Ok(spelled.saved)
 }
 
-/// The law that nothing has the spelling of something else, and that no spelling begins another. It does nothing when
-/// it runs.
+/// The law that nothing has the spelling of something else, in whichever versions, and that no spelling begins another.
+/// It does nothing when it runs.
 pub fn one_image()
-    ensures { (m n : SavedValue) (a b : List ℕ) → FitsImage m → FitsImage n → image_bytes m ++ a ≡ image_bytes n ++ b →
-        (m ≡ n) × (a ≡ b) }
+    ensures { (m n : SavedValue) (v w : Version) (a b : List ℕ) → FitsImage m → FitsImage n
+        → version_bytes v m ++ a ≡ version_bytes w n ++ b → (v ≡ w) × (m ≡ n) × (a ≡ b) }
 {}

@@ -1,13 +1,17 @@
-ghost use Rattle.std.specs.Prelude.{◌≡◌, ◌++◌, IfErr, OnErr, OnOk};
+ghost use Rattle.std.specs.Prelude.{◌≡◌, ◌++◌, IfErr, IfNone, IfSome, OnErr, OnOk};
 ghost use Rattle.ficus_formats.specs.Format.{Keeps, Reads};
-ghost use Rattle.ficus_image.specs.Image.{magic, member_count, front, front_of};
+ghost use Rattle.ficus_image.specs.Image.{magic, magic_bytes, member_count, front, front_of};
+ghost use Rattle.ficus_image.specs.declared.image_version.ImageVersion.{ImageVersion as Version};
+ghost use Rattle.ficus_image.specs.declared.image_version.ImageVersion.TheVariants.{Second};
 
+use crate::ImageVersion;
 use ficus_codec::{ReadFault, Reader, Saved, put_bytes, put_u8, put_u32, put_u64};
 use ficus_ids::{Members, Memory};
 
 /// What stands in front of the tables.
 #[derive(Clone, Copy)]
 pub(crate) struct Front {
+    pub(crate) version: ImageVersion,
     pub(crate) me: u8,
     pub(crate) members: Members,
     pub(crate) ids: u32,
@@ -17,14 +21,28 @@ pub(crate) struct Front {
     pub(crate) generation: u64,
 }
 
-// The bytes with which every image begins.
-fn read_magic(reader: &mut Reader<'_>) -> Result<(), ReadFault>
+// The version of the images that begin with these bytes, or `None` exactly where there is none.
+fn version_of(front: &[u8]) -> Option<ImageVersion>
+    ensures found { IfSome result (λ version. front.now ≡ magic_bytes version) }
+    ensures none { IfNone result ((version : Version) → front.now ≡ magic_bytes version → ⊥) }
+{
+    if front == b"FIC1".as_slice() {
+        Some(ImageVersion::First)
+    } else if front == b"FIC2".as_slice() {
+        Some(ImageVersion::Second)
+    } else {
+        None
+    }
+}
+
+// The version, by the bytes with which an image of it begins.
+fn read_magic(reader: &mut Reader<'_>) -> Result<ImageVersion, ReadFault>
     ensures reads { Reads magic reader.old result reader.new }
     ensures unspelled { IfErr result (λ fault. fault ≡ ReadFault.Unspelled) }
 {
     match reader.front(4) {
-        Some(front) if front == b"FIC1".as_slice() => Ok(()),
-        _ => Err(ReadFault::Unspelled),
+        Some(front) => version_of(front).ok_or(ReadFault::Unspelled),
+        None => Err(ReadFault::Unspelled),
     }
 }
 
@@ -42,8 +60,8 @@ pub(crate) fn read_front(reader: &mut Reader<'_>) -> Result<Front, ReadFault>
     ensures reads { Reads front reader.old result reader.new }
     ensures unspelled { IfErr result (λ fault. fault ≡ ReadFault.Unspelled) }
 {
-    read_magic(reader)?;
     Ok(Front {
+        version: read_magic(reader)?,
         me: reader.byte()?,
         members: read_member_count(reader)?,
         ids: reader.number32()?,
@@ -54,12 +72,12 @@ pub(crate) fn read_front(reader: &mut Reader<'_>) -> Result<Front, ReadFault>
     })
 }
 
-/// Appends what stands in front of the tables.
+/// Appends what stands in front of the tables, in the version that is written.
 pub(crate) fn put_front(out: &mut Vec<u8>, saved: &Saved) -> Result<(), Memory>
-    ensures put { OnOk result (out.new.items ≡ out.old.items ++ front.spell (front_of saved.now)) }
+    ensures put { OnOk result (out.new.items ≡ out.old.items ++ front.spell (front_of Second saved.now)) }
     ensures kept { OnErr result (Keeps out.old.items out.new.items) }
 {
-    put_bytes(out, b"FIC1")?;
+    put_bytes(out, b"FIC2")?;
     put_u8(out, saved.me)?;
     put_u8(out, saved.members.count())?;
     put_u32(out, saved.ids)?;

@@ -22,7 +22,7 @@ use Rattle.ficus_laws.proofs.OneMore.{within_more, same_accept, same_seen}
 pub ask_before_serve : (volume : Volume) (H : List Event) {served replica : ℕ} → IsLawful volume H →
     (answer : AnswersOpenAsk H served replica) → answer.ask < served
 ask_before_serve volume H {served} lawful answer =
-    (at_from_before served (lawful.each served (Serve answer.server answer.ask) answer.served).asked).0
+    (at_from_before served (lawful.each served (Serve answer.server answer.ask answer.state answer.pieces) answer.served).asked).0
 
 -- nobody asks itself
 pub server_differs : (volume : Volume) (H : List Event) {served replica : ℕ} → IsLawful volume H →
@@ -33,16 +33,16 @@ server_differs volume H {replica = replica} lawful answer =
 -- Where the answer at a position may be taken, each event of the server that the replica has heard of is earlier:
 -- the replica got it through an Accept, none came after the ask, and the ask was served later.
 module _ (volume : Volume) (H : List Event) (served replica : ℕ) (lawful : IsLawful volume H) (answer : AnswersOpenAsk H served replica) where
-  accept_before_ask : {position by serve : ℕ} → IsAt H position (Accept by serve) → by ≡ replica → position < answer.ask
-  accept_before_ask {position} {by} {serve} a own = go (cases_order position answer.ask)
+  accept_before_ask : {position by serve piece : ℕ} → IsAt H position (Accept by serve piece) → by ≡ replica → position < answer.ask
+  accept_before_ask {position} {by} {serve} {piece} a own = go (cases_order position answer.ask)
     where
       clash : position ≡ answer.ask → ⊥
-      clash h = let e : Accept by serve ≡ Ask replica answer.server = at_same a (rw h answer.open_ask.ask) in cc
+      clash h = let e : Accept by serve piece ≡ Ask replica answer.server = at_same a (rw h answer.open_ask.ask) in cc
 
       go : (position ≡ answer.ask) ⊎ ((position < answer.ask) ⊎ (answer.ask < position)) → position < answer.ask
       go (inl h) = absurd (clash h)
       go (inr (inl h)) = h
-      go (inr (inr h)) = absurd (answer.open_ask.latest position (Accept by serve) h a own)
+      go (inr (inr h)) = absurd (answer.open_ask.latest position (Accept by serve piece) h a own)
 
   seen_before_served : {at position : ℕ} → HasSeen H at position → IsOf H at replica → IsOf H position answer.server →
       position < served
@@ -60,14 +60,14 @@ module _ (volume : Volume) (H : List Event) (served replica : ℕ) (lawful : IsL
   known_before_served k his = seen_before_served k.seen k.own his
 
 -- What a replica knows once it has taken what this server served at this position.
-module _ (H : List Event) (replica served server : ℕ) (by_server : IsOf H served server) where
+module _ (H : List Event) (replica served piece server : ℕ) (by_server : IsOf H served server) where
   abbrev after : List Event
-  after = H ++ Accept replica served ∷ []
+  after = H ++ Accept replica served piece ∷ []
 
   -- of the positions before, it knows what it knew and what the server knew when it served
   pub accept_knows : {position : ℕ} → Knows after replica position → position < length H →
       Knows H replica position ⊎ Knows (through served H) server position
-  accept_knows {position} k h = go (knows_accept served k)
+  accept_knows {position} k h = go (knows_accept served piece k)
     where
       go : Knows H replica position ⊎ ((position ≡ length H) ⊎ HasSeen H served position) →
           Knows H replica position ⊎ Knows (through served H) server position
@@ -76,22 +76,22 @@ module _ (H : List Event) (replica served server : ℕ) (by_server : IsOf H serv
       go (inr (inr seen)) = inr (seen_knows by_server seen)
 
   pub accept_keeps : {position : ℕ} → Knows H replica position → Knows after replica position
-  accept_keeps k = knows_more (Accept replica served ∷ []) k
+  accept_keeps k = knows_more (Accept replica served piece ∷ []) k
 
   pub accept_brings : {position : ℕ} → Knows (through served H) server position → Knows after replica position
-  accept_brings k = knows_heard replica (knows_seen by_server k)
+  accept_brings k = knows_heard replica piece (knows_seen by_server k)
 
   within_served : UpdatesWithin (through served H) (Knows (through served H) server) H
       (Joined (Knows H replica) (HasSeen H served))
   within_served = within_chain (same_seen H served server by_server).back within_joined_right
 
   within_after : UpdatesWithin (through served H) (Knows (through served H) server) after (Knows after replica)
-  within_after = within_chain within_served (same_accept H replica served).there
+  within_after = within_chain within_served (same_accept H replica served piece).there
 
   -- what is entered and removed then was so at one of the two
   pub accept_entered : {entry : ModelEntry} → IsEntered after (Knows after replica) entry →
       IsEntered H (Knows H replica) entry ⊎ IsEntered (through served H) (Knows (through served H) server) entry
-  accept_entered {entry} e = go (entered_either (entered_within (same_accept H replica served).back e))
+  accept_entered {entry} e = go (entered_either (entered_within (same_accept H replica served piece).back e))
     where
       go : IsEntered H (Knows H replica) entry ⊎ IsEntered H (HasSeen H served) entry →
           IsEntered H (Knows H replica) entry ⊎ IsEntered (through served H) (Knows (through served H) server) entry
@@ -100,7 +100,7 @@ module _ (H : List Event) (replica served server : ℕ) (by_server : IsOf H serv
 
   pub accept_removed : {id : Id} → IsRemoved after (Knows after replica) id →
       IsRemoved H (Knows H replica) id ⊎ IsRemoved (through served H) (Knows (through served H) server) id
-  accept_removed {id} r = go (removed_either (removed_within (same_accept H replica served).back r))
+  accept_removed {id} r = go (removed_either (removed_within (same_accept H replica served piece).back r))
     where
       go : IsRemoved H (Knows H replica) id ⊎ IsRemoved H (HasSeen H served) id →
           IsRemoved H (Knows H replica) id ⊎ IsRemoved (through served H) (Knows (through served H) server) id
@@ -109,7 +109,7 @@ module _ (H : List Event) (replica served server : ℕ) (by_server : IsOf H serv
 
   pub accept_made : {object : Id} {kind : Kind} → IsMade after (Knows after replica) object kind →
       IsMade H (Knows H replica) object kind ⊎ IsMade (through served H) (Knows (through served H) server) object kind
-  accept_made {object} {kind} m = go (made_either (made_within (same_accept H replica served).back m))
+  accept_made {object} {kind} m = go (made_either (made_within (same_accept H replica served piece).back m))
     where
       go : IsMade H (Knows H replica) object kind ⊎ IsMade H (HasSeen H served) object kind →
           IsMade H (Knows H replica) object kind ⊎
@@ -120,7 +120,7 @@ module _ (H : List Event) (replica served server : ℕ) (by_server : IsOf H serv
   pub made_accept : {object : Id} {kind : Kind} →
       IsMade H (Knows H replica) object kind ⊎ IsMade (through served H) (Knows (through served H) server) object kind →
       IsMade after (Knows after replica) object kind
-  made_accept (inl own) = made_within (within_more H (Accept replica served ∷ []) replica) own
+  made_accept (inl own) = made_within (within_more H (Accept replica served piece ∷ []) replica) own
   made_accept (inr his) = made_within within_after his
 
   -- what is alive then was entered at one of the two and is removed at neither
@@ -128,7 +128,7 @@ module _ (H : List Event) (replica served server : ℕ) (by_server : IsOf H serv
       IsLiveJoined H (Knows H replica) (through served H) (Knows (through served H) server) entry
   accept_live {entry} l = record {
     entered = accept_entered l.entered;
-    kept = λ r. l.not_removed (removed_within (within_more H (Accept replica served ∷ []) replica) r);
+    kept = λ r. l.not_removed (removed_within (within_more H (Accept replica served piece ∷ []) replica) r);
     kept_there = λ r. l.not_removed (removed_within within_after r);
   }
 
@@ -140,7 +140,7 @@ module _ (H : List Event) (replica served server : ℕ) (by_server : IsOf H serv
       entered : IsEntered H (Knows H replica) entry ⊎
           IsEntered (through served H) (Knows (through served H) server) entry →
           IsEntered after (Knows after replica) entry
-      entered (inl own) = entered_within (within_more H (Accept replica served ∷ []) replica) own
+      entered (inl own) = entered_within (within_more H (Accept replica served piece ∷ []) replica) own
       entered (inr his) = entered_within within_after his
 
       removed : IsRemoved H (Knows H replica) entry.id ⊎

@@ -17,7 +17,7 @@ pub enters_none : (entry : ModelEntry) → None ≡ Some entry → ⊥
 enters_none entry e = cc
 
 entered_ids : (number : Id) (op : Op) → IfSome (entered_by number op) (λ entry. entry.id ≡ number)
-entered_ids number (Make dir name kind) = refl
+entered_ids number (Make dir name kind text) = refl
 entered_ids number (Link dir name target) = refl
 entered_ids number (Move entries dir name target) = refl
 entered_ids number (Adopt file dir name) = refl
@@ -100,22 +100,22 @@ module _ (H : List Event) (replica : ℕ) (op : Op) where
   -- what is made then was made, or it is new
   pub made_after : {object : Id} {kind : Kind} → IsMade after (Knows after replica) object kind →
       IsMade H (Knows H replica) object kind ⊎
-      ((object ≡ next_number replica H) × (dir : Id) × (name : List ℕ) × (op ≡ Make dir name kind))
+      ((object ≡ next_number replica H) × (dir : Id) × (name : List ℕ) × (text : List ℕ) × (op ≡ Make dir name kind text))
   made_after {object} {kind} m =
       go (has_after_update op (record { position = m.position; known = m.known; update = m.update }))
     where
-      go : HasUpdate H (Knows H replica) object (Make m.dir m.name kind) ⊎
-          ((object ≡ next_number replica H) × (Make m.dir m.name kind ≡ op)) →
+      go : HasUpdate H (Knows H replica) object (Make m.dir m.name kind m.text) ⊎
+          ((object ≡ next_number replica H) × (Make m.dir m.name kind m.text ≡ op)) →
           IsMade H (Knows H replica) object kind ⊎
-          ((object ≡ next_number replica H) × (dir : Id) × (name : List ℕ) × (op ≡ Make dir name kind))
+          ((object ≡ next_number replica H) × (dir : Id) × (name : List ℕ) × (text : List ℕ) × (op ≡ Make dir name kind text))
       go (inl was) =
-          inl (record { position = was.position; dir = m.dir; name = m.name; known = was.known; update = was.update })
-      go (inr (next, same)) = inr (next, m.dir, m.name, sym same)
+          inl (record { position = was.position; dir = m.dir; name = m.name; text = m.text; known = was.known; update = was.update })
+      go (inr (next, same)) = inr (next, m.dir, m.name, m.text, sym same)
 
 -- A Make enters its entry, makes its object and removes nothing.
-module _ (H : List Event) (replica : ℕ) (dir : Id) (name : List ℕ) (kind : Kind) where
+module _ (H : List Event) (replica : ℕ) (dir : Id) (name : List ℕ) (kind : Kind) (text : List ℕ) where
   abbrev make : Op
-  make = Make dir name kind
+  make = Make dir name kind text
 
   abbrev once_made : List Event
   once_made = H ++ Update replica make ∷ []
@@ -146,15 +146,15 @@ module _ (H : List Event) (replica : ℕ) (dir : Id) (name : List ℕ) (kind : K
   make_made {object} {made} m = go (made_after H replica make m)
     where
       go : IsMade H (Knows H replica) object made ⊎
-          ((object ≡ next_number replica H) × (dir : Id) × (name : List ℕ) × (make ≡ Make dir name made)) →
+          ((object ≡ next_number replica H) × (dir : Id) × (name : List ℕ) × (text : List ℕ) × (make ≡ Make dir name made text)) →
           IsMade H (Knows H replica) object made ⊎ ((object ≡ next_number replica H) × (made ≡ kind))
       go (inl was) = inl was
-      go (inr (next, other, called, same)) =
-          inr (next, (let e : Make dir name kind ≡ Make other called made = same in cc))
+      go (inr (next, other, called, other_text, same)) =
+          inr (next, (let e : Make dir name kind text ≡ Make other called made other_text = same in cc))
 
   pub make_made_kept : {object : Id} {made : Kind} → IsMade H (Knows H replica) object made →
       IsMade once_made (Knows once_made replica) object made
   make_made_kept m = made_within (within_more H (Update replica make ∷ []) replica) m
 
   pub make_made_new : IsMade once_made (Knows once_made replica) (next_number replica H) kind
-  make_made_new = let u = has_end H replica make in record { position = u.position; dir = dir; name = name; known = u.known; update = u.update }
+  make_made_new = let u = has_end H replica make in record { position = u.position; dir = dir; name = name; text = text; known = u.known; update = u.update }

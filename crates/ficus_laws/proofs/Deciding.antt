@@ -126,37 +126,37 @@ update_decided H P decide position = go (cases_lt position (length H))
 -- an event that hasn't seen a position: it is another, no earlier event of its replica has, and it wasn't told
 refuted : {H : List Event} {at seen replica : ℕ} → IsOf H at replica → (at ≡ seen → ⊥) →
     ((old : ℕ) → old < at → IsOf H old replica × HasSeen H old seen → ⊥) →
-    ((taker served : ℕ) → served < at → IsAt H at (Accept taker served) → HasSeen H served seen → ⊥) →
+    ((taker served piece : ℕ) → served < at → IsAt H at (Accept taker served piece) → HasSeen H served seen → ⊥) →
     HasSeen H at seen → ⊥
 refuted here other own told (Itself o) = other refl
 refuted {H} here other own told (Earlier {old = old} o p l s) =
     own old l (subst (λ by. IsOf H old by) (of_same o here) p, s)
-refuted here other own told (Heard {served = served} {replica = taker} a l s) = told taker served l a s
+refuted here other own told (Heard {served = served} {piece = piece} {replica = taker} a l s) = told taker served piece l a s
 
 -- In each of these it is decided what the earlier events have seen of a position.
 module _ (H : List Event) (at seen : ℕ) (earlier : (old : ℕ) → old < at → Decided (HasSeen H old seen)) where
   -- the event takes what was served where the position had been seen
   abbrev IsToldOf : Type 0
-  IsToldOf = (taker : ℕ) × (served : ℕ) × (served < at) × IsAt H at (Accept taker served) × HasSeen H served seen
+  IsToldOf = (taker : ℕ) × (served : ℕ) × (piece : ℕ) × (served < at) × IsAt H at (Accept taker served piece) × HasSeen H served seen
 
-  takes_nothing : (event : Event) → IsAt H at event → ((taker served : ℕ) → event ≡ Accept taker served → ⊥) →
+  takes_nothing : (event : Event) → IsAt H at event → ((taker served piece : ℕ) → event ≡ Accept taker served piece → ⊥) →
       Decided IsToldOf
-  takes_nothing event a none = inr (λ told. none told.0 told.1 (at_same a told.3))
+  takes_nothing event a none = inr (λ told. none told.0 told.1 told.2 (at_same a told.4))
 
   told_decided : (event : Event) → IsAt H at event → Decided IsToldOf
-  told_decided (Accept by serve) a = go (cases_lt serve at)
+  told_decided (Accept by serve piece) a = go (cases_lt serve at)
     where
-      same : {taker served : ℕ} → IsAt H at (Accept taker served) → served ≡ serve
-      same {taker} {served} b = let e : Accept by serve ≡ Accept taker served = at_same a b in cc
+      same : {taker served other : ℕ} → IsAt H at (Accept taker served other) → served ≡ serve
+      same {taker} {served} {other} b = let e : Accept by serve piece ≡ Accept taker served other = at_same a b in cc
 
       was : serve < at → Decided (HasSeen H serve seen) → Decided IsToldOf
-      was h (inl s) = inl (by, serve, h, a, s)
-      was h (inr none) = inr (λ told. none (subst (λ served. HasSeen H served seen) (same told.3) told.4))
+      was h (inl s) = inl (by, serve, piece, h, a, s)
+      was h (inr none) = inr (λ told. none (subst (λ served. HasSeen H served seen) (same told.4) told.5))
 
       go : (serve < at) ⊎ (at ≤ serve) → Decided IsToldOf
       go (inl h) = was h (earlier serve h)
-      go (inr h) = inr (λ told. let e = same told.3 in let l = told.2 in omega arith)
-  told_decided event a = takes_nothing event a (λ taker served e. cc)
+      go (inr h) = inr (λ told. let e = same told.4 in let l = told.3 in omega arith)
+  told_decided event a = takes_nothing event a (λ taker served piece e. cc)
 
   abbrev HasOwn : ℕ → ℕ → Type 0
   HasOwn by old = IsOf H old by × HasSeen H old seen
@@ -173,9 +173,9 @@ module _ (H : List Event) (at seen : ℕ) (earlier : (old : ℕ) → old < at �
           Decided (HasSeen H at seen)
       step event a (inl same) own told = inl (subst (λ position. HasSeen H at position) same (Itself (of_at a)))
       step event a (inr other) (inl (old, found)) told = inl (Earlier (of_at a) found.holds.0 found.below found.holds.1)
-      step event a (inr other) (inr none) (inl told) = inl (Heard told.3 told.2 told.4)
+      step event a (inr other) (inr none) (inl told) = inl (Heard told.4 told.3 told.5)
       step event a (inr other) (inr none) (inr untold) =
-          inr (refuted (of_at a) other none (λ taker served h b s. untold (taker, served, h, b, s)))
+          inr (refuted (of_at a) other none (λ taker served piece h b s. untold (taker, served, piece, h, b, s)))
 
       go : ((event : Event) × IsAt H at event) ⊎ (length H ≤ at) → Decided (HasSeen H at seen)
       go (inl (event, a)) = step event a (cases_eq at seen)

@@ -10,7 +10,7 @@ use Rattle.ficus_model.specs.declared.event.Op.{Op}
 use Rattle.ficus_model.specs.declared.event.Op.TheVariants.{Make}
 use Rattle.ficus_model.specs.Known.{Knows}
 use Rattle.ficus_model.specs.Live.{IsLive}
-use Rattle.ficus_model.specs.Lawful.{IsLawful, HasPlace}
+use Rattle.ficus_model.specs.Lawful.{FitsBytes, IsLawful, HasPlace}
 use Rattle.ficus_model.specs.Reached.IsReached.{Base}
 use Rattle.ficus_laws.specs.Accepts.{pulled}
 use Rattle.ficus_laws.specs.Laws.{small_volume, small_history, small_entry}
@@ -22,12 +22,12 @@ use Rattle.ficus_laws.proofs.Issued.{next_not_removed}
 use Rattle.ficus_laws.proofs.Pull.{lawful_pulled, live_pulled}
 
 made : Op
-made = Make ROOT (codes "a") Plain
+made = Make ROOT (codes "a") Plain []
 
 start : List Event
 start = Update 2 made ∷ []
 
-small_is : pulled start 1 2 ≡ small_history
+small_is : pulled start 1 2 0 ≡ small_history
 unfolding start made
 small_is = refl
 
@@ -41,14 +41,18 @@ first = record { at_least = omega arith; at_most = omega arith }
 second : IsMember 2 2
 second = record { at_least = omega arith; at_most = omega arith }
 
+within : FitsBytes small_volume [] 2 []
+within = record { one_file = omega arith; left = omega arith }
+
 start_lawful : IsLawful small_volume start
 unfolding start made
 start_lawful =
-    lawful_more small_volume [] (Update 2 made) (lawful_none small_volume) (record { member = second; left = omega arith; bytes = tt; allowed = place })
+    lawful_more small_volume [] (Update 2 made) (lawful_none small_volume)
+    (record { member = second; left = omega arith; bytes = within; allowed = record { place = place; fits = refl } })
 
 entry_lives : IsLive start (Knows start 2) small_entry
 unfolding start made
-entry_lives = make_new [] 2 ROOT (codes "a") Plain (next_not_removed small_volume [] 2 (lawful_none small_volume))
+entry_lives = make_new [] 2 ROOT (codes "a") Plain [] (next_not_removed small_volume [] 2 (lawful_none small_volume))
 
 knows_nothing : {position : ℕ} → Knows start 1 position → ⊥
 unfolding start
@@ -56,11 +60,11 @@ knows_nothing k = knows_none (knows_of_other {H = []} (Update 2 made) (omega ari
 
 pub small_lawful : IsLawful small_volume small_history
 small_lawful =
-    subst (IsLawful small_volume) small_is (lawful_pulled start 1 2 small_volume first second (omega arith) start_lawful)
+    subst (IsLawful small_volume) small_is (lawful_pulled start 1 2 0 small_volume first second (omega arith) start_lawful)
 
 pub small_brought : IsLive small_history (Knows small_history 1) small_entry
 small_brought =
-    subst (λ H. IsLive H (Knows H 1) small_entry) small_is (live_pulled start 1 2 (record {
+    subst (λ H. IsLive H (Knows H 1) small_entry) small_is (live_pulled start 1 2 0 (record {
       entered = inr entry_lives.entered;
       kept = λ r. knows_nothing r.known;
       kept_there = entry_lives.not_removed;

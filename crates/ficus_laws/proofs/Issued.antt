@@ -73,7 +73,7 @@ entered_once {H} {U} {V} {entry} {other} e f same =
 pub made_once : {H : List Event} {U V : ℕ → Type 0} {object : Id} {kind other : Kind} → IsMade H U object kind →
     IsMade H V object other → kind ≡ other
 made_once {H} {object = object} {kind = kind} {other = other} m n =
-    let done : Make m.dir m.name kind ≡ Make n.dir n.name other = (update_once m.update n.update).1 in
+    let done : Make m.dir m.name kind m.text ≡ Make n.dir n.name other n.text = (update_once m.update n.update).1 in
     cc
 
 pub made_issued : {H : List Event} {U : ℕ → Type 0} {object : Id} {kind : Kind} → IsMade H U object kind →

@@ -59,11 +59,12 @@ knows_seen {H} {at} {replica} {position} o k = go (cases_lt k.last at)
     go (inl h) = Earlier o own.1 h seen
     go (inr h) = let here : k.last ≡ at = omega (arith, own.0) in rw here at seen
 
-takes : (replica served : ℕ) (event : Event) → Accept replica served ≡ event → Takes event served
-takes replica served event h = subst (λ x. Takes x served) h refl
+takes : (replica served piece : ℕ) (event : Event) → Accept replica served piece ≡ event → Takes event served
+takes replica served piece event h = subst (λ x. Takes x served) h refl
 
-takes_accept : (event : Event) (served : ℕ) → Takes event served → event ≡ Accept (actor event) served
-takes_accept (Accept by serve) served t = ap (Accept by) t
+takes_accept : (event : Event) (served : ℕ) → Takes event served →
+    (piece : ℕ) × (event ≡ Accept (actor event) served piece)
+takes_accept (Accept by serve piece) served t = (piece, ap (λ v. Accept by v piece) t)
 takes_accept event served t = absurd t
 
 end_of : (H : List Event) (event : Event) (at : ℕ) → at ≡ length H → IsOf (H ++ event ∷ []) at (actor event)
@@ -85,8 +86,8 @@ end_seen {at} H event h (Earlier {old = old} o p l s) =
     let own : IsOf (H ++ event ∷ []) old (actor event) = rw (of_same (end_of H event at h) o) p in
     let b : old < length H = omega arith in
     inl (record { last = old; own = of_less (event ∷ []) own b; seen = seen_less (event ∷ []) s b })
-end_seen {at} H event h (Heard {served = served} {replica = replica} a l s) =
-    let t = takes replica served event (sym (end_is H event (Accept replica served) at h a)) in
+end_seen {at} H event h (Heard {served = served} {piece = piece} {replica = replica} a l s) =
+    let t = takes replica served piece event (sym (end_is H event (Accept replica served piece) at h a)) in
     inr (inr (told event t (seen_less (event ∷ []) s (omega arith))))
 
 -- what a replica knows after one more event, and what it then knows
@@ -119,7 +120,7 @@ knows_after {H} {replica} {position} event (inr (h, inr t)) = record {
   last = length H;
   own = subst (λ q. IsOf (H ++ event ∷ []) (length H) q) h (of_end H event);
   seen = Heard
-      (subst (λ x. IsAt (H ++ event ∷ []) (length H) x) (takes_accept event t.served t.takes) (at_end H event))
+      (subst (λ x. IsAt (H ++ event ∷ []) (length H) x) (takes_accept event t.served t.takes).1 (at_end H event))
       (of_within t.earlier)
       (seen_more (event ∷ []) (knows_seen t.earlier t.known));
 }
@@ -152,22 +153,22 @@ knows_less {H} {replica} {position} event untold k h = go (knows_untold event un
     go (inr p) = absurd (omega arith)
 
 -- an Accept adds its own position and what the event that it takes has seen, and nothing else
-pub knows_accept : {H : List Event} {replica position : ℕ} (served : ℕ) →
-    Knows (H ++ Accept replica served ∷ []) replica position →
+pub knows_accept : {H : List Event} {replica position : ℕ} (served piece : ℕ) →
+    Knows (H ++ Accept replica served piece ∷ []) replica position →
     Knows H replica position ⊎ ((position ≡ length H) ⊎ HasSeen H served position)
-knows_accept {H} {replica} {position} served k = go (knows_cases (Accept replica served) k)
+knows_accept {H} {replica} {position} served piece k = go (knows_cases (Accept replica served piece) k)
   where
-    go : IsKnownAfter H (Accept replica served) replica position →
+    go : IsKnownAfter H (Accept replica served piece) replica position →
         Knows H replica position ⊎ ((position ≡ length H) ⊎ HasSeen H served position)
     go (inl b) = inl b
     go (inr (h, inl p)) = inr (inl p)
     go (inr (h, inr t)) = inr (inr (rw t.takes (knows_seen t.earlier t.known)))
 
-pub knows_heard : {H : List Event} {served position : ℕ} (replica : ℕ) → HasSeen H served position →
-    Knows (H ++ Accept replica served ∷ []) replica position
-knows_heard {H} {served} replica s =
+pub knows_heard : {H : List Event} {served position : ℕ} (replica piece : ℕ) → HasSeen H served position →
+    Knows (H ++ Accept replica served piece ∷ []) replica position
+knows_heard {H} {served} replica piece s =
     record {
       last = length H;
-      own = of_end H (Accept replica served);
-      seen = Heard (at_end H (Accept replica served)) (seen_within s).1 (seen_more (Accept replica served ∷ []) s);
+      own = of_end H (Accept replica served piece);
+      seen = Heard (at_end H (Accept replica served piece)) (seen_within s).1 (seen_more (Accept replica served piece ∷ []) s);
     }

@@ -10,6 +10,7 @@ pub mod Lawful
 pub mod Removable
 pub mod Issued
 pub mod Accept
+pub mod Takes
 pub mod Pull
 pub mod Example
 pub mod Places

@@ -61,7 +61,7 @@ same_of_other H event replica other = record {
     go number op (inr (of, rest)) = absurd (other of)
 
 pub quiet_takes : (event : Event) (served : ℕ) → IsQuiet event → Takes event served → ⊥
-quiet_takes (Accept by serve) served quiet takes = quiet
+quiet_takes (Accept by serve piece) served quiet takes = quiet
 quiet_takes event served quiet takes = takes
 
 -- nor does one that is no update and takes nothing
@@ -101,16 +101,16 @@ has_after_update {H} {replica} {number} {op} done u = go (has_cases (Update repl
     go (inr (of, inr told)) = absurd told.known.takes
 
 -- an Accept adds the updates that the event which it takes has seen
-pub same_accept : (H : List Event) (replica served : ℕ) →
+pub same_accept : (H : List Event) (replica served piece : ℕ) →
     SameUpdates H (Joined (Knows H replica) (HasSeen H served))
-    (H ++ Accept replica served ∷ []) (Knows (H ++ Accept replica served ∷ []) replica)
-same_accept H replica served = record {
+    (H ++ Accept replica served piece ∷ []) (Knows (H ++ Accept replica served piece ∷ []) replica)
+same_accept H replica served piece = record {
   there = record { has = λ number op u. joined (has_either u) };
-  back = record { has = λ number op u. go number op (has_cases (Accept replica served) u) };
+  back = record { has = λ number op u. go number op (has_cases (Accept replica served piece) u) };
 }
   where
     event : Event
-    event = Accept replica served
+    event = Accept replica served piece
 
     joined : {number : Id} {op : Op} →
         HasUpdate H (Knows H replica) number op ⊎ HasUpdate H (HasSeen H served) number op →
@@ -118,7 +118,7 @@ same_accept H replica served = record {
     joined (inl u) =
         record { position = u.position; known = knows_more (event ∷ []) u.known; update = update_more (event ∷ []) u.update }
     joined (inr u) =
-        record { position = u.position; known = knows_heard replica u.known; update = update_more (event ∷ []) u.update }
+        record { position = u.position; known = knows_heard replica piece u.known; update = update_more (event ∷ []) u.update }
 
     go : (number : Id) (op : Op) →
         HasUpdate H (Knows H replica) number op ⊎
@@ -126,7 +126,7 @@ same_accept H replica served = record {
         (((event ≡ Update replica op) × (number ≡ next_number replica H)) ⊎ HasUpdate H (IsTold H event) number op)) →
         HasUpdate H (Joined (Knows H replica) (HasSeen H served)) number op
     go number op (inl u) = record { position = u.position; known = inl u.known; update = u.update }
-    go number op (inr (of, inl (is, next))) = (let clash : Accept replica served ≡ Update replica op = is in cc)
+    go number op (inr (of, inl (is, next))) = (let clash : Accept replica served piece ≡ Update replica op = is in cc)
     go number op (inr (of, inr told)) =
         record { position = told.position; known = inr (rw told.known.takes (knows_seen told.known.earlier told.known.known)); update = told.update }
 

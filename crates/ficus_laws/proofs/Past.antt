@@ -28,8 +28,8 @@ pub update_seen : {H : List Event} {position seen replica : ℕ} {op : Op} →
 update_seen a (Itself o) = inl refl
 update_seen a (Earlier {old = old} {replica = replica} o p l s) =
     inr (record { replica = replica; own = o; known = record { last = old; own = of_before l p; seen = seen_before l s } })
-update_seen {replica = replica} {op = op} a (Heard {served = served} {replica = taker} b l s) =
-    absurd (let e : Update replica op ≡ Accept taker served = at_same a b in cc)
+update_seen {replica = replica} {op = op} a (Heard {served = served} {piece = piece} {replica = taker} b l s) =
+    absurd (let e : Update replica op ≡ Accept taker served piece = at_same a b in cc)
 
 -- the past of what is in the past is in the past
 pub past_through : {H : List Event} {position middle earlier : ℕ} →

@@ -56,8 +56,8 @@ orphan_made {H} {U} {object} orphan = go orphan.kept
 entered_place : (H : List Event) (U : ℕ → Type 0) (number : Id) (op : Op) (entry : ModelEntry) → IsAllowed H U op →
     entered_by number op ≡ Some entry →
     IsDirectory H U entry.dir ⊎ ((entry.dir ≡ ATTIC) × Contains (removed_by number op) number)
-entered_place H U number (Make dir name kind) entry place enters =
-    inl (subst (λ found. IsDirectory H U found.dir) (same_Some (entry_of number dir name number) entry enters) place.parent.directory)
+entered_place H U number (Make dir name kind text) entry may enters =
+    inl (subst (λ found. IsDirectory H U found.dir) (same_Some (entry_of number dir name number) entry enters) may.place.parent.directory)
 entered_place H U number (Link dir name target) entry may enters =
     inl (subst (λ found. IsDirectory H U found.dir) (same_Some (entry_of number dir name target) entry enters) may.place.parent.directory)
 entered_place H U number (Move entries dir name target) entry may enters =
@@ -112,9 +112,18 @@ module _ {H K : List Event} {U V : ℕ → Type 0} (more : UpdatesWithin K V H U
 
   target_made : (number : Id) (op : Op) (entry : ModelEntry) → HasUpdate H U number op → IsAllowed K V op →
       entered_by number op ≡ Some entry → (kind : Kind) × IsMade H U entry.target kind
-  target_made number (Make dir name kind) entry u may enters =
-      let same = same_Some (entry_of number dir name number) entry enters in
-      (kind, subst (λ found. IsMade H U found.target kind) same (record { position = u.position; dir = dir; name = name; known = u.known; update = u.update }))
+  target_made number (Make dir name kind text) entry u may enters =
+      let same = same_Some (entry_of number dir name number) entry enters in (
+        kind,
+        subst (λ found. IsMade H U found.target kind) same (record {
+          position = u.position;
+          dir = dir;
+          name = name;
+          text = text;
+          known = u.known;
+          update = u.update;
+        }),
+      )
   target_made number (Link dir name target) entry u may enters =
       known_target dir name enters (may.is_file.kind, may.is_file.made)
   target_made number (Move entries dir name target) entry u may enters =

@@ -56,8 +56,8 @@ removed_within more r =
 pub made_within : {H K : List Event} {U V : ℕ → Type 0} {object : Id} {kind : Kind} → UpdatesWithin H U K V →
     IsMade H U object kind → IsMade K V object kind
 made_within {object} {kind} more m =
-    let u = more.has object (Make m.dir m.name kind) (record { position = m.position; known = m.known; update = m.update }) in
-    record { position = u.position; dir = m.dir; name = m.name; known = u.known; update = u.update }
+    let u = more.has object (Make m.dir m.name kind m.text) (record { position = m.position; known = m.known; update = m.update }) in
+    record { position = u.position; dir = m.dir; name = m.name; text = m.text; known = u.known; update = u.update }
 
 pub directory_within : {H K : List Event} {U V : ℕ → Type 0} {object : Id} → UpdatesWithin H U K V →
     IsDirectory H U object → IsDirectory K V object
@@ -134,12 +134,12 @@ entered_has e = record { position = e.position; known = e.known; update = e.upda
 pub removed_has : {H : List Event} {U : ℕ → Type 0} {id : Id} (r : IsRemoved H U id) → HasUpdate H U r.number r.op
 removed_has r = record { position = r.position; known = r.known; update = r.update }
 
-pub made_from : {H : List Event} {U : ℕ → Type 0} {object dir : Id} {name : List ℕ} {kind : Kind} →
-    HasUpdate H U object (Make dir name kind) → IsMade H U object kind
-made_from {dir} {name} u = record { position = u.position; dir = dir; name = name; known = u.known; update = u.update }
+pub made_from : {H : List Event} {U : ℕ → Type 0} {object dir : Id} {name text : List ℕ} {kind : Kind} →
+    HasUpdate H U object (Make dir name kind text) → IsMade H U object kind
+made_from {dir} {name} {text} u = record { position = u.position; dir = dir; name = name; text = text; known = u.known; update = u.update }
 
 pub made_has : {H : List Event} {U : ℕ → Type 0} {object : Id} {kind : Kind} (m : IsMade H U object kind) →
-    HasUpdate H U object (Make m.dir m.name kind)
+    HasUpdate H U object (Make m.dir m.name kind m.text)
 made_has m = record { position = m.position; known = m.known; update = m.update }
 
 pub entered_either : {H : List Event} {U V : ℕ → Type 0} {entry : ModelEntry} → IsEntered H (Joined U V) entry →
@@ -162,7 +162,7 @@ pub made_either : {H : List Event} {U V : ℕ → Type 0} {object : Id} {kind : 
     IsMade H U object kind ⊎ IsMade H V object kind
 made_either {H} {U} {V} {object} {kind} m = go (has_either (made_has m))
   where
-    go : HasUpdate H U object (Make m.dir m.name kind) ⊎ HasUpdate H V object (Make m.dir m.name kind) →
+    go : HasUpdate H U object (Make m.dir m.name kind m.text) ⊎ HasUpdate H V object (Make m.dir m.name kind m.text) →
         IsMade H U object kind ⊎ IsMade H V object kind
     go (inl u) = inl (made_from u)
     go (inr u) = inr (made_from u)

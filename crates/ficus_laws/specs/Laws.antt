@@ -63,42 +63,46 @@ KeepsShown =
 -- after a Make one more entry is alive for its replica
 abbrev pub MakeEnters : Type 0
 MakeEnters =
-    (volume : Volume) (H : List Event) (replica : ℕ) (dir : Id) (name : List ℕ) (kind : Kind) (entry : ModelEntry) →
+    (volume : Volume) (H : List Event) (replica : ℕ) (dir : Id) (name : List ℕ) (kind : Kind) (text : List ℕ)
+    (entry : ModelEntry) →
     IsLawful volume H →
-    let K = H ++ Update replica (Make dir name kind) ∷ [] in
+    let K = H ++ Update replica (Make dir name kind text) ∷ [] in
     IsLive K (Knows K replica) entry ↔ (IsLive H (Knows H replica) entry ⊎ (entry ≡ made_entry replica H dir name))
 
 -- and one more object is made
 abbrev pub MakeMakes : Type 0
-MakeMakes = (H : List Event) (replica : ℕ) (dir : Id) (name : List ℕ) (kind : Kind) (object : Id) (made : Kind) →
-    let K = H ++ Update replica (Make dir name kind) ∷ [] in
+MakeMakes = (H : List Event) (replica : ℕ) (dir : Id) (name : List ℕ) (kind : Kind) (text : List ℕ) (object : Id)
+    (made : Kind) →
+    let K = H ++ Update replica (Make dir name kind text) ∷ [] in
     IsMade K (Knows K replica) object made ↔
     (IsMade H (Knows H replica) object made ⊎ ((object ≡ next_number replica H) × (made ≡ kind)))
 
 -- where an answer may be taken, its replica has heard of no event of the server from the Serve on
 abbrev pub AnswersAreNewer : Type 0
 AnswersAreNewer =
-    (volume : Volume) (H : List Event) (replica served server position : ℕ) → IsLawful volume H →
-    MayCome volume H (Accept replica served) → IsOf H served server →
+    (volume : Volume) (H : List Event) (replica served piece server position : ℕ) → IsLawful volume H →
+    MayCome volume H (Accept replica served piece) → IsOf H served server →
     Knows H replica position → IsOf H position server → position < served
 
 -- after an Accept its replica knows, of the earlier positions, what it knew and what the server knew through the Serve
 abbrev pub AcceptJoinsKnown : Type 0
-AcceptJoinsKnown = (H : List Event) (replica served server position : ℕ) → IsOf H served server → position < length H →
-    let K = H ++ Accept replica served ∷ [] in
+AcceptJoinsKnown = (H : List Event) (replica served piece server position : ℕ) → IsOf H served server →
+    position < length H →
+    let K = H ++ Accept replica served piece ∷ [] in
     Knows K replica position ↔ (Knows H replica position ⊎ Knows (through served H) server position)
 
 -- and for it is alive what was entered for one of the two and is removed for neither
 abbrev pub AcceptJoinsLive : Type 0
-AcceptJoinsLive = (H : List Event) (replica served server : ℕ) (entry : ModelEntry) → IsOf H served server →
-    let K = H ++ Accept replica served ∷ [] in
+AcceptJoinsLive = (H : List Event) (replica served piece server : ℕ) (entry : ModelEntry) → IsOf H served server →
+    let K = H ++ Accept replica served piece ∷ [] in
     IsLive K (Knows K replica) entry ↔
     IsLiveJoined H (Knows H replica) (through served H) (Knows (through served H) server) entry
 
 -- and made what was made for one of the two
 abbrev pub AcceptJoinsMade : Type 0
-AcceptJoinsMade = (H : List Event) (replica served server : ℕ) (object : Id) (kind : Kind) → IsOf H served server →
-    let K = H ++ Accept replica served ∷ [] in
+AcceptJoinsMade = (H : List Event) (replica served piece server : ℕ) (object : Id) (kind : Kind) →
+    IsOf H served server →
+    let K = H ++ Accept replica served piece ∷ [] in
     IsMade K (Knows K replica) object kind ↔
     (IsMade H (Knows H replica) object kind ⊎ IsMade (through served H) (Knows (through served H) server) object kind)
 
@@ -140,7 +144,7 @@ abbrev pub small_volume : Volume
 small_volume = record { members = 2; ids = 1; bytes = 0 }
 
 abbrev pub small_history : List Event
-small_history = Update 2 (Make ROOT (codes "a") Plain) ∷ Ask 1 2 ∷ Serve 2 1 ∷ Accept 1 2 ∷ []
+small_history = Update 2 (Make ROOT (codes "a") Plain []) ∷ Ask 1 2 ∷ Serve 2 1 1 1 ∷ Accept 1 2 0 ∷ []
 
 abbrev pub small_entry : ModelEntry
 small_entry = entry_of (record { replica = 2; number = 1 }) ROOT (codes "a") (record { replica = 2; number = 1 })

@@ -15,12 +15,13 @@ pub fn accept_joins()
     ensures made { AcceptJoinsMade }
 {}
 
-/// A replica asks another, which serves, and it takes the answer: each of the three may come. Afterwards
-/// the replica knows what either knew, and nothing has changed for the others.
+/// A replica asks another, which serves in as many pieces as it likes, and it takes them in order: each of these events
+/// may come. Afterwards the replica knows what either knew, and nothing has changed for the others.
 pub fn pull_joins()
-    ensures lawful { (volume : Volume) (H : List Event) (replica server : ℕ) → IsPull volume H replica server
-        → IsLawful volume (pulled H replica server) }
-    ensures joined { (H : List Event) (replica server : ℕ) → IsPulled H replica server (pulled H replica server) }
+    ensures lawful { (volume : Volume) (H : List Event) (replica server last : ℕ) → IsPull volume H replica server
+        → IsLawful volume (pulled H replica server last) }
+    ensures joined { (H : List Event) (replica server last : ℕ)
+        → IsPulled H replica server (pulled H replica server last) }
 {}
 
 /// There are lawful histories in which an answer is taken, and it brings an entry.

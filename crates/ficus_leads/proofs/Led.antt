@@ -4,8 +4,9 @@ use Rattle.ficus_entry.specs.Entry.{IsRising}
 use Rattle.ficus_entry.specs.declared.entry.Entry.{Entry}
 use Rattle.ficus_file.specs.declared.file.FileReplica.{FileReplica}
 use Rattle.ficus_gc.specs.declared.reclaiming.Reclaimed.{Reclaimed}
-use Rattle.ficus_image.specs.Image.{image_bytes}
-use Rattle.ficus_image.proofs.Images.{unique-image}
+use Rattle.ficus_image.specs.Image.{IsImageOf, image_bytes}
+use Rattle.ficus_image.specs.declared.image_version.ImageVersion.TheVariants.{Second}
+use Rattle.ficus_image.proofs.Images.{one_imaged}
 use Rattle.ficus_keep.specs.Kept.{Kept, after_commit, generation_of, image_alone}
 use Rattle.ficus_leads.specs.Chain.{LeadAll}
 use Rattle.ficus_leads.specs.Holds.{Holds, Leads}
@@ -90,11 +91,11 @@ module _ (led : OneLed) where
   -- what was found holds one thing
   pub held_once : (found : Option Kept) (one other : Saved) → Holds found one → Holds found other → one ≡ other
   held_once found one other first second =
-      let image : image_bytes first.base ≡ image_bytes second.base = ap image_of (sym first.is ∙ second.is) in
+      let image : first.image ≡ second.image = ap image_of (sym first.is ∙ second.is) in
       let records : first.records ≡ second.records = ap records_of (sym first.is ∙ second.is) in
-      let base : first.base ≡ second.base = (unique-image.one first.base second.base [] [] first.fits second.fits
-      (ap (λ (l : List ℕ). l ++ []) image)).0 in
-      all_led_once second.records second.base one other second.fits
+      let base : first.base ≡ second.base = one_imaged first.image first.base second.base first.spelled
+      (subst (λ (l : List ℕ). IsImageOf l second.base) (sym image) second.spelled) in
+      all_led_once second.records second.base one other second.spelled.fits
       (subst (λ (s : Saved). LeadAll Leads second.records s one) base
       (subst (λ (rs : List (List ℕ)). LeadAll Leads rs first.base one) records first.leads)) second.leads
 
@@ -131,7 +132,7 @@ all_led_fits [] old new fits leads = subst FitsImage leads fits
 all_led_fits (body ∷ bodies) old new fits (mid, step, on) = all_led_fits bodies mid new step.step.fits on
 
 pub held_fits : (found : Option Kept) (saved : Saved) → Holds found saved → FitsImage saved
-held_fits found saved holds = all_led_fits holds.records holds.base saved holds.fits holds.leads
+held_fits found saved holds = all_led_fits holds.records holds.base saved holds.spelled.fits holds.leads
 
 -- one more
 pub led_on : (bodies : List (List ℕ)) (body : List ℕ) (old mid new : Saved) → LeadAll Leads bodies old mid
@@ -142,13 +143,21 @@ led_on (first ∷ bodies) body old mid new (next, by, on) step = (next, by, led_
 -- after a save of an image, and after one of a record
 pub held_image : (found : Option Kept) (new : Saved) → FitsImage new
     → Holds (after_commit true new.generation (image_bytes new) found) new
-held_image found new fits = record { base = new; fits = fits; records = []; is = refl; leads = refl }
+held_image found new fits = record {
+  base = new;
+  image = image_bytes new;
+  spelled = record { fits = fits; version = Second; has = tt; is = refl };
+  records = [];
+  is = refl;
+  leads = refl;
+}
 
 pub held_record : (found : Option Kept) (generation : ℕ) (body : List ℕ) (old new : Saved) → Holds found old
     → Leads body old new → Holds (after_commit false generation body found) new
 held_record found generation body old new holds step = record {
   base = holds.base;
-  fits = holds.fits;
+  image = holds.image;
+  spelled = holds.spelled;
   records = holds.records ++ body ∷ [];
   is = ap (after_commit false generation body) holds.is;
   leads = led_on holds.records body holds.base old new holds.leads step;

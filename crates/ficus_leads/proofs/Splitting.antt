@@ -1,7 +1,6 @@
 -- How far records have been applied, one after the other.
-use Rattle.std.proofs.Common.{◌≡◌, ℕ, List, [], ◌∷◌, ◌++◌, Result, Err, refl, sym, ap, ◌∙◌, subst, append_assoc, arith}
-use Rattle.std.proofs.Math.Seq.{take-length}
-use Rattle.std.specs.Prelude.{◌-◌, ◌≤◌, IsErrOf, drop, get_or, length, take}
+use Rattle.std.proofs.Common.{◌≡◌, ℕ, List, [], ◌∷◌, ◌++◌, Result, Err, refl, sym, ap, ◌∙◌, subst, append_assoc}
+use Rattle.std.specs.Prelude.{IsErrOf}
 use Rattle.std.proofs.lemmas.List.{append-nil}
 use Rattle.ficus_leads.specs.Chain.{LeadAll}
 use Rattle.ficus_leads.specs.Holds.{Leads}
@@ -62,15 +61,6 @@ led_fit body old next noted fits spelled is leads =
     let same : leads.noted ≡ noted = ((unique-record old.members fits.members).one leads.noted noted [] []
     leads.step.spelled spelled (ap (λ (l : List ℕ). l ++ []) (sym leads.is ∙ is))).0 in
     subst (IsFit old) same leads.step.fit
-
--- the first of some, and the rest
-pub first_and_rest : (left : List (List ℕ)) (body : List ℕ) → 1 ≤ length left → body ≡ get_or left 0 body
-    → left ≡ body ∷ take (length left - 1) (drop 1 left)
-first_and_rest [] body some is = absurd (omega (arith, some))
-first_and_rest (x ∷ xs) body some is =
-    let count : length (x ∷ xs) - 1 ≡ length xs = omega arith in
-    let rest : take (length (x ∷ xs) - 1) xs ≡ xs = ap (λ (n : ℕ). take n xs) count ∙ take-length xs in
-    λ i. ((sym is) i) ∷ ((sym rest) i)
 
 -- a fault is the same, whatever would have come in its place
 pub same_fault : {A B : Type 0} (fault other : RecordFault) → (let one : Result A RecordFault = Err fault in IsErrOf one other)

@@ -1,12 +1,11 @@
 -- What a pair of disks holds of what a replica saves: an image, and records behind it.
 use Rattle.std.specs.Prelude.{◌≡◌, ℕ, List, Option, Some}
-use Rattle.ficus_image.specs.Image.{image_bytes}
+use Rattle.ficus_image.specs.Image.{IsImageOf}
 use Rattle.ficus_keep.specs.Kept.{Kept}
 use Rattle.ficus_leads.specs.Chain.{LeadAll}
 use Rattle.ficus_record.specs.Record.{record_bytes}
 use Rattle.ficus_record.specs.declared.record.Record.{Record}
 use Rattle.ficus_replica.specs.Makes.{IsNoted}
-use Rattle.ficus_saved.specs.Saved.{FitsImage}
 use Rattle.ficus_saved.specs.declared.saved.Saved.{Saved}
 
 -- the bytes spell a record that fits what was saved, and this is what it makes of it
@@ -19,9 +18,10 @@ pub record Leads (bytes : List ℕ) (old new : Saved) : Type 0 where
 -- one after the other
 pub record Holds (found : Option Kept) (saved : Saved) : Type 0 where
   pub base : Saved
-  pub fits : FitsImage base
+  pub image : List ℕ
+  pub spelled : IsImageOf image base
   pub records : List (List ℕ)
-  pub is : found ≡ Some (record { generation = base.generation; image = image_bytes base; records = records })
+  pub is : found ≡ Some (record { generation = base.generation; image = image; records = records })
   pub leads : LeadAll Leads records base saved
 
 -- what a keeper found holds one thing at most

@@ -49,10 +49,10 @@ to_union set peers peer here there (inl p) = or_left (set peer) (peers peer) (he
 to_union set peers peer here there (inr q) = or_right (set peer) (peers peer) (there q)
 
 -- In each of these an answer is taken.
-module _ (volume : Volume) (H : List Event) (replica served server : ℕ) (id : Id)
-    (answer : IsAnswer volume H replica served server) where
+module _ (volume : Volume) (H : List Event) (replica served piece server : ℕ) (id : Id)
+    (answer : IsAnswer volume H replica served piece server) where
   abbrev after_it : List Event
-  after_it = H ++ Accept replica served ∷ []
+  after_it = H ++ Accept replica served piece ∷ []
 
   abbrev there : List Event
   there = through served H
@@ -61,15 +61,15 @@ module _ (volume : Volume) (H : List Event) (replica served server : ℕ) (id : 
   replica_member = answer.may.member
 
   server_member : IsMember volume.members server
-  server_member = answers.server_member volume H replica served server id answer
+  server_member = answers.server_member volume H replica served piece server id answer
 
   not_dropped : (IsDropped volume.members H replica id → ⊥) → IsDropped volume.members after_it replica id → ⊥
-  not_dropped held d = go (dropped_cases (Accept replica served) d)
+  not_dropped held d = go (dropped_cases (Accept replica served piece) d)
     where
       go : IsDropped volume.members H replica id ⊎
-          ((Accept replica served ≡ Collect replica) × IsTwoFull volume.members H replica id) → ⊥
+          ((Accept replica served piece ≡ Collect replica) × IsTwoFull volume.members H replica id) → ⊥
       go (inl was) = held was
-      go (inr (is, full)) = let clash : Accept replica served ≡ Collect replica = is in cc
+      go (inr (is, full)) = let clash : Accept replica served piece ≡ Collect replica = is in cc
 
   -- what the replica doesn't hold and knows to be removed it has dropped
   absent_removed : IsAbsent volume.members H replica id → IsRemoved H (Knows H replica) id →
@@ -80,20 +80,20 @@ module _ (volume : Volume) (H : List Event) (replica served server : ℕ) (id : 
   absent_there : IsAbsent volume.members there server id → IsRemoved there (Knows there server) id →
       IsDropped volume.members there server id
   absent_there absent r =
-      let lawful = answers.lawful_there volume H replica served server id answer in
+      let lawful = answers.lawful_there volume H replica served piece server id answer in
       absent (removed_entered volume there lawful r)
 
   -- where the server had dropped it, the replica knew of each member that it knows
   dropped_there_one : IsDropped volume.members there server id → (member : ℕ) → IsMember volume.members member →
       KnowsThatKnows H replica member id
-  dropped_there_one d member m = answers.server_dropped_one volume H replica served server id answer d m
+  dropped_there_one d member m = answers.server_dropped_one volume H replica served piece server id answer d m
 
   dropped_there_removed : IsDropped volume.members there server id → IsRemoved H (Knows H replica) id
   dropped_there_removed d = one_removed (dropped_there_one d replica replica_member)
 
   -- what the replica dropped, the server knew to be removed
   dropped_removed_there : IsDropped volume.members H replica id → IsRemoved there (Knows there server) id
-  dropped_removed_there d = answers.dropped_server_removed volume H replica served server id answer d
+  dropped_removed_there d = answers.dropped_server_removed volume H replica served piece server id answer d
 
   -- who then knows whom to know, one of both knew, but for the replica itself
   abbrev OneOfBoth : ℕ → Type 0
@@ -104,14 +104,14 @@ module _ (volume : Volume) (H : List Event) (replica served server : ℕ) (id : 
       KnowsThatAllKnow volume.members H replica peer id ⊎ KnowsThatAllKnow volume.members there server peer id
 
   one_split : {peer : ℕ} → peer ≢ replica → KnowsThatKnows after_it replica peer id → OneOfBoth peer
-  one_split differs o = answers.one_split H replica served server answer.by differs o
+  one_split differs o = answers.one_split H replica served piece server answer.by differs o
 
   two_split : {peer : ℕ} → peer ≢ replica → KnowsThatAllKnow volume.members after_it replica peer id → TwoOfBoth peer
-  two_split differs t = answers.two_split H replica served server answer.by differs t
+  two_split differs t = answers.two_split H replica served piece server answer.by differs t
 
   still_alive : (IsRemoved H (Knows H replica) id → ⊥) → (IsRemoved there (Knows there server) id → ⊥) →
       IsRemoved after_it (Knows after_it replica) id → ⊥
-  still_alive here not_there r = go (answers.removed_split H replica served server answer.by r)
+  still_alive here not_there r = go (answers.removed_split H replica served piece server answer.by r)
     where
       go : IsRemoved H (Knows H replica) id ⊎ IsRemoved there (Knows there server) id → ⊥
       go (inl mine) = here mine
@@ -120,19 +120,19 @@ module _ (volume : Volume) (H : List Event) (replica served server : ℕ) (id : 
   stays_absent : IsAbsent volume.members H replica id →
       (IsEnteredAs there (Knows there server) id → IsDropped volume.members H replica id) →
       IsAbsent volume.members after_it replica id
-  stays_absent absent told entered = go (answers.entered_split H replica served server answer.by entered)
+  stays_absent absent told entered = go (answers.entered_split H replica served piece server answer.by entered)
     where
       go : IsEnteredAs H (Knows H replica) id ⊎ IsEnteredAs there (Knows there server) id →
           IsDropped volume.members after_it replica id
-      go (inl mine) = dropped_more (Accept replica served ∷ []) (absent mine)
-      go (inr theirs) = dropped_more (Accept replica served ∷ []) (told theirs)
+      go (inl mine) = dropped_more (Accept replica served piece ∷ []) (absent mine)
+      go (inr theirs) = dropped_more (Accept replica served piece ∷ []) (told theirs)
 
   -- the removal is new to the replica
   news : (IsRemoved H (Knows H replica) id → ⊥) → {one two : ℕ} → IsMarked volume.members there server id one two →
       IsSaid volume.members after_it replica id (with (has one) replica) (has two)
   news none {one} {two} theirs = record {
-    entered = answers.entered_taken H replica served server answer.by theirs.entered;
-    removed = answers.removed_taken H replica served server answer.by theirs.removed;
+    entered = answers.entered_taken H replica served piece server answer.by theirs.entered;
+    removed = answers.removed_taken H replica served piece server answer.by theirs.removed;
     held = not_dropped (λ d. none (dropped_removed d replica_member));
     first = λ peer differs. (
       λ inside. first_taken (with_other (has one) replica peer differs inside),
@@ -148,7 +148,7 @@ module _ (volume : Volume) (H : List Event) (replica served server : ℕ) (id : 
     where
       first_taken : {peer : ℕ} → IsTrue (has one peer) → KnowsThatKnows after_it replica peer id
       first_taken {peer} inside =
-          answers.one_taken H replica served server answer.by (one_from_last ((theirs.first peer).0 inside))
+          answers.one_taken H replica served piece server answer.by (one_from_last ((theirs.first peer).0 inside))
 
       first_back : {peer : ℕ} → OneOfBoth peer → IsTrue (has one peer)
       first_back (inl mine) = absurd (none (one_removed mine))
@@ -156,7 +156,7 @@ module _ (volume : Volume) (H : List Event) (replica served server : ℕ) (id : 
 
       second_taken : {peer : ℕ} → IsTrue (has two peer) → KnowsThatAllKnow volume.members after_it replica peer id
       second_taken {peer} inside =
-          answers.two_taken H replica served server answer.by (two_from_last ((theirs.second peer).0 inside))
+          answers.two_taken H replica served piece server answer.by (two_from_last ((theirs.second peer).0 inside))
 
       second_back : {peer : ℕ} → TwoOfBoth peer → IsTrue (has two peer)
       second_back (inl mine) = absurd (none (one_removed (all_one mine replica_member)))
@@ -166,19 +166,19 @@ module _ (volume : Volume) (H : List Event) (replica served server : ℕ) (id : 
   nothing_new : (IsRemoved there (Knows there server) id → ⊥) → {one two : ℕ} →
       IsMarked volume.members H replica id one two → IsSaid volume.members after_it replica id (has one) (has two)
   nothing_new none {one} {two} mine = record {
-    entered = answers.entered_kept H replica served server answer.by mine.entered;
-    removed = answers.removed_kept H replica served server answer.by mine.removed;
+    entered = answers.entered_kept H replica served piece server answer.by mine.entered;
+    removed = answers.removed_kept H replica served piece server answer.by mine.removed;
     held = not_dropped mine.held;
     first = λ peer differs. (
-      λ inside. one_more (Accept replica served ∷ []) (one_from_last ((mine.first peer).0 inside)),
+      λ inside. one_more (Accept replica served piece ∷ []) (one_from_last ((mine.first peer).0 inside)),
       λ o. first_back (one_split differs o),
     );
     mine = (mine.first replica).1 (one_at_last (one_of_itself mine.removed));
     second = λ peer differs. (
-      λ inside. all_more (Accept replica served ∷ []) (two_from_last ((mine.second peer).0 inside)),
+      λ inside. all_more (Accept replica served piece ∷ []) (two_from_last ((mine.second peer).0 inside)),
       λ t. second_back (two_split differs t),
     );
-    own = λ inside. all_more (Accept replica served ∷ []) (two_from_last ((mine.second replica).0 inside));
+    own = λ inside. all_more (Accept replica served piece ∷ []) (two_from_last ((mine.second replica).0 inside));
   }
     where
       first_back : {peer : ℕ} → OneOfBoth peer → IsTrue (has one peer)
@@ -194,8 +194,8 @@ module _ (volume : Volume) (H : List Event) (replica served server : ℕ) (id : 
       IsMarked volume.members there server id peers_one peers_two →
       IsSaid volume.members after_it replica id (union (has one) (has peers_one)) (union (has two) (has peers_two))
   unions {one} {two} {peers_one} {peers_two} mine theirs = record {
-    entered = answers.entered_kept H replica served server answer.by mine.entered;
-    removed = answers.removed_kept H replica served server answer.by mine.removed;
+    entered = answers.entered_kept H replica served piece server answer.by mine.entered;
+    removed = answers.removed_kept H replica served piece server answer.by mine.removed;
     held = not_dropped mine.held;
     first = λ peer differs. (
       λ inside. first_there inside,
@@ -211,8 +211,8 @@ module _ (volume : Volume) (H : List Event) (replica served server : ℕ) (id : 
     where
       first_there : {peer : ℕ} → IsTrue (union (has one) (has peers_one) peer) → KnowsThatKnows after_it replica peer id
       first_there {peer} = from_union (has one) (has peers_one) peer
-          (λ inside. one_more (Accept replica served ∷ []) (one_from_last ((mine.first peer).0 inside)))
-          (λ inside. answers.one_taken H replica served server answer.by (one_from_last ((theirs.first peer).0 inside)))
+          (λ inside. one_more (Accept replica served piece ∷ []) (one_from_last ((mine.first peer).0 inside)))
+          (λ inside. answers.one_taken H replica served piece server answer.by (one_from_last ((theirs.first peer).0 inside)))
 
       first_back : {peer : ℕ} → OneOfBoth peer → IsTrue (union (has one) (has peers_one) peer)
       first_back {peer} = to_union (has one) (has peers_one) peer
@@ -222,8 +222,8 @@ module _ (volume : Volume) (H : List Event) (replica served server : ℕ) (id : 
       second_there : {peer : ℕ} → IsTrue (union (has two) (has peers_two) peer) →
           KnowsThatAllKnow volume.members after_it replica peer id
       second_there {peer} = from_union (has two) (has peers_two) peer
-          (λ inside. all_more (Accept replica served ∷ []) (two_from_last ((mine.second peer).0 inside)))
-          (λ inside. answers.two_taken H replica served server answer.by (two_from_last ((theirs.second peer).0 inside)))
+          (λ inside. all_more (Accept replica served piece ∷ []) (two_from_last ((mine.second peer).0 inside)))
+          (λ inside. answers.two_taken H replica served piece server answer.by (two_from_last ((theirs.second peer).0 inside)))
 
       second_back : {peer : ℕ} → TwoOfBoth peer → IsTrue (union (has two) (has peers_two) peer)
       second_back {peer} = to_union (has two) (has peers_two) peer
@@ -234,11 +234,11 @@ module _ (volume : Volume) (H : List Event) (replica served server : ℕ) (id : 
   given_up : IsDropped volume.members there server id → {one two : ℕ} → IsMarked volume.members H replica id one two →
       IsSaid volume.members after_it replica id (has one) (everyone volume.members)
   given_up d {one} mine = record {
-    entered = answers.entered_kept H replica served server answer.by mine.entered;
-    removed = answers.removed_kept H replica served server answer.by mine.removed;
+    entered = answers.entered_kept H replica served piece server answer.by mine.entered;
+    removed = answers.removed_kept H replica served piece server answer.by mine.removed;
     held = not_dropped mine.held;
     first = λ peer differs. (
-      λ inside. one_more (Accept replica served ∷ []) (one_from_last ((mine.first peer).0 inside)),
+      λ inside. one_more (Accept replica served piece ∷ []) (one_from_last ((mine.first peer).0 inside)),
       λ o. (mine.first peer).1 (one_at_last (dropped_there_one d peer (is_member o.own))),
     );
     mine = (mine.first replica).1 (one_at_last (one_of_itself mine.removed));
@@ -251,14 +251,14 @@ module _ (volume : Volume) (H : List Event) (replica served server : ℕ) (id : 
     where
       is_member : {peer position : ℕ} → IsOf after_it position peer → IsMember volume.members peer
       is_member own =
-          let lawful = lawful_more volume H (Accept replica served) answer.lawful answer.may in
+          let lawful = lawful_more volume H (Accept replica served piece) answer.lawful answer.may in
           lawful_member volume after_it lawful own
 
       all_known : {peer : ℕ} → IsTrue (everyone volume.members peer) →
           KnowsThatAllKnow volume.members after_it replica peer id
       all_known {peer} inside =
           let m = everyone_member volume.members peer inside in
-          answers.two_taken H replica served server answer.by (dropped_two d m)
+          answers.two_taken H replica served piece server answer.by (dropped_two d m)
 
   -- the replica has nothing, and the server's entry is removed
   absent_dead : {one two : ℕ} (after : Option State) (inside : Bool) → has one replica ≡ inside →
@@ -270,12 +270,12 @@ module _ (volume : Volume) (H : List Event) (replica served server : ℕ) (id : 
       dropped : IsDropped volume.members H replica id
       dropped =
           let o = one_from_last ((theirs.first replica).0 inside) in
-          answers.absent_dropped volume H replica served server id answer absent o
+          answers.absent_dropped volume H replica served piece server id answer absent o
   absent_dead {one} after false outside absent theirs dead = said_stands after replica_member (news none theirs) dead
     where
       none : IsRemoved H (Knows H replica) id → ⊥
       none r =
-          let o = answers.dropped_server_one volume H replica served server id answer (absent_removed absent r) in
+          let o = answers.dropped_server_one volume H replica served piece server id answer (absent_removed absent r) in
           let marked : has one replica ≡ true = (theirs.first replica).1 (one_at_last o) in
           cc
 
@@ -289,7 +289,7 @@ module _ (volume : Volume) (H : List Event) (replica served server : ℕ) (id : 
           StandsAs volume.members after_it replica id after
       go (inl full) =
           let heard = one_from_last ((mine.first server).0 (full server server_member)) in
-          let d = answers.server_absent_dropped volume H replica served server id answer absent heard in
+          let d = answers.server_absent_dropped volume H replica served piece server id answer absent heard in
           said_stands after replica_member (given_up d mine) (merges.0 full)
       go (inr (member, m, missing)) =
           said_stands after replica_member
@@ -305,7 +305,7 @@ module _ (volume : Volume) (H : List Event) (replica served server : ℕ) (id : 
   merge_stands None None after here peers is =
       rw is (stays_absent here (λ entered. absent_removed here (dropped_there_removed (peers entered))))
   merge_stands None (Some Live) after here peers is = rw is (record {
-    entered = answers.entered_taken H replica served server answer.by peers.entered;
+    entered = answers.entered_taken H replica served piece server answer.by peers.entered;
     not_removed = still_alive
         (λ r. peers.not_removed (dropped_removed_there (absent_removed here r)))
         peers.not_removed;
@@ -313,11 +313,11 @@ module _ (volume : Volume) (H : List Event) (replica served server : ℕ) (id : 
   merge_stands None (Some (Dead one two)) after here peers merges =
       absent_dead after (has one replica) refl here peers merges
   merge_stands (Some Live) None after here peers is = rw is (record {
-    entered = answers.entered_kept H replica served server answer.by here.entered;
+    entered = answers.entered_kept H replica served piece server answer.by here.entered;
     not_removed = still_alive here.not_removed (λ r. here.not_removed (dropped_there_removed (absent_there peers r)));
   })
   merge_stands (Some Live) (Some Live) after here peers is = rw is (record {
-    entered = answers.entered_kept H replica served server answer.by here.entered;
+    entered = answers.entered_kept H replica served piece server answer.by here.entered;
     not_removed = still_alive here.not_removed peers.not_removed;
   })
   merge_stands (Some Live) (Some (Dead one two)) after here peers dead =

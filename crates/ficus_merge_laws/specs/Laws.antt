@@ -18,11 +18,11 @@ use Rattle.ficus_merge_laws.specs.States.{StandsAs, EntersAs, LeavesState, Colle
 -- where an answer is taken, the merge table makes of what stood at the replica, and at the server when it served,
 -- what then stands at the replica
 abbrev pub MergeGivesStates : Type 0
-MergeGivesStates = (volume : Volume) (H : List Event) (replica served server : ℕ) (id : Id)
-    (mine theirs after : Option State) → IsAnswer volume H replica served server →
+MergeGivesStates = (volume : Volume) (H : List Event) (replica served piece server : ℕ) (id : Id)
+    (mine theirs after : Option State) → IsAnswer volume H replica served piece server →
     StandsAs volume.members H replica id mine → StandsAs volume.members (through served H) server id theirs →
     Merges replica volume.members mine theirs after →
-    StandsAs volume.members (H ++ Accept replica served ∷ []) replica id after
+    StandsAs volume.members (H ++ Accept replica served piece ∷ []) replica id after
 
 -- an event of another replica leaves the state of each entry, and so does an own one that leaves this entry
 abbrev pub StatesStay : Type 0

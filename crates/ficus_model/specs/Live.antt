@@ -2,8 +2,10 @@
 -- `U` says which positions are known; what stands there says the history.
 use Rattle.std.specs.Prelude.{◌≡◌, ◌≢◌, ◌⊎◌, ℕ, List, [], ◌∷◌, Option, Some, None, Contains, codes}
 use Rattle.ficus_ids.specs.declared.id.Id.{Id}
+use Rattle.ficus_ids.specs.Kind.{sort_of}
 use Rattle.ficus_ids.specs.declared.kind.Kind.{Kind}
 use Rattle.ficus_ids.specs.declared.kind.Kind.TheVariants.{Dir}
+use Rattle.ficus_ids.specs.declared.kind.Sort.TheVariants.{Versioned}
 use Rattle.ficus_ids.specs.declared.id.TheConstants.{ROOT, ATTIC}
 use Rattle.ficus_model.specs.declared.event.Event.{Event}
 use Rattle.ficus_model.specs.declared.event.Op.{Op}
@@ -23,7 +25,7 @@ entry_of id dir name target = record { id = id; dir = dir; name = name; target =
 
 -- the entry that the update with this number enters, if it enters one
 abbrev pub entered_by : Id → Op → Option ModelEntry
-entered_by number (Make dir name kind) = Some (entry_of number dir name number)
+entered_by number (Make dir name kind text) = Some (entry_of number dir name number)
 entered_by number (Link dir name target) = Some (entry_of number dir name target)
 entered_by number (Remove entries target) = None
 entered_by number (Move entries dir name target) = Some (entry_of number dir name target)
@@ -35,7 +37,7 @@ entered_by number (Discard file) = Some (entry_of number ATTIC (codes "discarded
 
 -- the entries that the update with this number removes: a Discard removes the one that it enters
 abbrev pub removed_by : Id → Op → List Id
-removed_by number (Make dir name kind) = []
+removed_by number (Make dir name kind text) = []
 removed_by number (Link dir name target) = []
 removed_by number (Remove entries target) = entries
 removed_by number (Move entries dir name target) = entries
@@ -101,12 +103,19 @@ pub record IsMade (H : List Event) (U : ℕ → Type 0) (object : Id) (kind : Ki
   pub position : ℕ
   pub dir : Id
   pub name : List ℕ
+  pub text : List ℕ
   pub known : U position
-  pub update : IsUpdate H position object (Make dir name kind)
+  pub update : IsUpdate H position object (Make dir name kind text)
 
 -- the root, or an object that was made as a directory
 abbrev pub IsDirectory : List Event → (ℕ → Type 0) → Id → Type 0
 IsDirectory H U object = (object ≡ ROOT) ⊎ IsMade H U object Dir
+
+-- an object that was made as one whose versions change
+pub record IsVersioned (H : List Event) (U : ℕ → Type 0) (object : Id) : Type 0 where
+  pub kind : Kind
+  pub made : IsMade H U object kind
+  pub changes : sort_of kind ≡ Versioned
 
 -- an object that was made as anything but a directory
 pub record IsFile (H : List Event) (U : ℕ → Type 0) (object : Id) : Type 0 where

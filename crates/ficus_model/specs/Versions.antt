@@ -3,22 +3,29 @@
 use Rattle.std.specs.Prelude.{◌≡◌, ◌≢◌, ℕ, List, [], length, sum_by, if◌then◌else◌, Option, Some, None}
 use Rattle.std.specs.Option.{option_flatten, option_map, unwrap_or}
 use Rattle.ficus_ids.specs.declared.id.Id.{Id}
+use Rattle.ficus_ids.specs.Kind.{sort_of}
 use Rattle.ficus_ids.specs.declared.kind.Kind.{Kind}
-use Rattle.ficus_ids.specs.declared.kind.Kind.TheVariants.{Dir}
+use Rattle.ficus_ids.specs.declared.kind.Sort.{Sort}
+use Rattle.ficus_ids.specs.declared.kind.Sort.TheVariants.{Directory, Versioned, Fixed}
 use Rattle.ficus_model.specs.declared.event.Event.{Event}
 use Rattle.ficus_model.specs.declared.event.Op.{Op}
 use Rattle.ficus_model.specs.declared.event.Op.TheVariants.{Make, Link, Remove, Move, Write, Settle, Resolve, Adopt, Discard}
 use Rattle.ficus_model.specs.Events.{IsUpdate, is_update_of, traits}
 use Rattle.ficus_model.specs.Known.{HasInPast}
 
--- the file whose first version its Make is: the object made, unless it is a directory
+-- the file whose first version the Make of an object for this is: the object made, unless it is a directory
+abbrev pub made_of : Id → Sort → Option Id
+made_of number Directory = None
+made_of number Versioned = Some number
+made_of number Fixed = Some number
+
+-- and where the object is of this kind
 abbrev pub made_file : Id → Kind → Option Id
-made_file number Dir = None
-made_file number kind = Some number
+made_file number kind = made_of number (sort_of kind)
 
 -- the file of which the update with this number is a version event, if of one
 abbrev pub version_of : Id → Op → Option Id
-version_of number (Make dir name kind) = made_file number kind
+version_of number (Make dir name kind text) = made_file number kind
 version_of number (Link dir name target) = None
 version_of number (Remove entries target) = None
 version_of number (Move entries dir name target) = None
@@ -28,9 +35,10 @@ version_of number (Resolve file bytes) = Some file
 version_of number (Adopt file dir name) = None
 version_of number (Discard file) = None
 
--- the bytes that an operation gives a file, if it gives one any: a Make leaves its file empty, and gives it none
+-- the bytes that an operation gives a file, if it gives one any: a Make gives it the text with which it is made, which
+-- is empty but for a symbolic link
 abbrev pub given_by : Op → Option (List ℕ)
-given_by (Make dir name kind) = None
+given_by (Make dir name kind text) = Some text
 given_by (Link dir name target) = None
 given_by (Remove entries target) = None
 given_by (Move entries dir name target) = None
@@ -40,7 +48,7 @@ given_by (Resolve file bytes) = Some bytes
 given_by (Adopt file dir name) = None
 given_by (Discard file) = None
 
--- the bytes that an operation writes; a Make's version is empty
+-- the bytes that an operation writes, a Make its text
 abbrev pub bytes_of : Op → List ℕ
 bytes_of op = unwrap_or (given_by op) []
 
@@ -58,7 +66,7 @@ written_of replica H = sum_by (written_in replica) H
 
 -- the object that an operation covers, if one: it gives up what its replica knew of the object's versions
 abbrev pub covered_by : Op → Option Id
-covered_by (Make dir name kind) = None
+covered_by (Make dir name kind text) = None
 covered_by (Link dir name target) = None
 covered_by (Remove entries target) = Some target
 covered_by (Move entries dir name target) = None

@@ -5,28 +5,55 @@ use ficus_ids::{Id, Kind, Listed, Name};
 #[derive(Drop)]
 pub enum Event {
     /// Replica `by` changes what it holds. Its k-th update over its life is numbered `by.k`, from 1.
-    Update { by: u8, op: Op },
+    Update {
+        by: u8,
+        op: Op,
+    },
     /// Replica `by` asks `to` for its state.
-    Ask { by: u8, to: u8 },
-    /// Replica `by` serves its state in answer to the ask at a position.
-    Serve { by: u8, ask: u32 },
-    /// Replica `by` takes the state that was served at a position.
-    Accept { by: u8, serve: u32 },
+    Ask {
+        by: u8,
+        to: u8,
+    },
+    /// Replica `by` serves its state in answer to the ask at a position: that of its generation `state`, in so many
+    /// pieces, from 1. A replica's generation is how many times it was saved.
+    Serve {
+        by: u8,
+        ask: u32,
+        state: u64,
+        pieces: u32,
+    },
+    /// Replica `by` takes a piece, from 0, of what was served at a position, which doesn't complete a state.
+    Take {
+        by: u8,
+        serve: u32,
+        piece: u32,
+    },
+    /// Replica `by` takes the piece, from 0, of what was served at a position that completes a state, and so the state.
+    Accept {
+        by: u8,
+        serve: u32,
+        piece: u32,
+    },
     /// Replica `by` gives up what it knows to be seen as removed by all.
-    Collect { by: u8 },
+    Collect {
+        by: u8,
+    },
     /// Replica `by` starts anew. Its open ask is gone.
-    Restart { by: u8 },
+    Restart {
+        by: u8,
+    },
 }
 
 /// What an update does. An entry that it enters has the update's number as its identifier.
 #[derive(Drop)]
 pub enum Op {
     /// Makes an object of a kind and enters it in a directory under a name. The object has the update's
-    /// number as its identifier, as the entry has.
+    /// number as its identifier, as the entry has. A symbolic link has a text from then on; that of others is empty.
     Make {
         dir: Id,
         name: Name,
         kind: Kind,
+        text: Listed<u8>,
     },
     /// Enters a file in a directory under one more name.
     Link {

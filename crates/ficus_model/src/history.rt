@@ -84,7 +84,13 @@ impl History {
         ensures { IsTrue result ↔ AnswersOpenAsk self.now.events serve by }
     {
         match self.get(serve) {
-            Some(Event::Serve { by: server, ask }) => self.is_open(*ask, by, *server),
+            Some(
+                Event::Serve {
+                    by: server,
+                    ask,
+                    ..
+                },
+            ) => self.is_open(*ask, by, *server),
             _ => false,
         }
     }
@@ -130,6 +136,7 @@ fn closes_ask(event: &Event, by: u8) -> bool
         Event::Ask { by: asker, .. } => *asker == by,
         Event::Accept { by: taker, .. } => *taker == by,
         Event::Restart { by: starter } => *starter == by,
-        Event::Update { .. } | Event::Serve { .. } | Event::Collect { .. } => false,
+        Event::Update { .. } | Event::Serve { .. } | Event::Take { .. } | Event::Collect { .. } =>
+            false,
     }
 }

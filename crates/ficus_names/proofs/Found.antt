@@ -1,6 +1,6 @@
 -- What an answer of the index says of a name.
 use Rattle.std.specs.Prelude.{◌≡◌, ◌≢◌, ℕ, List, Contains}
-use Rattle.std.proofs.Common.{sym, ap, ◌∙◌, inl, inr}
+use Rattle.std.proofs.Common.{sym, ◌∙◌, inl, inr}
 use Rattle.ficus_ids.specs.declared.id.Id.{Id}
 use Rattle.ficus_ids.specs.IdLaws.{same_id_or_not}
 use Rattle.ficus_entry.specs.declared.entry.Entry.{Entry}

@@ -9,7 +9,6 @@ use Rattle.std.proofs.Common.{arith, get_or, sym, ap, ◌∙◌, subst, inl, inr
 use Rattle.std.proofs.lemmas.Bool.{cases_lt}
 use Rattle.std.proofs.lemmas.Cmp.{tied_itself}
 use Rattle.std.proofs.lemmas.Map.Keys.{Less-from_sorted}
-use Rattle.ficus_ids.specs.declared.id.Id.{Id}
 
 module _ {X : Type 0} {cmp : X → X → Ordering} (order : IsTotalOrder cmp) (items : List X)
     (rising : IsStrictlySortedBy cmp items) where

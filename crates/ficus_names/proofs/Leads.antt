@@ -1,12 +1,11 @@
 -- Where live entries lead, from their names in their directories.
-use Rattle.std.specs.Prelude.{◌≡◌, ◌≢◌, ◌⊎◌, ◌↔◌, ℕ, ◌+◌, ◌-◌, ◌<◌, ◌≤◌, List, [], ◌∷◌, ◌++◌, length, take, slice_get, Some, Contains}
+use Rattle.std.specs.Prelude.{◌≡◌, ◌⊎◌, ◌↔◌, ℕ, ◌+◌, ◌-◌, ◌<◌, ◌≤◌, List, [], ◌∷◌, ◌++◌, length, take, slice_get, Some, Contains}
 use Rattle.std.specs.List.{HoldsAt}
 use Rattle.std.specs.List.Sorted.{IsStrictlySortedBy}
-use Rattle.std.proofs.Common.{arith, get_or, refl, sym, ap, ◌∙◌, subst, inl, inr}
-use Rattle.std.proofs.lemmas.Bool.{cases_order, cases_lt, cases_eq}
+use Rattle.std.proofs.Common.{arith, get_or, sym, ap, ◌∙◌, subst, inl, inr}
+use Rattle.std.proofs.lemmas.Bool.{cases_order, cases_lt}
 use Rattle.std.proofs.lemmas.List.{get_or_default}
 use Rattle.std.proofs.lemmas.List.Elements.{Contains-append_left, Contains-push, Contains-push_cases, Contains-get_or}
-use Rattle.std.proofs.lemmas.Option.{get_or_from_slice_get}
 use Rattle.std.proofs.lemmas.Cmp.{tied_itself}
 use Rattle.std.proofs.lemmas.Map.Keys.{Less-from_sorted}
 use Rattle.std.specs.declared.cmp.Ordering.TheVariants.{Less}
@@ -20,7 +19,7 @@ use Rattle.ficus_names.specs.Find.{LeadsToSeveral}
 use Rattle.ficus_names.specs.declared.clash.Lead.{Lead}
 use Rattle.ficus_names.specs.declared.clash.NameClash.{NameClash}
 use Rattle.ficus_names.proofs.Keyed.{items_differ, next_has_key}
-use Rattle.ficus_names.proofs.Known.{bound_before, bound_here, bound_cases, none_bound, all_bound}
+use Rattle.ficus_names.proofs.Known.{bound_before, bound_here, bound_cases}
 use Rattle.ficus_names.proofs.Order.{lead_cmp_total, same_place_between}
 
 -- the leads are those of the live entries in front of the place

@@ -48,8 +48,8 @@ impl Link for FailLink {
 
     ghost faults = { λ l. l.calls.faults };
 
-    fn reserve(&mut self) -> Result<(), Memory>
-        ensures room { OnOk result (1 ≤ self.new.link.room) }
+    fn reserve(&mut self, more: u32) -> Result<(), Memory>
+        ensures room { OnOk result (more ≤ self.new.link.room) }
         ensures posts { self.new.link.posts ≡ self.old.link.posts }
         ensures total { self.new.link.total ≡ self.old.link.total }
         ensures steady { self.new.calls.faults ≡ self.old.calls.faults }
@@ -57,7 +57,7 @@ impl Link for FailLink {
         // It counts as no call.
         ensures calls { self.new.calls ≡ self.old.calls }
     {
-        self.link.reserve()
+        self.link.reserve(more)
     }
 
     fn post(&mut self, message: Vec<u8>) -> Result<u32, Failed>
@@ -68,6 +68,7 @@ impl Link for FailLink {
         ensures counted { OnOk result (length self.new.link.posts ≡ length self.old.link.posts + 1) }
         ensures posted { ⊤ → OnOk result (self.new.link.posts ≡ self.old.link.posts ++ message.items ∷ []) }
         ensures total { OnOk result (self.new.link.total ≡ self.old.link.total + length message.items) }
+        ensures left { self.old.link.room ≤ self.new.link.room + 1 }
         ensures kept { OnErr result (self.new.link.posts ≡ self.old.link.posts) }
         ensures kept_total { OnErr result (self.new.link.total ≡ self.old.link.total) }
         ensures failed { OnErr result (Rose self.old.calls.faults self.new.calls.faults) }

@@ -33,14 +33,14 @@ pub trait Link {
     /// How often the link has failed. The count stands still at 2^64 - 1.
     ghost faults: { Self → ℕ };
 
-    /// Afterwards there is room for one message.
-    fn reserve(&mut self) -> Result<(), Memory>
-        ensures room { OnOk result (1 ≤ room self.new) }
+    /// Afterwards there is room for so many messages.
+    fn reserve(&mut self, more: u32) -> Result<(), Memory>
+        ensures room { OnOk result (more ≤ room self.new) }
         ensures posts { posts self.new ≡ posts self.old }
         ensures total { total self.new ≡ total self.old }
         ensures steady { faults self.new ≡ faults self.old };
 
-    /// Posts a message, and answers its number, from 1. Takes no memory.
+    /// Posts a message, and answers its number, from 1. Takes no memory, and room for one message at most.
     fn post(&mut self, message: Vec<u8>) -> Result<u32, Failed>
         requires room { 1 ≤ room self.old }
         requires few { length (posts self.old) < 2 ^ 32 - 1 }
@@ -49,6 +49,7 @@ pub trait Link {
         ensures counted { OnOk result (length (posts self.new) ≡ length (posts self.old) + 1) }
         ensures posted { tells → OnOk result (posts self.new ≡ posts self.old ++ message.items ∷ []) }
         ensures total { OnOk result (total self.new ≡ total self.old + length message.items) }
+        ensures left { room self.old ≤ room self.new + 1 }
         ensures kept { OnErr result (posts self.new ≡ posts self.old) }
         ensures kept_total { OnErr result (total self.new ≡ total self.old) }
         ensures failed { OnErr result (Rose (faults self.old) (faults self.new)) }

@@ -1,7 +1,9 @@
-//! Tests of the source and the sink over the standard streams, of which no clause says what they give and show; and
-//! over a system that tells what it is asked.
+//! Tests of the source and the sink over the standard streams, of which no clause says what they give and show; over a
+//! system that tells what it is asked; and of the links in memory.
 #![tactic(auto)]
 
+#[cfg(test)]
+mod links;
 #[cfg(test)]
 mod noted;
 #[cfg(test)]

@@ -1,4 +1,4 @@
-ghost use Rattle.std.specs.Prelude.{◌≡◌, ◌↔◌, ℕ, List, IsTrue, IfOk, IfSome, IfNone};
+ghost use Rattle.std.specs.Prelude.{◌≡◌, ◌↔◌, ℕ, List, [], IsTrue, IfOk, IfSome, IfNone};
 ghost use Rattle.std.specs.List.{flat_map};
 ghost use Rattle.ficus_path.specs.Text.{quoted_byte_text, quoted_text, SpellsInside, SpellsText};
 
@@ -33,6 +33,13 @@ impl<'a> TextDraft<'a> {
         } else {
             None
         }
+    }
+
+    /// Whether they spell the text without a byte.
+    pub fn is_empty(&self) -> bool
+        ensures { IsTrue result ↔ (self.now ≡ quoted_text []) }
+    {
+        self.bytes == b"\"\"".as_slice()
     }
 
     /// The text that they spell, in memory.

@@ -90,7 +90,8 @@ impl<T: Item> PersistentList<T> {
         self.tree.gather(gathered)
     }
 
-    /// Appends the spellings of the items, one after the other, in one walk. After `Memory` part of them may stand there.
+    /// Appends the spellings of the items, one after the other, in one walk. After `Memory` part of them may stand
+    /// there.
     pub fn put_each<S: Spelling<Value = T>>(
         &self,
         spelling: &S,

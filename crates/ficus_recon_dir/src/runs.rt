@@ -151,7 +151,8 @@ fn put_made(
     their: &Option<Entry>,
 ) -> Result<(), Memory>
     ensures { OnOk result ((made : Option EntryValue)
-        × MergesEntry taker.now.number taker.now.members (kept_if lower.mine my.now) (kept_if lower.theirs their.now) made
+        × MergesEntry taker.now.number taker.now.members (kept_if lower.mine my.now) (kept_if lower.theirs their.now)
+        made
         × (merged.new.items ≡ merged.old.items ++ as_list made)) }
 {
     let alloc = *merged.allocator();

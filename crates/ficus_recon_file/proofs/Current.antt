@@ -10,10 +10,14 @@ use Rattle.ficus_ids.specs.ListLaws.{here, there, here_or_there, not_inside_none
 use Rattle.ficus_vv.specs.Vector.{vector_cmp, IsOver}
 use Rattle.ficus_vv.specs.VectorLaws.{vector_cmp_total, not_before_itself, before_over}
 use Rattle.ficus_file.specs.declared.version.Version.{Version}
-use Rattle.ficus_ids.specs.declared.kind.Kind.TheVariants.{Dir}
+use Rattle.ficus_ids.specs.Kind.{sort_of, IsFixedText}
+use Rattle.ficus_ids.specs.declared.kind.Kind.{Kind}
+use Rattle.ficus_ids.specs.declared.kind.Kind.TheVariants.{Dir, Symlink}
+use Rattle.ficus_ids.specs.declared.kind.Sort.{Sort}
+use Rattle.ficus_ids.specs.declared.kind.Sort.TheVariants.{Directory, Versioned, Fixed}
 use Rattle.ficus_file.specs.declared.file.FileReplica.{FileReplica}
 use Rattle.ficus_file.specs.Version.{AreCurrent}
-use Rattle.ficus_file.specs.File.{IsWellFormed}
+use Rattle.ficus_file.specs.File.{IsWellFormed, HaveOneText as HasFixedText, most_versions}
 use Rattle.ficus_file.specs.Files.{IsSoundFile}
 use Rattle.ficus_recon_file.specs.Versions.{IsLatest, IsOfEither, IsKept, AreOrdered, AreMerged, HaveOneText}
 use Rattle.ficus_recon_file.specs.Merge.{AgreeOnBytes, CanMerge}
@@ -143,6 +147,19 @@ none_inside : (versions : List Version) → ((version : Version) → Contains ve
 none_inside [] none = refl
 none_inside (first ∷ later) none = absurd (none first (here first later))
 
+-- a list with one item at least and at most has that one
+only_one : (versions : List Version) → 1 ≤ length versions → length versions ≤ 1 →
+    (version : Version) × (versions ≡ version ∷ [])
+only_one [] some few = absurd (omega arith)
+only_one (version ∷ []) some few = (version, refl)
+only_one (version ∷ other ∷ more) some few = absurd (omega arith)
+
+-- no object has more versions than a file
+most_eight : (sort : Sort) → most_versions sort ≤ 8
+most_eight Directory = omega arith
+most_eight Versioned = omega arith
+most_eight Fixed = omega arith
+
 -- and what two of them make together is well formed
 pub merged_held : (mine theirs both : FileReplica) → IsSoundFile mine → IsSoundFile theirs → CanMerge mine theirs →
     both.id ≡ mine.id → both.kind ≡ mine.kind → AreMerged mine.versions theirs.versions both.versions →
@@ -154,12 +171,47 @@ merged_held mine theirs both held others can same_id same_kind merged = record {
         none_inside both.versions (λ version inside. nothing is version ((merged.items version).0 inside).from);
     current = λ is_file.
         let mine_file : mine.kind ≢ Dir = λ dir. is_file (same_kind ∙ dir) in
-        merged_current mine.versions theirs.versions both.versions (held.well_formed.current mine_file).at_least (can.few both.versions merged) merged;
+        merged_current mine.versions theirs.versions both.versions (held.well_formed.current mine_file).at_least few merged;
+    fixed = λ stays. one_left stays;
   };
   not_root = λ root. held.not_root (sym same_id ∙ root);
   not_attic = λ attic. held.not_attic (sym same_id ∙ attic);
 }
   where
+    few : length both.versions ≤ 8
+    few = omega (arith, can.few both.versions merged, most_eight (sort_of mine.kind))
+
+    -- of what has a text that stays one version is left, which one of the two has
+    one_left : sort_of both.kind ≡ Fixed → HasFixedText both.versions
+    one_left stays =
+        let mine_stays : sort_of mine.kind ≡ Fixed = ap sort_of (sym same_kind) ∙ stays in
+        let theirs_stays : sort_of theirs.kind ≡ Fixed = ap sort_of (sym can.kind) ∙ mine_stays in
+        let own = held.well_formed.fixed mine_stays in
+        let his = others.well_formed.fixed theirs_stays in
+        let most = can.few both.versions merged in
+        let at_most : length both.versions ≤ 1 =
+        subst (λ sort. length both.versions ≤ most_versions sort) mine_stays most in
+        let some = merged_current mine.versions theirs.versions both.versions (one_some own) few merged in
+        let left = only_one both.versions some.at_least at_most in
+        let from = ((merged.items left.0).0 (subst (λ l. Contains l left.0) (sym left.1) (here left.0 []))).from in
+        record { version = left.0; alone = left.1; text = fits_either own his left.0 from }
+      where
+        one_some : {versions : List Version} → HasFixedText versions → 1 ≤ length versions
+        one_some one = subst (λ (l : List Version). 1 ≤ length l) (sym one.alone) (omega arith)
+
+        fits_one : {versions : List Version} → HasFixedText versions → (version : Version) → Contains versions version →
+            IsFixedText version.bytes
+        fits_one one version inside = elim (here_or_there one.version version []
+            (subst (λ l. Contains l version) one.alone inside)) [
+              | inl is ↦ subst (λ (v : Version). IsFixedText v.bytes) (sym is) one.text
+              | inr none ↦ absurd (not_inside_none version none)
+            ]
+
+        fits_either : HasFixedText mine.versions → HasFixedText theirs.versions → (version : Version) →
+            IsOfEither mine.versions theirs.versions version → IsFixedText version.bytes
+        fits_either own his version (inl inside) = fits_one own version inside
+        fits_either own his version (inr inside) = fits_one his version inside
+
     nothing : mine.kind ≡ Dir → (version : Version) → IsOfEither mine.versions theirs.versions version → ⊥
     nothing is version (inl inside) = not_inside_none version (subst (λ l. Contains l version) (held.well_formed.directory is) inside)
     nothing is version (inr inside) = not_inside_none version (subst (λ l. Contains l version) (others.well_formed.directory (sym can.kind ∙ is)) inside)
@@ -168,6 +220,17 @@ pub text_of_files : (mine theirs : FileReplica) → IsSoundFile mine → IsSound
     HaveOneText mine.versions theirs.versions
 text_of_files mine theirs held others can =
     one_text mine.versions theirs.versions (ordered_of mine held.well_formed) (ordered_of theirs others.well_formed) can.agree
+
+-- an object has no more versions than one for the same
+pub most_of : (file : FileReplica) → IsWellFormed file → length file.versions ≤ most_versions (sort_of file.kind)
+most_of file well = by_kind file.kind refl
+  where
+    by_kind : (kind : Kind) → file.kind ≡ kind → length file.versions ≤ most_versions (sort_of kind)
+    by_kind Dir is = subst (λ (l : List Version). length l ≤ 0) (sym (well.directory is)) (omega arith)
+    by_kind Symlink is =
+        let one = well.fixed (ap sort_of is) in
+        subst (λ (l : List Version). length l ≤ 1) (sym one.alone) (omega arith)
+    by_kind kind is = (well.current (λ dir. let same : kind ≡ Dir = sym is ∙ dir in cc)).at_most
 
 -- a file or a directory has at most 8 versions
 pub few_of : (file : FileReplica) → IsWellFormed file → length file.versions ≤ 8

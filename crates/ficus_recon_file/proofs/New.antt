@@ -2,6 +2,7 @@
 use Rattle.std.proofs.Common.{◌≡◌, ℕ, ◌≤◌, List, length, get_or, slice_get, Contains, Option, Some, None, refl, sym, ap, subst, ◌∙◌, inl, inr, ◌⊎◌, ◌≢◌}
 use Rattle.std.proofs.lemmas.Bool.{cases_order}
 use Rattle.std.proofs.lemmas.List.{get_or_default}
+use Rattle.ficus_ids.specs.Kind.{sort_of}
 use Rattle.ficus_ids.specs.declared.id.Id.{Id}
 use Rattle.ficus_ids.specs.declared.kind.Kind.TheVariants.{Dir}
 use Rattle.ficus_ids.specs.KindLaws.{kind_sort}
@@ -12,13 +13,13 @@ use Rattle.ficus_vv.specs.VectorLaws.{covers_itself, join_covered}
 use Rattle.ficus_file.specs.declared.file.FileReplica.{FileReplica}
 use Rattle.ficus_file.specs.declared.version.Version.{Version}
 use Rattle.ficus_file.specs.Version.{AreCurrent}
-use Rattle.ficus_file.specs.File.{IsWellFormed}
+use Rattle.ficus_file.specs.File.{IsWellFormed, most_versions}
 use Rattle.ficus_file.specs.Files.{id_of, AreFiles, HoldsUnder}
 use Rattle.ficus_file.proofs.Changed.{contains_at}
 use Rattle.ficus_recon_file.specs.Versions.{HasOver, AreMerged}
 use Rattle.ficus_recon_file.specs.Merge.{CanMerge, Fit, IsMergedFile, Merges, AreMergedFiles}
 use Rattle.ficus_recon_file.specs.News.{AreNew}
-use Rattle.ficus_recon_file.proofs.Current.{one_version, ordered_of, few_of}
+use Rattle.ficus_recon_file.proofs.Current.{one_version, ordered_of, most_of}
 use Rattle.ficus_recon_file.proofs.Determined.{same_versions}
 
 -- no version of a file is over another one of it
@@ -71,7 +72,7 @@ can_merge_itself file well = record {
   few = λ both merged.
       let same : both ≡ file.versions =
       same_versions file.versions file.versions both file.versions merged (merged_itself file well) in
-      subst (λ (l : List Version). length l ≤ 8) (sym same) (few_of file well);
+      subst (λ (l : List Version). length l ≤ most_versions (sort_of file.kind)) (sym same) (most_of file well);
 }
 
 pub makes_itself : (file : FileReplica) → IsWellFormed file → IsMergedFile file file file

@@ -1,9 +1,11 @@
 -- What the files of two replicas make together.
 use Rattle.std.specs.Prelude.{◌≡◌, ◌≤◌, List, length, Option, Some, None, Contains}
+use Rattle.ficus_ids.specs.Kind.{sort_of}
 use Rattle.ficus_ids.specs.declared.id.Id.{Id}
 use Rattle.ficus_vv.specs.Vector.{join}
 use Rattle.ficus_file.specs.declared.file.FileReplica.{FileReplica}
 use Rattle.ficus_file.specs.declared.version.Version.{Version}
+use Rattle.ficus_file.specs.File.{most_versions}
 use Rattle.ficus_file.specs.Files.{HoldsUnder}
 use Rattle.ficus_recon_file.specs.Versions.{AreMerged}
 
@@ -14,11 +16,12 @@ AgreeOnBytes mine theirs =
     version.vector ≡ other.vector → version.bytes ≡ other.bytes
 
 -- two files with one identifier can be merged: their kinds are the same, no vector is in both with different bytes,
--- and they make at most 8 versions together
+-- and they make at most as many versions together as such an object has: 8, or one where the text stays
 pub record CanMerge (mine theirs : FileReplica) : Type 0 where
   pub kind : mine.kind ≡ theirs.kind
   pub agree : AgreeOnBytes mine.versions theirs.versions
-  pub few : (both : List Version) → AreMerged mine.versions theirs.versions both → length both ≤ 8
+  pub few : (both : List Version) → AreMerged mine.versions theirs.versions both →
+      length both ≤ most_versions (sort_of mine.kind)
 
 -- so can all those that are in both lists
 pub record Fit (mine theirs : List FileReplica) : Type 0 where

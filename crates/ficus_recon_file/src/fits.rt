@@ -1,6 +1,7 @@
 ghost use Rattle.std.specs.Prelude.{◌≡◌, ◌↔◌, ◌≤◌, List, length, Contains, IsTrue, IfSome, false};
 ghost use Rattle.ficus_ids.specs.Rising.{HoldsBy};
 ghost use Rattle.ficus_file.specs.declared.version.Version.{Version as VersionValue};
+ghost use Rattle.ficus_file.specs.File.{most_versions};
 ghost use Rattle.ficus_file.specs.Files.{IsSoundFile};
 ghost use Rattle.ficus_recon_file.specs.Merge.{AgreeOnBytes, CanMerge, Fit};
 ghost use Rattle.ficus_recon_file.specs.Versions.{HasVector, IsLatest, AreOrdered, AreOfEither, HaveOneText};
@@ -9,7 +10,7 @@ ghost use Rattle.ficus_recon_file.specs.Counts.{HaveSameVectors, Grows, MakeSoMa
 use crate::News;
 use crate::versions::{has_vector, is_latest};
 use ficus_file::{FileReplica, Version};
-use ficus_ids::Kind;
+use ficus_ids::{Kind, Sort};
 use ficus_vv::{Standing, Vector};
 
 // Whether the two versions differ in vectors, or have the same bytes.
@@ -90,6 +91,17 @@ fn is_same(kind: Kind, other: Kind) -> bool
     kind == other
 }
 
+// The most versions that an object for this has.
+fn most_versions(sort: Sort) -> usize
+    ensures { result ≡ most_versions sort }
+{
+    match sort {
+        Sort::Directory => 0,
+        Sort::Versioned => 8,
+        Sort::Fixed => 1,
+    }
+}
+
 /// Whether two files with one identifier can be merged.
 pub(crate) fn can_merge(mine: &FileReplica, theirs: &FileReplica) -> bool
     requires mine { IsSoundFile mine.now }
@@ -103,11 +115,11 @@ pub(crate) fn can_merge(mine: &FileReplica, theirs: &FileReplica) -> bool
     if !agree(versions, others) {
         return false;
     }
-    count_merged(versions, others) <= 8
+    count_merged(versions, others) <= most_versions(mine.kind.sort())
 }
 
-/// Whether the two lists of files can be merged, as `merge_fits` says of them. Takes no memory, and looks at what is new
-/// alone.
+/// Whether the two lists of files can be merged, as `merge_fits` says of them. Takes no memory, and looks at what is
+/// new alone.
 pub fn news_fit(news: &News<'_>) -> bool
     ensures { IsTrue result ↔ Fit news.now.mine news.now.theirs }
 {

@@ -37,8 +37,8 @@ fn fits_among(mine: &Files, theirs: &FileReplica) -> bool
 }
 
 /// What the files of two replicas make together, which [can be merged](merge_fits). Every file of mine stays. A file of
-/// both has exactly the versions that no version of either is over, and the join of the covers. A file of theirs alone is
-/// taken exactly where an entry of `held` names it or lies in it.
+/// both has exactly the versions that no version of either is over, and the join of the covers. A file of theirs
+/// alone is taken exactly where an entry of `held` names it or lies in it.
 pub fn merge_files(
     alloc: Global,
     mine: &Files,

@@ -1,3 +1,4 @@
+pub mod Making
 pub mod Shapes
 pub mod Unique
 pub mod Reading

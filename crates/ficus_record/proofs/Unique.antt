@@ -1,24 +1,37 @@
 -- Each record has one spelling, and none begins another.
-use Rattle.std.proofs.Common.{◌≡◌, ◌≤◌, ℕ, List, ◌++◌, refl, sym, subst, arith}
+use Rattle.std.proofs.Common.{◌≡◌, ◌≢◌, ℕ, List, ◌++◌, refl, sym, subst, ◌∙◌, arith}
+use Rattle.ficus_ids.specs.Kind.{IsFixedText}
+use Rattle.ficus_ids.specs.declared.kind.Kind.TheVariants.{Symlink}
 use Rattle.ficus_ids.specs.Members.{IsCount}
 use Rattle.ficus_ids.specs.declared.id.Id.{Id}
 use Rattle.ficus_model.specs.declared.event.Op.{Op}
 use Rattle.ficus_model.specs.declared.event.Op.TheVariants.{Make, Link, Remove, Move, Write, Settle, Resolve, Adopt, Discard}
 use Rattle.ficus_formats.specs.Format.{Format, IsUnique, ◌then◌, id, number16, string}
-use Rattle.ficus_formats.specs.Unique.{unique-id, unique-number16, unique-rising, unique-string, unique-then}
+use Rattle.ficus_formats.specs.Unique.{unique-id, unique-number16, unique-meeting, unique-rising, unique-string, unique-then}
 use Rattle.ficus_codec.specs.Formats.{kind, name, tables}
 use Rattle.ficus_codec.specs.FormatsUnique.{unique-kind, unique-name}
 use Rattle.ficus_codec.proofs.TableFormats.{unique-tables}
-use Rattle.ficus_record.specs.Record.{IsOpUnder, IsRecordUnder, adopting, ids, linking, making, moving, op_under, placing, record_body, record_format, record_tag, record_under, removing, writing}
+use Rattle.ficus_record.specs.Record.{IsOpUnder, IsRecordUnder, adopting, fixed_text, ids, linking, making, moving, op_under, placing, record_body, record_format, record_tag, record_under, removing, symlinking, textless, writing}
 use Rattle.ficus_record.specs.declared.record.Record.{Record}
 use Rattle.ficus_record.specs.declared.record.Record.TheVariants.{Change, Ask, Accept, Collect}
-use Rattle.ficus_record.proofs.Shapes.{IsShaped, unique_shaped, make_shaped, link_shaped, remove_shaped, move_shaped, write_shaped, settle_shaped, resolve_shaped, adopt_shaped, discard_shaped, op_tag_low, change_shaped, accept_shaped}
+use Rattle.ficus_record.proofs.Shapes.{IsOpTag, IsShaped, unique_shaped, make_shaped, symlink_shaped, link_shaped, remove_shaped, move_shaped, write_shaped, settle_shaped, resolve_shaped, adopt_shaped, discard_shaped, op_tagged, change_shaped, accept_shaped}
 
 unique-ids : IsUnique ids
 unique-ids = unique-rising (λ (x : Id). x) id unique-id
 
+unique-textless : IsUnique textless
+unique-textless = unique-meeting (λ what. what ≢ Symlink) kind (λ what fits. tt) unique-kind
+
+unique-fixed_text : IsUnique fixed_text
+unique-fixed_text = unique-meeting IsFixedText (string number16) (λ text fits. omega (arith, fits.within))
+    (unique-string number16 unique-number16)
+
 unique-making : IsUnique making
-unique-making = unique-then id (name then kind) unique-id (unique-then name kind unique-name unique-kind)
+unique-making = unique-then id (name then textless) unique-id (unique-then name textless unique-name unique-textless)
+
+unique-symlinking : IsUnique symlinking
+unique-symlinking = unique-then id (name then fixed_text) unique-id
+    (unique-then name fixed_text unique-name unique-fixed_text)
 
 unique-linking : IsUnique linking
 unique-linking = unique-then id (name then id) unique-id (unique-then name id unique-name unique-id)
@@ -43,9 +56,10 @@ module _ (tag : ℕ) where
   of_shape f number shaped unique is =
       subst (λ (n : ℕ). IsUnique (op_under n)) is (unique_shaped (op_under number) f shaped unique)
 
-  -- there is an operation of this number, so it is one of nine
+  -- there is an operation of this number, so it is one of these
   unique-op_of : (op : Op) → IsOpUnder tag op → IsUnique (op_under tag)
-  unique-op_of (Make dir called what) under = of_shape making 1 make_shaped unique-making under.tagged
+  unique-op_of (Make dir called Symlink text) under = of_shape symlinking 13 symlink_shaped unique-symlinking under.tagged
+  unique-op_of (Make dir called what text) under = of_shape making 1 make_shaped unique-making under.tagged
   unique-op_of (Link dir called target) under = of_shape linking 2 link_shaped unique-linking under.tagged
   unique-op_of (Remove entries target) under = of_shape removing 3 remove_shaped unique-removing under.tagged
   unique-op_of (Move entries dir called target) under = of_shape moving 4 move_shaped unique-moving under.tagged
@@ -59,8 +73,8 @@ module _ (tag : ℕ) where
   unique-op = record { one = λ x y a b fits. (unique-op_of x fits).one x y a b fits }
 
 module _ (members : ℕ) (few : IsCount members) where
-  unique-change : (tag : ℕ) → tag ≤ 9 → IsUnique (record_under members tag)
-  unique-change tag low = unique_shaped (record_under members tag) (op_under tag) (change_shaped members tag low) (unique-op tag)
+  unique-change : (tag : ℕ) → IsOpTag tag → IsUnique (record_under members tag)
+  unique-change tag of_op = unique_shaped (record_under members tag) (op_under tag) (change_shaped members tag of_op) (unique-op tag)
 
   unique-accept : IsUnique (record_under members 11)
   unique-accept = unique_shaped (record_under members 11) (tables members) (accept_shaped members) (unique-tables members few)
@@ -68,14 +82,14 @@ module _ (members : ℕ) (few : IsCount members) where
   one_under : (tag : ℕ) (x y : Record) (a b : List ℕ) → IsRecordUnder members tag x → IsRecordUnder members tag y
       → record_body members x ++ a ≡ record_body members y ++ b → (x ≡ y) × (a ≡ b)
   one_under tag (Change op) y a b fits also same =
-      let low = subst (λ (n : ℕ). n ≤ 9) fits.tagged (op_tag_low op) in
-      (unique-change tag low).one (Change op) y a b fits also same
+      let of_op = subst IsOpTag fits.tagged (op_tagged op) in
+      (unique-change tag of_op).one (Change op) y a b fits also same
   one_under tag (Accept entries files) y a b fits also same =
       (subst (λ (n : ℕ). IsUnique (record_under members n)) fits.tagged unique-accept).one (Accept entries files) y a b fits also same
   one_under tag Ask Ask a b fits also same = (refl, same)
   one_under tag Collect Collect a b fits also same = (refl, same)
-  one_under tag Ask (Change op) a b fits also same = absurd (omega (arith, op_tag_low op, fits.tagged, also.tagged))
-  one_under tag Collect (Change op) a b fits also same = absurd (omega (arith, op_tag_low op, fits.tagged, also.tagged))
+  one_under tag Ask (Change op) a b fits also same = absurd ((op_tagged op).no_ask (also.tagged ∙ sym fits.tagged))
+  one_under tag Collect (Change op) a b fits also same = absurd ((op_tagged op).no_collect (also.tagged ∙ sym fits.tagged))
   one_under tag Ask y a b fits also same = absurd (omega (arith, fits.tagged, also.tagged))
   one_under tag Collect y a b fits also same = absurd (omega (arith, fits.tagged, also.tagged))
 

@@ -1,10 +1,12 @@
 -- Records: how an event after which a replica saves is spelled.
-use Rattle.std.specs.Prelude.{◌≡◌, ℕ, List, [], ◌∷◌}
+use Rattle.std.specs.Prelude.{◌≡◌, ◌≢◌, ℕ, List, [], ◌∷◌}
 use Rattle.ficus_ids.specs.declared.id.Id.{Id}
+use Rattle.ficus_ids.specs.Kind.{IsFixedText}
 use Rattle.ficus_ids.specs.declared.kind.Kind.{Kind}
+use Rattle.ficus_ids.specs.declared.kind.Kind.TheVariants.{Symlink}
 use Rattle.ficus_model.specs.declared.event.Op.{Op}
 use Rattle.ficus_model.specs.declared.event.Op.TheVariants.{Make, Link, Remove, Move, Write, Settle, Resolve, Adopt, Discard}
-use Rattle.ficus_formats.specs.Format.{Format, ◌then◌, id, number16, rising, string}
+use Rattle.ficus_formats.specs.Format.{Format, ◌then◌, id, meeting, number16, rising, string}
 use Rattle.ficus_codec.specs.Formats.{kind, name, tables_bytes}
 use Rattle.ficus_saved.specs.Tables.{FitsTables}
 use Rattle.ficus_record.specs.declared.record.Record.{Record}
@@ -14,9 +16,21 @@ use Rattle.ficus_record.specs.declared.record.Record.TheVariants as record_
 abbrev pub ids : Format (List Id)
 ids = rising (λ x. x) id
 
--- the fields of the operations, in the order in which they are spelled
+-- the kinds of what is made without a text
+abbrev pub textless : Format Kind
+textless = meeting (λ what. what ≢ Symlink) kind
+
+-- a text that stays
+abbrev pub fixed_text : Format (List ℕ)
+fixed_text = meeting IsFixedText (string number16)
+
+-- the fields of the operations, in the order in which they are spelled: of the making of a symbolic link they have
+-- its text in place of a kind
 abbrev pub making : Format (Id × (List ℕ × Kind))
-making = id then name then kind
+making = id then name then textless
+
+abbrev pub symlinking : Format (Id × (List ℕ × List ℕ))
+symlinking = id then name then fixed_text
 
 abbrev pub linking : Format (Id × (List ℕ × Id))
 linking = id then name then id
@@ -46,8 +60,19 @@ pub record OpLayout : Type 1 where
 abbrev pub behind : {A : Type 0} → ℕ → Format A → A → OpLayout
 behind tag format fields = record { tag = tag; body = format.spell fields; fits = format.fits fields }
 
+-- what is made without a text has none
+abbrev pub making_layout : Id → List ℕ → Kind → List ℕ → OpLayout
+making_layout dir called Symlink text = behind 13 symlinking (dir, (called, text))
+making_layout dir called what text =
+    record {
+      tag = 1;
+      body = making.spell (dir, (called, what));
+      fits = making.fits (dir, (called, what)) ×
+          (text ≡ []);
+    }
+
 abbrev pub op_layout : Op → OpLayout
-op_layout (Make dir called what) = behind 1 making (dir, (called, what))
+op_layout (Make dir called what text) = making_layout dir called what text
 op_layout (Link dir called target) = behind 2 linking (dir, (called, target))
 op_layout (Remove entries target) = behind 3 removing (target, entries)
 op_layout (Move entries dir called target) = behind 4 moving (target, (dir, (called, entries)))

@@ -5,12 +5,13 @@ ghost use Rattle.ficus_record.specs.Record.{FitsRecord, op_under, record_bytes, 
 ghost use Rattle.ficus_record.specs.declared.record.Record.{Record as RecordValue};
 
 use crate::fields::{
-    read_adopting, read_linking, read_making, read_moving, read_removing, read_writing,
+    read_adopting, read_linking, read_making, read_moving, read_removing, read_symlinking,
+    read_writing,
 };
 use crate::{Record, RecordFault};
-use ficus_codec::read_tables;
+use ficus_codec::{Known, read_rows};
 use ficus_formats::{ReadFault, Reader};
-use ficus_ids::Members;
+use ficus_ids::{Kind, Listed, Members};
 use ficus_model::Op;
 use std::alloc::Global;
 
@@ -21,7 +22,12 @@ fn read_op(alloc: Global, reader: &mut Reader<'_>, tag: u8) -> Result<Op, ReadFa
     match tag {
         1 => {
             let (dir, (name, kind)) = read_making(reader)?;
-            Ok(Op::Make { dir, name, kind })
+            Ok(Op::Make {
+                dir,
+                name,
+                kind,
+                text: Listed::of(Vec::new(alloc)),
+            })
         }
         2 => {
             let (dir, (name, target)) = read_linking(reader)?;
@@ -60,6 +66,15 @@ fn read_op(alloc: Global, reader: &mut Reader<'_>, tag: u8) -> Result<Op, ReadFa
             let file = reader.id()?;
             Ok(Op::Discard { file })
         }
+        13 => {
+            let (dir, (name, text)) = read_symlinking(alloc, reader)?;
+            Ok(Op::Make {
+                dir,
+                name,
+                kind: Kind::Symlink,
+                text,
+            })
+        }
         _ => Err(ReadFault::Unspelled),
     }
 }
@@ -76,7 +91,7 @@ fn read_fields(
     match tag {
         10 => Ok(Record::Ask),
         11 => {
-            let (entries, files) = read_tables(alloc, reader, members)?;
+            let (entries, files) = read_rows(alloc, reader, members, &Known::none(alloc))?;
             Ok(Record::Accept { entries, files })
         }
         12 => Ok(Record::Collect),
@@ -116,7 +131,8 @@ pub fn decode_record(alloc: Global, bytes: &[u8], members: Members) -> Result<Re
     Ok(noted)
 }
 
-/// The law that no record has the spelling of another, and that no spelling begins another. It does nothing when it runs.
+/// The law that no record has the spelling of another, and that no spelling begins another. It does nothing when it
+/// runs.
 pub fn one_record()
     ensures { (members : ℕ) (one other : RecordValue) (a b : List ℕ) → IsCount members → FitsRecord members one
         → FitsRecord members other → record_bytes members one ++ a ≡ record_bytes members other ++ b

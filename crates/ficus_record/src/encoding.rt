@@ -2,12 +2,13 @@ ghost use Rattle.std.specs.Prelude.{◌≡◌, ◌++◌, ◌∷◌, ℕ, List, I
 ghost use Rattle.ficus_codec.specs.Formats.{tables_bytes};
 ghost use Rattle.ficus_entry.specs.declared.entry.Entry.{Entry as EntryValue};
 ghost use Rattle.ficus_file.specs.declared.file.FileReplica.{FileReplica as FileValue};
-ghost use Rattle.ficus_record.specs.Record.{FitsOp, FitsRecord, adopting, ids, linking, making, moving, op_body, op_tag, placing, record_bytes, removing, writing};
+ghost use Rattle.ficus_ids.specs.declared.id.Id.{Id as IdValue};
+ghost use Rattle.ficus_record.specs.Record.{FitsOp, FitsRecord, adopting, ids, linking, making, moving, making_layout, op_body, op_tag, placing, record_bytes, removing, symlinking, writing};
 ghost use Rattle.ficus_record.specs.declared.record.Record.TheVariants.{Change as Changes, Accept as Accepts};
 
 use crate::Record;
 use crate::fields::IdSpelling;
-use ficus_codec::put_tables;
+use ficus_codec::put_rows;
 use ficus_formats::{
     put_bytes, put_id, put_long_string, put_run, put_short_string, put_u8, put_u32,
 };
@@ -97,12 +98,45 @@ fn put_adopting(out: &mut Vec<u8>, file: Id, dir: Id, name: &Name) -> Result<(),
     put_short_string(out, name.bytes())
 }
 
+// Appends the directory, the name and the text of a new symbolic link.
+fn put_symlinking(out: &mut Vec<u8>, dir: Id, name: &Name, text: &[u8]) -> Result<(), Memory>
+    requires { symlinking.fits (dir, (name.now, text.now)) }
+    ensures { OnOk result (out.new.items ≡ out.old.items ++ symlinking.spell (dir, (name.now, text.now))) }
+{
+    put_id(out, dir)?;
+    put_short_string(out, name.bytes())?;
+    put_long_string(out, text)
+}
+
+// Appends the fields of the making of an object.
+fn put_made(out: &mut Vec<u8>, dir: Id, name: &Name, kind: Kind, text: &[u8]) -> Result<(), Memory>
+    requires { (making_layout dir name.now kind text.now).fits }
+    ensures { OnOk result (out.new.items ≡ out.old.items ++ (making_layout dir name.now kind text.now).body) }
+{
+    match kind {
+        Kind::Symlink => put_symlinking(out, dir, name, text),
+        Kind::Dir | Kind::Plain | Kind::Lines | Kind::Max | Kind::Keep => {
+            put_making(out, dir, name, kind)
+        }
+    }
+}
+
+// The number of the making of an object of a kind.
+fn tag_of_making(kind: Kind) -> u8
+    ensures { (dir : IdValue) (called text : List ℕ) → result ≡ (making_layout dir called kind text).tag }
+{
+    match kind {
+        Kind::Symlink => 13,
+        Kind::Dir | Kind::Plain | Kind::Lines | Kind::Max | Kind::Keep => 1,
+    }
+}
+
 // The number of the operation.
 fn tag_of(op: &Op) -> u8
     ensures { result ≡ op_tag op.now }
 {
     match op {
-        Op::Make { .. } => 1,
+        Op::Make { kind, .. } => tag_of_making(*kind),
         Op::Link { .. } => 2,
         Op::Remove { .. } => 3,
         Op::Move { .. } => 4,
@@ -120,7 +154,12 @@ fn put_fields(out: &mut Vec<u8>, op: &Op) -> Result<(), Memory>
     ensures { OnOk result (out.new.items ≡ out.old.items ++ op_body op.now) }
 {
     match op {
-        Op::Make { dir, name, kind } => put_making(out, *dir, name, *kind),
+        Op::Make {
+            dir,
+            name,
+            kind,
+            text,
+        } => put_made(out, *dir, name, *kind, text.items()),
         Op::Link { dir, name, target } => put_linking(out, *dir, name, *target),
         Op::Remove { entries, target } => put_removing(out, *target, entries.items()),
         Op::Move {
@@ -156,7 +195,7 @@ pub fn put_record(out: &mut Vec<u8>, noted: &Record, members: Members) -> Result
         Record::Ask => put_u8(out, 10),
         Record::Accept { entries, files } => {
             put_u8(out, 11)?;
-            put_tables(out, entries, files, members)
+            put_rows(out, entries.items(), files.items(), members)
         }
         Record::Collect => put_u8(out, 12),
     }

@@ -1,11 +1,11 @@
 ghost use Rattle.std.specs.Prelude.{◌≡◌};
 ghost use Rattle.ficus_formats.specs.Format.{Reads, id, string, number16};
 ghost use Rattle.ficus_formats.specs.Unique.{unique-id};
-ghost use Rattle.ficus_record.specs.Record.{adopting, ids, linking, making, moving, removing, writing};
+ghost use Rattle.ficus_record.specs.Record.{adopting, fixed_text, ids, linking, making, moving, removing, symlinking, textless, writing};
 
 use ficus_codec::{read_kind, read_name};
 use ficus_formats::{ReadFault, Reader, RowSpelling, Spelling, put_id, read_rising};
-use ficus_ids::{Id, Kind, Listed, Memory, Name};
+use ficus_ids::{FIXED_LIMIT, Id, Kind, Listed, Memory, Name};
 use std::alloc::Global;
 
 /// How identifiers are spelled.
@@ -43,11 +43,46 @@ fn read_ids(alloc: Global, reader: &mut Reader<'_>) -> Result<Listed<Id>, ReadFa
     read_rising(&IdSpelling {}, alloc, reader)
 }
 
-/// The directory, the name and the kind of a new object.
+// A kind of what is made without a text.
+fn read_textless(reader: &mut Reader<'_>) -> Result<Kind, ReadFault>
+    ensures { Reads textless reader.old result reader.new }
+{
+    let kind = read_kind(reader)?;
+    if kind == Kind::Symlink {
+        return Err(ReadFault::Unspelled);
+    }
+    Ok(kind)
+}
+
+// A text that stays.
+fn read_fixed_text(alloc: Global, reader: &mut Reader<'_>) -> Result<Listed<u8>, ReadFault>
+    ensures { Reads fixed_text reader.old result reader.new }
+{
+    let bytes = reader.long_string()?;
+    if bytes.is_empty() || bytes.len() > FIXED_LIMIT {
+        return Err(ReadFault::Unspelled);
+    }
+    Ok(Listed::of(Vec::from_slice(alloc, bytes)?))
+}
+
+/// The directory, the name and the kind of a new object without a text.
 pub(crate) fn read_making(reader: &mut Reader<'_>) -> Result<(Id, (Name, Kind)), ReadFault>
     ensures { Reads making reader.old result reader.new }
 {
-    Ok((reader.id()?, (read_name(reader)?, read_kind(reader)?)))
+    Ok((reader.id()?, (read_name(reader)?, read_textless(reader)?)))
+}
+
+/// The directory, the name and the text of a new symbolic link.
+pub(crate) fn read_symlinking(
+    alloc: Global,
+    reader: &mut Reader<'_>,
+) -> Result<(Id, (Name, Listed<u8>)), ReadFault>
+    ensures { Reads symlinking reader.old result reader.new }
+{
+    Ok((
+        reader.id()?,
+        (read_name(reader)?, read_fixed_text(alloc, reader)?),
+    ))
 }
 
 /// The directory and the name of a new entry, and what it leads to.

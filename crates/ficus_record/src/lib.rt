@@ -1,5 +1,5 @@
-//! Records: how an event after which a replica saves is spelled, both ways. What a record makes of what was saved stands
-//! in `ficus_replica`.
+//! Records: how an event after which a replica saves is spelled, both ways. What a record makes of what was saved
+//! stands in `ficus_replica`.
 #![tactic(auto)]
 
 mod decoding;

@@ -19,6 +19,10 @@ const RECORDS: &[(&[u8], bool)] = &[
     (b"\x01\x01\0\0\0\x01\x01x\x01", true),
     (b"\x01\x01\0\0\0\x02\x01x\x01", false),
     (b"\x01\x01\0\0\0\x03\x01x\x01", false),
+    // Make `x`, a symbolic link with a text of five bytes, of six, and in the file.
+    (b"\x0d\0\0\0\0\0\x01x\0\x05hello", true),
+    (b"\x0d\0\0\0\0\0\x01x\0\x06hello!", false),
+    (b"\x0d\x01\0\0\0\x02\x01x\0\x05hello", false),
     // Link `x`: to the file, to the directory, in the file.
     (b"\x02\0\0\0\0\0\x01x\x01\0\0\0\x02", true),
     (b"\x02\0\0\0\0\0\x01x\x01\0\0\0\x01", false),

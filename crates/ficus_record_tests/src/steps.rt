@@ -6,7 +6,7 @@ ghost use Rattle.ficus_saved.specs.Saved.{FitsImage};
 ghost use Rattle.ficus_script.specs.Command.{IsCommand};
 
 use ficus_commands::Change;
-use ficus_ids::{Members, Refusal};
+use ficus_ids::{Listed, Members, Refusal};
 use ficus_record::{Record, RecordFault, decode_record, encode_change, encode_record};
 use ficus_replica::{Next, Replica};
 use ficus_saved::{BYTE_LIMIT, UPDATE_LIMIT};
@@ -167,8 +167,8 @@ fn applies_tables(alloc: Global, replica: &Replica, other: &Replica) -> Result<(
 {
     let (entries, files) = other.tables();
     let noted = Record::Accept {
-        entries: entries.copy()?,
-        files: files.copy()?,
+        entries: Listed::of(entries.rows()?),
+        files: Listed::of(files.rows()?),
     };
     applies(alloc, replica, &noted)
 }

@@ -30,9 +30,9 @@ knows_below : {replica position : ℕ} (n : ℕ) (H : List Event) → Knows (bef
 knows_below n H k = let h = (of_from_before n k.own).0 in let s = seen_within k.seen in omega arith
 
 -- What a replica knows once it has taken what this server served at this position.
-module _ (H : List Event) (replica served server : ℕ) (by_server : IsOf H served server) where
+module _ (H : List Event) (replica served piece server : ℕ) (by_server : IsOf H served server) where
   abbrev after : List Event
-  after = H ++ Accept replica served ∷ []
+  after = H ++ Accept replica served piece ∷ []
 
   abbrev there : List Event
   there = through served H
@@ -41,7 +41,7 @@ module _ (H : List Event) (replica served server : ℕ) (by_server : IsOf H serv
   served_agrees = record {
     same = λ position h.
         (agree_before (served + 1) H).same position h ∙
-        (agree_more H (Accept replica served ∷ [])).same position (let b = of_within by_server in omega arith);
+        (agree_more H (Accept replica served piece ∷ [])).same position (let b = of_within by_server in omega arith);
   }
 
   known_there : {position : ℕ} → Knows there server position → position < served + 1
@@ -50,7 +50,7 @@ module _ (H : List Event) (replica served server : ℕ) (by_server : IsOf H serv
   pub removed_taken : {entry : Id} → IsRemoved there (Knows there server) entry →
       IsRemoved after (Knows after replica) entry
   removed_taken r =
-      removed_at served_agrees r (known_there r.known) (accept_brings H replica served server by_server r.known)
+      removed_at served_agrees r (known_there r.known) (accept_brings H replica served piece server by_server r.known)
 
   pub entered_taken : {entry : Id} → IsEnteredAs there (Knows there server) entry →
       IsEnteredAs after (Knows after replica) entry
@@ -59,7 +59,7 @@ module _ (H : List Event) (replica served server : ℕ) (by_server : IsOf H serv
     entered = record {
       position = e.entered.position;
       op = e.entered.op;
-      known = accept_brings H replica served server by_server e.entered.known;
+      known = accept_brings H replica served piece server by_server e.entered.known;
       update = agree_update served_agrees (known_there e.entered.known) e.entered.update;
       enters = e.entered.enters;
     };
@@ -70,16 +70,16 @@ module _ (H : List Event) (replica served server : ℕ) (by_server : IsOf H serv
       IsEnteredAs after (Knows after replica) entry
   entered_kept e = record {
     entry = e.entry;
-    entered = entered_within (within_more H (Accept replica served ∷ []) replica) e.entered;
+    entered = entered_within (within_more H (Accept replica served piece ∷ []) replica) e.entered;
     named = e.named;
   }
 
   pub removed_kept : {entry : Id} → IsRemoved H (Knows H replica) entry → IsRemoved after (Knows after replica) entry
-  removed_kept r = removed_within (within_more H (Accept replica served ∷ []) replica) r
+  removed_kept r = removed_within (within_more H (Accept replica served piece ∷ []) replica) r
 
   pub entered_split : {entry : Id} → IsEnteredAs after (Knows after replica) entry →
       IsEnteredAs H (Knows H replica) entry ⊎ IsEnteredAs there (Knows there server) entry
-  entered_split {entry} e = go (accept_entered H replica served server by_server e.entered)
+  entered_split {entry} e = go (accept_entered H replica served piece server by_server e.entered)
     where
       go : IsEntered H (Knows H replica) e.entry ⊎ IsEntered there (Knows there server) e.entry →
           IsEnteredAs H (Knows H replica) entry ⊎ IsEnteredAs there (Knows there server) entry
@@ -88,21 +88,21 @@ module _ (H : List Event) (replica served server : ℕ) (by_server : IsOf H serv
 
   pub removed_split : {entry : Id} → IsRemoved after (Knows after replica) entry →
       IsRemoved H (Knows H replica) entry ⊎ IsRemoved there (Knows there server) entry
-  removed_split r = accept_removed H replica served server by_server r
+  removed_split r = accept_removed H replica served piece server by_server r
 
   pub one_taken : {peer : ℕ} {entry : Id} → KnowsThatKnows there server peer entry →
       KnowsThatKnows after replica peer entry
-  one_taken o = one_at served_agrees o (known_there o.known) (accept_brings H replica served server by_server o.known)
+  one_taken o = one_at served_agrees o (known_there o.known) (accept_brings H replica served piece server by_server o.known)
 
   pub two_taken : {members peer : ℕ} {entry : Id} → KnowsThatAllKnow members there server peer entry →
       KnowsThatAllKnow members after replica peer entry
-  two_taken t = all_at served_agrees t (known_there t.known) (accept_brings H replica served server by_server t.known)
+  two_taken t = all_at served_agrees t (known_there t.known) (accept_brings H replica served piece server by_server t.known)
 
   -- an event of another replica that is then known was known to one of both
   pub other_known : {peer position : ℕ} → peer ≢ replica → IsOf after position peer → Knows after replica position →
       Knows H replica position ⊎ Knows there server position
   other_known differs own known =
-      accept_knows H replica served server by_server known (before_of_other H (Accept replica served) differs own)
+      accept_knows H replica served piece server by_server known (before_of_other H (Accept replica served piece) differs own)
 
   pub one_split : {peer : ℕ} {entry : Id} → peer ≢ replica → KnowsThatKnows after replica peer entry →
       KnowsThatKnows H replica peer entry ⊎ KnowsThatKnows there server peer entry
@@ -110,7 +110,7 @@ module _ (H : List Event) (replica served server : ℕ) (by_server : IsOf H serv
     where
       go : Knows H replica o.position ⊎ Knows there server o.position →
           KnowsThatKnows H replica peer entry ⊎ KnowsThatKnows there server peer entry
-      go (inl mine) = inl (one_less (Accept replica served) o mine)
+      go (inl mine) = inl (one_less (Accept replica served piece) o mine)
       go (inr theirs) = inr (one_at (agree_back served_agrees) o (known_there theirs) theirs)
 
   pub two_split : {members peer : ℕ} {entry : Id} → peer ≢ replica → KnowsThatAllKnow members after replica peer entry →
@@ -119,7 +119,7 @@ module _ (H : List Event) (replica served server : ℕ) (by_server : IsOf H serv
     where
       go : Knows H replica t.position ⊎ Knows there server t.position →
           KnowsThatAllKnow members H replica peer entry ⊎ KnowsThatAllKnow members there server peer entry
-      go (inl mine) = inl (all_less (Accept replica served) t mine)
+      go (inl mine) = inl (all_less (Accept replica served piece) t mine)
       go (inr theirs) = inr (all_at (agree_back served_agrees) t (known_there theirs) theirs)
 
   -- the last event of another replica that is then known
@@ -132,17 +132,17 @@ module _ (H : List Event) (replica served server : ℕ) (by_server : IsOf H serv
   }
     where
       own : IsOf H position peer
-      own = of_less (Accept replica served ∷ []) last.own (before_of_other H (Accept replica served) differs last.own)
+      own = of_less (Accept replica served piece ∷ []) last.own (before_of_other H (Accept replica served piece) differs last.own)
 
       mine : (other : ℕ) → IsHeard H replica peer other → other ≤ position
       mine other h = last.last other
-          (accept_keeps H replica served server by_server h.known)
-          (of_more (Accept replica served ∷ []) h.own)
+          (accept_keeps H replica served piece server by_server h.known)
+          (of_more (Accept replica served piece ∷ []) h.own)
 
       theirs : (other : ℕ) → IsHeard there server peer other → other ≤ position
       theirs other h = last.last other
-          (accept_brings H replica served server by_server h.known)
-          (of_more (Accept replica served ∷ []) (of_from_before (served + 1) h.own).1)
+          (accept_brings H replica served piece server by_server h.known)
+          (of_more (Accept replica served piece ∷ []) (of_from_before (served + 1) h.own).1)
 
       go : Knows H replica position ⊎ Knows there server position →
           IsHeard H replica peer position ⊎ IsHeard there server peer position
@@ -161,15 +161,15 @@ module _ (H : List Event) (replica served server : ℕ) (by_server : IsOf H serv
       IsHeard after replica peer position
   heard_joined {peer} {position} differs later = record {
     known = known later.heard;
-    own = of_more (Accept replica served ∷ []) (own later.heard);
+    own = of_more (Accept replica served piece ∷ []) (own later.heard);
     last = λ other k o.
-        let h = before_of_other H (Accept replica served) differs o in
-        last (other_known differs o k) (of_less (Accept replica served ∷ []) o h);
+        let h = before_of_other H (Accept replica served piece) differs o in
+        last (other_known differs o k) (of_less (Accept replica served piece ∷ []) o h);
   }
     where
       known : IsHeard H replica peer position ⊎ IsHeard there server peer position → Knows after replica position
-      known (inl h) = accept_keeps H replica served server by_server h.known
-      known (inr h) = accept_brings H replica served server by_server h.known
+      known (inl h) = accept_keeps H replica served piece server by_server h.known
+      known (inr h) = accept_brings H replica served piece server by_server h.known
 
       own : IsHeard H replica peer position ⊎ IsHeard there server peer position → IsOf H position peer
       own (inl h) = h.own
@@ -183,8 +183,8 @@ module _ (H : List Event) (replica served server : ℕ) (by_server : IsOf H serv
           omega (arith, h.2)
 
 -- In each of these an answer may be taken.
-module _ (volume : Volume) (H : List Event) (replica served server : ℕ) (entry : Id)
-    (answer : IsAnswer volume H replica served server) where
+module _ (volume : Volume) (H : List Event) (replica served piece server : ℕ) (entry : Id)
+    (answer : IsAnswer volume H replica served piece server) where
   abbrev answered : List Event
   answered = through served H
 
@@ -197,9 +197,9 @@ module _ (volume : Volume) (H : List Event) (replica served server : ℕ) (entry
   -- what the replica knows that the server knows, the server knew when it served
   heard_before : {position : ℕ} → Knows H replica position → IsOf H position server → position ≤ served
   heard_before {position} known own =
-      let same = of_same answer.by (of_at answer.may.answer.served) in
+      let same = of_same answer.by (of_at answer.may.wanted.answer.served) in
       let his = subst (IsOf H position) same own in
-      let h = known_before_served volume H served replica answer.lawful answer.may.answer known his in
+      let h = known_before_served volume H served replica answer.lawful answer.may.wanted.answer known his in
       omega arith
 
   pub server_removed : KnowsThatKnows H replica server entry → IsRemoved answered (Knows answered server) entry

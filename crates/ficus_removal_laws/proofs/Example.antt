@@ -1,5 +1,5 @@
 -- A lawful history in which an entry is removed, and dropped once all know that all know it.
-use Rattle.std.proofs.Common.{◌≡◌, ◌↔◌, ◌⊎◌, ℕ, ◌+◌, ◌<◌, List, [], ◌∷◌, ◌++◌, length, refl, sym, ap, ◌∙◌, subst, inl, inr, arith}
+use Rattle.std.proofs.Common.{◌≡◌, ◌↔◌, ◌⊎◌, ℕ, ◌+◌, ◌<◌, List, [], ◌∷◌, ◌++◌, refl, sym, ap, ◌∙◌, subst, inl, inr, arith}
 use Rattle.std.specs.Prelude.{Contains, codes}
 use Rattle.std.proofs.lemmas.Bool.{cases_eq}
 use Rattle.ficus_ids.specs.ListLaws.{here, here_or_there, not_inside_none}
@@ -8,7 +8,7 @@ use Rattle.ficus_ids.specs.declared.id.Id.{Id}
 use Rattle.ficus_ids.specs.declared.id.TheConstants.{ROOT}
 use Rattle.ficus_ids.specs.declared.kind.Kind.TheVariants.{Dir, Plain}
 use Rattle.ficus_model.specs.declared.event.Event.{Event}
-use Rattle.ficus_model.specs.declared.event.Event.TheVariants.{Update, Ask, Serve, Accept, Collect}
+use Rattle.ficus_model.specs.declared.event.Event.TheVariants.{Update, Collect}
 use Rattle.ficus_model.specs.declared.event.Op.{Op}
 use Rattle.ficus_model.specs.declared.event.Op.TheVariants.{Make, Remove}
 use Rattle.ficus_model.specs.Known.{Knows}
@@ -18,41 +18,32 @@ use Rattle.ficus_model.specs.Reached.IsReached.{Base}
 use Rattle.ficus_model.specs.View.{IsReachedDirectory}
 use Rattle.ficus_model.specs.Knowledge.{KnowsThatKnows, KnowsThatAllKnow}
 use Rattle.ficus_model.specs.Held.{IsDropped}
-use Rattle.ficus_laws.specs.Accepts.{asked, answered, pulled}
-use Rattle.ficus_laws.proofs.Positions.{AgreeBelow, agree_more, of_within}
+use Rattle.ficus_laws.specs.Accepts.{pulled}
+use Rattle.ficus_laws.proofs.Positions.{of_within}
 use Rattle.ficus_laws.proofs.Updates.{update_within, count_update}
 use Rattle.ficus_laws.proofs.Lawful.{lawful_none, lawful_more}
 use Rattle.ficus_laws.proofs.AfterUpdate.{make_live, make_new, make_made, removed_new}
 use Rattle.ficus_laws.proofs.Issued.{next_not_removed}
-use Rattle.ficus_laws.proofs.Pull.{length_asked, length_answered, lawful_pulled, pulled_brings}
+use Rattle.ficus_laws.proofs.Pull.{lawful_pulled, pulled_agrees, pulled_brings}
 use Rattle.ficus_removal_laws.specs.Example.{drop_volume, drop_entry, drop_history}
 use Rattle.ficus_removal_laws.proofs.Carrying.{one_at, one_removed, all_at}
 use Rattle.ficus_removal_laws.proofs.Hearing.{two_at_last, one_of_itself, two_of_itself}
 use Rattle.ficus_removal_laws.proofs.Dropping.{dropped_now}
 
 -- In each of these a replica pulls from a server: what the server knows of others' knowledge, it then knows.
-module _ (H : List Event) (replica server : ℕ) where
-  pulled_agrees : AgreeBelow (length H) H (pulled H replica server)
-  pulled_agrees = record {
-    same = λ position h.
-        let asks = agree_more H (Ask replica server ∷ []) in
-        let serves = agree_more (asked H replica server) (Serve server (length H) ∷ []) in
-        let accepts = agree_more (answered H replica server) (Accept replica (length H + 1) ∷ []) in
-        asks.same position h
-        ∙ serves.same position (omega (arith, length_asked H replica server))
-        ∙ accepts.same position (omega (arith, length_answered H replica server));
-  }
-
+module _ (H : List Event) (replica server last : ℕ) where
   one_pulled : {peer : ℕ} {entry : Id} → KnowsThatKnows H server peer entry →
-      KnowsThatKnows (pulled H replica server) replica peer entry
-  one_pulled o = one_at pulled_agrees o (of_within o.own) (pulled_brings H replica server o.known)
+      KnowsThatKnows (pulled H replica server last) replica peer entry
+  one_pulled o =
+      one_at (pulled_agrees H replica server last) o (of_within o.own) (pulled_brings H replica server last o.known)
 
   all_pulled : {members peer : ℕ} {entry : Id} → KnowsThatAllKnow members H server peer entry →
-      KnowsThatAllKnow members (pulled H replica server) replica peer entry
-  all_pulled t = all_at pulled_agrees t (of_within t.own) (pulled_brings H replica server t.known)
+      KnowsThatAllKnow members (pulled H replica server last) replica peer entry
+  all_pulled t =
+      all_at (pulled_agrees H replica server last) t (of_within t.own) (pulled_brings H replica server last t.known)
 
 made : Op
-made = Make ROOT (codes "a") Plain
+made = Make ROOT (codes "a") Plain []
 
 removal : Op
 removal = Remove (drop_entry ∷ []) drop_entry
@@ -86,18 +77,23 @@ file_lawful : IsLawful drop_volume with_file
 unfolding with_file made
 file_lawful =
     lawful_more drop_volume [] (Update 1 made) (lawful_none drop_volume)
-    (record { member = first; left = omega arith; bytes = tt; allowed = place })
+    (record {
+      member = first;
+      left = omega arith;
+      bytes = record { one_file = omega arith; left = omega arith };
+      allowed = record { place = place; fits = refl };
+    })
 
 abbrev file_entry : ModelEntry
 file_entry = record { id = drop_entry; dir = ROOT; name = codes "a"; target = drop_entry }
 
 file_lives : IsLive with_file (Knows with_file 1) file_entry
 unfolding with_file made
-file_lives = make_new [] 1 ROOT (codes "a") Plain (next_not_removed drop_volume [] 1 (lawful_none drop_volume))
+file_lives = make_new [] 1 ROOT (codes "a") Plain [] (next_not_removed drop_volume [] 1 (lawful_none drop_volume))
 
 file_alone : {entry : ModelEntry} → IsLive with_file (Knows with_file 1) entry → entry ≡ file_entry
 unfolding with_file made
-file_alone {entry} live = go (make_live [] 1 ROOT (codes "a") Plain live)
+file_alone {entry} live = go (make_live [] 1 ROOT (codes "a") Plain [] live)
   where
     go : IsLive [] (Knows [] 1) entry ⊎ (entry ≡ file_entry) → entry ≡ file_entry
     go (inl was) = absurd (omega (arith, update_within was.entered.update))
@@ -134,7 +130,7 @@ not_root root = differs_from_less 1 0 (omega arith) (ap (λ (id : Id). id.replic
 no_directory : IsDirectory with_file (Knows with_file 1) drop_entry → ⊥
 unfolding with_file made
 no_directory (inl root) = not_root root
-no_directory (inr m) = go (make_made [] 1 ROOT (codes "a") Plain m)
+no_directory (inr m) = go (make_made [] 1 ROOT (codes "a") Plain [] m)
   where
     go : IsMade [] (Knows [] 1) drop_entry Dir ⊎ ((drop_entry ≡ drop_entry) × (Dir ≡ Plain)) → ⊥
     go (inl was) = omega (arith, update_within was.update)
@@ -153,10 +149,10 @@ removal_lawful =
 
 -- the other member pulls, and then the first one
 told : List Event
-told = pulled without 2 1
+told = pulled without 2 1 0
 
 told_back : List Event
-told_back = pulled told 1 2
+told_back = pulled told 1 2 0
 
 collected : List Event
 collected = told_back ++ Collect 1 ∷ []
@@ -168,8 +164,8 @@ collected_is = refl
 collected_lawful : IsLawful drop_volume collected
 unfolding told told_back collected
 collected_lawful =
-    let once = lawful_pulled without 2 1 drop_volume second first (omega arith) removal_lawful in
-    let twice = lawful_pulled told 1 2 drop_volume first second (omega arith) once in
+    let once = lawful_pulled without 2 1 0 drop_volume second first (omega arith) removal_lawful in
+    let twice = lawful_pulled told 1 2 0 drop_volume first second (omega arith) once in
     lawful_more drop_volume told_back (Collect 1) twice first
 
 removed : IsRemoved without (Knows without 1) drop_entry
@@ -180,10 +176,10 @@ told_one : (member : ℕ) → IsMember 2 member → KnowsThatKnows told 2 member
 unfolding told
 told_one member m = go (one_or_two member m)
   where
-    of_first : KnowsThatKnows (pulled without 2 1) 2 1 drop_entry
-    of_first = one_pulled without 2 1 (one_of_itself removed)
+    of_first : KnowsThatKnows (pulled without 2 1 0) 2 1 drop_entry
+    of_first = one_pulled without 2 1 0 (one_of_itself removed)
 
-    go : (member ≡ 1) ⊎ (member ≡ 2) → KnowsThatKnows (pulled without 2 1) 2 member drop_entry
+    go : (member ≡ 1) ⊎ (member ≡ 2) → KnowsThatKnows (pulled without 2 1 0) 2 member drop_entry
     go (inl is) = rw is of_first
     go (inr is) = rw is (one_of_itself (one_removed of_first))
 
@@ -191,9 +187,9 @@ back_two : (member : ℕ) → IsMember 2 member → KnowsThatAllKnow 2 told_back
 unfolding told_back
 back_two member m = go (one_or_two member m)
   where
-    go : (member ≡ 1) ⊎ (member ≡ 2) → KnowsThatAllKnow 2 (pulled told 1 2) 1 member drop_entry
-    go (inl is) = rw is (two_of_itself first (λ other o. one_pulled told 1 2 (told_one other o)))
-    go (inr is) = rw is (all_pulled told 1 2 (two_of_itself second told_one))
+    go : (member ≡ 1) ⊎ (member ≡ 2) → KnowsThatAllKnow 2 (pulled told 1 2 0) 1 member drop_entry
+    go (inl is) = rw is (two_of_itself first (λ other o. one_pulled told 1 2 0 (told_one other o)))
+    go (inr is) = rw is (all_pulled told 1 2 0 (two_of_itself second told_one))
 
 dropped : IsDropped 2 collected 1 drop_entry
 unfolding collected

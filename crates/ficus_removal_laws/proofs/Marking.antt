@@ -51,7 +51,7 @@ before_of_other {peer} {position} H event differs own = go (of_cases event own)
 
 leaves_untold : (H : List Event) (event : Event) (entry : Id) → LeavesEntry H event entry →
     (served : ℕ) → Takes event served → ⊥
-leaves_untold H (Accept by serve) entry leaves served takes = leaves
+leaves_untold H (Accept by serve piece) entry leaves served takes = leaves
 leaves_untold H event entry leaves served takes = takes
 
 removed_quiet : (H : List Event) (event : Event) (replica : ℕ) {entry : Id} → IsQuiet event →

@@ -17,5 +17,5 @@ drop_entry = record { replica = 1; number = 1 }
 
 abbrev pub drop_history : List Event
 drop_history =
-    Update 1 (Make ROOT (codes "a") Plain) ∷ Update 1 (Remove (drop_entry ∷ []) drop_entry) ∷
-    Ask 2 1 ∷ Serve 1 2 ∷ Accept 2 3 ∷ Ask 1 2 ∷ Serve 2 5 ∷ Accept 1 6 ∷ Collect 1 ∷ []
+    Update 1 (Make ROOT (codes "a") Plain []) ∷ Update 1 (Remove (drop_entry ∷ []) drop_entry) ∷
+    Ask 2 1 ∷ Serve 1 2 2 1 ∷ Accept 2 3 0 ∷ Ask 1 2 ∷ Serve 2 5 2 1 ∷ Accept 1 6 0 ∷ Collect 1 ∷ []

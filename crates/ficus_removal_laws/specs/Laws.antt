@@ -94,37 +94,39 @@ RemovalBegins = (volume : Volume) (H : List Event) (replica : ℕ) (op : Op) (en
 
 -- after an Accept its replica knows an entry exactly where it did or the server did when it served
 abbrev pub AcceptJoinsEntered : Type 0
-AcceptJoinsEntered = (H : List Event) (replica served server : ℕ) (entry : Id) → IsOf H served server →
-    let K = H ++ Accept replica served ∷ [] in
+AcceptJoinsEntered = (H : List Event) (replica served piece server : ℕ) (entry : Id) → IsOf H served server →
+    let K = H ++ Accept replica served piece ∷ [] in
     let T = through served H in
     IsEnteredAs K (Knows K replica) entry ↔
     (IsEnteredAs H (Knows H replica) entry ⊎ IsEnteredAs T (Knows T server) entry)
 
 -- and so with removals
 abbrev pub AcceptJoinsRemoved : Type 0
-AcceptJoinsRemoved = (H : List Event) (replica served server : ℕ) (entry : Id) → IsOf H served server →
-    let K = H ++ Accept replica served ∷ [] in
+AcceptJoinsRemoved = (H : List Event) (replica served piece server : ℕ) (entry : Id) → IsOf H served server →
+    let K = H ++ Accept replica served piece ∷ [] in
     let T = through served H in
     IsRemoved K (Knows K replica) entry ↔ (IsRemoved H (Knows H replica) entry ⊎ IsRemoved T (Knows T server) entry)
 
 -- of another replica it has heard the later of what both had heard
 abbrev pub AcceptHearsLater : Type 0
-AcceptHearsLater = (H : List Event) (replica served server peer position : ℕ) → IsOf H served server → peer ≢ replica →
-    let K = H ++ Accept replica served ∷ [] in
+AcceptHearsLater = (H : List Event) (replica served piece server peer position : ℕ) → IsOf H served server →
+    peer ≢ replica →
+    let K = H ++ Accept replica served piece ∷ [] in
     IsHeard K replica peer position ↔ IsLaterHeard H replica (through served H) server peer position
 
 -- so another replica is in its first set exactly where it was in that of one of both
 abbrev pub AcceptJoinsOne : Type 0
-AcceptJoinsOne = (H : List Event) (replica served server peer : ℕ) (entry : Id) → IsOf H served server →
+AcceptJoinsOne = (H : List Event) (replica served piece server peer : ℕ) (entry : Id) → IsOf H served server →
     peer ≢ replica →
-    let K = H ++ Accept replica served ∷ [] in
+    let K = H ++ Accept replica served piece ∷ [] in
     IsInOne K replica peer entry ↔ (IsInOne H replica peer entry ⊎ IsInOne (through served H) server peer entry)
 
 -- and so with the second sets
 abbrev pub AcceptJoinsTwo : Type 0
-AcceptJoinsTwo = (members : ℕ) (H : List Event) (replica served server peer : ℕ) (entry : Id) → IsOf H served server →
+AcceptJoinsTwo = (members : ℕ) (H : List Event) (replica served piece server peer : ℕ) (entry : Id) →
+    IsOf H served server →
     peer ≢ replica →
-    let K = H ++ Accept replica served ∷ [] in
+    let K = H ++ Accept replica served piece ∷ [] in
     let T = through served H in
     IsInTwo members K replica peer entry ↔ (IsInTwo members H replica peer entry ⊎ IsInTwo members T server peer entry)
 
@@ -161,32 +163,33 @@ UnmarkedIsNotDropped = (members : ℕ) (H : List Event) (replica member peer : �
     IsDropped members H replica entry → ⊥
 
 -- after a lawful history the replica may take what this server served at this position
-pub record IsAnswer (volume : Volume) (H : List Event) (replica served server : ℕ) : Type 0 where
+pub record IsAnswer (volume : Volume) (H : List Event) (replica served piece server : ℕ) : Type 0 where
   pub lawful : IsLawful volume H
-  pub may : MayCome volume H (Accept replica served)
+  pub may : MayCome volume H (Accept replica served piece)
   pub by : IsOf H served server
 
 -- of an entry that the replica doesn't hold: it has dropped it exactly where it is in the first set that is served
 abbrev pub AbsentWasDropped : Type 0
-AbsentWasDropped = (volume : Volume) (H : List Event) (replica served server : ℕ) (entry : Id) →
-    IsAnswer volume H replica served server → IsAbsent volume.members H replica entry →
+AbsentWasDropped = (volume : Volume) (H : List Event) (replica served piece server : ℕ) (entry : Id) →
+    IsAnswer volume H replica served piece server → IsAbsent volume.members H replica entry →
     IsDropped volume.members H replica entry ↔ IsInOne (through served H) server replica entry
 
 -- and where it has dropped it, the server isn't served as alive: the server knew a removal
 abbrev pub DroppedIsServed : Type 0
-DroppedIsServed = (volume : Volume) (H : List Event) (replica served server : ℕ) (entry : Id) →
-    IsAnswer volume H replica served server → IsDropped volume.members H replica entry →
+DroppedIsServed = (volume : Volume) (H : List Event) (replica served piece server : ℕ) (entry : Id) →
+    IsAnswer volume H replica served piece server → IsDropped volume.members H replica entry →
     let T = through served H in
     IsRemoved T (Knows T server) entry
 
 -- of an entry that the server didn't hold: it had dropped it exactly where the replica's first set is full
 abbrev pub AbsentIsFull : Type 0
-AbsentIsFull = (volume : Volume) (H : List Event) (replica served server : ℕ) (entry : Id) →
-    IsAnswer volume H replica served server → IsAbsent volume.members (through served H) server entry →
+AbsentIsFull = (volume : Volume) (H : List Event) (replica served piece server : ℕ) (entry : Id) →
+    IsAnswer volume H replica served piece server → IsAbsent volume.members (through served H) server entry →
     IsDropped volume.members (through served H) server entry ↔ IsOneFull volume.members H replica entry
 
 -- and where it had dropped it, the replica's second set is full once it has taken the answer
 abbrev pub DroppedThereFills : Type 0
-DroppedThereFills = (members : ℕ) (H : List Event) (replica served server : ℕ) (entry : Id) → IsOf H served server →
+DroppedThereFills = (members : ℕ) (H : List Event) (replica served piece server : ℕ) (entry : Id) →
+    IsOf H served server →
     IsDropped members (through served H) server entry →
-    IsTwoFull members (H ++ Accept replica served ∷ []) replica entry
+    IsTwoFull members (H ++ Accept replica served piece ∷ []) replica entry

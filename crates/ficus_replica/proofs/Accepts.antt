@@ -1,5 +1,5 @@
--- `accept`: what was served is taken exactly where the history allows it; the new replica stands for the history with
--- the Accept, and fits an image.
+-- `accept`: what was served is taken exactly where it answers the open ask; the new replica stands for the history with
+-- each Accept of it that the history allows, and fits an image.
 use Rattle.std.proofs.Common.{◌≡◌, ℕ, ◌+◌, ◌-◌, ◌^◌, ◌<◌, ◌≤◌, List, [], ◌∷◌, ◌++◌, Option, Some, None, Result, Ok, Err, cond, refl, sym, ap, ap₂, subst, ◌∙◌, inl, inr, ◌⊎◌, arith}
 use Rattle.std.specs.Prelude.{Contains, IfOk}
 use Rattle.std.proofs.lemmas.Bool.{cases_order}
@@ -12,9 +12,9 @@ use Rattle.ficus_ids.specs.declared.refusal.Refusal.{Refusal}
 use Rattle.ficus_ids.specs.declared.refusal.Refusal.TheVariants.{Memory, Stale, BadMessage}
 use Rattle.ficus_model.specs.declared.event.Event.{Event}
 use Rattle.ficus_model.specs.declared.event.Event.TheVariants.{Ask, Serve, Accept}
-use Rattle.ficus_model.specs.Events.{IsAt, is_update_of, through, count_of}
+use Rattle.ficus_model.specs.Events.{IsAt, is_update_of, through, count_of, is_saved, generation_of}
 use Rattle.ficus_model.specs.Live.{IsDirectory}
-use Rattle.ficus_model.specs.Lawful.{Volume, IsLawful, IsOpenAsk, MayAccept}
+use Rattle.ficus_model.specs.Lawful.{Volume, IsLawful, IsOpenAsk, MayAccept, AnswersOpenAsk}
 use Rattle.ficus_entry.specs.declared.entry.Entry.{Entry}
 use Rattle.ficus_file.specs.declared.file.FileReplica.{FileReplica}
 use Rattle.ficus_saved.specs.Saved.{FitsImage, IsOfPast, IsEntryOfPast, IsFileOfPast, HasOwnPast}
@@ -30,7 +30,7 @@ use Rattle.ficus_laws.specs.Updates.{IsIssued}
 use Rattle.ficus_laws.proofs.Positions.{at_same, of_at}
 use Rattle.ficus_laws.proofs.Counts.{counted_rises}
 use Rattle.ficus_laws.proofs.Updates.{count_no_update}
-use Rattle.ficus_laws.proofs.Lawful.{lawful_before, lawful_member}
+use Rattle.ficus_laws.proofs.Lawful.{lawful_before}
 use Rattle.ficus_laws.proofs.Issued.{entered_issued, made_issued}
 use Rattle.ficus_laws.proofs.OpenAsk.{open_once}
 use Rattle.ficus_laws.proofs.Places.{entered_in_place, entered_target}
@@ -45,7 +45,7 @@ use Rattle.ficus_replica.specs.declared.replica.Asked.{Asked}
 use Rattle.ficus_replica.specs.declared.replica.Replica.{Replica}
 use Rattle.ficus_replica.specs.Accept.{IsOpen, MayTake, AreTablesMerged, MakesMerged, Accepted, AcceptGives, IsServed, AcceptStands, TakeGives}
 use Rattle.ficus_replica.specs.Makes.{IsNoted}
-use Rattle.ficus_replica.specs.SavedOf.{is_saved, generation_of, IsOpenAskOf, IsSavedOf, StandsFor}
+use Rattle.ficus_replica.specs.SavedOf.{IsOpenAskOf, IsSavedOf, StandsFor}
 use Rattle.ficus_replica.proofs.OpenAsks.{open_none}
 use Rattle.ficus_replica.proofs.Saves.{accept_is_saved, ask_is_saved, generation_saved, saved_then, written_kept}
 use Rattle.ficus_replica.proofs.Tables.{image_then, tables_of}
@@ -60,28 +60,28 @@ open_is H r from ask number (Some asked) open_ask is waits =
     waits.2 ∙ ap (λ position. generation_of r (through position H)) once.0 ∙ sym is in
     ap₂ (λ (to : ℕ) (n : ℕ). Some (record { to = to; number = n })) once.1 same
 
--- what was served where its taking may come answers the open ask, which is the one that it was served for
+-- the open ask that was answered is the one for which this was served
 taken_ask : (volume : Volume) (H : List Event) (r from number : ℕ) (entries : List Entry) (files : List FileReplica)
     (serve : ℕ) →
-    (served : IsServed volume H r from number entries files serve) → MayAccept volume H r serve →
+    (served : IsServed volume H r from number entries files serve) → AnswersOpenAsk H serve r →
     IsOpenAsk H served.ask r from
-taken_ask volume H r from number entries files serve served may =
-    let answer = may.answer in
-    let e : Serve answer.server answer.ask ≡ Serve from served.ask = at_same answer.served served.served in
+taken_ask volume H r from number entries files serve served answer =
+    let e : Serve answer.server answer.ask answer.state answer.pieces ≡
+    Serve from served.ask served.state served.pieces = at_same answer.served served.served in
     let server : answer.server ≡ from = cc in
     let ask : answer.ask ≡ served.ask = cc in
     subst (λ position. IsOpenAsk H position r from) ask
     (subst (λ to. IsOpenAsk H answer.ask r to) server answer.open_ask)
 
--- so no answer that may be taken is stale
+-- so no answer to the open ask is stale
 pub taken_open : (volume : Volume) (H : List Event) (r from number : ℕ) (entries : List Entry)
     (files : List FileReplica)
     (serve : ℕ)
     (old : Replica) →
-    StandsFor volume H r old → IsServed volume H r from number entries files serve → MayAccept volume H r serve →
+    StandsFor volume H r old → IsServed volume H r from number entries files serve → AnswersOpenAsk H serve r →
     IsOpen old from number
-taken_open volume H r from number entries files serve old stands served may =
-    open_is H r from served.ask number old.ask (taken_ask volume H r from number entries files serve served may)
+taken_open volume H r from number entries files serve old stands served answer =
+    open_is H r from served.ask number old.ask (taken_ask volume H r from number entries files serve served answer)
     served.numbered stands.ask
 
 -- asks of a replica with one number are one ask
@@ -94,34 +94,48 @@ one_ask {H} {r} {to} {other} {position} {again} a b same = go (cases_order posit
     go (inr (inl h)) = absurd (omega (arith, counted_rises (is_saved r) b (ask_is_saved r other) h))
     go (inr (inr h)) = absurd (omega (arith, counted_rises (is_saved r) a (ask_is_saved r to) h))
 
--- and an answer to the open ask may be taken
+-- and one that isn't stale answers the open ask
 pub open_taken : (volume : Volume) (H : List Event) (r from number : ℕ) (entries : List Entry)
     (files : List FileReplica)
     (serve : ℕ)
     (old : Replica) →
     IsLawful volume H → StandsFor volume H r old → IsServed volume H r from number entries files serve →
     IsOpen old from number →
-    MayAccept volume H r serve
+    AnswersOpenAsk H serve r
 open_taken volume H r from number entries files serve old lawful stands served open_ask =
     let waits : IsOpenAskOf H r (Some (record { to = from; number = number })) =
     subst (IsOpenAskOf H r) open_ask stands.ask in
     let ask = one_ask waits.1.ask served.asked (sym waits.2 ∙ served.numbered) in
     record {
-      member = lawful_member volume H lawful (of_at served.asked);
-      answer = record {
-        server = from;
-        ask = served.ask;
-        served = served.served;
-        open_ask =
-            subst (λ position. IsOpenAsk H position r from) ask waits.1;
-      };
+      server = from;
+      ask = served.ask;
+      state = served.state;
+      pieces = served.pieces;
+      served = served.served;
+      open_ask = subst (λ position. IsOpenAsk H position r from) ask waits.1;
     }
+
+-- what a replica holds that stands for the events through its Serve is what it served there
+pub standing_serves : (volume : Volume) (H : List Event) (r from number : ℕ) (serve ask state pieces : ℕ)
+    (peer : Replica) → StandsFor volume (through serve H) from peer → IsAt H ask (Ask r from) →
+    IsAt H serve (Serve from ask state pieces) → number ≡ generation_of r (through ask H) →
+    IsServed volume H r from number peer.saved.entries peer.saved.files serve
+standing_serves volume H r from number serve ask state pieces peer stands asked_at served number_is = record {
+  ask = ask;
+  state = state;
+  pieces = pieces;
+  asked = asked_at;
+  served = served;
+  numbered = number_is;
+  held = stands.saved.entries;
+  held_files = stands.saved.files;
+}
 
 -- the answer is one that the history allows to be taken
 answer_to : (volume : Volume) (H : List Event) (r from number : ℕ) (entries : List Entry) (files : List FileReplica)
-    (serve : ℕ) → IsLawful volume H → IsServed volume H r from number entries files serve → MayAccept volume H r serve →
-    IsAnswer volume H r serve from
-answer_to volume H r from number entries files serve lawful served may =
+    (serve piece : ℕ) → IsLawful volume H → IsServed volume H r from number entries files serve →
+    MayAccept volume H r serve piece → IsAnswer volume H r serve piece from
+answer_to volume H r from number entries files serve piece lawful served may =
     record { lawful = lawful; may = may; by = of_at served.served }
 
 -- what the entries name or lie in, in the terms of the laws
@@ -136,19 +150,19 @@ touched_same entries id = (
 
 -- In each of these the replica takes what was served to it, where the history allows it.
 module _ (volume : Volume) (H : List Event) (r from number : ℕ) (entries : List Entry) (files : List FileReplica)
-    (serve : ℕ) (old : Saved) (lawful : IsLawful volume H) (is : IsSavedOf volume H r old)
-    (served : IsServed volume H r from number entries files serve) (may : MayAccept volume H r serve) where
+    (serve piece : ℕ) (old : Saved) (lawful : IsLawful volume H) (is : IsSavedOf volume H r old)
+    (served : IsServed volume H r from number entries files serve) (may : MayAccept volume H r serve piece) where
   abbrev after : List Event
-  after = H ++ Accept r serve ∷ []
+  after = H ++ Accept r serve piece ∷ []
 
-  answer : IsAnswer volume H r serve from
-  answer = answer_to volume H r from number entries files serve lawful served may
+  answer : IsAnswer volume H r serve piece from
+  answer = answer_to volume H r from number entries files serve piece lawful served may
 
   merged_held : {merged : List Entry} {both : List FileReplica} → AreTablesMerged old entries merged files both →
       AreHeldEntries volume.members after r merged
   merged_held {merged} tables = record {
     rising = tables.rising;
-    kept = merged_kept volume H r serve from old.entries entries merged answer is.entries.kept served.held.kept
+    kept = merged_kept volume H r serve piece from old.entries entries merged answer is.entries.kept served.held.kept
         (subst (λ members. MergesEntries r members old.entries entries merged) is.members
         (subst (λ me. MergesEntries me old.members old.entries entries merged) is.me tables.merges));
   }
@@ -156,31 +170,32 @@ module _ (volume : Volume) (H : List Event) (r from number : ℕ) (entries : Lis
   both_held : {merged : List Entry} {both : List FileReplica} → AreTablesMerged old entries merged files both →
       AreHeldFiles volume.members after r both
   both_held {merged} {both} tables =
-      files_merged volume H r serve from answer is.files served.held_files merged (touched_by merged) both
-      (touched_same merged) tables.merges_files (merged_held tables) tables.held
+      files_merged volume H r serve from lawful (of_at served.served) is.files served.held_files merged (touched_by merged)
+      both (touched_same merged) tables.merges_files piece answer (merged_held tables) tables.held
 
   -- what is saved then is that of the history with the Accept
   pub merged_saved : (new : Saved) → MakesMerged old entries files new → IsSavedOf volume after r new
   merged_saved new makes =
-      let accept = Accept r serve in
+      let accept = Accept r serve piece in
       subst (IsSavedOf volume after r) (sym makes.saved) (saved_then is
       (omega (arith, is.next, count_no_update r H accept refl))
       (is.used ∙ sym (written_kept r H accept refl))
-      (omega (arith, is.generation, generation_saved r H accept (accept_is_saved r serve)))
+      (omega (arith, is.generation, generation_saved r H accept (accept_is_saved r serve piece)))
       (merged_held makes.tables)
       (both_held makes.tables))
 
 -- the new replica stands for the history with the Accept
 pub accepted_stands : (volume : Volume) (H : List Event) (r from number : ℕ) (entries : List Entry)
-    (files : List FileReplica) (serve : ℕ) (old : Replica) → IsLawful volume H → StandsFor volume H r old →
-    IsServed volume H r from number entries files serve → MayAccept volume H r serve →
-    (new : Replica) → Accepted old from number entries files new → StandsFor volume (H ++ Accept r serve ∷ []) r new
-accepted_stands volume H r from number entries files serve old lawful stands served may new accepted =
-    let after = H ++ Accept r serve ∷ [] in
+    (files : List FileReplica) (serve piece : ℕ) (old : Replica) → IsLawful volume H → StandsFor volume H r old →
+    IsServed volume H r from number entries files serve → MayAccept volume H r serve piece →
+    (new : Replica) → Accepted old from number entries files new →
+    StandsFor volume (H ++ Accept r serve piece ∷ []) r new
+accepted_stands volume H r from number entries files serve piece old lawful stands served may new accepted =
+    let after = H ++ Accept r serve piece ∷ [] in
     subst (StandsFor volume after r) (sym accepted.replica) (record {
-      saved = merged_saved volume H r from number entries files serve old.saved lawful stands.saved served may _
+      saved = merged_saved volume H r from number entries files serve piece old.saved lawful stands.saved served may _
           (record { merged = accepted.merged; both = accepted.both; tables = accepted.tables; saved = refl });
-      ask = open_none H r (Accept r serve) refl (λ to is. cc);
+      ask = open_none H r (Accept r serve piece) refl (λ to is. cc);
     })
 
 module _ (volume : Volume) (H : List Event) (r serve : ℕ) (me next : ℕ) (me_is : me ≡ r)
@@ -256,15 +271,14 @@ served_past volume H r from number entries files serve old lawful stands served 
     some : 1 ≤ old.saved.me
     some = omega (arith, me_is, stands.saved.member.at_least)
 
--- so what is served may be taken wherever the history allows the Accept
+-- so what is served may always be taken
 pub served_fits : (volume : Volume) (H : List Event) (r from number : ℕ) (entries : List Entry)
     (files : List FileReplica) (serve : ℕ) (old : Replica) → volume.members ≤ 8 →
     IsLawful volume H → StandsFor volume H r old → IsServed volume H r from number entries files serve →
-    MayAccept volume H r serve → MayTake old.saved entries files
-served_fits volume H r from number entries files serve old few lawful stands served may = record {
+    MayTake old.saved entries files
+served_fits volume H r from number entries files serve old few lawful stands served = record {
   past = served_past volume H r from number entries files serve old lawful stands served;
-  fit = files_fit volume H r serve from (answer_to volume H r from number entries files serve lawful served may)
-      stands.saved.files served.held_files few;
+  fit = files_fit volume H r serve from lawful (of_at served.served) stands.saved.files served.held_files few;
 }
 
 -- the members of a volume for which a replica stands whose record fits an image
@@ -272,25 +286,24 @@ pub few_members : {volume : Volume} {H : List Event} {r : ℕ} {old : Replica} �
     StandsFor volume H r old → volume.members ≤ 8
 few_members fits stands = (subst IsCount stands.saved.members fits.members).at_most
 
--- what was served is taken exactly where the history allows it
+-- what was served is taken exactly where it answers the open ask
 pub accept_gives_stands : (volume : Volume) (H : List Event) (r from number : ℕ) (entries : List Entry)
     (files : List FileReplica) (serve : ℕ) (old : Replica) (result : Result Replica Refusal) →
     volume.members ≤ 8 → IsLawful volume H → StandsFor volume H r old →
     IsServed volume H r from number entries files serve →
     AcceptGives old from number entries files result → AcceptStands volume H r serve result
 accept_gives_stands volume H r from number entries files serve old (Ok new) few lawful stands served gives =
-    let may = open_taken volume H r from number entries files serve old lawful stands served gives.open_ask in
     record {
-      lawful = may;
-      stands = accepted_stands volume H r from number entries files serve old lawful stands served may new gives;
+      answers = open_taken volume H r from number entries files serve old lawful stands served gives.open_ask;
+      stands = λ piece may.
+          accepted_stands volume H r from number entries files serve piece old lawful stands served may new gives;
     }
 accept_gives_stands volume H r from number entries files serve old (Err Memory) few lawful stands served open_ask =
     open_taken volume H r from number entries files serve old lawful stands served open_ask
 accept_gives_stands volume H r from number entries files serve old (Err Stale) few lawful stands served gives =
-    λ may. gives (taken_open volume H r from number entries files serve old stands served may)
+    λ answers. gives (taken_open volume H r from number entries files serve old stands served answers)
 accept_gives_stands volume H r from number entries files serve old (Err BadMessage) few lawful stands served gives =
-    let may = open_taken volume H r from number entries files serve old lawful stands served gives.0 in
-    gives.1 (served_fits volume H r from number entries files serve old few lawful stands served may)
+    gives.1 (served_fits volume H r from number entries files serve old few lawful stands served)
 accept_gives_stands volume H r from number entries files serve old (Err other) few lawful stands served gives =
     absurd gives
 

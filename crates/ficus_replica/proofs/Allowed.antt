@@ -1,6 +1,7 @@
 -- What the history shows of a place or an object, and what it allows there.
 use Rattle.std.proofs.Common.{◌<◌, ℕ, List, length, refl, sym, ap, subst, ◌∙◌, inl, inr, arith}
 use Rattle.std.specs.Prelude.{Contains}
+use Rattle.ficus_ids.specs.KindLaws.{versioned_kind}
 use Rattle.ficus_ids.specs.ListLaws.{not_inside_none}
 use Rattle.ficus_ids.specs.declared.id.Id.{Id}
 use Rattle.ficus_path.specs.declared.path.Path.{Path}
@@ -9,7 +10,7 @@ use Rattle.ficus_model.specs.declared.event.Op.{Op}
 use Rattle.ficus_model.specs.Events.{count_of}
 use Rattle.ficus_model.specs.Known.{Knows}
 use Rattle.ficus_model.specs.Lawful.{Volume, IsLawful, IsAllowed, HasBytesLeft, HasPlace, IsNamedInReach, AreNames, HasOtherName, StaysOutside, MayLink, MayRemove, MayMove, MayAdopt, MayDiscard, FitsBytes, most_file_bytes}
-use Rattle.ficus_model.specs.Live.{ModelEntry, IsBound, IsBoundBy, IsMade, IsDirectory, IsFile, HasName}
+use Rattle.ficus_model.specs.Live.{ModelEntry, IsBound, IsBoundBy, IsMade, IsDirectory, IsFile, IsVersioned, HasName}
 use Rattle.ficus_model.specs.View.{IsInReach, IsOrphan, IsReachedDirectory, IsReachedFile, IsVisible}
 use Rattle.ficus_laws.proofs.Issued.{entered_once}
 use Rattle.ficus_laws.proofs.Shown.{reached_within}
@@ -17,7 +18,7 @@ use Rattle.ficus_rules.specs.Named.{IsBoundByIn, AreNamedIn, HasOtherNameIn}
 use Rattle.ficus_rules.specs.Remove.{IsFullIn}
 use Rattle.ficus_rules.specs.View.{IsBoundIn, IsTakenIn, IsDirectoryIn, IsInReachIn, IsWithinIn, history_view}
 use Rattle.ficus_rules.specs.Walk.{Found, last_name}
-use Rattle.ficus_rules.proofs.Walks.{IsWalkedTo, IsFileAt, IsEntryAt}
+use Rattle.ficus_rules.proofs.Walks.{IsWalkedTo, IsFileAt, IsVersionedAt, IsEntryAt}
 use Rattle.ficus_replica.proofs.Views.{visible_made}
 
 -- the operation may be done after the history, by a member that is left updates and bytes
@@ -94,6 +95,19 @@ module _ (volume : Volume) (H : List Event) (r : ℕ) where
     is_file = file_of lawful (file_visible found) found.no_directory;
     reached = in_reach found.reached;
   }
+
+  -- a file that a walk leads to whose versions change
+  pub file_versioned : IsLawful volume H → (file : Id) → IsVersionedAt (history_view volume H r) file →
+      IsVersioned H (Knows H r) file
+  file_versioned lawful file found =
+      let visible = file_visible found.at in
+      let is = file_of lawful visible found.at.no_directory in
+      record {
+        kind = is.kind;
+        made = is.made;
+        changes = versioned_kind is.kind is.other
+            (λ fixed. found.changes (record { kind = is.kind; of_kind = (visible, is.made); is = fixed }));
+      }
 
   -- the object of an entry that a walk leads to is named in reach
   pub named_in_reach : {path : Path} {found : Found} → IsEntryAt (history_view volume H r) path found →

@@ -3,7 +3,7 @@ use Rattle.std.proofs.Common.{◌≡◌, ◌≢◌, ℕ, ◌+◌, ◌-◌, ◌^�
 use Rattle.ficus_ids.specs.Members.{IsMember}
 use Rattle.ficus_model.specs.declared.event.Event.{Event}
 use Rattle.ficus_model.specs.declared.event.Event.TheVariants.{Ask}
-use Rattle.ficus_model.specs.Events.{through}
+use Rattle.ficus_model.specs.Events.{through, generation_of}
 use Rattle.ficus_model.specs.Lawful.{Volume}
 use Rattle.ficus_record.specs.declared.record.Record.TheVariants as noted
 use Rattle.ficus_saved.specs.Saved.{FitsImage}
@@ -12,7 +12,7 @@ use Rattle.ficus_laws.proofs.OpenAsk.{open_end}
 use Rattle.ficus_replica.specs.declared.replica.Replica.{Replica}
 use Rattle.ficus_replica.specs.Ask.{AskGives}
 use Rattle.ficus_replica.specs.Makes.{IsNoted, once_more}
-use Rattle.ficus_replica.specs.SavedOf.{generation_of, StandsFor, StandsAfter}
+use Rattle.ficus_replica.specs.SavedOf.{StandsFor, StandsAfter}
 use Rattle.ficus_replica.proofs.OpenAsks.{through_end}
 use Rattle.ficus_replica.proofs.Saves.{ask_is_saved, generation_saved, saved_again}
 use Rattle.ficus_replica.proofs.Tables.{image_then, tables_of}

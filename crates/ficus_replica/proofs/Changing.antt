@@ -14,7 +14,7 @@ use Rattle.ficus_path.specs.declared.path.Path.{Path}
 use Rattle.ficus_saved.specs.Saved.{FitsImage}
 use Rattle.ficus_laws.proofs.Lawful.{lawful_more}
 use Rattle.ficus_commands.specs.declared.change.Change.{Change}
-use Rattle.ficus_commands.specs.declared.change.Change.TheVariants.{MkDir, Create, Write, Settle, Resolve, Rm, Ln, Mv, Adopt, Discard}
+use Rattle.ficus_commands.specs.declared.change.Change.TheVariants.{MkDir, Create, Symlink, Write, Settle, Resolve, Rm, Ln, Mv, Adopt, Discard}
 use Rattle.ficus_rules.specs.Adopt.{AdoptRule}
 use Rattle.ficus_rules.specs.Change.{ChangeRule}
 use Rattle.ficus_rules.specs.Discard.{DiscardRule}
@@ -24,50 +24,70 @@ use Rattle.ficus_rules.specs.Make.{MakeRule}
 use Rattle.ficus_rules.specs.Remove.{RemoveRule}
 use Rattle.ficus_rules.specs.Rename.{RenameRule}
 use Rattle.ficus_rules.specs.Rule.{Gives}
+use Rattle.ficus_rules.specs.Symlink.{SymlinkRule}
 use Rattle.ficus_rules.specs.View.{history_view}
-use Rattle.ficus_rules.specs.Walk.{FileRule, last_name}
+use Rattle.ficus_rules.specs.Walk.{VersionedRule, last_name}
 pub use Rattle.ficus_rules.proofs.Changes.{change_once, change_along}
 use Rattle.ficus_rules.proofs.Changes.{change_answer_along}
-use Rattle.ficus_rules.proofs.Walks.{IsFileAt, entry_walked, file_walked, parent_walked, places_walked}
+use Rattle.ficus_rules.proofs.Walks.{IsVersionedAt, entry_walked, versioned_walked, parent_walked, places_walked}
 use Rattle.ficus_answers.specs.View.{tables_view}
 use Rattle.ficus_replica.specs.declared.replica.Next.{Next}
 use Rattle.ficus_replica.specs.declared.replica.Replica.{Replica}
 use Rattle.ficus_replica.specs.Change.{Changed, ChangeGives, ChangedAfter, ChangeStands}
 use Rattle.ficus_replica.specs.Effect.{Applied}
 use Rattle.ficus_replica.specs.SavedOf.{StandsFor}
-use Rattle.ficus_replica.proofs.Allowed.{MayBeDone, new_place, file_in_reach, file_visible, bytes_left, may_link, may_remove, may_move, may_adopt, may_discard}
+use Rattle.ficus_replica.proofs.Allowed.{MayBeDone, new_place, file_in_reach, file_versioned, file_visible, bytes_left, may_link, may_remove, may_move, may_adopt, may_discard}
 use Rattle.ficus_replica.proofs.Effects.{applied_stands}
 use Rattle.ficus_replica.proofs.OpenAsks.{open_kept}
 use Rattle.ficus_replica.proofs.Views.{stands_same}
+use Rattle.ficus_replica.proofs.Written.{written_within}
 
 -- In each of these the rule gives an operation after a lawful history.
 module _ (volume : Volume) (H : List Event) (r : ℕ) (lawful : IsLawful volume H) where
   make_may : (path : Path) (kind : Kind) (op : Op) → MakeRule (history_view volume H r) path kind (Ok op) →
       MayBeDone volume H r op
-  make_may path kind op (dir, walk, (free, (left, is))) = subst (MayBeDone volume H r) (sym is) (record {
+  make_may path kind op (dir, walk, (free, (left, (fits, is)))) = subst (MayBeDone volume H r) (sym is) (record {
     left = omega arith;
-    bytes = tt;
-    allowed = new_place volume H r dir (last_name path) (parent_walked (history_view volume H r) path dir walk) free;
+    bytes = record { one_file = omega arith; left = omega (arith, written_within volume r H lawful) };
+    allowed = record {
+      place = new_place volume H r dir (last_name path) (parent_walked (history_view volume H r) path dir walk) free;
+      fits = fits;
+    };
   })
+
+  symlink_may : (path : Path) (text : List ℕ) (op : Op) → SymlinkRule (history_view volume H r) path text (Ok op) →
+      MayBeDone volume H r op
+  symlink_may path text op (dir, walk, (free, (short, (left, (within, (fits, is)))))) =
+      subst (MayBeDone volume H r) (sym is) (record {
+        left = omega arith;
+        bytes = bytes_left volume H r text (λ long. short (omega arith)) within;
+        allowed = record {
+          place = new_place volume H r dir (last_name path) (parent_walked (history_view volume H r) path dir walk) free;
+          fits = fits;
+        };
+      })
 
   -- the file at a path is written within the limits, where that is allowed
   within_may : (path : Path) {file : Id} {bytes : List ℕ} {op given : Op} →
       (FitsBytes volume H r bytes → HasBytesLeft volume H r op) →
-      (IsFileAt (history_view volume H r) file → IsAllowed H (Knows H r) op) →
-      FileRule (history_view volume H r) path (Ok file) →
+      (IsVersionedAt (history_view volume H r) file → IsAllowed H (Knows H r) op) →
+      VersionedRule (history_view volume H r) path (Ok file) →
       LimitsRule (history_view volume H r) (length bytes) (Gives op) (Ok given) → MayBeDone volume H r given
   within_may path {file} {bytes} writes allowed walk (short, (left, (within, is))) =
       subst (MayBeDone volume H r) (sym is) (record {
         left = omega arith;
         bytes = writes (bytes_left volume H r bytes short within);
-        allowed = allowed (file_walked (history_view volume H r) path file walk);
+        allowed = allowed (versioned_walked (history_view volume H r) path file walk);
       })
 
   -- a conflict may be ended
-  may_settle : {file : Id} → (history_view volume H r).conflicts file → IsFileAt (history_view volume H r) file →
+  may_settle : {file : Id} → (history_view volume H r).conflicts file → IsVersionedAt (history_view volume H r) file →
       MaySettle H (Knows H r) file
-  may_settle {file} conflict found =
-      record { in_reach = file_in_reach volume H r lawful file found; conflict = conflict.1 }
+  may_settle {file} conflict found = record {
+    in_reach = file_in_reach volume H r lawful file found.at;
+    versioned = file_versioned volume H r lawful file found;
+    conflict = conflict.1;
+  }
 
   remove_may : (path : Path) (op : Op) → RemoveRule (history_view volume H r) path (Ok op) → MayBeDone volume H r op
   remove_may path op (found, walk, (keeps, (left, (entries, named, is)))) =
@@ -128,10 +148,12 @@ module _ (volume : Volume) (H : List Event) (r : ℕ) (lawful : IsLawful volume 
       MayBeDone volume H r op
   change_may (MkDir path) op rule = make_may path Dir op rule
   change_may (Create path kind) op rule = make_may path kind op rule
+  change_may (Symlink path text) op rule = symlink_may path text op rule
   change_may (Write path text) op (file, walk, (settled, limits)) =
       within_may path (λ fits. fits) (λ found. record {
-        in_reach = file_in_reach volume H r lawful file found;
-        settled = λ conflict. settled (file_visible volume H r found, conflict);
+        in_reach = file_in_reach volume H r lawful file found.at;
+        versioned = file_versioned volume H r lawful file found;
+        settled = λ conflict. settled (file_visible volume H r found.at, conflict);
       }) walk limits
   change_may (Settle path text) op (file, walk, (conflict, limits)) =
       within_may path (λ fits. fits) (may_settle conflict) walk limits

@@ -1,14 +1,14 @@
 -- A replica stands for a history from its start on, also after each event that leaves alone what it saves.
 use Rattle.std.proofs.Common.{◌≡◌, ◌≢◌, ℕ, ◌+◌, ◌≤◌, List, [], ◌∷◌, ◌++◌, Option, Some, None, cond, refl, sym, ap, subst, inl, inr, ◌⊎◌, arith}
-use Rattle.std.specs.Prelude.{All, Bool, IsSomeAnd, true, false, map, sum_by}
+use Rattle.std.specs.Prelude.{All, Bool, true, false, map, sum_by}
 use Rattle.std.specs.Bool.{MatchBool}
 use Rattle.std.proofs.lemmas.List.Elements.{All-map, All-weaker}
 use Rattle.std.proofs.lemmas.List.Sums.{sum_by-le}
 use Rattle.std.proofs.lemmas.Option.{get_or_from_slice_get}
 use Rattle.ficus_ids.specs.ListLaws.{not_inside_none}
 use Rattle.ficus_model.specs.declared.event.Event.{Event}
-use Rattle.ficus_model.specs.declared.event.Event.TheVariants.{Update, Ask, Serve, Restart}
-use Rattle.ficus_model.specs.Events.{IsAt, actor, is_update_of, count_of, traits}
+use Rattle.ficus_model.specs.declared.event.Event.TheVariants.{Update, Ask, Serve, Take, Restart}
+use Rattle.ficus_model.specs.Events.{IsAt, actor, is_saved, is_update_of, count_of, generation_of, traits}
 use Rattle.ficus_model.specs.declared.event.Op.{Op}
 use Rattle.ficus_model.specs.Lawful.{Volume, ClosesAsk}
 use Rattle.ficus_model.specs.Versions.{written_in, written_of}
@@ -19,38 +19,45 @@ use Rattle.ficus_laws.proofs.Updates.{is_update_of_other}
 use Rattle.ficus_held_file_laws.specs.Tables.{AreHeldEntries, AreHeldFiles}
 use Rattle.ficus_replica.specs.declared.replica.Asked.{Asked}
 use Rattle.ficus_replica.specs.declared.replica.Replica.{Replica}
-use Rattle.ficus_replica.specs.SavedOf.{is_saved, generation_of, IsSavedOf, IsOpenAskOf, StandsFor, fresh_saved}
+use Rattle.ficus_replica.specs.SavedOf.{IsSavedOf, IsOpenAskOf, StandsFor, fresh_saved}
 use Rattle.ficus_replica.proofs.OpenAsks.{open_kept, open_none}
 use Rattle.ficus_replica.proofs.Saves.{saved_of_other, saved_kept, saved_once}
 
-abbrev pub IsServe : Event → Type 0
-IsServe event = IsSomeAnd (traits event).serves (λ ask. Unit {0})
+-- the event, whoever's it is, changes nothing that is saved, and leaves each ask open
+abbrev pub IsStill : Event → Type 0
+IsStill event = MatchBool (traits event).saves ⊥ (MatchBool (traits event).closes ⊥ (Unit {0}))
 
 where_true : (test : Bool) {P : Type 0} → MatchBool test P ⊥ → P
 where_true true so = so
 where_true false so = absurd so
 
-closed_by_own : (r : ℕ) (event : Event) → ClosesAsk r event → actor event ≡ r
+pub closed_by_own : (r : ℕ) (event : Event) → ClosesAsk r event → actor event ≡ r
 closed_by_own r event closes = where_true (traits event).closes closes
 
-serve_stands : (volume : Volume) (H : List Event) (r : ℕ) (replica : Replica) (event : Event) →
-    StandsFor volume H r replica → IsServe event → StandsFor volume (H ++ event ∷ []) r replica
-serve_stands volume H r replica (Serve by ask) stands is =
-    let event = Serve by ask in
+still_stands : (volume : Volume) (H : List Event) (r : ℕ) (replica : Replica) (event : Event) →
+    StandsFor volume H r replica → IsStill event → StandsFor volume (H ++ event ∷ []) r replica
+still_stands volume H r replica (Serve by ask state pieces) stands is =
+    let event = Serve by ask state pieces in
     record {
       saved = saved_kept event (inr tt) refl stands.saved refl;
       ask = open_kept H r replica.ask event (λ closes. closes) stands.ask;
     }
-serve_stands volume H r replica event stands is = absurd is
+still_stands volume H r replica (Take by serve piece) stands is =
+    let event = Take by serve piece in
+    record {
+      saved = saved_kept event (inr tt) refl stands.saved refl;
+      ask = open_kept H r replica.ask event (λ closes. closes) stands.ask;
+    }
+still_stands volume H r replica event stands is = absurd is
 
--- what another replica does, and what a replica serves, leaves it as it is
+-- what another replica does leaves a replica as it is, and so do what it serves and a piece that it takes
 pub quiet_stands : (volume : Volume) (H : List Event) (r : ℕ) (replica : Replica) (event : Event) →
-    StandsFor volume H r replica → (actor event ≢ r) ⊎ IsServe event → StandsFor volume (H ++ event ∷ []) r replica
+    StandsFor volume H r replica → (actor event ≢ r) ⊎ IsStill event → StandsFor volume (H ++ event ∷ []) r replica
 quiet_stands volume H r replica event stands (inl other) = record {
   saved = saved_kept event (inl other) (is_update_of_other r event other) stands.saved (saved_of_other r event other);
   ask = open_kept H r replica.ask event (λ closes. other (closed_by_own r event closes)) stands.ask;
 }
-quiet_stands volume H r replica event stands (inr serve) = serve_stands volume H r replica event stands serve
+quiet_stands volume H r replica event stands (inr still) = still_stands volume H r replica event stands still
 
 -- what is saved is kept by a restart, and there is no open ask after it
 pub restart_stands : (volume : Volume) (H : List Event) (r : ℕ) (saved : Saved) (new : Replica) →

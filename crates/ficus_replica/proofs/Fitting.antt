@@ -2,6 +2,7 @@
 use Rattle.std.proofs.Common.{◌≡◌, ◌≢◌, ◌↔◌, Some, inl, inr, ◌<◌, ◌^◌, List, [], ◌∷◌, length, refl, sym, ◌∙◌, ap, subst, arith}
 use Rattle.std.specs.Prelude.{Contains}
 use Rattle.std.proofs.lemmas.List.Elements.{All-contains, All-contains_itself, All-weaker, recursion_from_All}
+use Rattle.ficus_ids.specs.Kind.{FitsKind}
 use Rattle.ficus_ids.specs.ListLaws.{here}
 use Rattle.ficus_ids.specs.Rising.{HoldsBy, HoldsUnderBy, IsRisingBy}
 use Rattle.ficus_ids.specs.RisingLaws.{one_item}
@@ -16,6 +17,7 @@ use Rattle.ficus_formats.specs.Format.{id as id_format}
 use Rattle.ficus_model.specs.declared.event.Op.{Op}
 use Rattle.ficus_model.specs.declared.event.Op.TheVariants.{Make, Link, Remove, Move, Write, Settle, Resolve, Adopt, Discard}
 use Rattle.ficus_record.specs.Record.{FitsOp, ids}
+use Rattle.ficus_record.proofs.Making.{fitting_kind, making_fits}
 use Rattle.ficus_saved.specs.Saved.{FitsImage}
 use Rattle.ficus_saved.specs.Tables.{FitsEntry, FitsFile, HasObjectsIn, IsIssuable}
 use Rattle.ficus_saved.specs.declared.saved.Saved.{Saved}
@@ -24,17 +26,24 @@ use Rattle.ficus_replica.specs.Effect.{HasName, IsPossible, IsReady, MayMake, Ma
 use Rattle.ficus_replica.specs.Makes.{AreNames, FitsOpIn, FitsUpdate, IsNameOf, IsPlace}
 use Rattle.ficus_replica.proofs.Counting.{no_more_ids}
 
--- what the operation lists rises
-abbrev pub Rises : Op → Type 0
-Rises (Remove entries target) = IsRisingBy (λ (id : Id). id) entries
-Rises (Move entries dir called target) = IsRisingBy (λ (id : Id). id) entries
-Rises op = Unit {0}
+-- what the operation lists rises, and what it makes may have its text
+abbrev pub HasForm : Op → Type 0
+HasForm (Make dir called kind text) = FitsKind kind text
+HasForm (Link dir called target) = Unit {0}
+HasForm (Remove entries target) = IsRisingBy (λ (id : Id). id) entries
+HasForm (Move entries dir called target) = IsRisingBy (λ (id : Id). id) entries
+HasForm (Write file bytes) = Unit {0}
+HasForm (Settle file bytes) = Unit {0}
+HasForm (Resolve file bytes) = Unit {0}
+HasForm (Adopt file dir called) = Unit {0}
+HasForm (Discard file) = Unit {0}
 
--- so does what has a spelling
-pub spelled_rises : (op : Op) → FitsOp op → Rises op
-spelled_rises (Remove entries target) spelled = spelled.1.1
-spelled_rises (Move entries dir called target) spelled = spelled.1.1.1.1
-spelled_rises op spelled = tt
+-- so it is with what has a spelling
+pub spelled_form : (op : Op) → FitsOp op → HasForm op
+spelled_form (Make dir called kind text) spelled = fitting_kind dir called kind text spelled
+spelled_form (Remove entries target) spelled = spelled.1.1
+spelled_form (Move entries dir called target) spelled = spelled.1.1.1.1
+spelled_form op spelled = tt
 
 held_as_any : {fit : FileReplica → Type 0} (files : List FileReplica) (id : Id) → HoldsFile files id fit → Holds files id
 held_as_any files id has = record { item = has.file; inside = has.inside; has_id = has.has_id }
@@ -81,20 +90,21 @@ module _ {old : Saved} (fits : FitsImage old) where
     held = names_target entries target names;
   }
 
-  possible : (op : Op) → Rises op → FitsOpIn old op → IsPossible old op
-  possible (Make dir called kind) rises fit = place_makes fit
-  possible (Link dir called target) rises fit =
+  possible : (op : Op) → HasForm op → FitsOpIn old op → IsPossible old op
+  possible (Make dir called kind text) form fit =
+      record { lies = place_makes fit.place; fits = form; left = fit.left }
+  possible (Link dir called target) form fit =
       record { lies = place_makes fit.0; held = held_as_any old.files target fit.1 }
-  possible (Remove entries target) rises fit = names_removed entries target rises fit
-  possible (Move entries dir called target) rises fit =
-      record { removes = names_removed entries target rises fit.0; lies = place_makes fit.1 }
-  possible (Adopt file dir called) rises fit = record { lies = place_makes fit.0; held = fit.1 }
-  possible (Discard file) rises fit = held_as_any old.files file fit
-  possible op rises fit = fit
+  possible (Remove entries target) form fit = names_removed entries target form fit
+  possible (Move entries dir called target) form fit =
+      record { removes = names_removed entries target form fit.0; lies = place_makes fit.1 }
+  possible (Adopt file dir called) form fit = record { lies = place_makes fit.0; held = fit.1 }
+  possible (Discard file) form fit = held_as_any old.files file fit
+  possible op form fit = fit
 
   -- what fits is ready to be done
-  pub update_ready : (op : Op) → Rises op → FitsUpdate old op → IsReady old op
-  update_ready op rises update = record { left = update.left; possible = possible op rises update.fits }
+  pub update_ready : (op : Op) → HasForm op → FitsUpdate old op → IsReady old op
+  update_ready op form update = record { left = update.left; possible = possible op form update.fits }
 
   -- the numbers of identifiers take four bytes at most
   held_short : (id : Id) → Holds old.files id → id_format.fits id
@@ -139,24 +149,24 @@ module _ {old : Saved} (fits : FitsImage old) where
   )
 
   -- what fits has a spelling, where the name that it gives is one
-  pub op_spelled : (op : Op) → HasName op → Rises op → FitsOpIn old op → FitsOp op
-  op_spelled (Make dir called kind) name rises fit = (place_short dir fit, (name, tt))
-  op_spelled (Link dir called target) name rises fit =
+  pub op_spelled : (op : Op) → HasName op → HasForm op → FitsOpIn old op → FitsOp op
+  op_spelled (Make dir called kind text) name form fit = making_fits dir called kind text (place_short dir fit.place) name form
+  op_spelled (Link dir called target) name form fit =
       (place_short dir fit.0, (name, held_short target (held_as_any old.files target fit.1)))
-  op_spelled (Remove entries target) name rises fit =
-      (held_short target (names_target entries target fit), names_spelled entries target rises fit)
-  op_spelled (Move entries dir called target) name rises fit = (
+  op_spelled (Remove entries target) name form fit =
+      (held_short target (names_target entries target fit), names_spelled entries target form fit)
+  op_spelled (Move entries dir called target) name form fit = (
     held_short target (names_target entries target fit.0),
-    (place_short dir fit.1, (name, names_spelled entries target rises fit.0)),
+    (place_short dir fit.1, (name, names_spelled entries target form fit.0)),
   )
-  op_spelled (Write file bytes) name rises fit =
+  op_spelled (Write file bytes) name form fit =
       (held_short file (held_as_any old.files file fit.held), omega (arith, fit.one_file))
-  op_spelled (Settle file bytes) name rises fit =
+  op_spelled (Settle file bytes) name form fit =
       (held_short file (held_as_any old.files file fit.held), omega (arith, fit.one_file))
-  op_spelled (Resolve file bytes) name rises fit =
+  op_spelled (Resolve file bytes) name form fit =
       (held_short file (held_as_any old.files file fit.held), omega (arith, fit.one_file))
-  op_spelled (Adopt file dir called) name rises fit = (held_short file fit.1, (place_short dir fit.0, name))
-  op_spelled (Discard file) name rises fit = held_short file (held_as_any old.files file fit)
+  op_spelled (Adopt file dir called) name form fit = (held_short file fit.1, (place_short dir fit.0, name))
+  op_spelled (Discard file) name form fit = held_short file (held_as_any old.files file fit)
 
 -- the file that is held under an identifier tells of all that is held under it
 pub file_told : {fit : FileReplica → Type 0} (files : List FileReplica) (id : Id) (file : FileReplica) → AreFiles files

@@ -5,6 +5,7 @@ pub mod Telling
 pub mod Saves
 pub mod Standing
 pub mod OpenAsks
+pub mod Written
 pub mod Allowed
 pub mod Tables
 pub mod Effects
@@ -16,7 +17,6 @@ pub mod Changing
 pub mod Events
 pub mod Asks
 pub mod Accepts
-pub mod Pulls
 pub mod Leaving
 pub mod Collects
 pub mod Recorded

@@ -3,12 +3,12 @@ use Rattle.std.proofs.Common.{◌≡◌, ℕ, ◌<◌, List, [], ◌∷◌, ◌+
 use Rattle.std.proofs.lemmas.List.{take_at}
 use Rattle.ficus_model.specs.declared.event.Event.{Event}
 use Rattle.ficus_model.specs.declared.event.Event.TheVariants.{Ask}
-use Rattle.ficus_model.specs.Events.{through}
+use Rattle.ficus_model.specs.Events.{through, generation_of}
 use Rattle.ficus_model.specs.Lawful.{ClosesAsk}
 use Rattle.ficus_laws.proofs.Positions.{agree_more, agree_take, at_within, at_end, through_is}
 use Rattle.ficus_laws.proofs.OpenAsk.{open_kept as still_open, open_before, open_last, open_once}
 use Rattle.ficus_replica.specs.declared.replica.Asked.{Asked}
-use Rattle.ficus_replica.specs.SavedOf.{generation_of, IsOpenAskOf}
+use Rattle.ficus_replica.specs.SavedOf.{IsOpenAskOf}
 
 -- the events through a position of a history stay the same as it grows
 pub through_more : (H : List Event) (event : Event) (position : ℕ) → position < length H →

@@ -1,6 +1,7 @@
 -- What a rule gives over the tables fits them, so that it is ready to be done there.
 use Rattle.std.proofs.Common.{◌≡◌, ◌<◌, ◌-◌, ◌^◌, ℕ, List, length, Ok, refl, sym, subst, inl, inr, arith}
 use Rattle.std.specs.Prelude.{Contains}
+use Rattle.ficus_ids.specs.KindLaws.{versioned_kind}
 use Rattle.ficus_ids.specs.ListLaws.{not_inside_none}
 use Rattle.ficus_ids.specs.declared.id.Id.{Id}
 use Rattle.ficus_ids.specs.declared.kind.Kind.{Kind}
@@ -12,7 +13,7 @@ use Rattle.ficus_record.specs.declared.record.Record.TheVariants as noted
 use Rattle.ficus_saved.specs.Saved.{FitsImage}
 use Rattle.ficus_saved.specs.declared.saved.Saved.{Saved}
 use Rattle.ficus_commands.specs.declared.change.Change.{Change}
-use Rattle.ficus_commands.specs.declared.change.Change.TheVariants.{MkDir, Create, Write, Settle, Resolve, Rm, Ln, Mv, Adopt, Discard}
+use Rattle.ficus_commands.specs.declared.change.Change.TheVariants.{MkDir, Create, Symlink, Write, Settle, Resolve, Rm, Ln, Mv, Adopt, Discard}
 use Rattle.ficus_rules.specs.Adopt.{AdoptRule}
 use Rattle.ficus_rules.specs.Change.{ChangeRule}
 use Rattle.ficus_rules.specs.Discard.{DiscardRule}
@@ -23,19 +24,20 @@ use Rattle.ficus_rules.specs.Named.{AreNamedIn}
 use Rattle.ficus_rules.specs.Remove.{RemoveRule}
 use Rattle.ficus_rules.specs.Rename.{RenameRule}
 use Rattle.ficus_rules.specs.Rule.{Gives}
+use Rattle.ficus_rules.specs.Symlink.{SymlinkRule}
 use Rattle.ficus_rules.specs.View.{IsDirectoryIn, IsVisibleIn}
-use Rattle.ficus_rules.specs.Walk.{FileRule, Found, last_name}
-use Rattle.ficus_rules.proofs.Walks.{IsFileAt, IsEntryAt, IsWalkedTo, entry_walked, file_walked, parent_walked, places_walked}
+use Rattle.ficus_rules.specs.Walk.{VersionedRule, Found, last_name}
+use Rattle.ficus_rules.proofs.Walks.{IsVersionedAt, IsEntryAt, IsWalkedTo, entry_walked, versioned_walked, parent_walked, places_walked}
 use Rattle.ficus_answers.specs.View.{IsVisibleBy, held_live, tables_view}
 use Rattle.ficus_answers.proofs.Tables.{bound_named, tables_named, visible_held}
 use Rattle.ficus_replica.specs.Effect.{Applied, HasName, IsReady, MayWrite}
 use Rattle.ficus_replica.specs.Makes.{AreNames, FitsOpIn, FitsUpdate, IsFile, IsNoted, IsPlace}
-use Rattle.ficus_replica.proofs.Fitting.{Rises, op_spelled, update_ready}
+use Rattle.ficus_replica.proofs.Fitting.{HasForm, op_spelled, update_ready}
 
--- the operation fits the tables, and what it lists rises
+-- the operation fits the tables, and has a form
 pub record IsGiven (saved : Saved) (op : Op) : Type 0 where
   pub update : FitsUpdate saved op
-  pub rises : Rises op
+  pub form : HasForm op
 
 module _ {saved : Saved} (fits : FitsImage saved) where
   -- a directory to which a walk leads is a place for entries
@@ -67,33 +69,71 @@ module _ {saved : Saved} (fits : FitsImage saved) where
         }));
       }
 
-  may_write : {file : Id} (bytes : List ℕ) → IsFileAt (tables_view saved) file →
+  may_write : {file : Id} (bytes : List ℕ) → IsVersionedAt (tables_view saved) file →
       (most_file_bytes < length bytes → ⊥) → ((tables_view saved).over_quota (length bytes) → ⊥) →
       MayWrite saved file bytes
-  may_write bytes found short within = record {
-    held = visible_file (visible_by found.visible) found.no_directory;
-    one_file = omega arith;
-    left = omega arith;
-  }
+  may_write bytes found short within =
+      let visible = visible_by found.at.visible in
+      let held = visible_file visible found.at.no_directory in
+      record {
+        held = record {
+          file = held.file;
+          inside = held.inside;
+          has_id = held.has_id;
+          fit = versioned_kind held.file.kind held.fit (λ fixed. found.changes (record {
+            kind = held.file.kind;
+            of_kind = record {
+              visible = visible;
+              file = held.file;
+              inside = held.inside;
+              has_id = held.has_id;
+              so = refl;
+            };
+            is = fixed;
+          }));
+        };
+        one_file = omega arith;
+        left = omega arith;
+      }
 
   -- the file at a path is written within the limits
   within_given : (path : Path) {file : Id} {bytes : List ℕ} {op given : Op} →
-      (MayWrite saved file bytes → FitsOpIn saved op) → Rises op → FileRule (tables_view saved) path (Ok file) →
+      (MayWrite saved file bytes → FitsOpIn saved op) → HasForm op → VersionedRule (tables_view saved) path (Ok file) →
       LimitsRule (tables_view saved) (length bytes) (Gives op) (Ok given) → IsGiven saved given
-  within_given path {file} {bytes} writes rises walk (short, (left, (within, is))) =
+  within_given path {file} {bytes} writes form walk (short, (left, (within, is))) =
       subst (IsGiven saved) (sym is) (record {
         update = record {
           left = omega arith;
-          fits = writes (may_write bytes (file_walked (tables_view saved) path file walk) short within);
+          fits = writes (may_write bytes (versioned_walked (tables_view saved) path file walk) short within);
         };
-        rises = rises;
+        form = form;
       })
 
   make_given : (path : Path) (kind : Kind) (op : Op) → MakeRule (tables_view saved) path kind (Ok op) → IsGiven saved op
-  make_given path kind op (dir, walk, (free, (left, is))) = subst (IsGiven saved) (sym is) (record {
-    update = record { left = omega arith; fits = walked_place (parent_walked (tables_view saved) path dir walk) };
-    rises = tt;
+  make_given path kind op (dir, walk, (free, (left, (fits_kind, is)))) = subst (IsGiven saved) (sym is) (record {
+    update = record {
+      left = omega arith;
+      fits = record {
+        place = walked_place (parent_walked (tables_view saved) path dir walk);
+        left = omega (arith, fits.used);
+      };
+    };
+    form = fits_kind;
   })
+
+  symlink_given : (path : Path) (text : List ℕ) (op : Op) → SymlinkRule (tables_view saved) path text (Ok op) →
+      IsGiven saved op
+  symlink_given path text op (dir, walk, (free, (short, (left, (within, (fits_kind, is)))))) =
+      subst (IsGiven saved) (sym is) (record {
+        update = record {
+          left = omega arith;
+          fits = record {
+            place = walked_place (parent_walked (tables_view saved) path dir walk);
+            left = omega arith;
+          };
+        };
+        form = fits_kind;
+      })
 
   -- all entries of the name at a path are names of what it leads to
   entries_named : {path : Path} {found : Found} {entries : List Id} → IsEntryAt (tables_view saved) path found →
@@ -119,7 +159,7 @@ module _ {saved : Saved} (fits : FitsImage saved) where
       left = omega arith;
       fits = entries_named (entry_walked (tables_view saved) path found walk) named;
     };
-    rises = named.rising;
+    form = named.rising;
   })
 
   link_given : (from path : Path) (op : Op) → LinkRule (tables_view saved) from path (Ok op) → IsGiven saved op
@@ -134,7 +174,7 @@ module _ {saved : Saved} (fits : FitsImage saved) where
             visible_file (inl (bound_named saved at.bound)) no_directory,
           );
         };
-        rises = tt;
+        form = tt;
       })
 
   rename_given : (from path : Path) (op : Op) → RenameRule (tables_view saved) from path (Ok op) → IsGiven saved op
@@ -148,7 +188,7 @@ module _ {saved : Saved} (fits : FitsImage saved) where
             walked_place (parent_walked (tables_view saved) path places.dir walked.dir),
           );
         };
-        rises = named.rising;
+        form = named.rising;
       })
 
   adopt_given : (orphan : Id) (path : Path) (op : Op) → AdoptRule (tables_view saved) orphan path (Ok op) →
@@ -162,18 +202,19 @@ module _ {saved : Saved} (fits : FitsImage saved) where
             visible_held fits (inr is_orphan),
           );
         };
-        rises = tt;
+        form = tt;
       })
 
   discard_given : (orphan : Id) (op : Op) → DiscardRule (tables_view saved) orphan (Ok op) → IsGiven saved op
   discard_given orphan op (is_orphan, (no_directory, (left, is))) = subst (IsGiven saved) (sym is) (record {
     update = record { left = omega arith; fits = visible_file (inr is_orphan) no_directory };
-    rises = tt;
+    form = tt;
   })
 
   pub change_given : (change : Change) (op : Op) → ChangeRule (tables_view saved) change (Ok op) → IsGiven saved op
   change_given (MkDir path) op rule = make_given path Dir op rule
   change_given (Create path kind) op rule = make_given path kind op rule
+  change_given (Symlink path text) op rule = symlink_given path text op rule
   change_given (Write path text) op (file, walk, (settled, limits)) = within_given path (λ may. may) tt walk limits
   change_given (Settle path text) op (file, walk, (conflict, limits)) = within_given path (λ may. may) tt walk limits
   change_given (Resolve path) op (file, walk, (conflict, (text, resolved, limits))) =
@@ -187,7 +228,7 @@ module _ {saved : Saved} (fits : FitsImage saved) where
   pub change_ready : (change : Change) (op : Op) → ChangeRule (tables_view saved) change (Ok op) → IsReady saved op
   change_ready change op rule =
       let given = change_given change op rule in
-      update_ready fits op given.rises given.update
+      update_ready fits op given.form given.update
 
   -- and its record makes what it makes
   pub change_noted : (change : Change) (op given : Op) (new : Saved) → saved.generation < 2 ^ 63 - 1 → HasName op →
@@ -196,7 +237,7 @@ module _ {saved : Saved} (fits : FitsImage saved) where
   change_noted change op given new generation name rule is applied fits_then =
       let by_rule = change_given change op rule in
       subst (λ (o : Op). IsNoted saved (noted.Change o) new) (sym is) (record {
-        spelled = op_spelled fits op name by_rule.rises by_rule.update.fits;
+        spelled = op_spelled fits op name by_rule.form by_rule.update.fits;
         fit = record { generation = generation; fits = by_rule.update };
         makes = applied;
         fits = fits_then;

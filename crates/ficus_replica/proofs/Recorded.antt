@@ -27,8 +27,9 @@ module _ (volume : Volume) (H : List Event) (r : ℕ) (old new : Saved) (fits : 
   record_stands may (OfAsk {to = to}) makes =
       subst (IsSavedOf volume (H ++ Ask r to ∷ []) r) (sym makes)
       (saved_again (Ask r to) (inr tt) refl is (ask_is_saved r to))
-  record_stands may (OfAccept {serve = serve} {from = from} {number = number} {entries = entries} {files = files} served) makes =
-      merged_saved volume H r from number entries files serve old lawful is served may new makes
+  record_stands may (OfAccept {serve = serve} {piece = piece} {from = from} {number = number} {entries = entries} {files = files} served)
+      makes =
+      merged_saved volume H r from number entries files serve piece old lawful is served may new makes
   record_stands may OfCollect makes =
       subst (IsSavedOf volume (H ++ Collect r ∷ []) r) (sym makes.saved)
       (saved_collected volume H r lawful is makes.are makes.left)

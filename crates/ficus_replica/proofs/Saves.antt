@@ -5,7 +5,7 @@ use Rattle.ficus_ids.specs.Members.{IsMember}
 use Rattle.ficus_model.specs.declared.event.Event.{Event}
 use Rattle.ficus_model.specs.declared.event.Event.TheVariants.{Update, Ask, Accept, Collect}
 use Rattle.ficus_model.specs.declared.event.Op.{Op}
-use Rattle.ficus_model.specs.Events.{actor, is_update_of, count_of, traits}
+use Rattle.ficus_model.specs.Events.{actor, is_update_of, count_of, is_saved, generation_of, traits}
 use Rattle.ficus_model.specs.Lawful.{Volume}
 use Rattle.ficus_model.specs.Versions.{bytes_of, written_in, written_of}
 use Rattle.ficus_entry.specs.declared.entry.Entry.{Entry}
@@ -19,7 +19,7 @@ use Rattle.ficus_held_laws.proofs.Listing.{list_kept}
 use Rattle.ficus_held_file_laws.specs.Tables.{AreHeldEntries, AreHeldFiles}
 use Rattle.ficus_held_file_laws.proofs.Entries.{entries_once}
 use Rattle.ficus_held_file_laws.proofs.Files.{files_once}
-use Rattle.ficus_replica.specs.SavedOf.{is_saved, generation_of, IsSavedOf}
+use Rattle.ficus_replica.specs.SavedOf.{IsSavedOf}
 
 pub saved_of_other : (r : ℕ) (event : Event) → actor event ≢ r → is_saved r event ≡ false
 saved_of_other r event n = not_own (traits event).saves (actor event) r n
@@ -30,8 +30,8 @@ update_is_saved r op = search rules
 pub ask_is_saved : (r to : ℕ) → is_saved r (Ask r to) ≡ true
 ask_is_saved r to = search rules
 
-pub accept_is_saved : (r serve : ℕ) → is_saved r (Accept r serve) ≡ true
-accept_is_saved r serve = search rules
+pub accept_is_saved : (r serve piece : ℕ) → is_saved r (Accept r serve piece) ≡ true
+accept_is_saved r serve piece = search rules
 
 pub collect_is_saved : (r : ℕ) → is_saved r (Collect r) ≡ true
 collect_is_saved r = search rules

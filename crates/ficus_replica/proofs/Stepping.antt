@@ -42,7 +42,7 @@ use Rattle.ficus_held_file_laws.specs.Laws.{Names, Overwrites}
 use Rattle.ficus_held_file_laws.specs.Laws.Names.{Links as LinksOnly, Moves, Adopts as AdoptsOnly}
 use Rattle.ficus_held_file_laws.proofs.Stepping.{make_steps, write_steps, cover_steps, name_steps}
 use Rattle.ficus_answers.specs.View.{held_as, held_live}
-use Rattle.ficus_replica.specs.Effect.{GivesName, IsStepped, attic_place, MayMake, MayLink, MayRemove, MayMove, MayWrite, next_id}
+use Rattle.ficus_replica.specs.Effect.{GivesName, IsStepped, attic_place, MayMakeObject, MayLink, MayRemove, MayMove, MayWrite, next_id}
 use Rattle.ficus_replica.specs.Effect.GivesName.{Links, Adopts}
 use Rattle.ficus_replica.proofs.Tables.{tables_of, entered_none, entered_one, entered_removed}
 
@@ -152,24 +152,23 @@ module _ {saved : Saved} (fits : FitsImage saved) where
       omega (arith, past.id own, number)
 
   -- with a new object and its entry
-  pub made_steps : (dir : Id) (name : List ℕ) (kind : Kind) (entries : List Entry) (files : List FileReplica) →
-      saved.next ≤ saved.ids → MayMake saved dir → IsName name → IsRising entries →
+  pub made_steps : (dir : Id) (name : List ℕ) (kind : Kind) (text : List ℕ) (entries : List Entry)
+      (files : List FileReplica) → saved.next ≤ saved.ids → MayMakeObject saved dir kind text → IsName name → IsRising entries →
       AddsEntry saved.entries entries (held_live (entry_of (next_id saved) dir name (next_id saved))) →
-      AreFiles files → Adds saved.files files (made_file (next_id saved) kind saved.me) →
-      IsStepped saved (Make dir name kind) entries files
-  made_steps dir name kind entries files left may is_name rising adds held adds_file = record {
+      AreFiles files → Adds saved.files files (made_file (next_id saved) kind saved.me text) →
+      IsStepped saved (Make dir name kind text) entries files
+  made_steps dir name kind text entries files left may is_name rising adds held adds_file = record {
     stepped = record {
       rising = rising;
-      stepped = entered_one saved.me (next_id saved) (Make dir name kind) (killed_none saved.me saved.entries)
+      stepped = entered_one saved.me (next_id saved) (Make dir name kind text) (killed_none saved.me saved.entries)
           (entry_of (next_id saved) dir name (next_id saved)) refl (not_inside_none (next_id saved)) adds;
       held = held;
-      stepped_files = make_steps fits.me.at_least most (next_id saved) dir name kind saved.files files next_is_new
+      stepped_files = make_steps fits.me.at_least most (next_id saved) dir name kind text saved.files files next_is_new
           adds_file;
     };
-    fits = made_tables_fit saved.members saved.me saved.next dir name kind saved.entries entries saved.files files
-        fits.me fits.next_at_least (omega (arith, fits.ids_at_most)) is_name may.place may.no_attic
-        (tables_of fits) rising
-        adds held adds_file;
+    fits = made_tables_fit saved.members saved.me saved.next dir name kind text saved.entries entries saved.files files
+        fits.me fits.next_at_least (omega (arith, fits.ids_at_most)) is_name may.fits may.lies.place
+        may.lies.no_attic (tables_of fits) rising adds held adds_file;
   }
 
   -- the files that fit are files
@@ -217,7 +216,7 @@ module _ {saved : Saved} (fits : FitsImage saved) where
         file = found.file;
         inside = found.inside;
         has_id = found.has_id;
-        fit = record { is_file = found.fit; room = omega (arith, fits.next_at_most, fits.ids_at_most) };
+        fit = record { changes = found.fit; room = omega (arith, fits.next_at_most, fits.ids_at_most) };
       }
 
   -- no entry has the number of the next update

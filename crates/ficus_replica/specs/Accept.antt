@@ -1,11 +1,11 @@
 -- `accept`: what it gives, and which answers a history allows to be taken.
-use Rattle.std.specs.Prelude.{◌≡◌, ℕ, ◌+◌, List, Result, Ok, Err, Some, None}
+use Rattle.std.specs.Prelude.{◌≡◌, ℕ, ◌+◌, List, [], ◌∷◌, ◌++◌, Result, Ok, Err, Some, None}
 use Rattle.ficus_ids.specs.declared.refusal.Refusal.{Refusal}
 use Rattle.ficus_ids.specs.declared.refusal.Refusal.TheVariants.{Memory, Stale, BadMessage}
 use Rattle.ficus_model.specs.declared.event.Event.{Event}
 use Rattle.ficus_model.specs.declared.event.Event.TheVariants.{Ask, Serve, Accept}
-use Rattle.ficus_model.specs.Events.{IsAt, through}
-use Rattle.ficus_model.specs.Lawful.{Volume, MayCome}
+use Rattle.ficus_model.specs.Events.{IsAt, through, generation_of}
+use Rattle.ficus_model.specs.Lawful.{Volume, MayCome, AnswersOpenAsk}
 use Rattle.ficus_entry.specs.Entry.{IsRising}
 use Rattle.ficus_entry.specs.declared.entry.Entry.{Entry}
 use Rattle.ficus_file.specs.Files.{AreFiles}
@@ -17,7 +17,7 @@ use Rattle.ficus_saved.specs.declared.saved.Saved.{Saved}
 use Rattle.ficus_touched.specs.Touched.{touched_by}
 use Rattle.ficus_held_file_laws.specs.Tables.{AreHeldEntries, AreHeldFiles}
 use Rattle.ficus_replica.specs.declared.replica.Replica.{Replica}
-use Rattle.ficus_replica.specs.SavedOf.{StandsAfter, generation_of}
+use Rattle.ficus_replica.specs.SavedOf.{StandsFor}
 
 -- the open ask is of this peer and number
 abbrev pub IsOpen : Replica → ℕ → ℕ → Type 0
@@ -83,15 +83,24 @@ TakeGives old entries files (Err other) = ⊥
 pub record IsServed (volume : Volume) (H : List Event) (r s number : ℕ) (entries : List Entry)
     (files : List FileReplica) (serve : ℕ) : Type 0 where
   pub ask : ℕ
+  pub state : ℕ
+  pub pieces : ℕ
   pub asked : IsAt H ask (Ask r s)
-  pub served : IsAt H serve (Serve s ask)
+  pub served : IsAt H serve (Serve s ask state pieces)
   pub numbered : number ≡ generation_of r (through ask H)
   pub held : AreHeldEntries volume.members (through serve H) s entries
   pub held_files : AreHeldFiles volume.members (through serve H) s files
 
--- what was served is taken where the history allows it, and is stale where it doesn't
+-- what was served in answer to the open ask is taken: with whichever piece the history allows its Accept, the new
+-- replica stands for the history with that
+pub record IsTaken (volume : Volume) (H : List Event) (r serve : ℕ) (new : Replica) : Type 0 where
+  pub answers : AnswersOpenAsk H serve r
+  pub stands : (piece : ℕ) → MayCome volume H (Accept r serve piece) →
+      StandsFor volume (H ++ Accept r serve piece ∷ []) r new
+
+-- what was served is taken where it answers the open ask, and is stale where it doesn't
 abbrev pub AcceptStands : Volume → List Event → ℕ → ℕ → Result Replica Refusal → Type 0
-AcceptStands volume H r serve (Ok new) = StandsAfter volume H r (Accept r serve) new
-AcceptStands volume H r serve (Err Stale) = MayCome volume H (Accept r serve) → ⊥
-AcceptStands volume H r serve (Err Memory) = MayCome volume H (Accept r serve)
+AcceptStands volume H r serve (Ok new) = IsTaken volume H r serve new
+AcceptStands volume H r serve (Err Stale) = AnswersOpenAsk H serve r → ⊥
+AcceptStands volume H r serve (Err Memory) = AnswersOpenAsk H serve r
 AcceptStands volume H r serve (Err other) = ⊥

@@ -4,7 +4,9 @@ use Rattle.ficus_ids.specs.Name.{IsName}
 use Rattle.ficus_ids.specs.Rising.{IsRisingBy}
 use Rattle.ficus_ids.specs.declared.id.Id.{Id}
 use Rattle.ficus_ids.specs.declared.id.TheConstants.{ATTIC}
-use Rattle.ficus_ids.specs.declared.kind.Kind.TheVariants.{Dir}
+use Rattle.ficus_ids.specs.Kind.{sort_of, FitsKind}
+use Rattle.ficus_ids.specs.declared.kind.Kind.{Kind}
+use Rattle.ficus_ids.specs.declared.kind.Sort.TheVariants.{Versioned}
 use Rattle.ficus_entry.specs.Entry.{IsRising}
 use Rattle.ficus_entry.specs.Kill.{HoldsLive}
 use Rattle.ficus_entry.specs.declared.entry.Entry.{Entry}
@@ -60,9 +62,15 @@ pub record MayMake (old : Saved) (dir : Id) : Type 0 where
   pub place : IsPlaceIn old.files dir
   pub no_attic : dir ≢ ATTIC
 
--- the file is held, and so many bytes fit it and are left to the replica
+-- so may one that leads to a new object of the kind with this text, and so many bytes are left to the replica
+pub record MayMakeObject (old : Saved) (dir : Id) (kind : Kind) (text : List ℕ) : Type 0 where
+  pub lies : MayMake old dir
+  pub fits : FitsKind kind text
+  pub left : old.used + length text ≤ old.bytes
+
+-- the file is held, its versions change, and so many bytes fit it and are left to the replica
 pub record MayWrite (old : Saved) (file : Id) (bytes : List ℕ) : Type 0 where
-  pub held : HoldsFile old.files file (λ held. held.kind ≢ Dir)
+  pub held : HoldsFile old.files file (λ held. sort_of held.kind ≡ Versioned)
   pub one_file : length bytes ≤ file_limit
   pub left : old.used + length bytes ≤ old.bytes
 
@@ -89,7 +97,7 @@ pub data GivesName : Op → Id → List ℕ → Id → Type 0 where
 
 -- what is done is possible in the replica's tables
 abbrev pub IsPossible : Saved → Op → Type 0
-IsPossible old (Make dir name kind) = MayMake old dir
+IsPossible old (Make dir name kind text) = MayMakeObject old dir kind text
 IsPossible old (Write file bytes) = MayWrite old file bytes
 IsPossible old (Settle file bytes) = MayWrite old file bytes
 IsPossible old (Resolve file bytes) = MayWrite old file bytes
@@ -106,7 +114,7 @@ pub record IsReady (old : Saved) (op : Op) : Type 0 where
 
 -- the name that the operation gives, if it gives one
 abbrev pub name_given : Op → Option (List ℕ)
-name_given (Make dir called kind) = Some called
+name_given (Make dir called kind text) = Some called
 name_given (Link dir called target) = Some called
 name_given (Remove entries target) = None
 name_given (Move entries dir called target) = Some called

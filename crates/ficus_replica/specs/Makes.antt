@@ -1,5 +1,5 @@
 -- What a record makes of what a replica saves, and which records fit it.
-use Rattle.std.specs.Prelude.{◌≡◌, ◌≢◌, ◌⊎◌, ◌-◌, ◌^◌, ◌<◌, ◌≤◌, ◌+◌, List, [], Contains}
+use Rattle.std.specs.Prelude.{◌≡◌, ◌≢◌, ◌⊎◌, ◌-◌, ◌^◌, ◌<◌, ◌≤◌, ◌+◌, ℕ, List, [], length, Contains}
 use Rattle.ficus_ids.specs.declared.id.Id.{Id}
 use Rattle.ficus_ids.specs.declared.id.TheConstants.{ROOT}
 use Rattle.ficus_ids.specs.declared.kind.Kind.TheVariants.{Dir}
@@ -64,9 +64,14 @@ pub record AreNames (old : Saved) (entries : List Id) (target : Id) : Type 0 whe
   pub some : entries ≢ []
   pub each : (id : Id) → Contains entries id → IsNameOf old target id
 
+-- new entries may lie in the directory, and so many bytes are left
+pub record MakesIn (old : Saved) (dir : Id) (text : List ℕ) : Type 0 where
+  pub place : IsPlace old dir
+  pub left : old.used + length text ≤ old.bytes
+
 -- the operation fits the tables that are held
 abbrev pub FitsOpIn : Saved → Op → Type 0
-FitsOpIn old (Make dir called kind) = IsPlace old dir
+FitsOpIn old (Make dir called kind text) = MakesIn old dir text
 FitsOpIn old (Link dir called target) = IsPlace old dir × IsFile old target
 FitsOpIn old (Remove entries target) = AreNames old entries target
 FitsOpIn old (Move entries dir called target) = AreNames old entries target × IsPlace old dir

@@ -15,7 +15,7 @@ use Rattle.ficus_replica.specs.Accept.{IsServed}
 pub data IsRecordOf (volume : Volume) (H : List Event) (r : ℕ) : Event → Record → Type 0 where
   OfUpdate : {op : Op} → IsRecordOf volume H r (Update r op) (noted.Change op)
   OfAsk : {to : ℕ} → IsRecordOf volume H r (Ask r to) noted.Ask
-  OfAccept : {serve from number : ℕ} {entries : List Entry} {files : List FileReplica}
+  OfAccept : {serve piece from number : ℕ} {entries : List Entry} {files : List FileReplica}
       → IsServed volume H r from number entries files serve
-      → IsRecordOf volume H r (Accept r serve) (noted.Accept entries files)
+      → IsRecordOf volume H r (Accept r serve piece) (noted.Accept entries files)
   OfCollect : IsRecordOf volume H r (Collect r) noted.Collect

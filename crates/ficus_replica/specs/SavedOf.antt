@@ -1,22 +1,14 @@
 -- What it means that a replica stands for a history.
-use Rattle.std.specs.Prelude.{◌≡◌, ℕ, ◌+◌, List, ◌∷◌, [], ◌++◌, Bool, ◌&&◌, ◌==◌, Option, Some, None, count_by}
+use Rattle.std.specs.Prelude.{◌≡◌, ℕ, ◌+◌, List, ◌∷◌, [], ◌++◌, Option, Some, None}
 use Rattle.ficus_ids.specs.Members.{IsMember}
 use Rattle.ficus_model.specs.declared.event.Event.{Event}
-use Rattle.ficus_model.specs.Events.{actor, count_of, through, traits}
+use Rattle.ficus_model.specs.Events.{count_of, generation_of, through}
 use Rattle.ficus_model.specs.Lawful.{Volume, IsOpenAsk, MayCome}
 use Rattle.ficus_model.specs.Versions.{written_of}
 use Rattle.ficus_saved.specs.declared.saved.Saved.{Saved}
 use Rattle.ficus_held_file_laws.specs.Tables.{AreHeldEntries, AreHeldFiles}
 use Rattle.ficus_replica.specs.declared.replica.Asked.{Asked}
 use Rattle.ficus_replica.specs.declared.replica.Replica.{Replica}
-
--- an event of the replica after which it saves
-abbrev pub is_saved : ℕ → Event → Bool
-is_saved replica event = (traits event).saves && (actor event == replica)
-
--- how often the replica has saved
-abbrev pub generation_of : ℕ → List Event → ℕ
-generation_of replica H = count_by (is_saved replica) H
 
 -- what the replica, a member, saves after the history
 pub record IsSavedOf (volume : Volume) (H : List Event) (replica : ℕ) (saved : Saved) : Type 0 where

@@ -1,4 +1,4 @@
-ghost use Rattle.std.specs.Prelude.{◌≡◌, ◌-◌, ◌^◌, ◌<◌, ℕ, List, IfOk, IsTrue, ◌↔◌};
+ghost use Rattle.std.specs.Prelude.{◌≡◌, ◌-◌, ◌^◌, ◌<◌, ℕ, List, None, Err, IfOk, OnOk, OnErr, IsTrue, ◌↔◌};
 
 use crate::{Asked, Replica};
 use ficus_entry::{Entries, InOrder, SharedEntry};
@@ -7,6 +7,7 @@ use ficus_ids::{Memory, Refusal};
 use ficus_recon_dir::merge_in_order;
 use ficus_recon_file::{News, merge_news, news_fit};
 use std::alloc::Global;
+use std::mem;
 
 impl Replica {
     ghost use Rattle.std.specs.Prelude.{All};
@@ -16,7 +17,8 @@ impl Replica {
     ghost use Rattle.ficus_model.specs.declared.event.Event.{Event};
     ghost use Rattle.ficus_recon_file.specs.Merge.{Fit};
     ghost use Rattle.ficus_replica.specs.Accept.{AcceptGives, AcceptStands, AreTablesMerged, IsOpen, IsServed, MayTake};
-    ghost use Rattle.ficus_replica.specs.Accept.{TakeGives};
+    ghost use Rattle.ficus_replica.specs.Accept.{MakesMerged, TakeGives, Taken};
+    ghost use Rattle.ficus_ids.specs.declared.refusal.Refusal.{Refusal as RefusalValue};
     ghost use Rattle.ficus_replica.specs.Makes.{IsNoted};
     ghost use Rattle.ficus_replica.specs.SavedOf.{StandsFor};
     ghost use Rattle.ficus_record.specs.declared.record.Record.TheVariants.{Accept as Noted};
@@ -77,8 +79,8 @@ impl Replica {
         self.take_rows(alloc, entries, files)
     }
 
-    /// Takes tables, or refuses them, whether or not they were asked for.
-    pub(crate) fn take_tables(
+    // Takes tables, or refuses them, whether or not they were asked for.
+    fn take_tables(
         &self,
         alloc: Global,
         entries: &Entries,
@@ -109,8 +111,74 @@ impl Replica {
         self.take(alloc, &entries, files)
     }
 
-    // Whether its open ask is of this peer and number.
-    fn waits_for(&self, from: u8, number: u64) -> bool
+    /// The same of a replica that isn't held further: its own entries are given up before the files are merged.
+    pub(crate) fn into_taken(
+        self,
+        alloc: Global,
+        entries: &[SharedEntry],
+        files: &[SharedFile],
+    ) -> Result<Replica, Refusal>
+        requires fits { FitsImage self.saved }
+        requires tables { FitsTables self.saved.members entries.now files.now }
+        requires generation { self.saved.generation < 2 ^ 63 - 1 }
+        ensures { TakeGives self.saved entries.now files.now result }
+    {
+        let entries = InOrder::of_rows(alloc, entries)?;
+        let files = FilesInOrder::of_rows(alloc, files)?;
+        let mut replica = self;
+        replica.become_taken(alloc, &entries, files)?;
+        Ok(replica)
+    }
+
+    // Becomes what the taking of tables makes of it, or refuses them. After `Memory` nothing is promised of it.
+    fn become_taken(
+        &mut self,
+        alloc: Global,
+        entries: &InOrder<'_>,
+        files: FilesInOrder<'_>,
+    ) -> Result<(), Refusal>
+        requires fits { FitsImage self.old.saved }
+        requires tables { FitsTables self.old.saved.members entries.now files }
+        requires generation { self.old.saved.generation < 2 ^ 63 - 1 }
+        ensures taken { OnOk result (Taken self.old.saved entries.now files.entry self.new) }
+        ensures refused { OnErr result ((refusal : RefusalValue) × (result ≡ Err refusal)
+            × TakeGives self.old.saved entries.now files.entry (Err refusal)) }
+    {
+        let held = self.saved.files.copy()?;
+        let news = News::of(alloc, &held, files)?;
+        if !self.fits(entries, &news) {
+            return Err(Refusal::BadMessage);
+        }
+        self.become_merged(alloc, entries, &news)?;
+        Ok(())
+    }
+
+    // Its tables become what they and these make together, the entries first.
+    fn become_merged(
+        &mut self,
+        alloc: Global,
+        entries: &InOrder<'_>,
+        news: &News<'_>,
+    ) -> Result<(), Memory>
+        requires fits { FitsImage self.old.saved }
+        requires mine { news.now.mine ≡ self.old.saved.files }
+        requires fit { Fit self.old.saved.files news.now.theirs }
+        requires generation { self.old.saved.generation < 2 ^ 63 - 1 }
+        ensures { OnOk result
+            (MakesMerged self.old.saved entries.now news.now.theirs self.new.saved × (self.new.ask ≡ None)) }
+    {
+        let held = mem::replace(&mut self.saved.entries, Entries::new(alloc));
+        let merged = merge_in_order(alloc, held, entries, self.saved.me, self.saved.members)?;
+        self.saved.entries = merged;
+        let both = merge_news(alloc, news, &self.saved.entries)?;
+        self.saved.files = both;
+        self.saved.generation += 1;
+        self.ask = None;
+        Ok(())
+    }
+
+    /// Whether its open ask is of this peer and number.
+    pub fn waits_for(&self, from: u8, number: u64) -> bool
         ensures { IsTrue result ↔ IsOpen self.now from number }
     {
         self.ask == Some(Asked { to: from, number })
@@ -152,7 +220,8 @@ impl Replica {
         ensures { IfOk result (λ tables. AreTablesMerged self.now.saved entries.now tables.0 news.now.theirs tables.1) }
     {
         let saved = &self.saved;
-        let merged = merge_in_order(alloc, &saved.entries, entries, saved.me, saved.members)?;
+        let held = saved.entries.copy()?;
+        let merged = merge_in_order(alloc, held, entries, saved.me, saved.members)?;
         let both = merge_news(alloc, news, &merged)?;
         Ok((merged, both))
     }

@@ -1,7 +1,7 @@
 use crate::Replica;
-use ficus_entry::Entries;
-use ficus_file::Files;
-use ficus_ids::Refusal;
+use ficus_entry::SharedEntry;
+use ficus_file::SharedFile;
+use ficus_ids::{Memory, Refusal};
 use ficus_model::Op;
 use ficus_record::{Record, RecordFault};
 use ficus_saved::Saved;
@@ -30,25 +30,53 @@ impl Replica {
         ensures unfit { IsErrOf result RecordFault.Unfit → IsFit self.now.saved noted.now → ⊥ }
         ensures never { IsErrOf result RecordFault.NotRecord → ⊥ }
     {
+        self.copied()?.into_applied(alloc, noted)
+    }
+
+    /// The same of a replica that isn't held further: its own entries are given up before the files of an answer are
+    /// merged.
+    pub fn into_applied(self, alloc: Global, noted: &Record) -> Result<Replica, RecordFault>
+        requires fits { FitsImage self.saved }
+        requires spelled { FitsRecord self.saved.members noted.now }
+        ensures noted { IfOk result (λ replica. IsNoted self.saved noted.now replica.saved) }
+        ensures ask { IfOk result (λ replica. replica.ask ≡ None) }
+        ensures unfit { IsErrOf result RecordFault.Unfit → IsFit self.saved noted.now → ⊥ }
+        ensures never { IsErrOf result RecordFault.NotRecord → ⊥ }
+    {
         if self.saved.generation >= LAST_GENERATION {
             return Err(RecordFault::Unfit);
         }
         Ok(Replica::open(self.noted_next(alloc, noted)?))
     }
 
+    // The same replica once more, without the ask.
+    fn copied(&self) -> Result<Replica, Memory>
+        ensures { IfOk result (λ replica. replica.saved ≡ self.now.saved) }
+    {
+        let entries = self.saved.entries.copy()?;
+        let files = self.saved.files.copy()?;
+        Ok(Replica::open(Saved {
+            entries,
+            files,
+            ..self.saved
+        }))
+    }
+
     // What is saved after the event of the record.
-    fn noted_next(&self, alloc: Global, noted: &Record) -> Result<Saved, RecordFault>
-        requires fits { FitsImage self.now.saved }
-        requires generation { self.now.saved.generation < 2 ^ 63 - 1 }
-        requires spelled { FitsRecord self.now.saved.members noted.now }
-        ensures noted { IfOk result (λ saved. IsNoted self.now.saved noted.now saved) }
-        ensures unfit { IsErrOf result RecordFault.Unfit → IsFit self.now.saved noted.now → ⊥ }
+    fn noted_next(self, alloc: Global, noted: &Record) -> Result<Saved, RecordFault>
+        requires fits { FitsImage self.saved }
+        requires generation { self.saved.generation < 2 ^ 63 - 1 }
+        requires spelled { FitsRecord self.saved.members noted.now }
+        ensures noted { IfOk result (λ saved. IsNoted self.saved noted.now saved) }
+        ensures unfit { IsErrOf result RecordFault.Unfit → IsFit self.saved noted.now → ⊥ }
         ensures never { IsErrOf result RecordFault.NotRecord → ⊥ }
     {
         match noted {
             Record::Change(op) => self.changed_next(alloc, op),
             Record::Ask => Ok(self.saved_again()?),
-            Record::Accept { entries, files } => self.merged_next(alloc, entries, files),
+            Record::Accept { entries, files } => {
+                self.merged_next(alloc, entries.items(), files.items())
+            }
             Record::Collect => Ok(self.collect(alloc)?.replica.saved),
         }
     }
@@ -68,21 +96,21 @@ impl Replica {
         Ok(self.saved_after(alloc, op)?)
     }
 
-    // What is saved once the tables are taken, where they fit.
+    // What is saved once the tables of these rows are taken, where they fit.
     fn merged_next(
-        &self,
+        self,
         alloc: Global,
-        entries: &Entries,
-        files: &Files,
+        entries: &[SharedEntry],
+        files: &[SharedFile],
     ) -> Result<Saved, RecordFault>
-        requires fits { FitsImage self.now.saved }
-        requires generation { self.now.saved.generation < 2 ^ 63 - 1 }
-        requires tables { FitsTables self.now.saved.members entries.now files.now }
-        ensures noted { IfOk result (λ saved. IsNoted self.now.saved (NotedAccept entries.now files.now) saved) }
-        ensures unfit { IsErrOf result RecordFault.Unfit → MayTake self.now.saved entries.now files.now → ⊥ }
+        requires fits { FitsImage self.saved }
+        requires generation { self.saved.generation < 2 ^ 63 - 1 }
+        requires tables { FitsTables self.saved.members entries.now files.now }
+        ensures noted { IfOk result (λ saved. IsNoted self.saved (NotedAccept entries.now files.now) saved) }
+        ensures unfit { IsErrOf result RecordFault.Unfit → MayTake self.saved entries.now files.now → ⊥ }
         ensures never { IsErrOf result RecordFault.NotRecord → ⊥ }
     {
-        match self.take_tables(alloc, entries, files) {
+        match self.into_taken(alloc, entries, files) {
             Ok(replica) => Ok(replica.saved),
             Err(Refusal::BadMessage) => Err(RecordFault::Unfit),
             Err(Refusal::Memory) => Err(RecordFault::Memory),

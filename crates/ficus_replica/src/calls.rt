@@ -10,34 +10,53 @@ use std::alloc::Global;
 // The calls of a replica, one for each change and each look, with a path and bytes that the caller lends. What each of
 // them gives is what `change` or `look` gives of the same: the rule that stands in the row of that command.
 impl Replica {
-    ghost use Rattle.std.specs.Prelude.{◌≡◌, ◌↔◌, ◌-◌, ◌^◌, ◌<◌, IfOk, IsTrue, Ok};
+    ghost use Rattle.std.specs.Prelude.{◌≡◌, ◌↔◌, ◌-◌, ◌^◌, ◌<◌, ◌≤◌, [], length, IfOk, IsTrue, Ok};
+    ghost use Rattle.ficus_ids.specs.Kind.{FitsKind};
     ghost use Rattle.ficus_answers.specs.View.{tables_view};
     ghost use Rattle.ficus_saved.specs.Saved.{FitsImage};
-    ghost use Rattle.ficus_commands.specs.declared.change.Change.TheVariants.{Create as Creates, Write as Writes, Settle as Settles, Resolve as Resolves, Rm as Removes, Ln as Links, Mv as Moves, Adopt as Adopts, Discard as Discards};
-    ghost use Rattle.ficus_commands.specs.declared.look.Look.TheVariants.{Ls as Lists, Read as Reads, Versions as TellsVersions, Tree as TellsTree, Conflicts as TellsConflicts, Orphans as TellsOrphans, Detached as TellsDetached, Marks as TellsMarks};
+    ghost use Rattle.ficus_commands.specs.declared.change.Change.TheVariants.{Create as Creates, Symlink as Symlinks, Write as Writes, Settle as Settles, Resolve as Resolves, Rm as Removes, Ln as Links, Mv as Moves, Adopt as Adopts, Discard as Discards};
+    ghost use Rattle.ficus_commands.specs.declared.look.Look.TheVariants.{Ls as Lists, Read as Reads, Versions as TellsVersions, ReadLink as ReadsLink, Tree as TellsTree, Conflicts as TellsConflicts, Orphans as TellsOrphans, Detached as TellsDetached, Marks as TellsMarks};
     ghost use Rattle.ficus_commands.specs.declared.told.Told.TheVariants.{Text as ToldText, Names as ToldNames, Tree as ToldTree, Versions as ToldVersions, Conflicts as ToldConflicts, Orphans as ToldOrphans, Detached as ToldDetached, Marks as ToldMarks};
     ghost use Rattle.ficus_path.specs.Path.{IsEntry, IsNew};
     ghost use Rattle.ficus_rules.specs.Alike.{AreAlike};
     ghost use Rattle.ficus_replica.specs.Change.{ChangeGives};
     ghost use Rattle.ficus_replica.specs.Look.{LookGives, LookGivesAs};
 
-    /// Makes an object of the kind, a directory or a file without bytes, at the new path. Refused as the walk to the
-    /// parent is; with `Exists` exactly where a live entry of the parent has the name; with `Spent` exactly where the
-    /// replica has made all its updates.
+    /// Makes an object of the kind, a directory or a file without bytes and no symbolic link, at the new path. Refused
+    /// as the walk to the parent is; with `Exists` exactly where a live entry of the parent has the name; with `Spent`
+    /// exactly where the replica has made all its updates.
     pub fn make(&self, alloc: Global, path: &Path, kind: Kind) -> Result<Next, Refusal>
         requires new { IsNew path.now }
+        requires kind { FitsKind kind [] }
         requires fits { FitsImage self.now.saved }
         requires generation { self.now.saved.generation < 2 ^ 63 - 1 }
         ensures gives { ChangeGives self.now (Creates path.now kind) result }
         ensures fits { IfOk result (λ next. FitsImage next.replica.saved) }
     {
-        self.done(alloc, ficus_answers::make(&self.saved, path, kind))
+        self.done(alloc, ficus_answers::make(alloc, &self.saved, path, kind))
+    }
+
+    /// Makes a symbolic link with this text, which isn't empty, at the new path. Refused as the walk to the parent is;
+    /// with `Exists` as `make` is; with `TooLong` exactly where the text has more than 1,024 bytes; with `Spent` as
+    /// `make` is; with `Quota` exactly where the replica may not write so many bytes more.
+    pub fn symlink(&self, alloc: Global, path: &Path, text: &[u8]) -> Result<Next, Refusal>
+        requires new { IsNew path.now }
+        requires some { 1 ≤ length text.now }
+        requires fits { FitsImage self.now.saved }
+        requires generation { self.now.saved.generation < 2 ^ 63 - 1 }
+        ensures gives { ChangeGives self.now (Symlinks path.now text.now) result }
+        ensures fits { IfOk result (λ next. FitsImage next.replica.saved) }
+    {
+        self.done(
+            alloc,
+            ficus_answers::symlink(alloc, &self.saved, path, text),
+        )
     }
 
     /// Gives the file at the path these bytes. Refused as the walk is; with `IsDir` exactly where the object is a
-    /// directory; with `Conflict` exactly where the file is in conflict; with `TooLong` exactly where there are more
-    /// than 16,384 bytes; with `Spent` as `make` is; with `Quota` exactly where the replica may not write so many
-    /// bytes more.
+    /// directory; with `IsLink` exactly where it is a symbolic link; with `Conflict` exactly where the file is in
+    /// conflict; with `TooLong` exactly where there are more than 16,384 bytes; with `Spent` as `make` is; with `Quota`
+    /// exactly where the replica may not write so many bytes more.
     pub fn write(&self, alloc: Global, path: &Path, bytes: &[u8]) -> Result<Next, Refusal>
         requires fits { FitsImage self.now.saved }
         requires generation { self.now.saved.generation < 2 ^ 63 - 1 }
@@ -155,7 +174,7 @@ impl Replica {
     }
 
     /// The bytes of the file at the path. Refused as the walk is; with `IsDir` exactly where the object is a directory;
-    /// with `Conflict` exactly where the file is in conflict.
+    /// with `IsLink` exactly where it is a symbolic link; with `Conflict` exactly where the file is in conflict.
     pub fn read(&self, alloc: Global, path: &Path) -> Result<Vec<u8>, Refusal>
         requires { FitsImage self.now.saved }
         ensures { LookGivesAs self.now (Reads path.now) (λ bytes. ToldText bytes.items) result }
@@ -167,7 +186,7 @@ impl Replica {
     }
 
     /// The versions of the file at the path, in the order of vectors. Refused as the walk is; with `IsDir` exactly
-    /// where the object is a directory.
+    /// where the object is a directory; with `IsLink` exactly where it is a symbolic link.
     pub fn versions(&self, alloc: Global, path: &Path) -> Result<Vec<Version>, Refusal>
         requires { FitsImage self.now.saved }
         ensures { LookGivesAs self.now (TellsVersions path.now)
@@ -175,6 +194,18 @@ impl Replica {
     {
         match ficus_answers::versions(alloc, &self.saved, path)? {
             Told::Versions { list, .. } => Ok(list.into_vec()),
+            _ => unreachable!(),
+        }
+    }
+
+    /// The text of the symbolic link at the path. Refused as the walk is; with `NotLink` exactly where the object is
+    /// none.
+    pub fn readlink(&self, alloc: Global, path: &Path) -> Result<Vec<u8>, Refusal>
+        requires { FitsImage self.now.saved }
+        ensures { LookGivesAs self.now (ReadsLink path.now) (λ bytes. ToldText bytes.items) result }
+    {
+        match ficus_answers::readlink(alloc, &self.saved, path)? {
+            Told::Text(bytes) => Ok(bytes.into_vec()),
             _ => unreachable!(),
         }
     }

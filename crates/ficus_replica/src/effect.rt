@@ -19,6 +19,7 @@ impl Replica {
     ghost use Rattle.ficus_file.specs.File.{made_file};
     ghost use Rattle.ficus_file.specs.Files.{AreFiles};
     ghost use Rattle.ficus_held_file_laws.specs.Laws.{Overwrites};
+    ghost use Rattle.ficus_ids.specs.Kind.{FitsKind};
     ghost use Rattle.ficus_ids.specs.Rising.{Adds};
     ghost use Rattle.ficus_model.specs.declared.event.Op.{Op as Operation};
     ghost use Rattle.ficus_model.specs.declared.event.Op.TheVariants.{Discard as Discards, Make as Makes, Move as Moves, Remove as Removes};
@@ -73,7 +74,12 @@ impl Replica {
         ensures { IfOk result (λ tables. IsStepped self.now.saved op.now tables.0 tables.1) }
     {
         match op {
-            Op::Make { dir, name, kind } => self.made(alloc, *dir, name, *kind),
+            Op::Make {
+                dir,
+                name,
+                kind,
+                text,
+            } => self.made(alloc, *dir, name, *kind, text.items()),
             Op::Write { file, bytes } | Op::Settle { file, bytes } | Op::Resolve { file, bytes } =>
                 self.written(alloc, *file, bytes.items()),
             Op::Link { dir, name, target }
@@ -100,14 +106,16 @@ impl Replica {
         dir: Id,
         name: &Name,
         kind: Kind,
+        text: &[u8],
     ) -> Result<(Entries, Files), Memory>
-        requires ready { IsReady self.now.saved (Makes dir name.now kind) }
+        requires ready { IsReady self.now.saved (Makes dir name.now kind text.now) }
         requires fits { FitsImage self.now.saved }
-        ensures { IfOk result (λ tables. IsStepped self.now.saved (Makes dir name.now kind) tables.0 tables.1) }
+        ensures { IfOk result (λ tables.
+            IsStepped self.now.saved (Makes dir name.now kind text.now) tables.0 tables.1) }
     {
         let mut entries = self.saved.entries.copy()?;
         self.enter(&mut entries, dir, name, self.next_id())?;
-        let files = self.files_with(alloc, kind)?;
+        let files = self.files_with(alloc, kind, text)?;
         Ok((entries, files))
     }
 
@@ -204,13 +212,15 @@ impl Replica {
     }
 
     // The files with a new object.
-    fn files_with(&self, alloc: Global, kind: Kind) -> Result<Files, Memory>
-        requires { FitsImage self.now.saved }
+    fn files_with(&self, alloc: Global, kind: Kind, text: &[u8]) -> Result<Files, Memory>
+        requires fits { FitsImage self.now.saved }
+        requires text { FitsKind kind text.now }
         ensures adds { IfOk result (λ files. Adds self.now.saved.files files
-            (made_file (next_id self.now.saved) kind self.now.saved.me)) }
+            (made_file (next_id self.now.saved) kind self.now.saved.me text.now)) }
         ensures files { IfOk result AreFiles }
     {
-        let file = FileReplica::made(alloc, self.next_id(), kind, self.saved.me)?;
+        let text = text.to_vec(alloc)?;
+        let file = FileReplica::made(self.next_id(), kind, self.saved.me, text)?;
         let mut files = self.saved.files.copy()?;
         files.insert(file)?;
         Ok(files)
@@ -251,11 +261,11 @@ fn written_by(op: &Op) -> usize
     ensures { result ≡ long (bytes_written op.now) }
 {
     match op {
-        Op::Write { bytes, .. } | Op::Settle { bytes, .. } | Op::Resolve { bytes, .. } => {
-            bytes.items().len()
-        }
-        Op::Make { .. }
-        | Op::Link { .. }
+        Op::Make { text: bytes, .. }
+        | Op::Write { bytes, .. }
+        | Op::Settle { bytes, .. }
+        | Op::Resolve { bytes, .. } => bytes.items().len(),
+        Op::Link { .. }
         | Op::Remove { .. }
         | Op::Move { .. }
         | Op::Adopt { .. }

@@ -1,14 +1,16 @@
 use crate::Replica;
 use ficus_entry::Entry;
 use ficus_file::FileReplica;
-use ficus_ids::{Id, Kind, ROOT};
+use ficus_ids::{Id, Kind, ROOT, Sort};
 use ficus_model::Op;
 use ficus_saved::FILE_LIMIT;
 
 // Which operations fit what is held, as records have to.
 impl Replica {
-    ghost use Rattle.std.specs.Prelude.{◌≡◌, ◌≢◌, ◌↔◌, IsTrue};
+    ghost use Rattle.std.specs.Prelude.{◌≡◌, ◌≢◌, ◌↔◌, ◌+◌, ◌≤◌, length, IsTrue};
     ghost use Rattle.ficus_file.specs.Files.{Holds, HoldsFile};
+    ghost use Rattle.ficus_ids.specs.Kind.{sort_of};
+    ghost use Rattle.ficus_ids.specs.declared.kind.Sort.TheVariants.{Versioned};
     ghost use Rattle.ficus_ids.specs.declared.kind.Kind.TheVariants.{Dir};
     ghost use Rattle.ficus_saved.specs.Saved.{FitsImage};
     ghost use Rattle.ficus_replica.specs.Effect.{MayWrite};
@@ -28,7 +30,7 @@ impl Replica {
         ensures { IsTrue result ↔ FitsOpIn self.now.saved op.now }
     {
         match op {
-            Op::Make { dir, .. } => self.is_place(*dir),
+            Op::Make { dir, text, .. } => self.is_place(*dir) && self.has_left(text.items()),
             Op::Link { dir, target, .. } => self.is_place(*dir) && self.holds_file(*target),
             Op::Remove { entries, target } => self.are_names(entries.items(), *target),
             Op::Move {
@@ -96,25 +98,50 @@ impl Replica {
         }
     }
 
-    // Whether the file is held, and so many bytes fit it and are left.
+    // Whether a file whose versions change is held under the identifier.
+    fn holds_versioned(&self, id: Id) -> bool
+        ensures { IsTrue result
+            ↔ HoldsFile self.now.saved.files id (λ held. sort_of held.kind ≡ Versioned) }
+    {
+        match self.saved.files.get(id) {
+            Some(file) => is_versioned(file),
+            None => false,
+        }
+    }
+
+    // Whether so many bytes are left.
+    fn has_left(&self, bytes: &[u8]) -> bool
+        requires { FitsImage self.now.saved }
+        ensures { IsTrue result ↔ (self.now.saved.used + length bytes.now ≤ self.now.saved.bytes) }
+    {
+        bytes.len() <= (self.saved.bytes - self.saved.used) as usize
+    }
+
+    // Whether the file is held, its versions change, and so many bytes fit it and are left.
     fn may_write(&self, file: Id, bytes: &[u8]) -> bool
         requires { FitsImage self.now.saved }
         ensures { IsTrue result ↔ MayWrite self.now.saved file bytes.now }
     {
-        bytes.len() <= FILE_LIMIT
-            && bytes.len() as u32 <= self.saved.bytes - self.saved.used
-            && self.holds_file(file)
+        bytes.len() <= FILE_LIMIT && self.has_left(bytes) && self.holds_versioned(file)
     }
 }
 
 ghost use Rattle.std.specs.Prelude.{◌≡◌, ◌≢◌, ◌↔◌, IsTrue};
 ghost use Rattle.ficus_entry.specs.declared.entry.State.TheVariants.{Live};
+ghost use Rattle.ficus_ids.specs.Kind.{sort_of};
 ghost use Rattle.ficus_ids.specs.declared.kind.Kind.TheVariants.{Dir};
+ghost use Rattle.ficus_ids.specs.declared.kind.Sort.TheVariants.{Versioned};
 
 fn is_directory(file: &FileReplica) -> bool
     ensures { IsTrue result ↔ (file.now.kind ≡ Dir) }
 {
     file.kind == Kind::Dir
+}
+
+fn is_versioned(file: &FileReplica) -> bool
+    ensures { IsTrue result ↔ (sort_of file.now.kind ≡ Versioned) }
+{
+    file.kind.sort() == Sort::Versioned
 }
 
 fn is_file(file: &FileReplica) -> bool

@@ -17,6 +17,8 @@ pub(crate) enum Looking {
     Detached,
     Marks,
     VersionsOfFile,
+    /// The bytes of the text of the symbolic link `/f`.
+    TextOfLink,
     /// What its files make together with themselves.
     MergedFiles,
 }
@@ -35,6 +37,10 @@ pub(crate) fn told(alloc: Global, replica: &Replica, look: Looking) -> Result<us
             let path = read_path(alloc, b"/f")?;
             replica.versions(alloc, &path)?.len()
         }
+        Looking::TextOfLink => {
+            let path = read_path(alloc, b"/f")?;
+            replica.readlink(alloc, &path)?.len()
+        }
         Looking::MergedFiles => merged(alloc, replica)?,
     })
 }
@@ -48,9 +54,10 @@ fn merged(alloc: Global, replica: &Replica) -> Result<usize, Fail> {
     Ok(merge_files(alloc, files, files, entries)?.len())
 }
 
-/// A call that changes: of the file `/f`, or of the orphan `1.1`.
+/// A call that changes: of the file `/f`, or of the orphan `1.1`, or it makes the symbolic link `/g`.
 #[derive(Clone, Copy, Debug)]
 pub(crate) enum Changing {
+    Symlink,
     Link,
     Rename,
     Remove,
@@ -69,12 +76,21 @@ pub(crate) fn refused(
     requires { FitsImage replica.now.saved }
 {
     let answer = match change {
+        Changing::Symlink => symlinked(alloc, replica)?,
         Changing::Link | Changing::Rename => given_name(alloc, replica, change)?,
         Changing::Remove => removed(alloc, replica)?,
         Changing::Settle | Changing::Resolve => ended(alloc, replica, change)?,
         Changing::Adopt | Changing::Discard => of_orphan(alloc, replica, change)?,
     };
     Ok(answer.err())
+}
+
+fn symlinked(alloc: Global, replica: &Replica) -> Result<Result<Next, Refusal>, Fail>
+    requires { FitsImage replica.now.saved }
+{
+    let path = new_path(alloc, b"/g")?;
+    may_save(replica)?;
+    Ok(replica.symlink(alloc, &path, b"n"))
 }
 
 fn given_name(

@@ -19,6 +19,8 @@ pub(crate) enum Scene {
     Orphan,
     /// It has removed the file `/f`.
     Removed,
+    /// It has made the symbolic link `/f`.
+    Linked,
     /// It has moved `/a` into `/b`, and replica 2 `/b` into `/a`, and it has heard of that.
     Detached,
 }
@@ -32,6 +34,7 @@ pub(crate) fn after(alloc: Global, scene: Scene) -> Result<Replica, Fail>
         Scene::Conflict => conflict(alloc),
         Scene::Orphan => orphan(alloc),
         Scene::Removed => removed(alloc),
+        Scene::Linked => made(alloc, 9, 99, Kind::Symlink),
         Scene::Detached => detached(alloc),
     }
 }

@@ -4,7 +4,7 @@ ghost use Rattle.ficus_commands.specs.Change.{HasFitPaths};
 ghost use Rattle.ficus_path.specs.Path.{IsEntry, IsNew};
 
 use ficus_commands::Change;
-use ficus_ids::{Kind, Listed, Members, Refusal};
+use ficus_ids::{Kind, Listed, Members, Refusal, Sort};
 use ficus_path::{Path, read_path};
 use ficus_replica::Replica;
 use ficus_saved::{BYTE_LIMIT, UPDATE_LIMIT};
@@ -43,7 +43,7 @@ pub(crate) fn written(alloc: Global, ids: u32, bytes: u32, length: usize) -> Res
 pub(crate) enum Make {
     /// The directory `/d`.
     Directory,
-    /// The file `/f` of a kind.
+    /// The object `/f` of a kind, without a text, or with one byte where it is a symbolic link.
     File(Kind),
     /// A write of so many bytes to the file `/f`.
     Text(usize),
@@ -89,11 +89,21 @@ fn change(alloc: Global, make: Make) -> Result<Change, Fail>
             let path = new_path(alloc, b"/d")?;
             Ok(Change::MkDir { path })
         }
-        Make::File(kind) => {
-            let path = new_path(alloc, b"/f")?;
-            Ok(Change::Create { path, kind })
-        }
+        Make::File(kind) => made_of(alloc, kind),
         Make::Text(length) => write_of(alloc, length),
+    }
+}
+
+fn made_of(alloc: Global, kind: Kind) -> Result<Change, Fail>
+    ensures { IfOk result HasFitPaths }
+{
+    let path = new_path(alloc, b"/f")?;
+    match kind.sort() {
+        Sort::Directory | Sort::Versioned => Ok(Change::Create { path, kind }),
+        Sort::Fixed => {
+            let text = Listed::of(vec![in alloc; b'n'; 1]?);
+            Ok(Change::Symlink { path, text })
+        }
     }
 }
 

@@ -91,6 +91,8 @@ const LOOKS: &[(Scene, Looking, usize)] = &[
     (Scene::Orphan, Looking::Orphans, 1),
     (Scene::Orphan, Looking::Tree, 0),
     (Scene::Removed, Looking::Marks, 1),
+    (Scene::Linked, Looking::TextOfLink, 1),
+    (Scene::Linked, Looking::MergedFiles, 1),
     (Scene::Detached, Looking::Detached, 2),
     (Scene::Detached, Looking::Marks, 2),
 ];
@@ -107,6 +109,7 @@ fn each_look_tells_with_ample_memory(rt: HostRuntime) -> Result<(), Fail> {
 
 // What a change is answered after a scene with ample memory: why it is refused, where it is.
 const CHANGES: &[(Scene, Changing, Option<Refusal>)] = &[
+    (Scene::Written, Changing::Symlink, None),
     (Scene::Written, Changing::Link, None),
     (Scene::Written, Changing::Rename, None),
     (Scene::Written, Changing::Remove, None),
@@ -116,6 +119,7 @@ const CHANGES: &[(Scene, Changing, Option<Refusal>)] = &[
     (Scene::Orphan, Changing::Discard, None),
     (Scene::Written, Changing::Settle, Some(Refusal::NoConflict)),
     (Scene::Written, Changing::Discard, Some(Refusal::NotOrphan)),
+    (Scene::Linked, Changing::Settle, Some(Refusal::IsLink)),
 ];
 
 #[test]

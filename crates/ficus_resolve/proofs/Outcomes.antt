@@ -11,7 +11,7 @@ use Rattle.std.proofs.lemmas.Cmp.{nat_list_cmp_total, tied_itself}
 use Rattle.std.proofs.lemmas.List.Elements.{All-contains}
 use Rattle.ficus_ids.specs.ListLaws.{same_rising}
 use Rattle.ficus_ids.specs.declared.kind.Kind.{Kind}
-use Rattle.ficus_ids.specs.declared.kind.Kind.TheVariants.{Dir, Plain, Lines, Max, Keep}
+use Rattle.ficus_ids.specs.declared.kind.Kind.TheVariants.{Dir, Plain, Lines, Max, Keep, Symlink}
 use Rattle.ficus_resolve.specs.Keep.{KeepsAll, kept_all}
 use Rattle.ficus_resolve.specs.Lines.{line_text, IsLineAmong, IsUnionOfLines}
 use Rattle.ficus_resolve.specs.Max.{IsNumeral, IsGreatest, HasNoNumeral, IsMaximum}
@@ -95,3 +95,4 @@ module _ (contents others : List (List ℕ))
   one_resolution Keep (Some text) (Some other) one also = ap Some (one_keeping text other one also)
   one_resolution Keep (Some text) None one also = absurd also
   one_resolution Keep None other one also = absurd one
+  one_resolution Symlink outcome other one also = absurd one

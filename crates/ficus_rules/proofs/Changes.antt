@@ -2,7 +2,7 @@
 use Rattle.std.proofs.Common.{Err, inl, inr}
 use Rattle.ficus_ids.specs.declared.kind.Kind.TheVariants.{Dir}
 use Rattle.ficus_commands.specs.declared.change.Change.{Change}
-use Rattle.ficus_commands.specs.declared.change.Change.TheVariants.{MkDir, Create, Write, Settle, Resolve, Rm, Ln, Mv, Adopt, Discard}
+use Rattle.ficus_commands.specs.declared.change.Change.TheVariants.{MkDir, Create, Symlink, Write, Settle, Resolve, Rm, Ln, Mv, Adopt, Discard}
 use Rattle.ficus_rules.specs.Change.{ChangeAnswer, ChangeRule, MayWantMemory}
 use Rattle.ficus_rules.specs.Rule.{RefusesNothing, Once, Along}
 use Rattle.ficus_rules.specs.View.{View, SameView}
@@ -16,12 +16,14 @@ use Rattle.ficus_rules.proofs.Resolves.{resolver_there, resolve_once, resolve_al
 use Rattle.ficus_rules.proofs.Rules.{memory_where_along}
 use Rattle.ficus_rules.proofs.Settles.{settle_once, settle_along}
 use Rattle.ficus_rules.proofs.Sound.{IsSound}
+use Rattle.ficus_rules.proofs.Symlinks.{symlink_once, symlink_along}
 use Rattle.ficus_rules.proofs.Views.{view_back}
 use Rattle.ficus_rules.proofs.Writes.{write_once, write_along}
 
 pub change_once : (view : View) → IsSound view → (change : Change) → Once (ChangeRule view change)
 change_once view sound (MkDir path) = make_once view path Dir
 change_once view sound (Create path kind) = make_once view path kind
+change_once view sound (Symlink path text) = symlink_once view path text
 change_once view sound (Write path bytes) = write_once view path bytes
 change_once view sound (Settle path bytes) = settle_once view path bytes
 change_once view sound (Resolve path) = resolve_once view sound path
@@ -35,6 +37,7 @@ pub change_along : {one other : View} → SameView one other → (change : Chang
     Along (ChangeRule one change) (ChangeRule other change)
 change_along same (MkDir path) = make_along same path Dir
 change_along same (Create path kind) = make_along same path kind
+change_along same (Symlink path text) = symlink_along same path text
 change_along same (Write path bytes) = write_along same path bytes
 change_along same (Settle path bytes) = settle_along same path bytes
 change_along same (Resolve path) = resolve_along same path

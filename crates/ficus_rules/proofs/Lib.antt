@@ -10,12 +10,14 @@ pub mod Trees
 pub mod Texts
 pub mod Resolved
 pub mod Reading
+pub mod ReadLinks
 pub mod VersionLists
 pub mod Conflicts
 pub mod Orphans
 pub mod Detached
 pub mod Marks
 pub mod Makes
+pub mod Symlinks
 pub mod Writes
 pub mod Settles
 pub mod Resolves

@@ -8,14 +8,14 @@ use Rattle.ficus_rules.specs.View.{View, SameShown}
 use Rattle.ficus_rules.proofs.Rules.{then_once, unless_once, tells_once, then_along, unless_along, tells_along}
 use Rattle.ficus_rules.proofs.Sound.{IsSound}
 use Rattle.ficus_rules.proofs.Texts.{text_once, text_along}
-use Rattle.ficus_rules.proofs.Walks.{file_once, file_along}
+use Rattle.ficus_rules.proofs.Walks.{versioned_once, versioned_along}
 
 pub read_once : (view : View) → IsSound view → (path : Path) → Once (ReadRule view path)
 read_once view sound path =
-    then_once (file_once view path) (λ file. unless_once _ _ (tells_once Text (text_once sound file)))
+    then_once (versioned_once view path) (λ file. unless_once _ _ (tells_once Text (text_once sound file)))
 
 pub read_along : {one other : View} → SameShown one other → (path : Path) →
     Along (ReadRule one path) (ReadRule other path)
 read_along same path =
-    then_along (file_along same path)
+    then_along (versioned_along same path)
     (λ file walked. unless_along Conflict (same.conflicts file) (tells_along Text (text_along same file)))

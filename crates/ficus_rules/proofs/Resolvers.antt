@@ -26,6 +26,7 @@ one_kind_later {H} {K} {replica} {other} {object} {kind} {again} agree made made
       position = made.position;
       dir = made.dir;
       name = made.name;
+      text = made.text;
       known = made.known;
       update = agree_update agree (knows_within made.known) made.update;
     } in

@@ -2,7 +2,7 @@
 use Rattle.std.proofs.Common.{◌≡◌, ◌↔◌, ◌⊎◌, Result, Ok, Err, sym, ap, subst, ◌∙◌, inl, inr}
 use Rattle.ficus_ids.specs.declared.refusal.Refusal.{Refusal}
 use Rattle.ficus_ids.specs.declared.refusal.Refusal.TheVariants.{Memory}
-use Rattle.ficus_rules.specs.Rule.{Then, RefusedOr, Unless, Where, Gives, Tells, RefusesNothing, UnlessMemoryWhere, UnlessMemory, Once, Along}
+use Rattle.ficus_rules.specs.Rule.{Then, RefusedOr, Unless, Where, Gives, GivesWhere, Tells, RefusesNothing, UnlessMemoryWhere, UnlessMemory, Once, Along}
 
 module _ {A B : Type 0} {first : Result A Refusal → Type 0} {rest : A → Result B Refusal → Type 0}
     (first_once : Once first) (rest_once : (a : A) → Once (rest a)) where
@@ -59,6 +59,11 @@ gives_once b (Ok c) (Ok d) e f = ap Ok (e ∙ sym f)
 gives_once b (Ok c) (Err r) e none = absurd none
 gives_once b (Err r) other none f = absurd none
 
+pub gives_where_once : {B : Type 0} (so : Type 0) (b : B) → Once (GivesWhere so b)
+gives_where_once so b (Ok c) (Ok d) e f = ap Ok (e.1 ∙ sym f.1)
+gives_where_once so b (Ok c) (Err r) e none = absurd none
+gives_where_once so b (Err r) other none f = absurd none
+
 -- where one thing is so
 pub tells_once : {A B : Type 0} (told_as : A → B) {IsSo : A → Type 0} → ((a b : A) → IsSo a → IsSo b → a ≡ b) →
     Once (Tells told_as IsSo)
@@ -91,6 +96,9 @@ module _ {B : Type 0} {condition same : Type 0} (refusal : Refusal) {rest more :
 
 pub gives_along : {B : Type 0} (b : B) → Along (Gives b) (Gives b)
 gives_along b answer is = is
+
+pub gives_where_along : {B : Type 0} (so : Type 0) (b : B) → Along (GivesWhere so b) (GivesWhere so b)
+gives_where_along so b answer is = is
 
 pub tells_along : {A B : Type 0} (told_as : A → B) {IsSo IsSoToo : A → Type 0} → ((a : A) → IsSo a → IsSoToo a) →
     Along (Tells told_as IsSo) (Tells told_as IsSoToo)

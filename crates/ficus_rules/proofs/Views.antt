@@ -3,8 +3,9 @@ use Rattle.std.proofs.Common.{◌≡◌, ◌↔◌, ◌⊎◌, ℕ, List, refl, 
 use Rattle.ficus_ids.specs.declared.id.Id.{Id}
 use Rattle.ficus_ids.specs.declared.id.TheConstants.{ROOT}
 use Rattle.ficus_ids.specs.declared.kind.Kind.TheVariants.{Dir}
+use Rattle.ficus_ids.specs.declared.kind.Sort.{Sort}
 use Rattle.ficus_laws.proofs.Shown.{reached_from_more, reached_within}
-use Rattle.ficus_rules.specs.View.{View, SameShown, SameView, IsBoundIn, IsTakenIn, IsDirectoryIn, IsInReachIn, IsNamedIn, IsReachedFromIn, IsReachedIn, IsWithinIn}
+use Rattle.ficus_rules.specs.View.{View, SameShown, SameView, IsBoundIn, IsTakenIn, IsDirectoryIn, IsForIn, IsInReachIn, IsNamedIn, IsReachedFromIn, IsReachedIn, IsWithinIn}
 
 -- whatever is so is so, and where two things are so together, so they are the other way round
 itself : {A : Type 0} → A ↔ A
@@ -63,7 +64,14 @@ module _ {one other : View} (same : SameShown one other) where
   directory_there object (inl root) = inl root
   directory_there object (inr kind) = inr ((same.kinds object Dir).0 kind)
 
+  pub for_there : (sort : Sort) (object : Id) → IsForIn one sort object → IsForIn other sort object
+  for_there sort object is =
+      record { kind = is.kind; of_kind = (same.kinds object is.kind).0 is.of_kind; is = is.is }
+
 module _ {one other : View} (same : SameShown one other) where
+  pub for_same : (sort : Sort) (object : Id) → IsForIn one sort object ↔ IsForIn other sort object
+  for_same sort object = (for_there same sort object, for_there (same_back same) sort object)
+
   pub directory_same : (object : Id) → IsDirectoryIn one object ↔ IsDirectoryIn other object
   directory_same object = (directory_there same object, directory_there (same_back same) object)
 

@@ -2,7 +2,8 @@
 use Rattle.std.proofs.Common.{ℕ, List, [], ◌∷◌, Option, Some, None, Ok, Err, sym, subst, inl, inr, ◌⊎◌}
 use Rattle.ficus_ids.specs.declared.id.Id.{Id}
 use Rattle.ficus_ids.specs.declared.id.TheConstants.{ROOT}
-use Rattle.ficus_ids.specs.declared.refusal.Refusal.TheVariants.{Memory, NotDir, IsDir, NotOrphan}
+use Rattle.ficus_ids.specs.declared.kind.Sort.TheVariants.{Fixed}
+use Rattle.ficus_ids.specs.declared.refusal.Refusal.TheVariants.{Memory, NotDir, IsDir, IsLink, NotLink, NotOrphan}
 use Rattle.ficus_model.specs.Reached.IsReached.{Base, Through}
 use Rattle.ficus_path.specs.declared.path.Base.{Base as PathBase}
 use Rattle.ficus_path.specs.declared.path.Base.TheVariants.{Root, Orphan}
@@ -11,10 +12,10 @@ use Rattle.ficus_path.specs.declared.path.Path.{Path}
 use Rattle.ficus_names.specs.Find.{FindAnswer}
 use Rattle.ficus_names.specs.FindLaws.{one_answer, FindAnswer-along}
 use Rattle.ficus_rules.specs.Rule.{Then, Gives, Once, Along}
-use Rattle.ficus_rules.specs.View.{View, SameShown, IsBoundIn, IsNamedIn, IsVisibleIn, IsDirectoryIn, IsInReachIn}
-use Rattle.ficus_rules.specs.Walk.{BaseRule, PartsRule, WalkRule, DirectoryRule, ParentRule, FileRule, EntryRule, Found, Places, PlacesRule, last_name, last_target}
+use Rattle.ficus_rules.specs.View.{View, SameShown, IsBoundIn, IsNamedIn, IsVisibleIn, IsDirectoryIn, IsForIn, IsInReachIn}
+use Rattle.ficus_rules.specs.Walk.{BaseRule, PartsRule, WalkRule, DirectoryRule, ParentRule, FileRule, VersionedRule, FixedRule, EntryRule, Found, Places, PlacesRule, last_name, last_target}
 use Rattle.ficus_rules.proofs.Rules.{then_once, unless_once, where_once, gives_once, then_along, unless_along, where_along, gives_along}
-use Rattle.ficus_rules.proofs.Views.{bound_same, directory_same}
+use Rattle.ficus_rules.proofs.Views.{bound_same, directory_same, for_same}
 
 base_once : (view : View) (base : PathBase) → Once (BaseRule view base)
 base_once view Root = gives_once _
@@ -44,6 +45,12 @@ places_once view from path =
 
 pub file_once : (view : View) (path : Path) → Once (FileRule view path)
 file_once view path = then_once (walk_once view path.base path.parts) (λ object. unless_once _ _ (gives_once _))
+
+pub versioned_once : (view : View) (path : Path) → Once (VersionedRule view path)
+versioned_once view path = then_once (file_once view path) (λ file. unless_once _ _ (gives_once _))
+
+pub fixed_once : (view : View) (path : Path) → Once (FixedRule view path)
+fixed_once view path = then_once (walk_once view path.base path.parts) (λ object. where_once _ _ (gives_once _))
 
 -- No walk is refused for want of memory.
 find_never : (binds : List ℕ → Id → Type 0) (name : List ℕ) (target : Option Id) →
@@ -91,6 +98,16 @@ pub file_never : (view : View) (path : Path) → FileRule view path (Err Memory)
 file_never view path (inl stops) = walk_never view path.base path.parts stops
 file_never view path (inr (object, walk, inl (is, e))) = cc
 file_never view path (inr (object, walk, inr (isnt, none))) = none
+
+pub versioned_never : (view : View) (path : Path) → VersionedRule view path (Err Memory) → ⊥
+versioned_never view path (inl stops) = file_never view path stops
+versioned_never view path (inr (file, walk, inl (is, e))) = cc
+versioned_never view path (inr (file, walk, inr (isnt, none))) = none
+
+pub fixed_never : (view : View) (path : Path) → FixedRule view path (Err Memory) → ⊥
+fixed_never view path (inl stops) = walk_never view path.base path.parts stops
+fixed_never view path (inr (object, walk, inl (isnt, e))) = cc
+fixed_never view path (inr (object, walk, inr (is, none))) = none
 
 abbrev pub found_at : Id → Id → Found
 found_at dir object = record { dir = dir; object = object }
@@ -140,6 +157,12 @@ module _ {one other : View} (same : SameShown one other) where
 
   pub file_along : (path : Path) → Along (FileRule one path) (FileRule other path)
   file_along path = then_along (walk_along path.base path.parts) (λ object walked. unless_along IsDir (directory_same same object) (gives_along object))
+
+  pub versioned_along : (path : Path) → Along (VersionedRule one path) (VersionedRule other path)
+  versioned_along path = then_along (file_along path) (λ file walked. unless_along IsLink (for_same same Fixed file) (gives_along file))
+
+  pub fixed_along : (path : Path) → Along (FixedRule one path) (FixedRule other path)
+  fixed_along path = then_along (walk_along path.base path.parts) (λ object walked. where_along NotLink (for_same same Fixed object) (gives_along object))
 
 -- what is found under a name is bound to it
 pub found_bound : (binds : List ℕ → Id → Type 0) (name : List ℕ) (target : Option Id) (object : Id) →
@@ -211,6 +234,15 @@ module _ (view : View) where
           | inr visible ↦ visible
         ];
       })
+
+  -- a file that is walked to whose versions change
+  pub record IsVersionedAt (file : Id) : Type 0 where
+    pub at : IsFileAt file
+    pub changes : IsForIn view Fixed file → ⊥
+
+  pub versioned_walked : (path : Path) (file : Id) → VersionedRule view path (Ok file) → IsVersionedAt file
+  versioned_walked path file (object, walk, (changes, is)) =
+      subst IsVersionedAt (sym is) (record { at = file_walked path object walk; changes = changes })
 
   -- an entry that is walked to: its directory is, and a live entry there has the name and leads to the object
   pub record IsEntryAt (path : Path) (found : Found) : Type 0 where

@@ -8,14 +8,14 @@ use Rattle.ficus_rules.specs.View.{View, SameView}
 use Rattle.ficus_rules.specs.Write.{WriteRule}
 use Rattle.ficus_rules.proofs.Limits.{limits_once, limits_along}
 use Rattle.ficus_rules.proofs.Rules.{then_once, unless_once, gives_once, then_along, unless_along, gives_along}
-use Rattle.ficus_rules.proofs.Walks.{file_once, file_along}
+use Rattle.ficus_rules.proofs.Walks.{versioned_once, versioned_along}
 
 pub write_once : (view : View) (path : Path) (bytes : List ℕ) → Once (WriteRule view path bytes)
-write_once view path bytes = then_once (file_once view path) (λ file. unless_once _ _ (limits_once view _ (gives_once _)))
+write_once view path bytes = then_once (versioned_once view path) (λ file. unless_once _ _ (limits_once view _ (gives_once _)))
 
 pub write_along : {one other : View} → SameView one other → (path : Path) (bytes : List ℕ) →
     Along (WriteRule one path bytes) (WriteRule other path bytes)
 write_along same path bytes =
-    then_along (file_along same.shown path)
+    then_along (versioned_along same.shown path)
     (λ file walked. unless_along Conflict (same.shown.conflicts file)
     (limits_along same (length bytes) (gives_along (Write file bytes))))

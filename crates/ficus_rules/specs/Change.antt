@@ -4,7 +4,7 @@ use Rattle.ficus_ids.specs.declared.kind.Kind.TheVariants.{Dir}
 use Rattle.ficus_ids.specs.declared.refusal.Refusal.{Refusal}
 use Rattle.ficus_model.specs.declared.event.Op.{Op}
 use Rattle.ficus_commands.specs.declared.change.Change.{Change}
-use Rattle.ficus_commands.specs.declared.change.Change.TheVariants.{MkDir, Create, Write, Settle, Resolve, Rm, Ln, Mv, Adopt, Discard}
+use Rattle.ficus_commands.specs.declared.change.Change.TheVariants.{MkDir, Create, Symlink, Write, Settle, Resolve, Rm, Ln, Mv, Adopt, Discard}
 use Rattle.ficus_rules.specs.Adopt.{AdoptRule, NeedsSearchBelow}
 use Rattle.ficus_rules.specs.Discard.{DiscardRule}
 use Rattle.ficus_rules.specs.Link.{LinkRule}
@@ -14,6 +14,7 @@ use Rattle.ficus_rules.specs.Rename.{NeedsSearch, RenameRule}
 use Rattle.ficus_rules.specs.Resolve.{NeedsResolver, ResolveRule}
 use Rattle.ficus_rules.specs.Rule.{RefusesNothing, UnlessMemoryWhere}
 use Rattle.ficus_rules.specs.Settle.{SettleRule}
+use Rattle.ficus_rules.specs.Symlink.{SymlinkRule}
 use Rattle.ficus_rules.specs.View.{View}
 use Rattle.ficus_rules.specs.Write.{WriteRule}
 
@@ -21,6 +22,7 @@ use Rattle.ficus_rules.specs.Write.{WriteRule}
 abbrev pub ChangeRule : View → Change → Result Op Refusal → Type 0
 ChangeRule view (MkDir path) = MakeRule view path Dir
 ChangeRule view (Create path kind) = MakeRule view path kind
+ChangeRule view (Symlink path text) = SymlinkRule view path text
 ChangeRule view (Write path text) = WriteRule view path text
 ChangeRule view (Settle path text) = SettleRule view path text
 ChangeRule view (Resolve path) = ResolveRule view path

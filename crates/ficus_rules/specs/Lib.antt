@@ -6,6 +6,7 @@ pub mod Lines
 pub mod Text
 pub mod Resolved
 pub mod Make
+pub mod Symlink
 pub mod Write
 pub mod Settle
 pub mod Resolve
@@ -19,6 +20,7 @@ pub mod List
 pub mod Tree
 pub mod Read
 pub mod Versions
+pub mod ReadLink
 pub mod Conflicts
 pub mod Orphans
 pub mod Detached

@@ -8,11 +8,11 @@ use Rattle.ficus_path.specs.declared.path.Path.{Path}
 use Rattle.ficus_rules.specs.Rule.{Then, Unless, Tells}
 use Rattle.ficus_rules.specs.Text.{IsTextOf}
 use Rattle.ficus_rules.specs.View.{View}
-use Rattle.ficus_rules.specs.Walk.{FileRule}
+use Rattle.ficus_rules.specs.Walk.{VersionedRule}
 
--- the walk; `isdir`; `conflict`; else the text of the file
+-- the walk; `isdir`; `islink`; `conflict`; else the text of the file
 abbrev pub ReadRule : View → Path → Result Told Refusal → Type 0
 ReadRule view path =
-    Then (FileRule view path) (λ file.
+    Then (VersionedRule view path) (λ file.
     Unless (view.conflicts file) Conflict (
     Tells Text (IsTextOf view file)))

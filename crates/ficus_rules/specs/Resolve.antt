@@ -10,18 +10,18 @@ use Rattle.ficus_rules.specs.Limits.{LimitsRule}
 use Rattle.ficus_rules.specs.Resolved.{ResolvedRule}
 use Rattle.ficus_rules.specs.Rule.{Then, Where, Gives}
 use Rattle.ficus_rules.specs.View.{View}
-use Rattle.ficus_rules.specs.Walk.{FileRule}
+use Rattle.ficus_rules.specs.Walk.{VersionedRule}
 
 -- the file is in conflict: what is refused further is known by what its resolver makes, and that takes memory
 pub record NeedsResolver (view : View) (path : Path) : Type 0 where
   pub file : Id
-  pub walked : FileRule view path (Ok file)
+  pub walked : VersionedRule view path (Ok file)
   pub conflict : view.conflicts file
 
--- the walk; `isdir`; `noconflict`; `declined`; the limits; else a Resolve
+-- the walk; `isdir`; `islink`; `noconflict`; `declined`; the limits; else a Resolve
 abbrev pub ResolveRule : View → Path → Result Op Refusal → Type 0
 ResolveRule view path =
-    Then (FileRule view path) (λ file.
+    Then (VersionedRule view path) (λ file.
     Where (view.conflicts file) NoConflict (
     Then (ResolvedRule view file) (λ bytes.
     LimitsRule view (length bytes) (

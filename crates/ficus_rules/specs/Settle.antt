@@ -8,12 +8,12 @@ use Rattle.ficus_path.specs.declared.path.Path.{Path}
 use Rattle.ficus_rules.specs.Limits.{LimitsRule}
 use Rattle.ficus_rules.specs.Rule.{Then, Where, Gives}
 use Rattle.ficus_rules.specs.View.{View}
-use Rattle.ficus_rules.specs.Walk.{FileRule}
+use Rattle.ficus_rules.specs.Walk.{VersionedRule}
 
--- the walk; `isdir`; `noconflict`; the limits; else a Settle
+-- the walk; `isdir`; `islink`; `noconflict`; the limits; else a Settle
 abbrev pub SettleRule : View → Path → List ℕ → Result Op Refusal → Type 0
 SettleRule view path bytes =
-    Then (FileRule view path) (λ file.
+    Then (VersionedRule view path) (λ file.
     Where (view.conflicts file) NoConflict (
     LimitsRule view (length bytes) (
     Gives (Settle file bytes))))

@@ -6,10 +6,10 @@ use Rattle.ficus_rules.specs.Rule.{Then, Tells}
 use Rattle.ficus_commands.specs.declared.told.Told.{Told}
 use Rattle.ficus_commands.specs.declared.told.Told.TheVariants.{Versions}
 use Rattle.ficus_rules.specs.View.{View}
-use Rattle.ficus_rules.specs.Walk.{FileRule}
+use Rattle.ficus_rules.specs.Walk.{VersionedRule}
 
--- the walk; `isdir`; else the versions of the file
+-- the walk; `isdir`; `islink`; else the versions of the file
 abbrev pub VersionsRule : View → Path → Result Told Refusal → Type 0
 VersionsRule view path =
-    Then (FileRule view path) (λ file.
+    Then (VersionedRule view path) (λ file.
     Tells (Versions view.members) (view.versions file))

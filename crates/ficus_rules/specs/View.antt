@@ -2,8 +2,10 @@
 use Rattle.std.specs.Prelude.{◌≡◌, ◌↔◌, ◌⊎◌, ℕ, ◌+◌, ◌<◌, ◌≤◌, List}
 use Rattle.ficus_ids.specs.declared.id.Id.{Id}
 use Rattle.ficus_ids.specs.declared.id.TheConstants.{ROOT}
+use Rattle.ficus_ids.specs.Kind.{sort_of}
 use Rattle.ficus_ids.specs.declared.kind.Kind.{Kind}
 use Rattle.ficus_ids.specs.declared.kind.Kind.TheVariants.{Dir}
+use Rattle.ficus_ids.specs.declared.kind.Sort.{Sort}
 use Rattle.ficus_file.specs.declared.version.Version.{Version}
 use Rattle.ficus_model.specs.declared.event.Event.{Event}
 use Rattle.ficus_model.specs.Events.{count_of}
@@ -76,6 +78,12 @@ IsTakenIn view dir name = (target : Id) × IsBoundIn view dir name target
 -- the root, or an object that is a directory
 abbrev pub IsDirectoryIn : View → Id → Type 0
 IsDirectoryIn view object = (object ≡ ROOT) ⊎ view.kinds object Dir
+
+-- the object is of a kind for this
+pub record IsForIn (view : View) (sort : Sort) (object : Id) : Type 0 where
+  pub kind : Kind
+  pub of_kind : view.kinds object kind
+  pub is : sort_of kind ≡ sort
 
 -- a live entry of the directory leads to the object, under some name
 abbrev pub LeadsWithin : View → Id → Id → Type 0

@@ -3,15 +3,16 @@ use Rattle.std.specs.Prelude.{ℕ, ◌-◌, List, [], ◌∷◌, length, take, O
 use Rattle.std.specs.List.{last_or}
 use Rattle.ficus_ids.specs.declared.id.Id.{Id}
 use Rattle.ficus_ids.specs.declared.id.TheConstants.{ROOT}
+use Rattle.ficus_ids.specs.declared.kind.Sort.TheVariants.{Fixed}
 use Rattle.ficus_ids.specs.declared.refusal.Refusal.{Refusal}
-use Rattle.ficus_ids.specs.declared.refusal.Refusal.TheVariants.{NotDir, IsDir, NotOrphan}
+use Rattle.ficus_ids.specs.declared.refusal.Refusal.TheVariants.{NotDir, IsDir, IsLink, NotLink, NotOrphan}
 use Rattle.ficus_path.specs.declared.path.Base.{Base}
 use Rattle.ficus_path.specs.declared.path.Base.TheVariants.{Root, Orphan}
 use Rattle.ficus_path.specs.declared.path.Part.{Part}
 use Rattle.ficus_path.specs.declared.path.Path.{Path}
 use Rattle.ficus_names.specs.Find.{FindAnswer}
 use Rattle.ficus_rules.specs.Rule.{Then, Unless, Where, Gives}
-use Rattle.ficus_rules.specs.View.{View, IsBoundIn, IsDirectoryIn}
+use Rattle.ficus_rules.specs.View.{View, IsBoundIn, IsDirectoryIn, IsForIn}
 
 -- the object at which a walk begins: the root, or the orphan with this identifier
 abbrev pub BaseRule : View → Base → Result Id Refusal → Type 0
@@ -44,6 +45,18 @@ abbrev pub FileRule : View → Path → Result Id Refusal → Type 0
 FileRule view path =
     Then (WalkRule view path.base path.parts) (λ object.
     Unless (IsDirectoryIn view object) IsDir (Gives object))
+
+-- the file at a path whose versions change: the file there, where it isn't a symbolic link
+abbrev pub VersionedRule : View → Path → Result Id Refusal → Type 0
+VersionedRule view path =
+    Then (FileRule view path) (λ file.
+    Unless (IsForIn view Fixed file) IsLink (Gives file))
+
+-- the symbolic link at a path: the walk, where it leads to one
+abbrev pub FixedRule : View → Path → Result Id Refusal → Type 0
+FixedRule view path =
+    Then (WalkRule view path.base path.parts) (λ object.
+    Where (IsForIn view Fixed object) NotLink (Gives object))
 
 -- the directory of an entry, and the object to which the entry leads
 pub record Found : Type 0 where

@@ -8,12 +8,12 @@ use Rattle.ficus_path.specs.declared.path.Path.{Path}
 use Rattle.ficus_rules.specs.Limits.{LimitsRule}
 use Rattle.ficus_rules.specs.Rule.{Then, Unless, Gives}
 use Rattle.ficus_rules.specs.View.{View}
-use Rattle.ficus_rules.specs.Walk.{FileRule}
+use Rattle.ficus_rules.specs.Walk.{VersionedRule}
 
--- the walk; `isdir`; `conflict`; the limits; else a Write
+-- the walk; `isdir`; `islink`; `conflict`; the limits; else a Write
 abbrev pub WriteRule : View → Path → List ℕ → Result Op Refusal → Type 0
 WriteRule view path bytes =
-    Then (FileRule view path) (λ file.
+    Then (VersionedRule view path) (λ file.
     Unless (view.conflicts file) Conflict (
     LimitsRule view (length bytes) (
     Gives (Write file bytes))))

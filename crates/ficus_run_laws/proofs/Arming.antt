@@ -13,11 +13,11 @@ use Rattle.ficus_script.specs.declared.command.Command.TheVariants.{Stop}
 use Rattle.ficus_runs.specs.Actions.{ModelAction, Adds, Saves, Posts, Fetches, Opens, Arms}
 use Rattle.ficus_runs.specs.Actions.Adds.{Added}
 use Rattle.ficus_runs.specs.Actions.Saves.{Saved, NotSaved}
-use Rattle.ficus_runs.specs.Actions.Posts.{Posted, NotPosted}
+use Rattle.ficus_runs.specs.Actions.Posts.{IsPosted, NotPosted}
 use Rattle.ficus_runs.specs.Actions.Fetches.{Fetched, NotFetched}
 use Rattle.ficus_runs.specs.Actions.Opens.{Opened, Found, NotOpened}
 use Rattle.ficus_runs.specs.Actions.Arms.{Armed}
-use Rattle.ficus_runs.specs.ModelWorld.{ModelWorld}
+use Rattle.ficus_runs.specs.ModelWorld.{ModelWorld, Posted}
 use Rattle.ficus_runs.specs.Outcome.{Outcome, is_arming, armings_in}
 use Rattle.ficus_runs.specs.Run.{Step, Run}
 use Rattle.ficus_runs.specs.Run.Run.{End, Then}
@@ -71,9 +71,9 @@ module _ (r : ℕ) where
   saves_unarming given by event W result left Saved = refl
   saves_unarming given by event W result left NotSaved = refl
 
-  posts_unarming : (position : ModelWorld → ℕ) (size : ℕ) → IsUnarming ℕ (Posts position size)
-  posts_unarming position size W result left Posted = refl
-  posts_unarming position size W result left NotPosted = refl
+  posts_unarming : (behind : Posted) (size : ℕ) → IsUnarming ℕ (Posts behind size)
+  posts_unarming behind size W result left IsPosted = refl
+  posts_unarming behind size W result left NotPosted = refl
 
   fetches_unarming : IsUnarming (Unit {0}) Fetches
   fetches_unarming W result left Fetched = refl

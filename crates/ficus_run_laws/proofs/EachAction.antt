@@ -1,5 +1,5 @@
 -- What holds of each action, and of one after the other, holds of what a command does.
-use Rattle.std.proofs.Common.{◌≡◌, ℕ, List, [], ◌∷◌, Result, refl}
+use Rattle.std.proofs.Common.{◌≡◌, ℕ, ◌+◌, List, [], ◌∷◌, Result, refl}
 use Rattle.ficus_ids.specs.declared.refusal.Refusal.{Refusal}
 use Rattle.ficus_model.specs.declared.event.Event.{Event}
 use Rattle.ficus_model.specs.Lawful.{Volume}
@@ -15,12 +15,13 @@ use Rattle.ficus_script.specs.declared.command.Command.TheVariants as command
 use Rattle.ficus_script.specs.declared.command.Command.TheVariants.{Stop}
 use Rattle.ficus_why_runs.specs.Row.{run_of}
 use Rattle.ficus_runs.specs.Actions.{ModelAction, Adds, Saves, Posts, Fetches, Opens, Arms, Wants, GivesOnly, AtMember, AtPeers}
-use Rattle.ficus_runs.specs.Exchange.{Composes, Asks, Behind, AnAsk, AnAnswer, Handles, GivesMail, GivesNext}
-use Rattle.ficus_runs.specs.ModelWorld.{ModelWorld}
+use Rattle.ficus_runs.specs.Exchange.{Composes, Asks, Behind, AnAsk, APiece, Handles, GivesEach, GivesMail, PostsEach, Serves, Taken, Taking, Again, OneMore, TakesPiece, TheLast, mails_of}
+use Rattle.ficus_runs.specs.ModelWorld.{ModelWorld, Posted}
 use Rattle.ficus_runs.specs.Run.{Does}
 use Rattle.ficus_runs.specs.Sequence.{First, ByRule}
 use Rattle.ficus_runs.specs.Sweep.{CollectsAt, Collecting, DoesSweepStep, Pulling, PullsFrom, SweepStep, Swept, Sweeps, none_swept, sweep_steps, swept_answer, with_answer}
-use Rattle.ficus_run_laws.proofs.Rules.{look_answer_once, alike_answer_once, wants_once, composes_once, counts_once, behind_once, why_lines_once}
+use Rattle.ficus_run_laws.proofs.Rules.{look_answer_once, alike_answer_once, wants_once, composes_once, counts_once, cuts_once, behind_once, why_lines_once}
+use Rattle.ficus_run_laws.proofs.Taking.{taking_once}
 
 -- It holds of one action after the other where it holds of both, of each rule that gives one thing, and of each other
 -- action but that of a stop.
@@ -31,7 +32,7 @@ pub record HoldsOfActions (volume : Volume) (P : (A : Type 0) → ModelAction A 
       → P A (ByRule rule)
   pub adds : {A : Type 0} (given : ModelWorld → A) (event : Event) → P A (Adds given event)
   pub saves : {A : Type 0} (given : ModelWorld → A) (by : ℕ) (event : Event) → P A (Saves given by event)
-  pub posts : (position : ModelWorld → ℕ) (size : ℕ) → P ℕ (Posts position size)
+  pub posts : (behind : Posted) (size : ℕ) → P ℕ (Posts behind size)
   pub fetches : P (Unit {0}) Fetches
   pub opens : (by : ℕ) → P Answer (Opens volume by)
 
@@ -59,13 +60,35 @@ module _ (volume : Volume) (P : (A : Type 0) → ModelAction A → Type 0) (hold
       (λ message. holds.behind _ _ (wants_holds _ _)
       (λ room. holds.behind _ _ (holds.saves _ _ _) (λ position. holds.posts _ _)))))
 
+  posts_each_hold : (position index : ℕ) (sizes : List ℕ) → P (Unit {0}) (PostsEach position index sizes)
+  posts_each_hold position index [] = gives_only_holds tt
+  posts_each_hold position index (size ∷ sizes) =
+      holds.behind _ _ (holds.posts _ _) (λ number. posts_each_hold position (index + 1) sizes)
+
+  serves_hold : (server ask : ℕ) → P Answer (Serves volume server ask)
+  serves_hold server ask =
+      holds.behind _ _ (holds.by_rule _ (cuts_once volume server ask))
+      (λ served. holds.behind _ _ (wants_holds _ _)
+      (λ room. holds.behind _ _ (holds.adds _ _)
+      (λ position. holds.behind _ _ (holds.by_rule _ (λ W. gives_once _))
+      (λ first. holds.behind _ _ (posts_each_hold position 0 _) (λ posted. gives_only_holds _)))))
+
+  taken_holds : (asker serve index pieces : ℕ) (taking : Taking) → P Answer (Taken asker serve index pieces taking)
+  taken_holds asker serve index pieces (Again have) = gives_only_holds _
+  taken_holds asker serve index pieces (OneMore have) = holds.adds _ _
+  taken_holds asker serve index pieces TheLast = holds.saves _ _ _
+
+  takes_hold : (serve asker index pieces : ℕ) → P Answer (TakesPiece volume serve asker index pieces)
+  takes_hold serve asker index pieces =
+      holds.behind _ _ (wants_holds _ _)
+      (λ answers. holds.behind _ _ (wants_holds _ _)
+      (λ one. holds.behind _ _
+      (holds.by_rule _ (λ W. tells_once (λ taking. taking) (taking_once volume W.events asker serve index pieces)))
+      (taken_holds asker serve index pieces)))
+
   handles_holds : (behind : Behind) → P Answer (Handles volume behind)
-  handles_holds (AnAsk position server) =
-      holds.behind _ _ (composes_holds _)
-      (λ message. holds.behind _ _ (wants_holds _ _)
-      (λ room. holds.behind _ _ (holds.posts _ _) (λ number. holds.adds _ _)))
-  handles_holds (AnAnswer position asker) =
-      holds.behind _ _ (wants_holds _ _) (λ answers. holds.saves _ _ _)
+  handles_holds (AnAsk position server) = serves_hold server position
+  handles_holds (APiece position asker index pieces) = takes_hold position asker index pieces
 
   gives_mail_holds : (number : ℕ) → P Answer (GivesMail volume number)
   gives_mail_holds number =
@@ -74,16 +97,15 @@ module _ (volume : Volume) (P : (A : Type 0) → ModelAction A → Type 0) (hold
       (λ fetched. holds.behind _ _ (holds.by_rule _ (λ W. tells_once (λ behind. behind) (behind_once W number)))
       (λ found. holds.behind _ _ (wants_holds _ _) (λ up. handles_holds found))))
 
-  gives_next_holds : (answer : Answer) → P Answer (GivesNext volume answer)
-  gives_next_holds (Mail number) =
-      holds.behind _ _ (gives_mail_holds number) (λ given. gives_only_holds Done)
-  gives_next_holds other = gives_only_holds Done
+  gives_each_hold : (numbers : List ℕ) → P Answer (GivesEach volume numbers)
+  gives_each_hold [] = gives_only_holds Done
+  gives_each_hold (number ∷ numbers) = holds.behind _ _ (gives_mail_holds number) (λ given. gives_each_hold numbers)
 
   pulls_hold : (by to : ℕ) → P Answer (PullsFrom volume by to)
   pulls_hold by to =
       holds.behind _ _ (at_peers_holds by to)
       (λ peers. holds.behind _ _ (asks_holds by to)
-      (λ number. holds.behind _ _ (gives_mail_holds number) gives_next_holds))
+      (λ number. holds.behind _ _ (gives_mail_holds number) (λ given. gives_each_hold (mails_of given))))
 
   collects_hold : (by : ℕ) → P Answer (CollectsAt volume by)
   collects_hold by =

@@ -15,11 +15,11 @@ use Rattle.ficus_script.specs.declared.command.Command.{Command}
 use Rattle.ficus_runs.specs.Actions.{ModelAction, Adds, Saves, Posts, Fetches, Opens, Arms}
 use Rattle.ficus_runs.specs.Actions.Adds.{Added}
 use Rattle.ficus_runs.specs.Actions.Saves.{Saved, NotSaved}
-use Rattle.ficus_runs.specs.Actions.Posts.{Posted, NotPosted}
+use Rattle.ficus_runs.specs.Actions.Posts.{IsPosted, NotPosted}
 use Rattle.ficus_runs.specs.Actions.Fetches.{Fetched, NotFetched}
 use Rattle.ficus_runs.specs.Actions.Opens.{Opened, Found, NotOpened}
 use Rattle.ficus_runs.specs.Actions.Arms.{Armed}
-use Rattle.ficus_runs.specs.ModelWorld.{ModelWorld}
+use Rattle.ficus_runs.specs.ModelWorld.{ModelWorld, Posted}
 use Rattle.ficus_runs.specs.Outcome.{Outcome}
 use Rattle.ficus_runs.specs.Run.{Step, Run}
 use Rattle.ficus_runs.specs.Run.Run.{End, Then}
@@ -68,9 +68,9 @@ saves_extends : {A : Type 0} (given : ModelWorld → A) (by : ℕ) (event : Even
 saves_extends given by event W result left Saved = one_more W.events event
 saves_extends given by event W result left NotSaved = as_it_was W.events
 
-posts_extends : (position : ModelWorld → ℕ) (size : ℕ) → IsAdding ℕ (Posts position size)
-posts_extends position size W result left Posted = as_it_was W.events
-posts_extends position size W result left NotPosted = as_it_was W.events
+posts_extends : (behind : Posted) (size : ℕ) → IsAdding ℕ (Posts behind size)
+posts_extends behind size W result left IsPosted = as_it_was W.events
+posts_extends behind size W result left NotPosted = as_it_was W.events
 
 fetches_extends : IsAdding (Unit {0}) Fetches
 fetches_extends W result left Fetched = as_it_was W.events

@@ -2,6 +2,7 @@ pub mod Numbers
 pub mod Replaced
 pub mod Messages
 pub mod Rules
+pub mod Taking
 pub mod EachAction
 pub mod Oracles
 pub mod Outcomes
@@ -9,6 +10,7 @@ pub mod OneRun
 pub mod Extending
 pub mod Up
 pub mod Arming
+pub mod Serving
 pub mod Runs
 pub mod SweepSteps
 pub mod Starts

@@ -1,26 +1,23 @@
 -- Which refusals never come of an exchange.
-use Rattle.std.proofs.Common.{◌≡◌, ◌≢◌, ℕ, Bool, true, false, Result, Ok, Err, refl, ap, inl, inr}
+use Rattle.std.proofs.Common.{◌≡◌, ◌≢◌, ℕ, ◌+◌, Bool, true, false, List, [], ◌∷◌, Result, Ok, Err, refl, ap, inl, inr}
 use Rattle.ficus_ids.specs.declared.refusal.Refusal.{Refusal}
 use Rattle.ficus_ids.specs.declared.refusal.Refusal.TheVariants as refusal
 use Rattle.ficus_ids.specs.declared.refusal.Refusal.TheVariants.{BadMessage}
 use Rattle.ficus_model.specs.declared.event.Event.{Event}
 use Rattle.ficus_model.specs.Lawful.{Volume}
-use Rattle.ficus_script.specs.declared.answer.Answer.{Answer}
-use Rattle.ficus_script.specs.declared.answer.Answer.TheVariants.{Done, Mail}
-use Rattle.ficus_script.specs.declared.command.Command.TheVariants as command
-use Rattle.ficus_runs.specs.Actions.{ModelAction, AtPeers, Wants, GivesOnly, Adds, Saves, Posts, Fetches}
+use Rattle.ficus_rules.specs.Rule.{Gives, Tells}
+use Rattle.ficus_runs.specs.Actions.{ModelAction, AtPeers, Wants, Adds, Saves, Posts, Fetches}
 use Rattle.ficus_runs.specs.Actions.Adds.{Added}
 use Rattle.ficus_runs.specs.Actions.Saves.{Saved, NotSaved}
-use Rattle.ficus_runs.specs.Actions.Posts.{Posted, NotPosted}
+use Rattle.ficus_runs.specs.Actions.Posts.{IsPosted, NotPosted}
 use Rattle.ficus_runs.specs.Actions.Fetches.{Fetched, NotFetched}
-use Rattle.ficus_runs.specs.Exchange.{Composes, Asks, Behind, AnAsk, AnAnswer, Finds, Handles, GivesMail, GivesNext}
-use Rattle.ficus_runs.specs.ModelWorld.{ModelWorld}
-use Rattle.ficus_runs.specs.Run.{Does}
-use Rattle.ficus_runs.specs.Sequence.{First, Effect}
+use Rattle.ficus_runs.specs.Exchange.{Asks, Behind, AnAsk, APiece, GivesMail, Handles, PostsEach, Serves, Taken, Taking, Again, OneMore, TakesPiece, TheLast}
+use Rattle.ficus_runs.specs.ModelWorld.{ModelWorld, Posted}
+use Rattle.ficus_runs.specs.Sequence.{ByRule, First, Effect}
 use Rattle.ficus_runs.specs.Sequence.First.{Ends, Goes}
 use Rattle.ficus_runs.specs.Sequence.ByRule.{Says}
 
--- asking or serving may be refused so
+-- asking, serving or saving may be refused so
 abbrev pub of_asking : Refusal → Bool
 of_asking refusal.Member = true
 of_asking refusal.Down = true
@@ -50,17 +47,15 @@ module _ (of : Refusal) where
       let named = refused.1 in other (let h : s ≡ of = cc in cc)
   wants_never good r other old (Err s) left (Says (inr none)) same = none.1
 
-  composes_never : (volume : Volume) (event : Event) → IsNever of (Composes volume event)
-  composes_never volume event old (Ok a) left is same = cc
-  composes_never volume event old (Err s) left (Says none) same = none
+  -- a rule that tells something refuses nothing
+  tells_never : {A B : Type 0} (told_as : A → B) (is_so : ModelWorld → A → Type 0)
+      → IsNever of (ByRule (λ W. Tells told_as (is_so W)))
+  tells_never told_as is_so old (Ok b) left is same = cc
+  tells_never told_as is_so old (Err s) left (Says none) same = none
 
-  finds_never : (number : ℕ) → IsNever of (Finds number)
-  finds_never number old (Ok a) left is same = cc
-  finds_never number old (Err s) left (Says none) same = none
-
-  pub gives_only_never : {A : Type 0} (a : A) → IsNever of (GivesOnly a)
-  gives_only_never a old (Ok b) left is same = cc
-  gives_only_never a old (Err s) left (Says none) same = none
+  gives_never : {A : Type 0} (given : ModelWorld → A) → IsNever of (ByRule (λ W. Gives (given W)))
+  gives_never given old (Ok b) left is same = cc
+  gives_never given old (Err s) left (Says none) same = none
 
   adds_never : {A : Type 0} (given : ModelWorld → A) (event : Event) → IsNever of (Adds given event)
   adds_never given event old result left Added same = cc
@@ -74,9 +69,9 @@ module _ (of : Refusal) where
     saves_never given by event old result left Saved same = cc
     saves_never given by event old result left NotSaved same = differs refusal.Store refl (cc)
 
-    posts_never : (position : ModelWorld → ℕ) (size : ℕ) → IsNever of (Posts position size)
-    posts_never position size old result left Posted same = cc
-    posts_never position size old result left NotPosted same = differs refusal.Link refl (cc)
+    posts_never : (posted : Posted) (size : ℕ) → IsNever of (Posts posted size)
+    posts_never posted size old result left IsPosted same = cc
+    posts_never posted size old result left NotPosted same = differs refusal.Link refl (cc)
 
     fetches_never : IsNever of Fetches
     fetches_never old result left Fetched same = cc
@@ -93,39 +88,43 @@ module _ (of : Refusal) where
     asks_never volume by to =
         first_never _ _ (wants_never _ _ (differs refusal.Member refl))
         (λ may. first_never _ _ (wants_up_never _)
-        (λ up. first_never _ _ (composes_never volume _)
+        (λ up. first_never _ _ (tells_never _ _)
         (λ message. first_never _ _ (wants_never _ _ (differs refusal.LinkFull refl))
         (λ room. first_never _ _ (saves_never _ _ _) (λ position. posts_never _ _)))))
 
-    pub serves_never : (volume : Volume) (position server : ℕ) → IsNever of (Handles volume (AnAsk position server))
-    serves_never volume position server =
-        first_never _ _ (composes_never volume _)
-        (λ message. first_never _ _ (wants_never _ _ (differs refusal.LinkFull refl))
-        (λ room. first_never _ _ (posts_never _ _) (λ number. adds_never _ _)))
+    posts_each_never : (position index : ℕ) (sizes : List ℕ) → IsNever of (PostsEach position index sizes)
+    posts_each_never position index [] = gives_never (λ W. tt)
+    posts_each_never position index (size ∷ sizes) =
+        first_never _ _ (posts_never _ _) (λ number. posts_each_never position (index + 1) sizes)
+
+    pub serves_never : (volume : Volume) (server ask : ℕ) → IsNever of (Serves volume server ask)
+    serves_never volume server ask =
+        first_never _ _ (tells_never _ _)
+        (λ served. first_never _ _ (wants_never _ _ (differs refusal.LinkFull refl))
+        (λ room. first_never _ _ (adds_never _ _)
+        (λ position. first_never _ _ (gives_never _)
+        (λ first. first_never _ _ (posts_each_never _ _ _) (λ posted. gives_never _)))))
+
+    taken_never : (asker serve index pieces : ℕ) (taking : Taking) → IsNever of (Taken asker serve index pieces taking)
+    taken_never asker serve index pieces (Again have) = gives_never _
+    taken_never asker serve index pieces (OneMore have) = adds_never _ _
+    taken_never asker serve index pieces TheLast = saves_never _ _ _
 
 -- no message is bad
 module _ (volume : Volume) where
-  handles_never : (behind : Behind) → IsNever BadMessage (Handles volume behind)
-  handles_never (AnAsk position server) = serves_never BadMessage refl volume position server
-  handles_never (AnAnswer position asker) =
+  takes_never : (serve asker index pieces : ℕ) → IsNever BadMessage (TakesPiece volume serve asker index pieces)
+  takes_never serve asker index pieces =
       first_never BadMessage _ _ (wants_never BadMessage _ _ (λ e. cc))
-      (λ answers. saves_never BadMessage refl _ _ _)
+      (λ answers. first_never BadMessage _ _ (wants_never BadMessage _ _ (λ e. cc))
+      (λ one. first_never BadMessage _ _ (tells_never BadMessage _ _) (taken_never BadMessage refl asker serve index pieces)))
+
+  handles_never : (behind : Behind) → IsNever BadMessage (Handles volume behind)
+  handles_never (AnAsk position server) = serves_never BadMessage refl volume server position
+  handles_never (APiece position asker index pieces) = takes_never position asker index pieces
 
   pub gives_mail_never : (number : ℕ) → IsNever BadMessage (GivesMail volume number)
   gives_mail_never number =
       first_never BadMessage _ _ (wants_never BadMessage _ _ (λ e. cc))
       (λ some. first_never BadMessage _ _ (fetches_never BadMessage refl)
-      (λ fetched. first_never BadMessage _ _ (finds_never BadMessage number)
-      (λ behind. first_never BadMessage _ _ (wants_up_never BadMessage refl _)
-      (λ up. handles_never behind))))
-
-  gives_next_never : (answer : Answer) → IsNever BadMessage (GivesNext volume answer)
-  gives_next_never (Mail number) =
-      first_never BadMessage _ _ (gives_mail_never number) (λ given. gives_only_never BadMessage Done)
-  gives_next_never other = gives_only_never BadMessage Done
-
-  pub pull_never_bad : (by to : ℕ) → IsNever BadMessage (Does volume (command.Pull by to))
-  pull_never_bad by to =
-      first_never BadMessage _ _ (at_peers_never BadMessage refl volume by to)
-      (λ peers. first_never BadMessage _ _ (asks_never BadMessage refl volume by to)
-      (λ number. first_never BadMessage _ _ (gives_mail_never number) gives_next_never))
+      (λ fetched. first_never BadMessage _ _ (tells_never BadMessage _ _)
+      (λ behind. first_never BadMessage _ _ (wants_up_never BadMessage refl _) (λ up. handles_never behind))))

@@ -9,12 +9,12 @@ use Rattle.ficus_script.specs.declared.command.Command.{Command}
 use Rattle.ficus_runs.specs.Actions.{ModelAction, Adds, Saves, Posts, Fetches, Opens, Arms, restarted, with_standing, down_from}
 use Rattle.ficus_runs.specs.Actions.Adds.{Added}
 use Rattle.ficus_runs.specs.Actions.Saves.{Saved, NotSaved}
-use Rattle.ficus_runs.specs.Actions.Posts.{Posted, NotPosted}
+use Rattle.ficus_runs.specs.Actions.Posts.{IsPosted, NotPosted}
 use Rattle.ficus_runs.specs.Actions.Fetches.{Fetched, NotFetched}
 use Rattle.ficus_runs.specs.Actions.Opens.{Opened, Found, NotOpened}
 use Rattle.ficus_runs.specs.Actions.Arms.{Armed}
 use Rattle.ficus_runs.specs.Answers.{answer_as}
-use Rattle.ficus_runs.specs.ModelWorld.{ModelWorld}
+use Rattle.ficus_runs.specs.ModelWorld.{ModelWorld, Posted}
 use Rattle.ficus_runs.specs.Outcome.{Outcome, IsDone, LinkFails, IsSaved, SaveFails, IsOpened, IsFound, OpeningFails}
 use Rattle.ficus_runs.specs.Run.{Does, Step, Run}
 use Rattle.ficus_runs.specs.Run.Run.{End, Then}
@@ -115,12 +115,12 @@ module _ {S : Type 0} (oracle : Oracle S) where
     saves_decided given by event old one other left right s NotSaved Saved mine theirs =
         absurd (allowing.saved_or_failed s by theirs.0 mine.0)
 
-    posts_decided : (position : ModelWorld → ℕ) (size : ℕ) → IsDecided ℕ (Posts position size)
-    posts_decided position size old one other left right s Posted Posted mine theirs = (refl, refl)
-    posts_decided position size old one other left right s NotPosted NotPosted mine theirs = (refl, refl)
-    posts_decided position size old one other left right s Posted NotPosted mine theirs =
+    posts_decided : (behind : Posted) (size : ℕ) → IsDecided ℕ (Posts behind size)
+    posts_decided behind size old one other left right s IsPosted IsPosted mine theirs = (refl, refl)
+    posts_decided behind size old one other left right s NotPosted NotPosted mine theirs = (refl, refl)
+    posts_decided behind size old one other left right s IsPosted NotPosted mine theirs =
         absurd (allowing.done_or_failed s mine.0 theirs.0)
-    posts_decided position size old one other left right s NotPosted Posted mine theirs =
+    posts_decided behind size old one other left right s NotPosted IsPosted mine theirs =
         absurd (allowing.done_or_failed s theirs.0 mine.0)
 
     fetches_decided : IsDecided (Unit {0}) Fetches

@@ -1,10 +1,11 @@
 -- What each rule of a command gives is one thing.
 use Rattle.std.specs.Cmp.{both_ways}
-use Rattle.std.proofs.Common.{◌≡◌, ℕ, List, [], ◌∷◌, ◌++◌, length, subst}
+use Rattle.std.proofs.Common.{◌≡◌, ℕ, List, [], ◌∷◌, ◌++◌, length, sym, ap, subst, ◌∙◌}
 use Rattle.ficus_ids.specs.declared.refusal.Refusal.{Refusal}
 use Rattle.ficus_model.specs.declared.event.Event.{Event}
 use Rattle.ficus_model.specs.declared.event.Event.TheVariants as event
-use Rattle.ficus_model.specs.Events.{IsAt}
+use Rattle.ficus_codec.specs.Formats.{tables_bytes}
+use Rattle.ficus_model.specs.Events.{IsAt, through, generation_of}
 use Rattle.ficus_model.specs.Lawful.{Volume}
 use Rattle.ficus_laws.proofs.Positions.{at_same}
 use Rattle.ficus_commands.specs.declared.look.Look.{Look}
@@ -15,15 +16,17 @@ use Rattle.ficus_rules.proofs.Rules.{then_once, where_once, gives_once, tells_on
 use Rattle.ficus_rules.proofs.Sound.{history_sound}
 use Rattle.ficus_replica.specs.Collect.{IsGarbage}
 use Rattle.ficus_replica.proofs.Collects.{garbage_once}
+use Rattle.ficus_replica.proofs.Saves.{saved_once}
 use Rattle.ficus_script.specs.declared.answer.Answer.TheVariants.{Alike, Told, Why}
 use Rattle.ficus_why_runs.specs.Row.{Explains}
 use Rattle.ficus_why_runs.proofs.Once.{explains_once}
 use Rattle.ficus_runs.specs.Actions.{collected}
 use Rattle.ficus_runs.specs.Answers.{AlikeAnswer, LookAnswer}
-use Rattle.ficus_runs.specs.Exchange.{Behind, LiesBehind}
-use Rattle.ficus_runs.specs.Exchange.LiesBehind.{IsAsk, IsAnswer}
+use Rattle.ficus_runs.specs.Exchange.{Behind, LiesBehind, IsServedNow, Served}
+use Rattle.ficus_runs.specs.Exchange.LiesBehind.{IsAsk, IsPiece}
 use Rattle.ficus_runs.specs.Message.{IsMessageAt}
-use Rattle.ficus_runs.specs.ModelWorld.{ModelWorld}
+use Rattle.ficus_wire.specs.Message.{messages_of_tables}
+use Rattle.ficus_runs.specs.ModelWorld.{ModelWorld, Posted}
 use Rattle.ficus_run_laws.proofs.Messages.{message_once}
 use Rattle.ficus_run_laws.proofs.Numbers.{number_once}
 
@@ -46,9 +49,9 @@ wants_once good refusal = where_once good refusal (gives_once tt)
 
 -- one message is composed for an event
 pub composes_once : (volume : Volume) (event : Event) (W : ModelWorld)
-    → Once (Tells (λ message. message) (IsMessageAt volume (W.events ++ event ∷ []) (length W.events)))
+    → Once (Tells (λ message. message) (IsMessageAt volume (W.events ++ event ∷ []) (length W.events) 0))
 composes_once volume event W =
-    tells_once (λ message. message) (message_once volume (W.events ++ event ∷ []) (length W.events))
+    tells_once (λ message. message) (message_once volume (W.events ++ event ∷ []) (length W.events) 0)
 
 -- a collection is answered with one pair of numbers
 pub counts_once : (members : ℕ) (H : List Event) (r : ℕ) → Once (Tells collected (IsGarbage members H r))
@@ -58,28 +61,50 @@ counts_once members H r = tells_once collected (λ one other is too. garbage_onc
 pub why_lines_once : (H : List Event) (r : ℕ) → Once (Tells Why (Explains H r))
 why_lines_once H r = tells_once Why (explains_once H r)
 
+-- one thing is served in answer to an ask
+served_now_once : (volume : Volume) (H : List Event) (server ask : ℕ) (one other : Served)
+    → IsServedNow volume H server ask one → IsServedNow volume H server ask other → one ≡ other
+served_now_once volume H server ask one other is too =
+    let same = at_same is.asked too.asked in
+    let askers : is.asker ≡ too.asker = cc in
+    let saved = saved_once is.is too.is in
+    let states : one.state ≡ other.state = is.state ∙ (λ i. (saved i).generation) ∙ sym too.state in
+    let messages : one.messages ≡ other.messages =
+    is.messages
+    ∙ (λ i. messages_of_tables server (askers i) (generation_of (askers i) (through ask H)) (saved i).generation
+    (tables_bytes volume.members (saved i).entries (saved i).files))
+    ∙ sym too.messages in
+    λ i. record { state = states i; messages = messages i }
+
+pub cuts_once : (volume : Volume) (server ask : ℕ) (W : ModelWorld)
+    → Once (Tells (λ served. served) (IsServedNow volume W.events server ask))
+cuts_once volume server ask W = tells_once (λ served. served) (served_now_once volume W.events server ask)
+
 -- one thing lies behind a message
 pub behind_once : (W : ModelWorld) (number : ℕ) (one other : Behind) → LiesBehind W number one
     → LiesBehind W number other → one ≡ other
 behind_once W number one other (IsAsk {position = p} {asker = r} {server = s} is at)
     (IsAsk {position = q} {asker = x} {server = y} too at_too) =
-    let positions : q ≡ p = number_once too is in
+    let positions : q ≡ p = ap (λ (posted : Posted). posted.position) (number_once too is) in
     let events = at_same at (subst (λ n. IsAt W.events n (event.Ask x y)) positions at_too) in
     cc
-behind_once W number one other (IsAnswer {position = p} {ask = a} {asker = r} {server = s} is at asked)
-    (IsAnswer {position = q} {ask = b} {asker = x} {server = y} too at_too asked_too) =
-    let positions : q ≡ p = number_once too is in
-    let events = at_same at (subst (λ n. IsAt W.events n (event.Serve y b)) positions at_too) in
+behind_once W number one other
+    (IsPiece {position = p} {index = i} {ask = a} {state = g} {pieces = k} {asker = r} {server = s} is at asked)
+    (IsPiece {position = q} {index = j} {ask = b} {state = h} {pieces = l} {asker = x} {server = y} too at_too asked_too) =
+    let positions : q ≡ p = ap (λ (posted : Posted). posted.position) (number_once too is) in
+    let indexes : j ≡ i = ap (λ (posted : Posted). posted.index) (number_once too is) in
+    let events = at_same at (subst (λ n. IsAt W.events n (event.Serve y b h l)) positions at_too) in
     let asks : b ≡ a = cc in
+    let counts : l ≡ k = cc in
     let askers = at_same asked (subst (λ n. IsAt W.events n (event.Ask x y)) asks asked_too) in
     cc
 behind_once W number one other (IsAsk {position = p} is at)
-    (IsAnswer {position = q} {ask = b} {server = y} too at_too asked) =
-    let positions : q ≡ p = number_once too is in
-    let events = at_same at (subst (λ n. IsAt W.events n (event.Serve y b)) positions at_too) in
+    (IsPiece {position = q} {ask = b} {state = h} {pieces = l} {server = y} too at_too asked) =
+    let positions : q ≡ p = ap (λ (posted : Posted). posted.position) (number_once too is) in
+    let events = at_same at (subst (λ n. IsAt W.events n (event.Serve y b h l)) positions at_too) in
     absurd (cc)
-behind_once W number one other (IsAnswer {position = p} is at asked)
+behind_once W number one other (IsPiece {position = p} is at asked)
     (IsAsk {position = q} {asker = x} {server = y} too at_too) =
-    let positions : q ≡ p = number_once too is in
+    let positions : q ≡ p = ap (λ (posted : Posted). posted.position) (number_once too is) in
     let events = at_same at (subst (λ n. IsAt W.events n (event.Ask x y)) positions at_too) in
     absurd (cc)

@@ -1,16 +1,21 @@
 -- How a run begins: the members restart.
-use Rattle.std.proofs.Common.{◌≡◌, ℕ, suc, ◌+◌, ◌<◌, List, [], ◌∷◌, ◌++◌, length, refl, sym, ap, subst, append_assoc, arith}
+use Rattle.std.proofs.Common.{◌≡◌, ℕ, suc, ◌+◌, ◌<◌, ◌≤◌, Bool, List, [], ◌∷◌, ◌++◌, length, Some, refl, sym, ap, subst, inl, inr, append_assoc, arith}
 use Rattle.std.specs.Prelude.{All, map}
 use Rattle.std.specs.List.{range_with_len}
-use Rattle.std.proofs.lemmas.List.{append-nil}
+use Rattle.std.proofs.lemmas.Bool.{cases_lt}
+use Rattle.std.proofs.lemmas.List.{append-nil, length_push}
 use Rattle.std.proofs.lemmas.List.FromFn.{length-range_with_len, get_or-range_with_len, map-range_with_len_more, length-map-range_with_len}
 use Rattle.ficus_ids.specs.Members.{IsMember}
 use Rattle.ficus_model.specs.declared.event.Event.{Event}
-use Rattle.ficus_model.specs.declared.event.Event.TheVariants.{Restart}
-use Rattle.ficus_model.specs.Events.{raised}
+use Rattle.ficus_model.specs.declared.event.Event.TheVariants.{Restart, Serve}
+use Rattle.ficus_model.specs.Events.{IsAt, raised}
 use Rattle.ficus_model.specs.Lawful.{Volume, IsLawful}
 use Rattle.ficus_laws.proofs.Lawful.{lawful_more}
-use Rattle.ficus_runs.specs.Start.{restarts}
+use Rattle.ficus_laws.proofs.Positions.{at_end, at_more, at_same, at_within}
+use Rattle.ficus_runs.specs.ModelWorld.{Down}
+use Rattle.ficus_runs.specs.RunWorld.{IsRunWorld}
+use Rattle.ficus_runs.specs.Start.{restarts, start}
+use Rattle.ficus_run_laws.proofs.Up.{up_first}
 
 pub restarts_more : (count : ℕ) → restarts (count + 1) ≡ restarts count ++ Restart (count + 1) ∷ []
 restarts_more count = map-range_with_len_more (λ r. Restart r) 1 count (count + 1) (omega arith)
@@ -42,3 +47,36 @@ start_lawful volume earlier lawful = restarts_lawful volume earlier (range_with_
         let below : k < volume.members = omega (arith, length-range_with_len 1 volume.members) in
         subst (IsMember volume.members) (sym (get_or-range_with_len 1 volume.members k d below))
         (record { at_least = omega arith; at_most = omega arith })
+
+-- none of the restarts is a Serve
+no_serve_behind : (H : List Event) (members : List ℕ) {position server ask state pieces : ℕ} → length H ≤ position
+    → IsAt (H ++ map (λ r. Restart r) members) position (Serve server ask state pieces) → ⊥
+no_serve_behind H [] {position} {server} {ask} {state} {pieces} from at =
+    omega (
+      arith,
+      from,
+      at_within (subst (λ K. IsAt K position (Serve server ask state pieces)) (append-nil H) at),
+    )
+no_serve_behind H (r ∷ members) {position} {server} {ask} {state} {pieces} from at =
+    let there = subst (λ K. IsAt K position (Serve server ask state pieces))
+    (sym (append_assoc H (Restart r ∷ []) (map (λ r. Restart r) members))) at in
+    elim (cases_lt (length H) position) [
+      | inl behind ↦
+          no_serve_behind (H ++ Restart r ∷ []) members (omega (arith, behind, length_push H (Restart r))) there
+      | inr within ↦
+          let place : position ≡ length H = omega (arith, from, within) in
+          let event = at_same (subst (λ n. IsAt ((H ++ Restart r ∷ []) ++ map (λ r. Restart r) members) n (Serve server ask state pieces)) place there)
+          (at_more (map (λ r. Restart r) members) (at_end H (Restart r))) in
+          absurd (cc)
+    ]
+
+-- a run begins with a world of a run
+pub start_of_run : (volume : Volume) (earlier : List Event) (members total : ℕ) (fused : List Bool)
+    → IsRunWorld volume (start earlier members total fused)
+start_of_run volume earlier members total fused = record {
+  serves = record {
+    each = λ position server ask state pieces since at.
+        absurd (no_serve_behind earlier (range_with_len 1 members) since at);
+  };
+  pending = λ r event is. absurd (let down = (up_first members).each r (Down (Some event)) is in cc);
+}

@@ -12,11 +12,11 @@ use Rattle.ficus_script.specs.declared.command.Command.{Command}
 use Rattle.ficus_runs.specs.Actions.{ModelAction, Adds, Saves, Posts, Fetches, Opens, Arms}
 use Rattle.ficus_runs.specs.Actions.Adds.{Added}
 use Rattle.ficus_runs.specs.Actions.Saves.{Saved, NotSaved}
-use Rattle.ficus_runs.specs.Actions.Posts.{Posted, NotPosted}
+use Rattle.ficus_runs.specs.Actions.Posts.{IsPosted, NotPosted}
 use Rattle.ficus_runs.specs.Actions.Fetches.{Fetched, NotFetched}
 use Rattle.ficus_runs.specs.Actions.Opens.{Opened, Found, NotOpened}
 use Rattle.ficus_runs.specs.Actions.Arms.{Armed}
-use Rattle.ficus_runs.specs.ModelWorld.{ModelWorld, Standing, Up, Down}
+use Rattle.ficus_runs.specs.ModelWorld.{ModelWorld, Posted, Standing, Up, Down}
 use Rattle.ficus_runs.specs.Numbered.{IsNumbered}
 use Rattle.ficus_runs.specs.Outcome.{Outcome, LinkFails, SaveFails, OpeningFails, AllDone}
 use Rattle.ficus_runs.specs.Run.{Step, Run, EachDone}
@@ -93,9 +93,9 @@ saves_up : {A : Type 0} (given : ModelWorld → A) (by : ℕ) (event : Event) �
 saves_up given by event W result left up none Saved = ((refl, tt), up)
 saves_up given by event W result left up none NotSaved = absurd (save_failed by none)
 
-posts_up : (position : ModelWorld → ℕ) (size : ℕ) → StaysUp ℕ (Posts position size)
-posts_up position size W result left up none Posted = ((refl, tt), up)
-posts_up position size W result left up none NotPosted = absurd (link_failed none)
+posts_up : (behind : Posted) (size : ℕ) → StaysUp ℕ (Posts behind size)
+posts_up behind size W result left up none IsPosted = ((refl, tt), up)
+posts_up behind size W result left up none NotPosted = absurd (link_failed none)
 
 fetches_up : StaysUp (Unit {0}) Fetches
 fetches_up W result left up none Fetched = ((refl, tt), up)

@@ -7,6 +7,7 @@ ghost use Rattle.ficus_model.specs.Live.{ModelEntry, IsLive, IsRemoved};
 ghost use Rattle.ficus_model.specs.declared.event.Event.{Event};
 ghost use Rattle.ficus_script.specs.declared.answer.Answer.{Answer};
 ghost use Rattle.ficus_script.specs.declared.command.Command.{Command};
+ghost use Rattle.ficus_runs.specs.Exchange.{ServesAll};
 ghost use Rattle.ficus_runs.specs.ModelWorld.{ModelWorld};
 ghost use Rattle.ficus_runs.specs.Outcome.{Outcome};
 ghost use Rattle.ficus_runs.specs.Run.{Run};
@@ -17,6 +18,13 @@ pub fn runs_are_lawful()
     ensures { (volume : Volume) (earlier : List Event) (total : ℕ) (fused : List Bool) (commands : List Command)
         (outcomes : List (List Outcome)) (answers : List Answer) (W : ModelWorld) → IsLawful volume earlier
         → Run volume (start earlier volume.members total fused) commands outcomes answers W → IsLawful volume W.events }
+{}
+
+/// In a run each Serve has as many pieces as the tables of what its server saved have.
+pub fn serves_have_all_pieces()
+    ensures { (volume : Volume) (earlier : List Event) (total : ℕ) (fused : List Bool) (commands : List Command)
+        (outcomes : List (List Outcome)) (answers : List Answer) (W : ModelWorld) → IsLawful volume earlier
+        → Run volume (start earlier volume.members total fused) commands outcomes answers W → ServesAll volume W }
 {}
 
 /// What is given up in a run, or before it, is given up for good.

@@ -18,7 +18,7 @@ use Rattle.ficus_script.specs.declared.answer.Answer.{Answer}
 use Rattle.ficus_script.specs.declared.answer.Answer.TheVariants.{Collected, Done, Why}
 use Rattle.ficus_why_runs.specs.Row.{Explains, run_of}
 use Rattle.ficus_runs.specs.Answers.{answer_to, AlikeAnswer, LookAnswer}
-use Rattle.ficus_runs.specs.ModelWorld.{ModelWorld, Standing, Up, Down, IsUp, IsFused}
+use Rattle.ficus_runs.specs.ModelWorld.{ModelWorld, Posted, Standing, Up, Down, IsUp}
 use Rattle.ficus_runs.specs.Numbered.{IsNumbered}
 use Rattle.ficus_runs.specs.Outcome.{IsDone, LinkFails, IsSaved, SaveFails, IsOpened, IsFound, OpeningFails, IsArmed}
 use Rattle.ficus_runs.specs.Peers.{ArePeers}
@@ -106,16 +106,19 @@ Explaining by = ByRule (λ W. Tells Why (Explains (run_of W.earlier W.events) by
 abbrev pub next_position : ModelWorld → ℕ
 next_position W = length W.events
 
--- the world once a message of so many bytes is posted, with this position behind it
-abbrev pub with_post : ModelWorld → ℕ → ℕ → ModelWorld
-with_post old position size = record old { posted = old.posted ++ position ∷ []; total = old.total + size }
+-- which number the next message will have
+abbrev pub next_mail : ModelWorld → ℕ
+next_mail W = length W.posted + 1
 
--- a message of so many bytes is posted, with this position behind it; gives its number. Or the link fails.
-pub data Posts (position : ModelWorld → ℕ) (size : ℕ) (old : ModelWorld) :
-    Result ℕ Refusal → Effect ModelWorld → Type 0 where
-  Posted : Posts position size old (Ok (length old.posted + 1))
-      (record { outcomes = IsDone ∷ []; after = with_post old (position old) size })
-  NotPosted : Posts position size old (Err refusal.Link) (record { outcomes = LinkFails ∷ []; after = old })
+-- the world once a message of so many bytes is posted, with this behind it
+abbrev pub with_post : ModelWorld → Posted → ℕ → ModelWorld
+with_post old behind size = record old { posted = old.posted ++ behind ∷ []; total = old.total + size }
+
+-- a message of so many bytes is posted, with this behind it; gives its number. Or the link fails.
+pub data Posts (behind : Posted) (size : ℕ) (old : ModelWorld) : Result ℕ Refusal → Effect ModelWorld → Type 0 where
+  IsPosted : Posts behind size old (Ok (next_mail old))
+      (record { outcomes = IsDone ∷ []; after = with_post old behind size })
+  NotPosted : Posts behind size old (Err refusal.Link) (record { outcomes = LinkFails ∷ []; after = old })
 
 -- a message is fetched, or the link fails
 pub data Fetches (old : ModelWorld) : Result (Unit {0}) Refusal → Effect ModelWorld → Type 0 where

@@ -7,6 +7,7 @@ pub mod Answers
 pub mod Peers
 pub mod Actions
 pub mod Exchange
+pub mod RunWorld
 pub mod Run
 pub mod Start
 pub mod Fuses

@@ -8,14 +8,19 @@ pub data Standing : Type 0 where
   Up : Standing
   Down : Option Event → Standing
 
+-- what lies behind a posted message: the position of an ask, or of a Serve with the index of a piece of what was served
+pub record Posted : Type 0 where
+  pub position : ℕ
+  pub index : ℕ
+
 -- all that has happened, and how much of it had before the run; how each member stands; whether both of its disks have
--- a fuse; the position of the event behind each posted message; and how many bytes were posted
+-- a fuse; what lies behind each posted message; and how many bytes were posted
 pub record ModelWorld : Type 0 where
   pub events : List Event
   pub earlier : ℕ
   pub standings : List Standing
   pub fused : List Bool
-  pub posted : List ℕ
+  pub posted : List Posted
   pub total : ℕ
 
 -- the member takes commands

@@ -7,7 +7,7 @@ use Rattle.ficus_model.specs.Lawful.{Volume}
 use Rattle.ficus_script.specs.declared.command.Command.{Command}
 use Rattle.ficus_script.specs.declared.command.Command.TheVariants as command
 use Rattle.ficus_script.specs.declared.answer.Answer.{Answer}
-use Rattle.ficus_script.specs.declared.answer.Answer.TheVariants.{Done, Mail}
+use Rattle.ficus_script.specs.declared.answer.Answer.TheVariants.{Mail}
 use Rattle.ficus_rules.specs.Change.{MayWantMemory}
 use Rattle.ficus_rules.specs.View.{history_view}
 use Rattle.ficus_runs.specs.Actions.{ModelAction, AtMember, Decides, Updates, Sees, GivesOnly, AtPeers, Compares, Explaining, Wants, Opens, Arms}
@@ -79,8 +79,8 @@ CommandMayWantMemory volume W (command.Stop by calls pick) = ⊥
 CommandMayWantMemory volume W (command.Sweep order) = Unit {0}
 CommandMayWantMemory volume W (command.Why by) = IsUnrefused volume W (command.Why by)
 
--- What each command has done where memory is refused on the way: nothing; but a pull keeps its ask, and its first give,
--- and a sweep the steps before the one in which it is, and what that one has done.
+-- What each command has done where memory is refused on the way: nothing; but a pull keeps its ask, and the gives
+-- before, and a sweep the steps before the one in which it is, and what that one has done.
 abbrev pub DoesPart : Volume → Command → Cut ModelWorld
 DoesPart volume (command.Pull by to) = PullsPart volume by to
 DoesPart volume (command.Sweep order) = SweepsPart volume (sweep_steps order volume.members)

@@ -140,15 +140,15 @@ module _ (members me next : ℕ) (member : IsMember members me) (some : 1 ≤ ne
     }
 
 pub made_tables_fit : MadeTablesFit
-made_tables_fit members me next dir name kind entries after files more member some room named place no_attic fits
-    rising adds are adds_file =
+made_tables_fit members me next dir name kind text entries after files more member some room named fits_kind place
+    no_attic fits rising adds are adds_file =
     let number : Id = record { replica = me; number = next } in
     let made : Entry = record { id = number; dir = dir; name = name; target = number; state = Live } in
     let held = files_of members me next entries files fits in
     let lies = place_fits members me next member some room files dir held place in
-    let held_later = all_added (FitsAsFile members me (next + 1)) files more (made_file number kind me) adds_file
-    (files_later members me next member some room files held) (made_file_fits members me next member some room kind) in
-    let stays_held = held_added files more (made_file number kind me) adds_file in
+    let held_later = all_added (FitsAsFile members me (next + 1)) files more (made_file number kind me text) adds_file
+    (files_later members me next member some room files held) (made_file_fits members me next member some room kind text fits_kind) in
+    let stays_held = held_added files more (made_file number kind me text) adds_file in
     one_entry_more members me next member some room entries after files more made fits rising adds are.rising held_later
     stays_held
     (record {
@@ -161,7 +161,7 @@ made_tables_fit members me next dir name kind entries after files more member so
     })
     (record { id = λ own. omega arith; dir = past_later me next dir lies.past; target = λ own. omega arith })
     (record {
-      target = added_held files more (made_file number kind me) adds_file;
+      target = added_held files more (made_file number kind me text) adds_file;
       dir = place_in files more dir (stays_held dir) place;
     })
 

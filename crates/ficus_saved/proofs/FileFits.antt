@@ -1,15 +1,18 @@
 -- Files that fit tables: made, written and merged.
-use Rattle.std.specs.Prelude.{◌≡◌, ◌≢◌, ◌⊎◌, ℕ, ◌+◌, ◌-◌, ◌<◌, ◌≤◌, List, [], ◌∷◌, length, Contains}
+use Rattle.std.specs.Prelude.{◌≡◌, ℕ, ◌+◌, ◌-◌, ◌<◌, ◌≤◌, List, [], ◌∷◌, length, Contains}
 use Rattle.std.proofs.Common.{refl, sym, subst, ◌∙◌, ap, arith, inl, inr}
-use Rattle.ficus_ids.specs.KindLaws.{kind_sort}
+use Rattle.ficus_ids.specs.KindLaws.{kind_sort, text_short}
 use Rattle.ficus_ids.specs.ListLaws.{here_or_there, not_inside_none}
 use Rattle.ficus_ids.specs.Members.{IsMember}
 use Rattle.ficus_ids.specs.declared.id.Id.{Id}
 use Rattle.ficus_ids.specs.declared.kind.Kind.{Kind}
+use Rattle.ficus_ids.specs.Kind.{sort_of, FitsKind}
 use Rattle.ficus_ids.specs.declared.kind.Kind.TheVariants.{Dir}
+use Rattle.ficus_ids.specs.declared.kind.Sort.{Sort}
+use Rattle.ficus_ids.specs.declared.kind.Sort.TheVariants.{Directory, Versioned, Fixed}
 use Rattle.ficus_vv.specs.Vector.{count_of, no_counts, join}
 use Rattle.ficus_vv.specs.VectorLaws.{count_of-none, join_with_none, bump_at_most}
-use Rattle.ficus_file.specs.File.{IsWellFormed, over_all, first_versions, made_file, advanced, covered_file}
+use Rattle.ficus_file.specs.File.{IsWellFormed, over_all, first_of, first_versions, made_file, advanced, covered_file}
 use Rattle.ficus_file.specs.FileLaws.{made_well_formed}
 use Rattle.ficus_file.specs.Version.{join_all}
 use Rattle.ficus_file.specs.declared.file.FileReplica.{FileReplica}
@@ -125,31 +128,35 @@ module _ (members me next : ℕ) (member : IsMember members me) (some : 1 ≤ ne
     | inr none ↦ absurd (not_inside_none version none)
   ]
 
-  first_fits : (kind : Kind) (version : Version) → Contains (first_versions kind me) version →
-      FitsAsVersion members me (next + 1) version
-  first_fits kind version inside = by_kind kind inside
+  first_fits : (kind : Kind) (text : List ℕ) → FitsKind kind text → (version : Version) →
+      Contains (first_versions kind me text) version → FitsAsVersion members me (next + 1) version
+  first_fits kind text fits version inside = by_sort (sort_of kind) inside
     where
-      empty : Contains (over_all me [] [] ∷ []) version → FitsAsVersion members me (next + 1) version
-      empty here = of_one (over_all me [] []) version (over_all_fits [] [] (omega arith) (λ other none. absurd (not_inside_none other none))) here
+      short : length text ≤ file_limit
+      short = omega (arith, text_short kind text fits)
 
-      by_kind : (of : Kind) → Contains (first_versions of me) version → FitsAsVersion members me (next + 1) version
-      by_kind Dir none = absurd (not_inside_none version none)
-      by_kind kind here = empty here
+      first : Contains (over_all me text [] ∷ []) version → FitsAsVersion members me (next + 1) version
+      first here = of_one (over_all me text []) version (over_all_fits text [] short (λ other none. absurd (not_inside_none other none))) here
 
-  -- a file or directory that the next update makes fits afterwards
-  pub made_file_fits : (kind : Kind) →
-      FitsAsFile members me (next + 1) (made_file (record { replica = me; number = next }) kind me)
-  made_file_fits kind = record {
+      by_sort : (sort : Sort) → Contains (first_of sort me text) version → FitsAsVersion members me (next + 1) version
+      by_sort Directory none = absurd (not_inside_none version none)
+      by_sort Versioned here = first here
+      by_sort Fixed here = first here
+
+  -- an object that the next update makes fits afterwards
+  pub made_file_fits : (kind : Kind) (text : List ℕ) → FitsKind kind text →
+      FitsAsFile members me (next + 1) (made_file (record { replica = me; number = next }) kind me text)
+  made_file_fits kind text fits = record {
     tables = record {
       id = record { replica = member; at_least = some; at_most = room };
-      well_formed = made_well_formed (record { replica = me; number = next }) kind me;
-      versions = λ version inside. (first_fits kind version inside).tables;
+      well_formed = made_well_formed (record { replica = me; number = next }) kind me text fits;
+      versions = λ version inside. (first_fits kind text fits version inside).tables;
       covered = none_fits members;
       directory = λ dir. refl;
     };
     past = record {
       id = λ own. omega arith;
-      versions = λ version inside. (first_fits kind version inside).past;
+      versions = λ version inside. (first_fits kind text fits version inside).past;
       covered = omega (arith, count_of-none me);
     };
   }
@@ -187,6 +194,7 @@ module _ (members me next : ℕ) (member : IsMember members me) (some : 1 ≤ ne
       well_formed = record {
         directory = fits.tables.well_formed.directory;
         current = fits.tables.well_formed.current;
+        fixed = fits.tables.well_formed.fixed;
       };
       versions = fits.tables.versions;
       covered = join_fits members file.covered (join_all file.versions) fits.tables.covered

@@ -1,11 +1,12 @@
 -- The laws of tables that fit, as the law functions state them.
-use Rattle.std.specs.Prelude.{◌≢◌, ℕ, ◌+◌, ◌^◌, ◌<◌, ◌≤◌, List, length}
+use Rattle.std.specs.Prelude.{◌≡◌, ◌≢◌, ℕ, ◌+◌, ◌^◌, ◌<◌, ◌≤◌, List, length}
 use Rattle.ficus_ids.specs.Members.{IsCount, IsMember}
 use Rattle.ficus_ids.specs.Name.{IsName}
 use Rattle.ficus_ids.specs.declared.id.Id.{Id}
 use Rattle.ficus_ids.specs.declared.id.TheConstants.{ATTIC}
+use Rattle.ficus_ids.specs.Kind.{sort_of, FitsKind}
 use Rattle.ficus_ids.specs.declared.kind.Kind.{Kind}
-use Rattle.ficus_ids.specs.declared.kind.Kind.TheVariants.{Dir}
+use Rattle.ficus_ids.specs.declared.kind.Sort.TheVariants.{Versioned}
 use Rattle.ficus_ids.specs.Rising.{Adds}
 use Rattle.ficus_entry.specs.Entry.{IsRising, AddsEntry}
 use Rattle.ficus_entry.specs.Kill.{AreKilled}
@@ -47,14 +48,14 @@ ReclaimedTablesFit = (members me next : ℕ) (entries : List Entry) (files : Lis
 
 -- with one more object and an entry for it fits what fits, for the next update of the replica
 abbrev pub MadeTablesFit : Type 0
-MadeTablesFit = (members me next : ℕ) (dir : Id) (name : List ℕ) (kind : Kind) (entries after : List Entry)
-    (files more : List FileReplica) →
+MadeTablesFit = (members me next : ℕ) (dir : Id) (name : List ℕ) (kind : Kind) (text : List ℕ)
+    (entries after : List Entry) (files more : List FileReplica) →
     let number : Id = record { replica = me; number = next } in
-    IsMember members me → 1 ≤ next → next ≤ update_limit → IsName name → IsPlaceIn files dir → dir ≢ ATTIC →
-    FitsReplica members me next entries files →
+    IsMember members me → 1 ≤ next → next ≤ update_limit → IsName name → FitsKind kind text → IsPlaceIn files dir →
+    dir ≢ ATTIC → FitsReplica members me next entries files →
     IsRising after →
     AddsEntry entries after (record { id = number; dir = dir; name = name; target = number; state = Live }) →
-    AreFiles more → Adds files more (made_file number kind me) →
+    AreFiles more → Adds files more (made_file number kind me text) →
     FitsReplica members me (next + 1) after more
 
 -- with one more entry, of an object that is held, in a state that fits, fits what fits, for the next update of the
@@ -81,7 +82,7 @@ abbrev pub WrittenTablesFit : Type 0
 WrittenTablesFit = (members me next : ℕ) (file : Id) (bytes : List ℕ) (entries : List Entry)
     (files after : List FileReplica) →
     IsMember members me → 1 ≤ next → next ≤ update_limit → length bytes ≤ file_limit →
-    HoldsFile files file (λ held. held.kind ≢ Dir) →
+    HoldsFile files file (λ held. sort_of held.kind ≡ Versioned) →
     FitsReplica members me next entries files →
     AreFiles after → IsChanged files after file (advanced me bytes) →
     FitsReplica members me (next + 1) entries after

@@ -1,12 +1,13 @@
 -- No two arguments are spelled by the same words.
-use Rattle.std.proofs.Common.{◌≡◌, ◌≢◌, ◌⊎◌, ℕ, ◌<◌, ◌≤◌, ◌^◌, List, [], ◌∷◌, ◌++◌, get_or, true, Option, None, Some, refl, inl, inr, sym, ◌∙◌, ap, subst, arith, if◌then◌else◌, ◌==◌}
+use Rattle.std.proofs.Common.{◌≡◌, ◌⊎◌, ℕ, ◌<◌, ◌≤◌, ◌^◌, List, [], ◌∷◌, ◌++◌, get_or, true, Option, None, Some, refl, inl, inr, sym, ◌∙◌, ap, subst, arith, if◌then◌else◌, ◌==◌}
 use Rattle.std.specs.Fmt.{decimal}
 use Rattle.std.specs.List.{join_with_byte}
 use Rattle.std.proofs.lemmas.Bool.{ne_eqb}
 use Rattle.std.proofs.lemmas.List.{append-nil}
-use Rattle.ficus_ids.specs.Kind.{kind_word}
+use Rattle.ficus_ids.specs.Kind.{kind_word, sort_of}
 use Rattle.ficus_ids.specs.declared.kind.Kind.{Kind}
-use Rattle.ficus_ids.specs.declared.kind.Kind.TheVariants.{Dir, Plain, Lines, Max, Keep}
+use Rattle.ficus_ids.specs.declared.kind.Kind.TheVariants.{Dir, Plain, Lines, Max, Keep, Symlink}
+use Rattle.ficus_ids.specs.declared.kind.Sort.TheVariants.{Versioned}
 use Rattle.ficus_path.proofs.CutLaws.{IsFreeOf}
 use Rattle.ficus_path.proofs.PathLaws.{path_text_injective, path_text_visible, text_from}
 use Rattle.ficus_path.specs.declared.path.Base.{Base}
@@ -153,7 +154,8 @@ shape_is (Arming by calls pick) first rest are words =
 abbrev kind_at : List ℕ → Kind
 kind_at word =
     if get_or word 0 0 == 100 then Dir else if get_or word 0 0 == 112 then Plain else
-    if get_or word 0 0 == 108 then Lines else if get_or word 0 0 == 109 then Max else Keep
+    if get_or word 0 0 == 108 then Lines else if get_or word 0 0 == 109 then Max else
+    if get_or word 0 0 == 115 then Symlink else Keep
 
 kind_found : (kind : Kind) → kind_at (kind_word kind) ≡ kind
 kind_found Keep = refl
@@ -400,7 +402,7 @@ no_second_path path last begins none = go
 
 -- what is no word of a kind, and begins neither as a text nor as a path, ends no arguments
 pub no_kind : (path : Path) (last : List ℕ) → (BeginsText last → ⊥) → (BeginsPath last → ⊥) →
-    ((kind : Kind) → kind ≢ Dir → last ≡ kind_word kind → ⊥) → (arguments : Arguments) → AreArguments arguments →
+    ((kind : Kind) → sort_of kind ≡ Versioned → last ≡ kind_word kind → ⊥) → (arguments : Arguments) → AreArguments arguments →
     Begins (path_text path) (Some last) (argument_words arguments) → ⊥
 no_kind path last no_text no_path none (PathAndKind another kind) are words =
     none kind are.1 (let spelled : Some last ≡ Some (kind_word kind) = words.1 in cc)

@@ -1,5 +1,5 @@
 -- Each command is read off the table of verbs from its spelling, and no two commands share one.
-use Rattle.std.proofs.Common.{◌≡◌, ◌≢◌, ℕ, ◌<◌, ◌^◌, true, false, if◌then◌else◌, List, [], ◌∷◌, ◌++◌, get_or, Option, None, Some, Result, Err, IfNone, IfSome, refl, sym, ◌∙◌, ap, subst, inl, inr, arith}
+use Rattle.std.proofs.Common.{◌≡◌, ◌≢◌, ℕ, ◌<◌, ◌≤◌, ◌^◌, length, true, false, if◌then◌else◌, List, [], ◌∷◌, ◌++◌, get_or, Option, None, Some, Result, Err, IfNone, IfSome, refl, sym, ◌∙◌, ap, subst, inl, inr, arith}
 use Rattle.std.specs.Prelude.{codes, Ok}
 use Rattle.std.specs.Fmt.{decimal}
 use Rattle.std.specs.List.{join_with_byte}
@@ -13,8 +13,8 @@ use Rattle.ficus_path.specs.declared.path.Base.{Base}
 use Rattle.ficus_path.specs.declared.path.Base.TheVariants.{Root, Orphan}
 use Rattle.ficus_path.specs.declared.path.Path.{Path}
 use Rattle.ficus_path.proofs.CutLaws.{IsFreeOf}
-use Rattle.ficus_commands.specs.declared.change.Change.TheVariants.{MkDir, Create, Write, Settle, Resolve, Rm, Ln, Mv, Adopt, Discard}
-use Rattle.ficus_commands.specs.declared.look.Look.TheVariants.{Ls, Read, Versions, Tree, Conflicts, Orphans, Detached, Marks}
+use Rattle.ficus_commands.specs.declared.change.Change.TheVariants.{MkDir, Create, Symlink, Write, Settle, Resolve, Rm, Ln, Mv, Adopt, Discard}
+use Rattle.ficus_commands.specs.declared.look.Look.TheVariants.{Ls, Read, Versions, ReadLink, Tree, Conflicts, Orphans, Detached, Marks}
 use Rattle.ficus_script.specs.Arguments.{Arguments}
 use Rattle.ficus_script.specs.Arguments.{Nothing, OnePath, PathAndKind, PathAndText, TwoPaths, OneNumber, OneOrder, TwoReplicas, Arming}
 use Rattle.ficus_script.specs.declared.command.Command.{Command}
@@ -22,7 +22,7 @@ use Rattle.ficus_script.specs.declared.command.Command.TheVariants as command
 use Rattle.ficus_script.specs.declared.line.LineFault.{LineFault}
 use Rattle.ficus_script.specs.declared.line.LineFault.TheVariants.{NotCommand, Memory as OutOfMemory}
 use Rattle.ficus_script.specs.Arguments.{IsReplicaNumber, IsReadingBehind, argument_words, left_of}
-use Rattle.ficus_path.specs.Path.{at_orphan}
+use Rattle.ficus_path.specs.Path.{at_orphan, IsNew, IsPath}
 use Rattle.ficus_path.specs.Text.{quoted_text}
 use Rattle.ficus_path.proofs.TextLaws.{quoted_text_injective}
 use Rattle.ficus_script.specs.Script.{IsCommandLine, IsStepLine}
@@ -40,6 +40,7 @@ orphan_of (Orphan id) = id
 
 -- the text of the command, and nothing where it has none
 abbrev text_of : Command → List ℕ
+text_of (command.Change by (Symlink path text)) = text
 text_of (command.Change by (Write path text)) = text
 text_of (command.Change by (Settle path text)) = text
 text_of command = []
@@ -56,10 +57,12 @@ commands_with text (Some by) Nothing =
     ∷ command.Look by Marks ∷ command.Collect by ∷ command.Why by ∷ []
 commands_with text (Some by) (OnePath path) =
     command.Change by (MkDir path) ∷ command.Change by (Rm path) ∷ command.Change by (Resolve path)
-    ∷ command.Change by (Discard (orphan_of path.base)) ∷ command.Look by (Ls path) ∷ command.Look by (Read path) ∷ command.Look by (Versions path) ∷ []
+    ∷ command.Change by (Discard (orphan_of path.base)) ∷ command.Look by (Ls path) ∷ command.Look by (Read path) ∷ command.Look by (Versions path)
+    ∷ command.Look by (ReadLink path) ∷ []
 commands_with text (Some by) (PathAndKind path kind) = command.Change by (Create path kind) ∷ []
 commands_with text (Some by) (PathAndText path word) =
-    command.Change by (Write path text) ∷ command.Change by (Settle path text) ∷ []
+    command.Change by (Symlink path text) ∷ command.Change by (Write path text) ∷ command.Change by (Settle path text)
+    ∷ []
 commands_with text (Some by) (TwoPaths from path) =
     command.Change by (Ln from path) ∷ command.Change by (Mv from path)
     ∷ command.Change by (Adopt (orphan_of from.base) path) ∷ []
@@ -100,6 +103,7 @@ record IsListed (command : Command) : Type 0 where
 listed : (command : Command) → IsListed command
 listed (command.Change by (MkDir path)) = record { letters = refl; text = refl; found = refl }
 listed (command.Change by (Create path kind)) = record { letters = refl; text = refl; found = refl }
+listed (command.Change by (Symlink path text)) = record { letters = refl; text = refl; found = refl }
 listed (command.Change by (Write path text)) = record { letters = refl; text = refl; found = refl }
 listed (command.Change by (Settle path text)) = record { letters = refl; text = refl; found = refl }
 listed (command.Change by (Resolve path)) = record { letters = refl; text = refl; found = refl }
@@ -111,6 +115,7 @@ listed (command.Change by (Discard orphan)) = record { letters = refl; text = re
 listed (command.Look by (Ls path)) = record { letters = refl; text = refl; found = refl }
 listed (command.Look by (Read path)) = record { letters = refl; text = refl; found = refl }
 listed (command.Look by (Versions path)) = record { letters = refl; text = refl; found = refl }
+listed (command.Look by (ReadLink path)) = record { letters = refl; text = refl; found = refl }
 listed (command.Look by Tree) = record { letters = refl; text = refl; found = refl }
 listed (command.Look by Conflicts) = record { letters = refl; text = refl; found = refl }
 listed (command.Look by Orphans) = record { letters = refl; text = refl; found = refl }
@@ -183,6 +188,27 @@ no_discard by path none =
     let behind : OnePath (at_orphan (orphan_of path.base)) ≡ OnePath path = ap (λ (s : Spelling). s.behind) same in
     let is : at_orphan (orphan_of path.base) ≡ path = cc in
     none (orphan_of path.base) (sym is))
+
+-- a symbolic link has some text
+pub no_symlink : (by : ℕ) (path : Path) (text : List ℕ) → text ≡ [] →
+    IsCommandOf (of_replica by (codes "symlink") (PathAndText path (quoted_text text))) None
+no_symlink by path text none = λ it valid same.
+    let is : it ≡ command.Change by (Symlink path text) = one_command it (command.Change by (Symlink path text)) same in
+    let takes = (subst IsCommand is valid).takes.some in
+    omega (arith, takes, ap (λ (bytes : List ℕ). length bytes) none)
+
+some_bytes : (text : List ℕ) → (text ≡ [] → ⊥) → 1 ≤ length text
+some_bytes [] some = absurd (some refl)
+some_bytes (byte ∷ bytes) some = omega arith
+
+pub is_symlink : (by : ℕ) (path : Path) (text : List ℕ) → IsReplicaNumber by → IsPath path → IsNew path →
+    (text ≡ [] → ⊥) →
+    IsCommandOf (of_replica by (codes "symlink") (PathAndText path (quoted_text text)))
+    (Some (command.Change by (Symlink path text)))
+is_symlink by path text number is new some = (
+  record { number = number; behind = (is, (text, refl)); takes = record { new = new; some = some_bytes text some } },
+  refl,
+)
 
 pub no_adopt : (by : ℕ) (from path : Path) → ((orphan : Id) → from ≡ at_orphan orphan → ⊥) →
     IsCommandOf (of_replica by (codes "adopt") (TwoPaths from path)) None

@@ -121,6 +121,14 @@ told_text_of (Marks entries) = counted_lines mark_line entries
 abbrev pub alike_text_of : Bool → List ℕ
 alike_text_of alike = codes "ok " ++ (if alike then codes "alike" else codes "apart") ++ 10 ∷ []
 
+-- the numbers of the first message and of the last
+abbrev pub mails_text_of : ℕ → ℕ → List ℕ
+mails_text_of first last = codes "ok " ++ decimal first ++ codes " to " ++ decimal last ++ 10 ∷ []
+
+-- how many pieces are taken, of how many
+abbrev pub part_text_of : ℕ → ℕ → List ℕ
+part_text_of have all = codes "ok " ++ decimal have ++ codes " of " ++ decimal all ++ 10 ∷ []
+
 -- how many removed entries were given up, and how many files and directories
 abbrev pub collected_text_of : ℕ → ℕ → List ℕ
 collected_text_of entries files = codes "collected " ++ decimal entries ++ 32 ∷ decimal files ++ 10 ∷ []
@@ -139,6 +147,8 @@ abbrev pub answer_text_of : Answer → List ℕ
 answer_text_of answer.Done = codes "ok" ++ 10 ∷ []
 answer_text_of (answer.Made id) = codes "ok " ++ id_text id ++ 10 ∷ []
 answer_text_of (answer.Mail number) = codes "ok " ++ decimal number ++ 10 ∷ []
+answer_text_of (answer.Mails first last) = mails_text_of first last
+answer_text_of (answer.Part have all) = part_text_of have all
 answer_text_of (answer.Collected entries files) = collected_text_of entries files
 answer_text_of (answer.Told told) = told_text_of told
 answer_text_of (answer.Alike alike) = alike_text_of alike

@@ -1,11 +1,11 @@
 -- What stands behind the verb of a command.
-use Rattle.std.specs.Prelude.{◌≡◌, ◌≢◌, ◌⊎◌, ℕ, ◌^◌, ◌<◌, ◌≤◌, List, [], ◌∷◌, slice_index, Option, Some, None}
+use Rattle.std.specs.Prelude.{◌≡◌, ◌⊎◌, ℕ, ◌^◌, ◌<◌, ◌≤◌, List, [], ◌∷◌, slice_index, Option, Some, None}
 use Rattle.std.specs.Borrow.{Bor}
 use Rattle.std.specs.List.{join_with_byte}
 use Rattle.std.specs.Fmt.{decimal}
-use Rattle.ficus_ids.specs.Kind.{kind_word}
+use Rattle.ficus_ids.specs.Kind.{kind_word, sort_of}
 use Rattle.ficus_ids.specs.declared.kind.Kind.{Kind}
-use Rattle.ficus_ids.specs.declared.kind.Kind.TheVariants.{Dir}
+use Rattle.ficus_ids.specs.declared.kind.Sort.TheVariants.{Versioned}
 use Rattle.ficus_path.specs.declared.path.Path.{Path}
 use Rattle.ficus_path.specs.Path.{IsPath}
 use Rattle.ficus_path.specs.Spelling.{path_text}
@@ -50,7 +50,7 @@ pub record IsReplicaNumber (replica : ℕ) : Type 0 where
 abbrev pub AreArguments : Arguments → Type 0
 AreArguments Nothing = Unit {0}
 AreArguments (OnePath path) = IsPath path
-AreArguments (PathAndKind path kind) = IsPath path × (kind ≢ Dir)
+AreArguments (PathAndKind path kind) = IsPath path × (sort_of kind ≡ Versioned)
 AreArguments (PathAndText path text) = IsPath path × SpellsText text
 AreArguments (TwoPaths first second) = IsPath first × IsPath second
 AreArguments (OneNumber number) = number < 2 ^ 32

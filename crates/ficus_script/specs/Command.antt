@@ -5,8 +5,8 @@ use Rattle.std.specs.Fmt.{decimal}
 use Rattle.ficus_path.specs.Path.{at_orphan}
 use Rattle.ficus_path.specs.Text.{quoted_text}
 use Rattle.ficus_commands.specs.Change.{HasFitPaths}
-use Rattle.ficus_commands.specs.declared.change.Change.TheVariants.{MkDir, Create, Write, Settle, Resolve, Rm, Ln, Mv, Adopt, Discard}
-use Rattle.ficus_commands.specs.declared.look.Look.TheVariants.{Ls, Read, Versions, Tree, Conflicts, Orphans, Detached, Marks}
+use Rattle.ficus_commands.specs.declared.change.Change.TheVariants.{MkDir, Create, Symlink, Write, Settle, Resolve, Rm, Ln, Mv, Adopt, Discard}
+use Rattle.ficus_commands.specs.declared.look.Look.TheVariants.{Ls, Read, Versions, ReadLink, Tree, Conflicts, Orphans, Detached, Marks}
 use Rattle.ficus_script.specs.Arguments.{Arguments}
 use Rattle.ficus_script.specs.Arguments.{Nothing, OnePath, PathAndKind, PathAndText, TwoPaths, OneNumber, OneOrder, TwoReplicas, Arming}
 use Rattle.ficus_script.specs.declared.command.Command.{Command}
@@ -31,6 +31,8 @@ of_none verb behind = record { by = None; verb = verb; behind = behind }
 abbrev pub spelling_of : Command → Spelling
 spelling_of (command.Change by (MkDir path)) = of_replica by (codes "mkdir") (OnePath path)
 spelling_of (command.Change by (Create path kind)) = of_replica by (codes "create") (PathAndKind path kind)
+spelling_of (command.Change by (Symlink path text)) =
+    of_replica by (codes "symlink") (PathAndText path (quoted_text text))
 spelling_of (command.Change by (Write path text)) = of_replica by (codes "write") (PathAndText path (quoted_text text))
 spelling_of (command.Change by (Settle path text)) =
     of_replica by (codes "settle") (PathAndText path (quoted_text text))
@@ -43,6 +45,7 @@ spelling_of (command.Change by (Discard orphan)) = of_replica by (codes "discard
 spelling_of (command.Look by (Ls path)) = of_replica by (codes "ls") (OnePath path)
 spelling_of (command.Look by (Read path)) = of_replica by (codes "read") (OnePath path)
 spelling_of (command.Look by (Versions path)) = of_replica by (codes "versions") (OnePath path)
+spelling_of (command.Look by (ReadLink path)) = of_replica by (codes "readlink") (OnePath path)
 spelling_of (command.Look by Tree) = of_replica by (codes "tree") Nothing
 spelling_of (command.Look by Conflicts) = of_replica by (codes "conflicts") Nothing
 spelling_of (command.Look by Orphans) = of_replica by (codes "orphans") Nothing
@@ -58,8 +61,8 @@ spelling_of (command.Stop by calls pick) = of_none (codes "stop") (Arming by cal
 spelling_of (command.Sweep order) = of_none (codes "sweep") (OneOrder order)
 spelling_of (command.Why by) = of_replica by (codes "why") Nothing
 
--- the arguments are of the sort that the command takes: a change takes paths of its own sort, and a restart the number
--- of a replica; others may be any
+-- the arguments are of the sort that the command takes: a change takes paths of its own sort, and a symbolic link a
+-- text that isn't empty; a restart takes the number of a replica; others may be any
 abbrev pub TakesArguments : Command → Type 0
 TakesArguments (command.Change by change) = HasFitPaths change
 TakesArguments (command.Look by look) = Unit {0}

@@ -24,6 +24,7 @@ path_command by path (path_verb.Discard orphan) = command.Change by (change.Disc
 path_command by path path_verb.Ls = command.Look by (look.Ls path)
 path_command by path path_verb.Read = command.Look by (look.Read path)
 path_command by path path_verb.Versions = command.Look by (look.Versions path)
+path_command by path path_verb.ReadLink = command.Look by (look.ReadLink path)
 
 -- of a path and the kind of a file
 abbrev pub kind_command : ℕ → Path → Kind → KindVerb → Command
@@ -31,6 +32,7 @@ kind_command by path kind kind_verb.Create = command.Change by (change.Create pa
 
 -- of a path and a text
 abbrev pub text_command : ℕ → Path → List ℕ → TextVerb → Command
+text_command by path text text_verb.Symlink = command.Change by (change.Symlink path text)
 text_command by path text text_verb.Write = command.Change by (change.Write path text)
 text_command by path text text_verb.Settle = command.Change by (change.Settle path text)
 

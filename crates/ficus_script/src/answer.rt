@@ -11,6 +11,13 @@ pub enum Answer {
     Made(Id),
     /// It was done, and a message of this number was posted.
     Mail(u32),
+    /// It was done, and messages were posted, of which these are the numbers of the first and the last.
+    Mails(u32, u32),
+    /// A piece of an answer was taken, now or before; so many of its pieces are taken, of so many that there are.
+    Part {
+        have: u32,
+        of: u32,
+    },
     /// It was done, and gave up so many removed entries and so many files and directories.
     Collected {
         entries: u32,

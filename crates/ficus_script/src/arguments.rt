@@ -1,7 +1,7 @@
-ghost use Rattle.std.specs.Prelude.{◌≡◌, ◌≢◌, ◌↔◌, IsTrue, None, Some, IfSome, IfNone, option_map};
-ghost use Rattle.ficus_ids.specs.Kind.{kind_word};
+ghost use Rattle.std.specs.Prelude.{◌≡◌, ◌↔◌, IsTrue, None, Some, IfSome, IfNone, option_map};
+ghost use Rattle.ficus_ids.specs.Kind.{kind_word, sort_of};
 ghost use Rattle.ficus_ids.specs.declared.kind.Kind.{Kind};
-ghost use Rattle.ficus_ids.specs.declared.kind.Kind.TheVariants.{Dir};
+ghost use Rattle.ficus_ids.specs.declared.kind.Sort.TheVariants.{Versioned};
 ghost use Rattle.ficus_path.specs.Path.{IsPath};
 ghost use Rattle.ficus_path.specs.Spelling.{path_text};
 ghost use Rattle.ficus_script.specs.Arguments.{arguments_of, bytes_of, BeginsPath, BeginsText, IsReadingBehind, IsReadingWords};
@@ -99,11 +99,12 @@ fn begins_text(word: &[u8]) -> bool
     matches!(word, [b'"', ..])
 }
 
-// The kind of a file that the word spells, or `None` exactly where it spells none. That of directories isn't one.
+// The kind of a file whose versions change that the word spells, or `None` exactly where it spells none. Those of
+// directories and of symbolic links aren't such.
 fn read_kind(word: &[u8]) -> Option<Kind>
-    ensures kind { IfSome result (λ kind. kind ≢ Dir) }
+    ensures kind { IfSome result (λ kind. sort_of kind ≡ Versioned) }
     ensures found { IfSome result (λ kind. word.now ≡ kind_word kind) }
-    ensures none { IfNone result ((kind : Kind) → kind ≢ Dir → word.now ≡ kind_word kind → ⊥) }
+    ensures none { IfNone result ((kind : Kind) → sort_of kind ≡ Versioned → word.now ≡ kind_word kind → ⊥) }
 {
     match word {
         b"plain" => Some(Kind::Plain),

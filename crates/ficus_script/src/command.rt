@@ -4,13 +4,15 @@ use crate::Order;
 use ficus_commands::{Change, Look};
 
 /// What a line of a script asks for. The numbers of replicas are from 1 to 255; a world refuses those of no
-/// member, and those of no message. A text may have any length; a world refuses one that is too long for a file.
+/// member, and those of no message. A text may have any length; a world refuses one that is too long for a file, or for
+/// a symbolic link.
 #[derive(Drop)]
 pub enum Command {
-    /// A change by replica `by`: `R mkdir N`, `R create N KIND`, `R write P TEXT`, `R settle P TEXT`, `R resolve P`,
-    /// `R rm E`, `R ln E N`, `R mv E N`, `R adopt ~ID N`, `R discard ~ID`.
+    /// A change by replica `by`: `R mkdir N`, `R create N KIND`, `R symlink N TEXT` with a text that isn't empty,
+    /// `R write P TEXT`, `R settle P TEXT`, `R resolve P`, `R rm E`, `R ln E N`, `R mv E N`, `R adopt ~ID N`,
+    /// `R discard ~ID`.
     Change { by: u8, change: Change },
-    /// A look at replica `by`: `R ls P`, `R read P`, `R versions P`, `R tree`, `R conflicts`,
+    /// A look at replica `by`: `R ls P`, `R read P`, `R versions P`, `R readlink P`, `R tree`, `R conflicts`,
     /// `R orphans`, `R detached`, `R marks`.
     Look { by: u8, look: Look },
     /// `R collect`: replica `by` gives up each removed entry of which it knows that all members know that all know, and

@@ -1,5 +1,6 @@
-ghost use Rattle.std.specs.Prelude.{◌≡◌, ◌≢◌, IfOk, IfSome};
-ghost use Rattle.ficus_ids.specs.declared.kind.Kind.TheVariants.{Dir};
+ghost use Rattle.std.specs.Prelude.{◌≡◌, IfOk, IfSome};
+ghost use Rattle.ficus_ids.specs.Kind.{sort_of};
+ghost use Rattle.ficus_ids.specs.declared.kind.Sort.TheVariants.{Versioned};
 ghost use Rattle.ficus_path.specs.Path.{IsPath};
 ghost use Rattle.ficus_path.specs.Text.{SpellsText};
 ghost use Rattle.ficus_script.specs.Arguments.{AreArguments, IsReplicaNumber, arguments_of};
@@ -75,6 +76,7 @@ fn path_command(by: u8, path: Path, verb: PathVerb) -> Command
         PathVerb::Ls => look(by, Look::Ls { path }),
         PathVerb::Read => look(by, Look::Read { path }),
         PathVerb::Versions => look(by, Look::Versions { path }),
+        PathVerb::ReadLink => look(by, Look::ReadLink { path }),
     }
 }
 
@@ -87,7 +89,7 @@ fn with_kind(
 ) -> Result<Command, LineFault>
     requires replica { IsReplicaNumber by }
     requires path { IsPath path.now }
-    requires kind { kind ≢ Dir }
+    requires kind { sort_of kind ≡ Versioned }
     ensures { IsReadingAt (of_replica by verb.now (PathAndKind path.now kind)) result }
 {
     let Some(verb) = kind_verb(verb, path) else {
@@ -117,7 +119,7 @@ fn with_text(
     requires text { SpellsText text.now }
     ensures { IsReadingAt (of_replica by verb.now (PathAndText path.now text.now)) result }
 {
-    let Some(verb) = text_verb(verb) else {
+    let Some(verb) = text_verb(verb, path, text) else {
         return Err(LineFault::NotCommand);
     };
     let path = path.path(alloc)?;
@@ -129,6 +131,7 @@ fn text_command(by: u8, path: Path, text: Listed<u8>, verb: TextVerb) -> Command
     ensures { result ≡ text_command by path text verb }
 {
     match verb {
+        TextVerb::Symlink => change(by, Change::Symlink { path, text }),
         TextVerb::Write => change(by, Change::Write { path, text }),
         TextVerb::Settle => change(by, Change::Settle { path, text }),
     }

@@ -1,7 +1,7 @@
-ghost use Rattle.std.specs.Prelude.{◌≡◌, ◌≢◌, ◌↔◌, ◌<◌, ℕ, List, IsTrue, IfSome, codes, option_map};
+ghost use Rattle.std.specs.Prelude.{◌≡◌, ◌↔◌, ◌<◌, ℕ, List, IsTrue, IfSome, codes, option_map};
 ghost use Rattle.ficus_ids.specs.declared.kind.Kind.{Kind};
-ghost use Rattle.ficus_ids.specs.declared.kind.Kind.TheVariants.{Dir};
-ghost use Rattle.ficus_path.specs.declared.path.Path.{Path};
+ghost use Rattle.ficus_ids.specs.Kind.{sort_of};
+ghost use Rattle.ficus_ids.specs.declared.kind.Sort.TheVariants.{Versioned};
 ghost use Rattle.ficus_path.specs.Path.{IsNew, IsPath};
 ghost use Rattle.ficus_path.specs.Text.{quoted_text};
 ghost use Rattle.ficus_script.specs.Arguments.{AreArguments, IsReplicaNumber, arguments_of};
@@ -15,7 +15,7 @@ use crate::replica::is_replica;
 use crate::{Command, Order};
 use ficus_commands::Look;
 use ficus_ids::Id;
-use ficus_path::PathDraft;
+use ficus_path::{PathDraft, TextDraft};
 
 /// The verbs that stand before one path; before that of an orphan alone, with the orphan.
 #[derive(Clone, Copy)]
@@ -27,6 +27,7 @@ pub(crate) enum PathVerb {
     Ls,
     Read,
     Versions,
+    ReadLink,
 }
 
 /// The verb that stands before a path and the kind of a file.
@@ -38,6 +39,7 @@ pub(crate) enum KindVerb {
 /// The verbs that stand before a path and a text.
 #[derive(Clone, Copy)]
 pub(crate) enum TextVerb {
+    Symlink,
     Write,
     Settle,
 }
@@ -61,7 +63,7 @@ pub(crate) fn is_command_of(by: Option<u8>, verb: &[u8], paths: &LinePaths, behi
         (Some(by), Shape::Nothing) => is_one(with_nothing(by, verb)),
         (Some(_), Shape::OnePath) => path_verb(verb, &paths.first).is_some(),
         (Some(_), Shape::PathAndKind(_)) => kind_verb(verb, &paths.first).is_some(),
-        (Some(_), Shape::PathAndText(_)) => text_verb(verb).is_some(),
+        (Some(_), Shape::PathAndText(text)) => text_verb(verb, &paths.first, text).is_some(),
         (Some(_), Shape::TwoPaths) => paths_verb(verb, &paths.first, &paths.second).is_some(),
         (None, Shape::OneNumber(number)) => is_one(with_number(verb, *number)),
         (None, Shape::OneOrder(order)) => is_one(with_order(verb, *order)),
@@ -148,6 +150,7 @@ pub(crate) fn path_verb(verb: &[u8], path: &PathDraft) -> Option<PathVerb>
         _ if verb == b"ls".as_slice() => Some(PathVerb::Ls),
         _ if verb == b"read".as_slice() => Some(PathVerb::Read),
         _ if verb == b"versions".as_slice() => Some(PathVerb::Versions),
+        _ if verb == b"readlink".as_slice() => Some(PathVerb::ReadLink),
         _ => None,
     }
 }
@@ -164,7 +167,7 @@ fn discard(path: &PathDraft) -> Option<PathVerb>
 /// The verb that stands before the path and the kind of a file, or `None` exactly where the word is none that may.
 pub(crate) fn kind_verb(verb: &[u8], path: &PathDraft) -> Option<KindVerb>
     requires { IsPath path.now }
-    ensures { (by : ℕ) (kind : Kind) → IsReplicaNumber by → kind ≢ Dir →
+    ensures { (by : ℕ) (kind : Kind) → IsReplicaNumber by → sort_of kind ≡ Versioned →
         IsCommandOf (of_replica by verb.now (PathAndKind path.now kind))
         (option_map (kind_command by path.now kind) result) }
 {
@@ -175,15 +178,31 @@ pub(crate) fn kind_verb(verb: &[u8], path: &PathDraft) -> Option<KindVerb>
 }
 
 /// The verb that stands before a path and a text, or `None` exactly where the word is none that may.
-pub(crate) fn text_verb(verb: &[u8]) -> Option<TextVerb>
-    ensures { (by : ℕ) (path : Path) (text : List ℕ) → IsReplicaNumber by → IsPath path →
-        IsCommandOf (of_replica by verb.now (PathAndText path (quoted_text text)))
-        (option_map (text_command by path text) result) }
+pub(crate) fn text_verb(verb: &[u8], path: &PathDraft, text: &TextDraft) -> Option<TextVerb>
+    requires { IsPath path.now }
+    ensures { (by : ℕ) (it : List ℕ) → IsReplicaNumber by → text.now ≡ quoted_text it →
+        IsCommandOf (of_replica by verb.now (PathAndText path.now (quoted_text it)))
+        (option_map (text_command by path.now it) result) }
 {
     match verb {
+        _ if verb == b"symlink".as_slice() && path.is_new() => symlink(path, text),
         _ if verb == b"write".as_slice() => Some(TextVerb::Write),
         _ if verb == b"settle".as_slice() => Some(TextVerb::Settle),
         _ => None,
+    }
+}
+
+fn symlink(path: &PathDraft, text: &TextDraft) -> Option<TextVerb>
+    requires path { IsPath path.now }
+    requires new { IsNew path.now }
+    ensures { (by : ℕ) (it : List ℕ) → IsReplicaNumber by → text.now ≡ quoted_text it →
+        IsCommandOf (of_replica by (codes "symlink") (PathAndText path.now (quoted_text it)))
+        (option_map (text_command by path.now it) result) }
+{
+    if text.is_empty() {
+        None
+    } else {
+        Some(TextVerb::Symlink)
     }
 }
 

@@ -1,7 +1,7 @@
 ghost use Rattle.std.specs.Prelude.{◌≡◌, [], ◌∷◌, ◌++◌, codes, IfOk, OnOk};
 ghost use Rattle.ficus_path.specs.Text.{quoted_text};
 ghost use Rattle.ficus_script.specs.Answer.{answer_text_of, told_text_of, count_line, counted_lines, mark_line, name_line, tree_line};
-ghost use Rattle.ficus_script.specs.Answer.{alike_text_of, clashes_text_of, collected_text_of, id_line, orphan_line, swept_text_of, vector_text, version_line, why_text_of};
+ghost use Rattle.ficus_script.specs.Answer.{alike_text_of, clashes_text_of, collected_text_of, id_line, mails_text_of, orphan_line, part_text_of, swept_text_of, vector_text, version_line, why_text_of};
 
 use crate::Answer;
 use crate::conflicts::{append_clash_lines, append_file_lines, append_orphan_line};
@@ -23,6 +23,8 @@ pub fn answer_text(alloc: Global, answer: &Answer) -> Result<Vec<u8>, Memory>
         Answer::Done => Ok(Vec::from_slice(alloc, b"ok\n")?),
         Answer::Made(id) => Ok(format!(in alloc; "ok {id}\n")?.into_bytes()),
         Answer::Mail(number) => Ok(format!(in alloc; "ok {number}\n")?.into_bytes()),
+        Answer::Mails(first, last) => mails_text(alloc, *first, *last),
+        Answer::Part { have, of } => part_text(alloc, *have, *of),
         Answer::Collected { entries, files } => collected_text(alloc, *entries, *files),
         Answer::Told(told) => told_text(alloc, told),
         Answer::Alike(alike) => alike_text(alloc, *alike),
@@ -37,6 +39,18 @@ pub fn answer_text(alloc: Global, answer: &Answer) -> Result<Vec<u8>, Memory>
             Ok(format!(in alloc; "no {word}\n")?.into_bytes())
         }
     }
+}
+
+fn mails_text(alloc: Global, first: u32, last: u32) -> Result<Vec<u8>, Memory>
+    ensures { IfOk result (λ text. text.items ≡ mails_text_of first last) }
+{
+    Ok(format!(in alloc; "ok {first} to {last}\n")?.into_bytes())
+}
+
+fn part_text(alloc: Global, have: u32, of: u32) -> Result<Vec<u8>, Memory>
+    ensures { IfOk result (λ text. text.items ≡ part_text_of have of) }
+{
+    Ok(format!(in alloc; "ok {have} of {of}\n")?.into_bytes())
 }
 
 fn collected_text(alloc: Global, entries: u32, files: u32) -> Result<Vec<u8>, Memory>

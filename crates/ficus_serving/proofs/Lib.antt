@@ -1,3 +1,11 @@
+pub mod OneModel
+pub mod Lifting
+pub mod Covering
+pub mod Stepping
+pub mod GoingOn
+pub mod Opening
+pub mod During
+pub mod KilledDisks
 pub mod Certificates
 pub mod Faults
 pub mod Places

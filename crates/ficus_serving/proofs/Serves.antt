@@ -25,9 +25,9 @@ use Rattle.ficus_world.specs.Fuses.{FusesFollow, FusesPermit}
 use Rattle.ficus_world.proofs.Fuses.{fuses_none, fuses_then, permit_then}
 use Rattle.ficus_world.proofs.Disks.{follows_none, follows_then}
 use Rattle.ficus_world.proofs.Outcomes.{both_caused, steady_caused}
-use Rattle.ficus_kills.specs.Trail.{FrontOn, RunOn, Trail}
-use Rattle.ficus_kills.specs.Trail.RunOn.{EndOn, ThenOn}
-use Rattle.ficus_kills.proofs.Stepping.{run_on_append}
+use Rattle.ficus_serving.specs.Trail.{FrontOn, RunOn, Trail}
+use Rattle.ficus_serving.specs.Trail.RunOn.{EndOn, ThenOn}
+use Rattle.ficus_serving.proofs.Stepping.{run_on_append}
 use Rattle.ficus_serving.specs.Puts.{PutsFront}
 use Rattle.ficus_serving.specs.Serving.{texts_of, Serves, IsCut, ServesFront, ServesWorld, ServesWorldFront}
 use Rattle.ficus_serving.specs.Serving.IsCut.{Uncut, CutIn}

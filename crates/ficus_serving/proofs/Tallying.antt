@@ -7,9 +7,9 @@ use Rattle.ficus_keep.specs.declared.keep.Keep.{Ghosts as Keep}
 use Rattle.ficus_model.specs.Lawful.{Volume}
 use Rattle.ficus_runs.specs.ModelWorld.{ModelWorld}
 use Rattle.ficus_script.specs.declared.answer.Answer.{Answer}
-use Rattle.ficus_script.specs.declared.answer.Answer.TheVariants.{Done, Made, Mail, Collected, Told, Alike, Swept, Why, Refused}
+use Rattle.ficus_script.specs.declared.answer.Answer.TheVariants.{Done, Made, Mail, Mails, Part, Collected, Told, Alike, Swept, Why, Refused}
 use Rattle.ficus_script.specs.declared.command.Command.{Command}
-use Rattle.ficus_kills.specs.Trail.{Trail}
+use Rattle.ficus_serving.specs.Trail.{Trail}
 use Rattle.ficus_serving.specs.Tally.{Tallies, is_no_refusal, is_refusal, with_answer}
 use Rattle.ficus_serving.specs.declared.tally.Tally.{Tally}
 use Rattle.ficus_serving.proofs.Serves.{world_more, world_none, world_one}
@@ -22,6 +22,8 @@ pub one_more : (tally : Tally) (answer : Answer)
 one_more tally Done = omega arith
 one_more tally (Made id) = omega arith
 one_more tally (Mail number) = omega arith
+one_more tally (Mails first last) = omega arith
+one_more tally (Part have of) = omega arith
 one_more tally (Collected entries files) = omega arith
 one_more tally (Told told) = omega arith
 one_more tally (Alike alike) = omega arith

@@ -1,3 +1,4 @@
+pub mod Trail
 pub mod Puts
 pub mod Serving
 pub mod Sweeping

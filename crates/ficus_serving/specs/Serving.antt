@@ -18,7 +18,7 @@ use Rattle.ficus_world.specs.Disks.{DisksFollow}
 use Rattle.ficus_world.specs.Follows.{StoresAsMany}
 use Rattle.ficus_world.specs.Fuses.{FusesFollow, FusesPermit}
 use Rattle.ficus_world.specs.World.{Whole, WorldStandsFor}
-use Rattle.ficus_kills.specs.Trail.{FrontOn, RunOn}
+use Rattle.ficus_serving.specs.Trail.{FrontOn, RunOn}
 use Rattle.ficus_serving.specs.Puts.{PutsFront}
 
 -- the most bytes of a script, and so the most commands: 1 MiB

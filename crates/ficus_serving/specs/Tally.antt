@@ -6,7 +6,7 @@ use Rattle.ficus_keep.specs.declared.keep.Keep.{Ghosts as Keep}
 use Rattle.ficus_model.specs.Lawful.{Volume}
 use Rattle.ficus_runs.specs.ModelWorld.{ModelWorld}
 use Rattle.ficus_script.specs.declared.answer.Answer.{Answer}
-use Rattle.ficus_script.specs.declared.answer.Answer.TheVariants.{Done, Made, Mail, Collected, Told, Alike, Swept, Why, Refused}
+use Rattle.ficus_script.specs.declared.answer.Answer.TheVariants.{Done, Made, Mail, Mails, Part, Collected, Told, Alike, Swept, Why, Refused}
 use Rattle.ficus_script.specs.declared.command.Command.{Command}
 use Rattle.ficus_serving.specs.Serving.{ServesWorld}
 use Rattle.ficus_serving.specs.declared.tally.Tally.{Tally}
@@ -17,6 +17,8 @@ abbrev pub is_refusal : Answer → Bool
 is_refusal Done = false
 is_refusal (Made id) = false
 is_refusal (Mail number) = false
+is_refusal (Mails first last) = false
+is_refusal (Part have of) = false
 is_refusal (Collected entries files) = false
 is_refusal (Told told) = false
 is_refusal (Alike alike) = false

@@ -11,7 +11,7 @@ ghost use Rattle.ficus_sweep.specs.Follows.{most_swept, sweeping_limit};
 ghost use Rattle.ficus_world.specs.Disks.{AreDisksOf};
 ghost use Rattle.ficus_world.specs.Follows.{TellsFor};
 ghost use Rattle.ficus_world.specs.Kills.{OthersStay};
-ghost use Rattle.ficus_world.specs.World.{WorldStandsFor};
+ghost use Rattle.ficus_world.specs.World.{WorldStandsFor, foreseen};
 
 use crate::command::carry_out;
 use crate::fault::AnsweringFault;
@@ -91,7 +91,7 @@ fn answer_one<K: Sink, D: Disk, P: Keep + Drop, L: Link + Drop>(
     ensures failed { IsErrOf result AnsweringFault.Sink → Rose (K.faults output.old) (K.faults output.new) }
     ensures told { K.faults output.old < K.faults output.new → IsErrOf result AnsweringFault.Sink }
     ensures counted { K.faults output.old ≤ K.faults output.new }
-    ensures grows { length world.new.whole.events ≤ length world.old.whole.events + most_swept }
+    ensures grows { foreseen world.new.whole ≤ foreseen world.old.whole + most_swept }
 {
     let answer = carry_out(alloc, world, disks, command)?;
     put_answer(alloc, &answer, output)

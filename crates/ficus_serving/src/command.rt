@@ -8,7 +8,7 @@ ghost use Rattle.ficus_sweep.specs.Follows.{most_swept, sweeping_limit};
 ghost use Rattle.ficus_world.specs.Disks.{AreDisksOf};
 ghost use Rattle.ficus_world.specs.Follows.{FollowsOn, StopsOn, TellsFor};
 ghost use Rattle.ficus_world.specs.Kills.{OthersStay, Passes};
-ghost use Rattle.ficus_world.specs.World.{WorldStandsFor};
+ghost use Rattle.ficus_world.specs.World.{WorldStandsFor, foreseen};
 
 use crate::explaining::answer_why;
 use ficus_disk::{Disk, Pair};
@@ -45,7 +45,7 @@ pub(crate) fn carry_out<D: Disk, P: Keep + Drop, L: Link + Drop>(
         world.new.stables disks.new.items }
     ensures members { length world.new.whole.members ≡ length world.old.whole.members }
     ensures pairs { length disks.new.items ≡ length disks.old.items }
-    ensures grows { length world.new.whole.events ≤ length world.old.whole.events + most_swept }
+    ensures grows { foreseen world.new.whole ≤ foreseen world.old.whole + most_swept }
 {
     match command {
         Command::Sweep { order } => answer_sweep(alloc, world, disks, *order),
@@ -80,7 +80,7 @@ fn answer_sweep<D: Disk, P: Keep + Drop, L: Link + Drop>(
         world.new.stables disks.new.items }
     ensures members { length world.new.whole.members ≡ length world.old.whole.members }
     ensures pairs { length disks.new.items ≡ length disks.old.items }
-    ensures grows { length world.new.whole.events ≤ length world.old.whole.events + most_swept }
+    ensures grows { foreseen world.new.whole ≤ foreseen world.old.whole + most_swept }
 {
     let swept = sweep(alloc, world, disks, order);
     answered(swept)

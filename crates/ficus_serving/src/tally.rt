@@ -7,7 +7,7 @@ ghost use Rattle.ficus_serving.specs.Tally.{Tallies, with_answer};
 ghost use Rattle.ficus_sweep.specs.Follows.{most_swept, sweeping_limit};
 ghost use Rattle.ficus_world.specs.Disks.{AreDisksOf};
 ghost use Rattle.ficus_world.specs.Follows.{TellsFor};
-ghost use Rattle.ficus_world.specs.World.{WorldStandsFor};
+ghost use Rattle.ficus_world.specs.World.{WorldStandsFor, foreseen};
 
 use crate::command::carry_out;
 use ficus_disk::{Disk, Pair};
@@ -86,7 +86,7 @@ fn count_one<D: Disk, P: Keep + Drop, L: Link + Drop>(
         world.new.stables disks.new.items }
     ensures members { length world.new.whole.members ≡ length world.old.whole.members }
     ensures pairs { length disks.new.items ≡ length disks.old.items }
-    ensures grows { length world.new.whole.events ≤ length world.old.whole.events + most_swept }
+    ensures grows { foreseen world.new.whole ≤ foreseen world.old.whole + most_swept }
 {
     let answer = carry_out(alloc, world, disks, command)?;
     tally.count(&answer);

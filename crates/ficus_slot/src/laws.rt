@@ -6,5 +6,5 @@ ghost use Rattle.ficus_slot.specs.Slot.{AreBytes, HasSlot, IsSlot, Saved, slot_i
 pub fn one_slot()
     ensures one { (one other : Saved) (tail end : ℕ) (bytes : List ℕ) → IsSlot one tail bytes → IsSlot other end bytes
         → (one ≡ other) × (tail ≡ end) }
-    ensures read { (saved : Saved) (bytes : List ℕ) → AreBytes bytes → slot_in bytes ≡ Some saved ↔ HasSlot saved bytes }
+    ensures read { (slot : Saved) (bytes : List ℕ) → AreBytes bytes → slot_in bytes ≡ Some slot ↔ HasSlot slot bytes }
 {}

@@ -1,5 +1,5 @@
 -- What a save leaves.
-use Rattle.std.proofs.Common.{◌≡◌, inl, inr, ⊎_elim, ℕ, ◌+◌, Bool, true, false, List, Option, Some, None, refl, subst, arith}
+use Rattle.std.proofs.Common.{◌≡◌, inl, inr, ⊎_elim, ℕ, ◌+◌, Bool, true, false, List, Option, Some, None, refl, subst, arith, ap, ◌∙◌}
 use Rattle.std.specs.Prelude.{if◌then◌else◌}
 use Rattle.ficus_disk.specs.declared.fuse.Fuse.{Fuse}
 use Rattle.ficus_disk.specs.declared.fuse.Pick.{Pick}
@@ -67,8 +67,9 @@ decided kept seen image fuse calls on_a old new is_saved after before next follo
 }
 
 -- what a volume begins with
-pub holds_first : (found : Option Kept) (saved : Saved) → FitsImage saved → saved.generation ≡ 0
-    → found ≡ Some (image_alone 0 (image_bytes saved)) → Holds found saved
-holds_first found saved fits first is =
-    held_at found (Some (image_alone 0 (image_bytes saved))) saved is
+pub holds_first : (found : Option Kept) (saved : Saved) (image : List ℕ) → FitsImage saved → saved.generation ≡ 0
+    → image ≡ image_bytes saved → found ≡ Some (image_alone 0 image) → Holds found saved
+holds_first found saved image fits first spelled is =
+    held_at found (Some (image_alone 0 (image_bytes saved))) saved
+    (is ∙ ap (λ (l : List ℕ). Some (image_alone 0 l)) spelled)
     (subst (λ (g : ℕ). Holds (Some (image_alone g (image_bytes saved))) saved) first (held_image None saved fits))

@@ -1,10 +1,10 @@
 -- What an image spells that a keeper found.
 use Rattle.std.specs.Prelude.{◌≡◌}
-use Rattle.ficus_image.specs.Image.{image_bytes}
+use Rattle.ficus_image.specs.Image.{IsImageOf}
 use Rattle.ficus_keep.specs.declared.opened.Opened.{Opened}
 use Rattle.ficus_saved.specs.declared.saved.Saved.{Saved}
 
 -- the image spells this, which is of the generation that is told with it
 pub record IsSpelledIn (opened : Opened) (base : Saved) : Type 0 where
   pub generation : opened.generation ≡ base.generation
-  pub image : opened.image ≡ image_bytes base
+  pub image : IsImageOf opened.image base

@@ -13,16 +13,16 @@ use ficus_record::RecordFault;
 use std::alloc::Global;
 
 /// What a keeper found: what its image spells, with its records applied, one after the other. `NoImage` comes exactly
-/// where what it found holds nothing that a replica may save.
-pub(crate) fn read_back(alloc: Global, opened: &Opened) -> Result<Saved, StoreFault>
+/// where what it found holds nothing that a replica may save. What it found is given up meanwhile.
+pub(crate) fn read_back(alloc: Global, opened: Opened) -> Result<Saved, StoreFault>
     ensures fits { IfOk result (λ saved. FitsImage saved) }
-    ensures holds { IfOk result (λ saved. Holds (Some (kept_of opened.now)) saved) }
-    ensures none { IsErrOf result StoreFault.NoImage → (saved : SavedValue) → Holds (Some (kept_of opened.now)) saved
-        → ⊥ }
+    ensures holds { IfOk result (λ saved. Holds (Some (kept_of opened)) saved) }
+    ensures none { IsErrOf result StoreFault.NoImage → (saved : SavedValue) → Holds (Some (kept_of opened)) saved → ⊥ }
     ensures never { IsErrOf result StoreFault.Failed → ⊥ }
 {
-    let base = read_image(alloc, opened)?;
-    match led_by(alloc, base, opened.records.items()) {
+    let base = read_image(alloc, &opened)?;
+    drop(opened.image);
+    match led_by(alloc, base, opened.records.into_vec()) {
         Ok(saved) => Ok(saved),
         Err(fault) => Err(told(fault)),
     }
@@ -32,8 +32,7 @@ pub(crate) fn read_back(alloc: Global, opened: &Opened) -> Result<Saved, StoreFa
 fn read_image(alloc: Global, opened: &Opened) -> Result<Saved, StoreFault>
     ensures fits { IfOk result (λ base. FitsImage base) }
     ensures spelled { IfOk result (λ base. IsSpelledIn opened.now base) }
-    ensures none { IsErrOf result StoreFault.NoImage → (base : SavedValue) → FitsImage base
-        → IsSpelledIn opened.now base → ⊥ }
+    ensures none { IsErrOf result StoreFault.NoImage → (base : SavedValue) → IsSpelledIn opened.now base → ⊥ }
     ensures never { IsErrOf result StoreFault.Failed → ⊥ }
 {
     match decode_image(alloc, opened.image.items()) {

@@ -97,7 +97,7 @@ impl<K: Keep + Drop> Stable<K> {
             → fuses_of D.fuse disks.new ≡ both_unarmed }
     {
         let (keeper, opened) = K::open(alloc, disks)?;
-        recover(alloc, keeper, &opened)
+        recover(alloc, keeper, opened)
     }
 
     /// Opens both disks anew, and reads what they then hold.
@@ -125,7 +125,7 @@ impl<K: Keep + Drop> Stable<K> {
         ensures by_fuse { D.tells_fuse → D.tells → Reopens D.seen D.image D.fuse disks.old disks.new }
     {
         let (keeper, opened) = reopen::<K, D>(alloc, disks)?;
-        recover(alloc, keeper, &opened)
+        recover(alloc, keeper, opened)
     }
 
     /// Builds what the keeper wants: the image of what is saved next, or the record that leads to it. Takes all memory
@@ -197,13 +197,12 @@ impl<K: Keep + Drop> Stable<K> {
 fn recover<K: Keep + Drop>(
     alloc: Global,
     keeper: K,
-    opened: &Opened,
+    opened: Opened,
 ) -> Result<Recovered<K>, StoreFault>
     ensures fits { IfOk result (λ found. FitsImage found.saved) }
     ensures keeper { IfOk result (λ found. found.stable.keeper ≡ keeper) }
-    ensures holds { IfOk result (λ found. Holds (Some (kept_of opened.now)) found.saved) }
-    ensures none { IsErrOf result StoreFault.NoImage → (saved : SavedValue) → Holds (Some (kept_of opened.now)) saved
-        → ⊥ }
+    ensures holds { IfOk result (λ found. Holds (Some (kept_of opened)) found.saved) }
+    ensures none { IsErrOf result StoreFault.NoImage → (saved : SavedValue) → Holds (Some (kept_of opened)) saved → ⊥ }
     ensures never { IsErrOf result StoreFault.Failed → ⊥ }
 {
     let saved = read_back(alloc, opened)?;

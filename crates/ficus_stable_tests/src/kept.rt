@@ -1,5 +1,5 @@
 // Bytes that stand on the disks, and what is opened of them.
-use crate::records::{ASK, COLLECT, DISCARD, INSIDE, MAKE};
+use crate::records::{ASK, COLLECT, DISCARD, INSIDE, LINK, MAKE};
 use crate::saves::{empty, told};
 use ficus_disk::{Disk, MemDisk, Pair};
 use ficus_ids::Refusal;
@@ -21,12 +21,16 @@ pub(crate) fn disk_of(alloc: Global, bytes: &[u8]) -> Result<MemDisk, Refusal> {
     Ok(disk)
 }
 
-// The fresh image of replica 1 of 2.
+// The fresh image of replica 1 of 2, in version 1 and in version 2.
 const FRESH: &[u8] = b"FIC1\x01\x02\0\x01\x86\xa0\0\x40\0\0\
     \0\0\0\x01\0\0\0\0\0\0\0\0\0\0\0\0\
     \0\0\0\0\0\0\0\0";
 
-// The same without its last byte.
+const FRESH_2: &[u8] = b"FIC2\x01\x02\0\x01\x86\xa0\0\x40\0\0\
+    \0\0\0\x01\0\0\0\0\0\0\0\0\0\0\0\0\
+    \0\0\0\0\0\0\0\0";
+
+// The first without its last byte.
 const SHORT: &[u8] = b"FIC1\x01\x02\0\x01\x86\xa0\0\x40\0\0\
     \0\0\0\x01\0\0\0\0\0\0\0\0\0\0\0\0\
     \0\0\0\0\0\0\0";
@@ -61,6 +65,7 @@ fn opens_as(alloc: Global, image: &[u8], opened: Result<u64, StoreFault>) -> boo
 /// Images, and what is opened where they are made.
 const IMAGES: &[(&[u8], Result<u64, StoreFault>)] = &[
     (FRESH, Ok(0)),
+    (FRESH_2, Ok(0)),
     (SHORT, Err(StoreFault::NoImage)),
     (b"", Err(StoreFault::NoImage)),
     (FIRST, Err(StoreFault::NoImage)),
@@ -83,6 +88,7 @@ fn only_an_image_of_its_generation_is_opened(rt: HostRuntime) -> Result<(), Fail
 const BEHIND: &[(&[&[u8]], Result<u64, StoreFault>)] = &[
     (&[], Ok(0)),
     (&[MAKE], Ok(1)),
+    (&[LINK], Ok(1)),
     (&[MAKE, INSIDE, ASK, COLLECT], Ok(4)),
     (&[b""], Err(StoreFault::NoImage)),
     (&[b"\x0d"], Err(StoreFault::NoImage)),
@@ -109,8 +115,8 @@ fn puts<K: Keep + Drop, D: Disk>(
     Ok(keeper.commit(disks, generation, body).is_ok())
 }
 
-// The fresh image, with these records behind it.
-fn log_of(alloc: Global, bodies: &[&[u8]]) -> Result<Pair<MemDisk>, Refusal> {
+/// The fresh image in version 1, with these records behind it.
+pub(crate) fn log_of(alloc: Global, bodies: &[&[u8]]) -> Result<Pair<MemDisk>, Refusal> {
     let mut disks = empty(alloc);
     if Journal::make(alloc, &mut disks, FRESH).is_err() {
         return Err(Refusal::Store);

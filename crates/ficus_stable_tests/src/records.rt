@@ -7,6 +7,9 @@ pub(crate) const MAKE: &[u8] = b"\x01\0\0\0\0\0\x01a\0";
 /// One in the directory 1.1.
 pub(crate) const INSIDE: &[u8] = b"\x01\x01\0\0\0\x01\x01a\0";
 
+/// A symbolic link `l` in the root, with the text `a`.
+pub(crate) const LINK: &[u8] = b"\x0d\0\0\0\0\0\x01l\0\x01a";
+
 /// The directory 1.1 given up.
 pub(crate) const DISCARD: &[u8] = b"\x09\x01\0\0\0\x01";
 

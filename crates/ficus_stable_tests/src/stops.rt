@@ -3,7 +3,7 @@ ghost use Rattle.std.specs.Prelude.{◌≡◌, ◌<◌, [], OnOk};
 ghost use Rattle.ficus_saved.specs.Saved.{FitsImage};
 
 use crate::days::plays;
-use crate::kept::disk_of;
+use crate::kept::{disk_of, log_of};
 use crate::records::{MAKE, changes};
 use crate::saves::{Stop, after, empty, first, holds, makes, saves_next, told};
 use ficus_disk::{Disk, MemDisk, Pair};
@@ -141,8 +141,16 @@ fn first_wrong<K: Keep + Drop>(
     Ok(None)
 }
 
+// The same behind so many saves of a volume whose image is of version 1, where the next save is an image of version 2.
+fn wrong_behind_version_1(alloc: Global, count: u8) -> Result<Option<Stop>, Refusal> {
+    let mut was = first(alloc)?;
+    let mut disks = log_of(alloc, &[])?;
+    plays::<Journal, MemDisk>(alloc, &mut disks, &mut was, &changes(alloc, count)?)?;
+    wrong_after::<Journal>(alloc, &mut disks, &was, 6, IMAGE)
+}
+
 // That of each volume.
-fn wrongs(alloc: Global) -> Result<[Option<Stop>; 6], Refusal> {
+fn wrongs(alloc: Global) -> Result<[Option<Stop>; 7], Refusal> {
     Ok([
         wrong::<TwoSlot>(alloc, 0, 6, IMAGE)?,
         wrong::<TwoSlot>(alloc, 1, 6, IMAGE)?,
@@ -150,6 +158,7 @@ fn wrongs(alloc: Global) -> Result<[Option<Stop>; 6], Refusal> {
         wrong::<Journal>(alloc, 63, 4, RECORD)?,
         wrong::<Journal>(alloc, 64, 6, IMAGE)?,
         wrong::<Journal>(alloc, 65, 4, RECORD)?,
+        wrong_behind_version_1(alloc, 64)?,
     ])
 }
 

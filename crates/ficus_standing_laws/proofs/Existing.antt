@@ -6,7 +6,7 @@ use Rattle.std.proofs.lemmas.Bool.{cases_eq, cases_lt}
 use Rattle.ficus_ids.specs.Members.{IsCount, IsMember}
 use Rattle.ficus_model.specs.declared.event.Event.{Event}
 use Rattle.ficus_model.specs.declared.event.Event.TheVariants.{Ask}
-use Rattle.ficus_model.specs.Events.{IsAt, actor, count_of, through, traits}
+use Rattle.ficus_model.specs.Events.{IsAt, actor, count_of, generation_of, through, traits}
 use Rattle.ficus_model.specs.Known.{Knows}
 use Rattle.ficus_model.specs.Lawful.{Volume, ClosesAsk, IsLawful, IsOpenAsk}
 use Rattle.ficus_model.specs.Versions.{written_of}
@@ -20,7 +20,7 @@ use Rattle.ficus_rules.specs.View.{history_view}
 use Rattle.ficus_rules.proofs.Alikes.{alike_along}
 use Rattle.ficus_answers.specs.View.{tables_view}
 use Rattle.ficus_saved.specs.declared.saved.Saved.{Saved}
-use Rattle.ficus_replica.specs.SavedOf.{IsOpenAskOf, IsSavedOf, StandsFor, generation_of}
+use Rattle.ficus_replica.specs.SavedOf.{IsOpenAskOf, IsSavedOf, StandsFor}
 use Rattle.ficus_replica.specs.declared.replica.Asked.{Asked}
 use Rattle.ficus_replica.specs.declared.replica.Replica.{Replica}
 use Rattle.ficus_replica.proofs.AlikeViews.{alike_views}

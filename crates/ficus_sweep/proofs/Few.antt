@@ -25,6 +25,7 @@ use Rattle.ficus_replica.specs.declared.collect.Collected.{Collected}
 use Rattle.ficus_replica.specs.declared.replica.Replica.{Replica}
 use Rattle.ficus_runs.specs.Actions.{GivesOnly}
 use Rattle.ficus_runs.specs.Answers.{answer_as}
+use Rattle.ficus_runs.specs.Exchange.{mails_of}
 use Rattle.ficus_runs.specs.Sequence.{Effect}
 use Rattle.ficus_runs.specs.Sequence.First.{Ends, Goes}
 use Rattle.ficus_runs.specs.Sequence.ByRule.{Says}
@@ -37,7 +38,7 @@ use Rattle.ficus_script.specs.declared.command.Command.{Command}
 use Rattle.ficus_script.specs.declared.command.Command.TheVariants as command
 use Rattle.ficus_sweep.specs.Follows.{GivesUpFew, IsSweepCommand, most_held}
 use Rattle.ficus_world.specs.declared.member.Member.{Member}
-use Rattle.ficus_world.specs.Moves.{CarriesOut, GivesNextMessage, KeepsCollection}
+use Rattle.ficus_world.specs.Moves.{CarriesOut, GivesMessages, KeepsCollection}
 use Rattle.ficus_world.specs.Moves.FindsUp.{FindsAt, FindsNoneAt, FindsDown}
 use Rattle.ficus_world.specs.Moves.KeepsCollection.{Collects, CollectsNot}
 use Rattle.ficus_world.specs.Stepped.{Stepped}
@@ -142,15 +143,12 @@ module _ (tells disks_tell : Type 0) (old : Whole) where
   done_few middle (Ok given) left (Says is) = subst GivesUpFew (sym is) tt
   done_few middle (Err refusal) left given = tt
 
-  mail_few : (number : ℕ) (middle : Whole) (result : Result Answer Refusal) (left : Effect Whole)
-      → GivesNextMessage tells (answer.Mail number) middle result left → GivesUpFew (answer_as result)
-  mail_few number middle result left (Ends is) = tt
-  mail_few number middle result left (Goes {middle = m} {left = l} is done) = done_few m.after result l done
-
-  next_few : (given : Answer) (middle : Whole) (result : Result Answer Refusal) (left : Effect Whole)
-      → GivesNextMessage tells given middle result left → GivesUpFew (answer_as result)
-  next_few (answer.Mail number) middle result left next = mail_few number middle result left next
-  next_few other middle result left done = done_few middle result left done
+  messages_few : (numbers : List ℕ) (middle : Whole) (result : Result Answer Refusal) (left : Effect Whole)
+      → GivesMessages tells numbers middle result left → GivesUpFew (answer_as result)
+  messages_few [] middle result left done = done_few middle result left done
+  messages_few (number ∷ numbers) middle result left (Ends is) = tt
+  messages_few (number ∷ numbers) middle result left (Goes {middle = m} {left = l} is rest) =
+      messages_few numbers m.after result l rest
 
   pulls_few : (by to : ℕ) (result : Result Answer Refusal) (left : Effect Whole)
       → CarriesOut tells disks_tell (command.Pull by to) old result left → GivesUpFew (answer_as result)
@@ -158,7 +156,7 @@ module _ (tells disks_tell : Type 0) (old : Whole) where
   pulls_few by to result left (Goes peers (Ends is)) = tt
   pulls_few by to result left (Goes peers (Goes asks (Ends is))) = tt
   pulls_few by to result left (Goes peers (Goes asks (Goes {a = given} {middle = m} {left = l} gives next))) =
-      next_few given m.after result l next
+      messages_few (mails_of given) m.after result l next
 
 -- no step of a sweep gives up more
 pub steps_give_few : {K D : Type 0} (tells : Type 0) (keep : Keep K) (disk : Disk D) {old new : Whole}

@@ -20,7 +20,7 @@ use Rattle.ficus_sweep.specs.declared.report.SweepReport.{SweepReport}
 use Rattle.ficus_world.specs.Disks.{DisksFollow}
 use Rattle.ficus_world.specs.Follows.{FollowsIn, FollowsPart}
 use Rattle.ficus_world.specs.Fuses.{FusesFollow, FusesPermit}
-use Rattle.ficus_world.specs.World.{Whole, WorldStandsFor}
+use Rattle.ficus_world.specs.World.{Whole, WorldStandsFor, most_unforeseen}
 
 -- a world with fewer stored events has room for those of a sweep
 abbrev pub sweeping_limit : ℕ
@@ -30,9 +30,9 @@ sweeping_limit = 4200000000
 abbrev pub most_steps : ℕ
 most_steps = 50
 
--- the most events that a sweep stores, counted as if each step were a pull
+-- the most events that a sweep stores beside one for each message that it posts
 abbrev pub most_swept : ℕ
-most_swept = 150
+most_swept = most_unforeseen * most_steps
 
 -- the command is a step of a sweep
 abbrev pub IsSweepCommand : Command → Type 0

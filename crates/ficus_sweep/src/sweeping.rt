@@ -6,7 +6,7 @@ ghost use Rattle.ficus_script.specs.Command.{IsCommand};
 ghost use Rattle.ficus_sweep.specs.Follows.{CountsFew, FollowsStep, FollowsSweep, GivesUpFew, IsSweepCommand, LeavesSwept, ReportsSo, most_steps, most_swept, swept_of, sweeping_limit};
 ghost use Rattle.ficus_world.specs.Disks.{AreDisksOf};
 ghost use Rattle.ficus_world.specs.Kills.{OthersStay, Passes};
-ghost use Rattle.ficus_world.specs.World.{WorldStandsFor, event_limit, most_events};
+ghost use Rattle.ficus_world.specs.World.{WorldStandsFor, event_limit, foreseen, most_unforeseen};
 
 use crate::fault::SweepFault;
 use crate::report::SweepReport;
@@ -46,7 +46,7 @@ pub fn sweep<D: Disk, K: Keep + Drop, L: Link + Drop>(
         world.new.stables disks.new.items }
     ensures members { length world.new.whole.members ≡ length world.old.whole.members }
     ensures pairs { length disks.new.items ≡ length disks.old.items }
-    ensures grows { length world.new.whole.events ≤ length world.old.whole.events + most_swept }
+    ensures grows { foreseen world.new.whole ≤ foreseen world.old.whole + most_swept }
 {
     world.settled(disks);
     let steps = steps_of(alloc, order, world.members().count())?;
@@ -77,7 +77,7 @@ fn take_steps<D: Disk, K: Keep + Drop, L: Link + Drop>(
         world.new.stables disks.new.items }
     ensures members { length world.new.whole.members ≡ length world.old.whole.members }
     ensures pairs { length disks.new.items ≡ length disks.old.items }
-    ensures grows { length world.new.whole.events ≤ length world.old.whole.events + most_swept }
+    ensures grows { foreseen world.new.whole ≤ foreseen world.old.whole + most_swept }
 {
     world.settled(disks);
     let mut report = SweepReport {
@@ -117,7 +117,7 @@ fn take_step<D: Disk, K: Keep + Drop, L: Link + Drop>(
         world.new.stables disks.new.items }
     ensures members { length world.new.whole.members ≡ length world.old.whole.members }
     ensures pairs { length disks.new.items ≡ length disks.old.items }
-    ensures grows { length world.new.whole.events ≤ length world.old.whole.events + most_events }
+    ensures grows { foreseen world.new.whole ≤ foreseen world.old.whole + most_unforeseen }
 {
     world.settled(disks);
     let answer = world.step(alloc, disks, step)?;
@@ -145,6 +145,8 @@ fn report_of(report: SweepReport, answer: &Answer) -> Result<SweepReport, SweepF
         Answer::Refused(refusal) => Err(SweepFault::Stopped(*refusal)),
         Answer::Made(_)
         | Answer::Mail(_)
+        | Answer::Mails(..)
+        | Answer::Part { .. }
         | Answer::Told(_)
         | Answer::Alike(_)
         | Answer::Swept { .. }

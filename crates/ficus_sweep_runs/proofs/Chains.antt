@@ -1,5 +1,5 @@
 -- Which events the steps of a sweep add, one after the other.
-use Rattle.std.proofs.Common.{◌≡◌, List, [], ◌∷◌, ◌++◌, Ok, Err, refl, sym, ap, subst, ◌∙◌, append-nil, append_assoc}
+use Rattle.std.proofs.Common.{◌≡◌, ℕ, List, [], ◌∷◌, ◌++◌, Ok, Err, sym, ap, subst, append-nil, append_assoc}
 use Rattle.ficus_ids.specs.declared.refusal.Refusal.{Refusal}
 use Rattle.ficus_model.specs.declared.event.Event.{Event}
 use Rattle.ficus_model.specs.declared.event.Event.TheVariants as event
@@ -14,33 +14,46 @@ use Rattle.ficus_runs.specs.Sequence.CutFirst.{InFirst, InRest}
 use Rattle.ficus_runs.specs.Sweep.{SweepStep, Pulling, Collecting, DoesSweepPart, DoesSweepStep, Swept, with_answer, Sweeps, SweepsPart}
 use Rattle.ficus_sweep_runs.proofs.Adding.{pull_adds, collect_adds}
 
--- the history once a step was taken, and once some were
-abbrev pub step_added : List Event → SweepStep → List Event
-step_added H (Pulling by to) = pulled H by to
-step_added H (Collecting by) = H ++ event.Collect by ∷ []
+-- the history once a step was taken,
+pub data StepAdded (H : List Event) : SweepStep → List Event → Type 0 where
+  PullAdded : {by to : ℕ} (last : ℕ) → StepAdded H (Pulling by to) (pulled H by to last)
+  CollectAdded : {by : ℕ} → StepAdded H (Collecting by) (H ++ event.Collect by ∷ [])
 
-abbrev pub steps_added : List Event → List SweepStep → List Event
-steps_added H [] = H
-steps_added H (step ∷ steps) = steps_added (step_added H step) steps
+-- and once some were
+pub data StepsAdded : List Event → List SweepStep → List Event → Type 0 where
+  Nothing : {H : List Event} → StepsAdded H [] H
+  Further : {H M K : List Event} {step : SweepStep} {steps : List SweepStep} → StepAdded H step M
+      → StepsAdded M steps K → StepsAdded H (step ∷ steps) K
 
-pub added_append : (H : List Event) (steps more : List SweepStep)
-    → steps_added H (steps ++ more) ≡ steps_added (steps_added H steps) more
-added_append H [] more = refl
-added_append H (step ∷ steps) more = added_append (step_added H step) steps more
+-- between some steps and those behind them stands a history
+pub record AddedBoth (H : List Event) (steps more : List SweepStep) (K : List Event) : Type 0 where
+  pub middle : List Event
+  pub first : StepsAdded H steps middle
+  pub rest : StepsAdded middle more K
+
+pub added_append : (H : List Event) (steps more : List SweepStep) (K : List Event) → StepsAdded H (steps ++ more) K
+    → AddedBoth H steps more K
+added_append H [] more K added = record { middle = H; first = Nothing; rest = added }
+added_append H (step ∷ steps) more K (Further {M = M} one rest) =
+    let both = added_append M steps more K rest in
+    record { middle = both.middle; first = Further one both.first; rest = both.rest }
 
 step_adds : (volume : Volume) (W : ModelWorld) (step : SweepStep) (given : Answer) (left : Effect ModelWorld)
-    → DoesSweepStep volume step W (Ok given) left → left.after.events ≡ step_added W.events step
-step_adds volume W (Pulling by to) given left does = (pull_adds volume W by to given left does).events
-step_adds volume W (Collecting by) given left does = (collect_adds volume W by given left does).events
+    → DoesSweepStep volume step W (Ok given) left → StepAdded W.events step left.after.events
+step_adds volume W (Pulling by to) given left does =
+    let pull = pull_adds volume W by to given left does in
+    subst (StepAdded W.events (Pulling by to)) (sym pull.events) (PullAdded pull.last)
+step_adds volume W (Collecting by) given left does =
+    subst (StepAdded W.events (Collecting by)) (sym (collect_adds volume W by given left does).events) CollectAdded
 
 -- a sweep that met no refusal has added what its steps add
 pub sweep_adds : (volume : Volume) (steps : List SweepStep) (before after : Swept) (W : ModelWorld)
     (left : Effect ModelWorld) → Sweeps volume steps before W (Ok after) left
-    → left.after.events ≡ steps_added W.events steps
-sweep_adds volume [] before after W left (Says given) = refl
+    → StepsAdded W.events steps left.after.events
+sweep_adds volume [] before after W left (Says given) = Nothing
 sweep_adds volume (step ∷ steps) before after W left (Goes {a = answer} {middle = m} {left = l} does rest) =
-    sweep_adds volume steps (with_answer before answer) after m.after l rest
-    ∙ ap (λ H. steps_added H steps) (step_adds volume W step answer m does)
+    Further (step_adds volume W step answer m does)
+    (sweep_adds volume steps (with_answer before answer) after m.after l rest)
 
 pub then_nothing : (left : Effect ModelWorld) → joined left (unchanged left.after) ≡ left
 then_nothing left = λ i. record { outcomes = append-nil left.outcomes i; after = left.after }

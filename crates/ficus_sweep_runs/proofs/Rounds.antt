@@ -1,15 +1,16 @@
 -- The steps of a sweep are those of star rounds, or of ring rounds.
-use Rattle.std.proofs.Common.{◌≡◌, ℕ, zero, suc, ◌+◌, ◌-◌, ◌≤◌, List, [], ◌∷◌, ◌++◌, refl, sym, ap, subst, ◌∙◌, arith}
+use Rattle.std.proofs.Common.{◌≡◌, ℕ, zero, suc, ◌+◌, ◌-◌, ◌≤◌, List, [], ◌∷◌, ◌++◌, refl, ap, subst, ◌∙◌, arith}
 use Rattle.std.proofs.lemmas.List.FromFn.{map-range_with_len_more}
 use Rattle.ficus_model.specs.declared.event.Event.{Event}
-use Rattle.ficus_model.specs.declared.event.Event.TheVariants as event
 use Rattle.ficus_laws.specs.Accepts.{pulled}
 use Rattle.ficus_sweep_laws.specs.Sweeps.{HasPulled, HasCollected, IsStarRound, IsRingRound, IsStarSweep, IsRingSweep}
 use Rattle.ficus_sweep_laws.specs.Sweeps.HasPulled.{Begun, Pulled}
 use Rattle.ficus_sweep_laws.specs.Sweeps.HasCollected.{Nobody, Collected}
-use Rattle.ficus_runs.specs.Sweep.{Pulling, Leg, Gathers, Spreads, HandsOn, Collects, leg_step, leg_steps, star_round, ring_round, sweep_steps}
+use Rattle.ficus_runs.specs.Sweep.{SweepStep, Pulling, Collecting, Leg, Gathers, Spreads, HandsOn, Collects, leg_step, leg_steps, star_round, ring_round, sweep_steps}
 use Rattle.ficus_script.specs.declared.order.Order.TheVariants.{Star, Ring}
-use Rattle.ficus_sweep_runs.proofs.Chains.{steps_added, added_append}
+use Rattle.ficus_sweep_runs.proofs.Chains.{StepAdded, StepsAdded, added_append}
+use Rattle.ficus_sweep_runs.proofs.Chains.StepAdded.{PullAdded, CollectAdded}
+use Rattle.ficus_sweep_runs.proofs.Chains.StepsAdded.{Nothing, Further}
 
 leg_more : (leg : Leg) (first count : ℕ)
     → leg_steps leg first (suc count) ≡ leg_steps leg first count ++ leg_step leg (first + count) ∷ []
@@ -18,101 +19,113 @@ leg_more leg first count =
     ap (λ n. leg_steps leg first n) more
     ∙ map-range_with_len_more (leg_step leg) first count (first + count) refl
 
+-- the last of one step
+one_added : (H : List Event) (step : SweepStep) (K : List Event) → StepsAdded H (step ∷ []) K → StepAdded H step K
+one_added H step K (Further one Nothing) = one
+
 -- a leg adds its pulls, one after the other
 module _ (leg : Leg) (replica server : ℕ → ℕ)
     (is : (step : ℕ) → leg_step leg (suc step) ≡ Pulling (replica step) (server step)) where
-  pub leg_pulls : (H : List Event) (count : ℕ)
-      → HasPulled replica server H (suc count) (steps_added H (leg_steps leg 2 count))
-  leg_pulls H zero = Begun
-  leg_pulls H (suc count) =
-      let place : 2 + count ≡ suc (suc count) = omega arith in
-      let more : steps_added H (leg_steps leg 2 (suc count))
-      ≡ pulled (steps_added H (leg_steps leg 2 count)) (replica (suc count)) (server (suc count)) =
-      ap (steps_added H) (leg_more leg 2 count) ∙ added_append H (leg_steps leg 2 count) (leg_step leg (2 + count) ∷ [])
-      ∙ ap (λ step. steps_added (steps_added H (leg_steps leg 2 count)) (step ∷ []))
-      (ap (leg_step leg) place ∙ is (suc count)) in
-      subst (λ K. HasPulled replica server H (suc (suc count)) K) (sym more) (Pulled (leg_pulls H count))
+  pull_more : (H M : List Event) (step : ℕ) (K : List Event) → HasPulled replica server H step M
+      → StepAdded M (Pulling (replica step) (server step)) K → HasPulled replica server H (suc step) K
+  pull_more H M step K pulls (PullAdded last) = Pulled last pulls
 
-collects : (H : List Event) (count : ℕ) → HasCollected H count (steps_added H (leg_steps Collects 1 count))
-collects H zero = Nobody
-collects H (suc count) =
+  pub leg_pulls : (H : List Event) (count : ℕ) (K : List Event) → StepsAdded H (leg_steps leg 2 count) K
+      → HasPulled replica server H (suc count) K
+  leg_pulls H zero K Nothing = Begun
+  leg_pulls H (suc count) K added =
+      let place : 2 + count ≡ suc (suc count) = omega arith in
+      let both = added_append H (leg_steps leg 2 count) (leg_step leg (2 + count) ∷ []) K
+      (subst (λ steps. StepsAdded H steps K) (leg_more leg 2 count) added) in
+      pull_more H both.middle (suc count) K (leg_pulls H count both.middle both.first)
+      (subst (λ step. StepAdded both.middle step K) (ap (leg_step leg) place ∙ is (suc count))
+      (one_added both.middle (leg_step leg (2 + count)) K both.rest))
+
+collect_more : (H M : List Event) (last : ℕ) (K : List Event) → HasCollected H last M
+    → StepAdded M (Collecting (suc last)) K
+    → HasCollected H (suc last) K
+collect_more H M last K collected CollectAdded = Collected collected
+
+collects : (H : List Event) (count : ℕ) (K : List Event) → StepsAdded H (leg_steps Collects 1 count) K
+    → HasCollected H count K
+collects H zero K Nothing = Nobody
+collects H (suc count) K added =
     let place : 1 + count ≡ suc count = omega arith in
-    let more : steps_added H (leg_steps Collects 1 (suc count))
-    ≡ steps_added H (leg_steps Collects 1 count) ++ event.Collect (suc count) ∷ [] =
-    ap (steps_added H) (leg_more Collects 1 count)
-    ∙ added_append H (leg_steps Collects 1 count) (leg_step Collects (1 + count) ∷ [])
-    ∙ ap (λ n. steps_added H (leg_steps Collects 1 count) ++ event.Collect n ∷ []) place in
-    subst (λ K. HasCollected H (suc count) K) (sym more) (Collected (collects H count))
+    let both = added_append H (leg_steps Collects 1 count) (leg_step Collects (1 + count) ∷ []) K
+    (subst (λ steps. StepsAdded H steps K) (leg_more Collects 1 count) added) in
+    collect_more H both.middle count K (collects H count both.middle both.first)
+    (subst (λ n. StepAdded both.middle (Collecting n) K) place
+    (one_added both.middle (Collecting (1 + count)) K both.rest))
 
 module _ (members : ℕ) (some : 1 ≤ members) where
   all_but_one : suc (members - 1) ≡ members
   all_but_one = omega arith
 
-  star_rounds : (H : List Event) → IsStarRound members H (steps_added H (star_round members))
-  star_rounds H =
-      let gathered = steps_added H (leg_steps Gathers 2 (members - 1)) in
+  star_rounds : (H K : List Event) → StepsAdded H (star_round members) K → IsStarRound members H K
+  star_rounds H K added =
+      let both = added_append H (leg_steps Gathers 2 (members - 1)) (leg_steps Spreads 2 (members - 1)) K added in
       record {
-        gathered = gathered;
-        gathers = subst (λ n. HasPulled (λ step. 1) (λ step. suc step) H n gathered) all_but_one
-            (leg_pulls Gathers (λ step. 1) (λ step. suc step) (λ step. refl) H (members - 1));
-        spreads = subst (λ K. HasPulled (λ step. suc step) (λ step. 1) gathered members K)
-            (sym (added_append H (leg_steps Gathers 2 (members - 1)) (leg_steps Spreads 2 (members - 1))))
-            (subst (λ n. HasPulled (λ step. suc step) (λ step. 1) gathered n
-            (steps_added gathered (leg_steps Spreads 2 (members - 1)))) all_but_one
-            (leg_pulls Spreads (λ step. suc step) (λ step. 1) (λ step. refl) gathered (members - 1)));
+        gathered = both.middle;
+        gathers = subst (λ n. HasPulled (λ step. 1) (λ step. suc step) H n both.middle) all_but_one
+            (leg_pulls Gathers (λ step. 1) (λ step. suc step) (λ step. refl) H (members - 1) both.middle both.first);
+        spreads = subst (λ n. HasPulled (λ step. suc step) (λ step. 1) both.middle n K) all_but_one
+            (leg_pulls Spreads (λ step. suc step) (λ step. 1) (λ step. refl) both.middle (members - 1) K both.rest);
       }
 
-  ring_rounds : (H : List Event) → IsRingRound members H (steps_added H (ring_round members))
-  ring_rounds H =
-      let handed = steps_added H (leg_steps HandsOn 2 (members - 1)) in
+  -- the last pull of a ring round
+  pub record LastPull (handed K : List Event) : Type 0 where
+    pub last : ℕ
+    pub is : K ≡ pulled handed 1 members last
+
+  last_pull : (handed K : List Event) → StepAdded handed (Pulling 1 members) K → LastPull handed K
+  last_pull handed K (PullAdded last) = record { last = last; is = refl }
+
+  ring_rounds : (H K : List Event) → StepsAdded H (ring_round members) K → IsRingRound members H K
+  ring_rounds H K added =
+      let both = added_append H (leg_steps HandsOn 2 (members - 1)) (Pulling 1 members ∷ []) K added in
+      let closes = last_pull both.middle K (one_added both.middle (Pulling 1 members) K both.rest) in
       record {
-        handed = handed;
-        hands = subst (λ n. HasPulled (λ step. suc step) (λ step. step) H n handed) all_but_one
+        handed = both.middle;
+        hands = subst (λ n. HasPulled (λ step. suc step) (λ step. step) H n both.middle) all_but_one
             (leg_pulls HandsOn (λ step. suc step) (λ step. step)
-            (λ step. ap (Pulling (suc step)) (omega arith)) H (members - 1));
-        closes = added_append H (leg_steps HandsOn 2 (members - 1)) (Pulling 1 members ∷ []);
+            (λ step. ap (Pulling (suc step)) (omega arith)) H (members - 1) both.middle both.first);
+        last = closes.last;
+        closes = closes.is;
       }
 
-  pub star_sweeps : (H : List Event) → IsStarSweep members H (steps_added H (sweep_steps Star members))
-  star_sweeps H =
+  pub star_sweeps : (H K : List Event) → StepsAdded H (sweep_steps Star members) K → IsStarSweep members H K
+  star_sweeps H K added =
       let round = star_round members in
       let last = leg_steps Collects 1 members in
-      let once = steps_added H round in
-      let twice = steps_added once round in
-      let thrice = steps_added twice round in
-      let whole : steps_added H (sweep_steps Star members) ≡ steps_added thrice last =
-      added_append H round (round ++ (round ++ last)) ∙ added_append once round (round ++ last)
-      ∙ added_append twice round last in
+      let one = added_append H round (round ++ (round ++ last)) K added in
+      let two = added_append one.middle round (round ++ last) K one.rest in
+      let three = added_append two.middle round last K two.rest in
       record {
-        once = once;
-        twice = twice;
-        thrice = thrice;
-        first = star_rounds H;
-        second = star_rounds once;
-        third = star_rounds twice;
-        collects = subst (λ K. HasCollected thrice members K) (sym whole) (collects thrice members);
+        once = one.middle;
+        twice = two.middle;
+        thrice = three.middle;
+        first = star_rounds H one.middle one.first;
+        second = star_rounds one.middle two.middle two.first;
+        third = star_rounds two.middle three.middle three.first;
+        collects = collects three.middle members K three.rest;
       }
 
-  pub ring_sweeps : (H : List Event) → IsRingSweep members H (steps_added H (sweep_steps Ring members))
-  ring_sweeps H =
+  pub ring_sweeps : (H K : List Event) → StepsAdded H (sweep_steps Ring members) K → IsRingSweep members H K
+  ring_sweeps H K added =
       let round = ring_round members in
       let last = leg_steps Collects 1 members in
-      let once = steps_added H round in
-      let twice = steps_added once round in
-      let thrice = steps_added twice round in
-      let all = steps_added thrice round in
-      let whole : steps_added H (sweep_steps Ring members) ≡ steps_added all last =
-      added_append H round (round ++ (round ++ (round ++ last)))
-      ∙ added_append once round (round ++ (round ++ last)) ∙ added_append twice round (round ++ last)
-      ∙ added_append thrice round last in
+      let one = added_append H round (round ++ (round ++ (round ++ last))) K added in
+      let two = added_append one.middle round (round ++ (round ++ last)) K one.rest in
+      let three = added_append two.middle round (round ++ last) K two.rest in
+      let four = added_append three.middle round last K three.rest in
       record {
-        once = once;
-        twice = twice;
-        thrice = thrice;
-        whole = all;
-        first = ring_rounds H;
-        second = ring_rounds once;
-        third = ring_rounds twice;
-        fourth = ring_rounds thrice;
-        collects = subst (λ K. HasCollected all members K) (sym whole) (collects all members);
+        once = one.middle;
+        twice = two.middle;
+        thrice = three.middle;
+        whole = four.middle;
+        first = ring_rounds H one.middle one.first;
+        second = ring_rounds one.middle two.middle two.first;
+        third = ring_rounds two.middle three.middle three.first;
+        fourth = ring_rounds three.middle four.middle four.first;
+        collects = collects four.middle members K four.rest;
       }

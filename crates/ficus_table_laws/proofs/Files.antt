@@ -47,7 +47,8 @@ module _ (volume : Volume) (H : List Event) (replica : ℕ) (lawful : IsLawful v
     known : U position
     dir : Id
     name : List ℕ
-    update : IsUpdate H position file.id (Make dir name file.kind)
+    text : List ℕ
+    update : IsUpdate H position file.id (Make dir name file.kind text)
     kept : IsKeptFile file
 
   file_once : (file other : FileReplica) → IsKeptFile file → IsKeptFile other → file.id ≡ other.id → file ≡ other
@@ -92,27 +93,28 @@ module _ (volume : Volume) (H : List Event) (replica : ℕ) (lawful : IsLawful v
       Found = ((file : FileReplica) × Stands position file) ⊎ ((file : FileReplica) → Stands position file → ⊥)
 
       none : (number : Id) (op : Op) → IsUpdate H position number op →
-          ((dir : Id) (name : List ℕ) (kind : Kind) → op ≡ Make dir name kind → ⊥) →
+          ((dir : Id) (name : List ℕ) (kind : Kind) (text : List ℕ) → op ≡ Make dir name kind text → ⊥) →
           ((file : FileReplica) × Stands position file) ⊎ ((file : FileReplica) → Stands position file → ⊥)
       none number op update other = inr (λ file there.
-          other there.dir there.name file.kind (update_same update there.update).1)
+          other there.dir there.name file.kind there.text (update_same update there.update).1)
 
-      made : U position → (object dir : Id) (name : List ℕ) (kind : Kind) →
-          IsUpdate H position object (Make dir name kind) →
+      made : U position → (object dir : Id) (name : List ℕ) (kind : Kind) (text : List ℕ) →
+          IsUpdate H position object (Make dir name kind text) →
           ((file : FileReplica) × Stands position file) ⊎ ((file : FileReplica) → Stands position file → ⊥)
-      made known object dir name kind update = pick (done_or_not volume.members H replica object)
+      made known object dir name kind text update = pick (done_or_not volume.members H replica object)
         where
           pick : Decided (HasDone volume.members H replica object) →
               ((file : FileReplica) × Stands position file) ⊎ ((file : FileReplica) → Stands position file → ⊥)
           pick (inr undone) =
               let kept = kept_exists object kind
-              (record { position = position; dir = dir; name = name; known = known; update = update }) undone in
+              (record { position = position; dir = dir; name = name; text = text; known = known; update = update }) undone in
               inl (
                 kept.0,
                 record {
                   known = known;
                   dir = dir;
                   name = name;
+                  text = text;
                   update = rw (kept.1, kept.2) update;
                   kept = kept.3;
                 },
@@ -124,14 +126,14 @@ module _ (volume : Volume) (H : List Event) (replica : ℕ) (lawful : IsLawful v
 
       by : U position → (number : Id) (op : Op) → IsUpdate H position number op →
           ((file : FileReplica) × Stands position file) ⊎ ((file : FileReplica) → Stands position file → ⊥)
-      by known number (Make dir name kind) update = made known number dir name kind update
-      by known number op update = none number op update (λ d n k e. cc)
+      by known number (Make dir name kind text) update = made known number dir name kind text update
+      by known number op update = none number op update (λ d n k t e. cc)
 
       go : Decided (U position) → Decided (HasUpdateAt H position) →
           ((file : FileReplica) × Stands position file) ⊎ ((file : FileReplica) → Stands position file → ⊥)
       go (inr unknown) update = inr (λ file there. unknown there.known)
       go (inl known) (inr nothing) = inr (λ file there.
-          nothing (record { number = file.id; op = Make there.dir there.name file.kind; update = there.update }))
+          nothing (record { number = file.id; op = Make there.dir there.name file.kind there.text; update = there.update }))
       go (inl known) (inl here) = by known here.number here.op here.update
 
   all : Gathered Stands find (length H)
@@ -149,6 +151,7 @@ module _ (volume : Volume) (H : List Event) (replica : ℕ) (lawful : IsLawful v
         known = made.known;
         dir = made.dir;
         name = made.name;
+        text = made.text;
         update = rw (one.1, one.2) made.update;
         kept = one.3;
       }) in

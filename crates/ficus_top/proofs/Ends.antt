@@ -26,7 +26,7 @@ use Rattle.ficus_world.specs.Stand.{ArePending, DisksOutlast, DisksStand}
 use Rattle.ficus_world.specs.World.{Whole, WorldStandsFor}
 use Rattle.ficus_world.proofs.Disks.{follows_steady, follows_then}
 use Rattle.ficus_keep.specs.Kept.{Kept}
-use Rattle.ficus_kills.specs.Trail.{FrontOn, RunOn}
+use Rattle.ficus_serving.specs.Trail.{FrontOn, RunOn}
 use Rattle.ficus_top.specs.Killed.{EndsFrontOn, EndsOn}
 use Rattle.ficus_top.specs.Ends.{AllUp, Ends, EndsFront, NoneFailed, StandNow}
 use Rattle.ficus_serving.specs.Serving.{ServesWorld, ServesWorldFront}

@@ -3,7 +3,7 @@ use Rattle.std.proofs.Common.{◌≡◌, ℕ, List, [], subst}
 use Rattle.ficus_laws.proofs.Lawful.{lawful_none}
 use Rattle.ficus_model.specs.Lawful.{Volume}
 use Rattle.ficus_graft.specs.Answered.{Sent}
-use Rattle.ficus_grafted.specs.Fresh.{AnswersFresh, AnswersFreshFront, RunsFresh}
+use Rattle.ficus_top.specs.Fresh.{AnswersFresh, AnswersFreshFront, RunsFresh}
 use Rattle.ficus_run_laws.proofs.Runs.{run_lawful}
 use Rattle.ficus_run_laws.proofs.Starts.{start_lawful}
 use Rattle.ficus_script.specs.VolumeLine.{IsVolumeScript}

@@ -14,10 +14,10 @@ use Rattle.ficus_runs.specs.Outcome.{Outcome}
 use Rattle.ficus_run_laws.proofs.Extending.{Extends, as_it_was, further, step_extends}
 use Rattle.ficus_run_laws.proofs.Runs.{run_lawful, step_lawful}
 use Rattle.ficus_world.specs.Opening.{StandsOn}
-use Rattle.ficus_kills.specs.Trail.{AreKilled, DuringAt, KeepsBetween, KeepsFrom, Killed, Neighbours, Somewhere, Trail, whole}
-use Rattle.ficus_kills.specs.Trail.Trail.{Joined, Link, Still}
-use Rattle.ficus_kills.proofs.During.{during}
-use Rattle.ficus_kills.proofs.KilledDisks.{killed_disks}
+use Rattle.ficus_serving.specs.Trail.{AreKilled, DuringAt, KeepsBetween, KeepsFrom, Killed, Neighbours, Somewhere, Trail, whole}
+use Rattle.ficus_serving.specs.Trail.Trail.{Joined, Link, Still}
+use Rattle.ficus_serving.proofs.During.{during}
+use Rattle.ficus_serving.proofs.KilledDisks.{killed_disks}
 use Rattle.ficus_top.proofs.Members.{run_count, step_count}
 
 module _ {D : Type 0} (kept : List ℕ → List ℕ → Option Kept) (seen : D → List ℕ) (volume : Volume) where

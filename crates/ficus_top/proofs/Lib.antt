@@ -16,5 +16,6 @@ pub mod Stored
 pub mod WordLaws
 pub mod Kills
 pub mod KilledRuns
+pub mod Begun
 pub mod Joined
 pub mod Judging

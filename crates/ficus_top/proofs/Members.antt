@@ -7,18 +7,17 @@ use Rattle.ficus_ids.specs.declared.refusal.Refusal.{Refusal}
 use Rattle.ficus_model.specs.declared.event.Event.{Event}
 use Rattle.ficus_model.specs.Lawful.{Volume}
 use Rattle.ficus_script.specs.declared.answer.Answer.{Answer}
-use Rattle.ficus_script.specs.declared.answer.Answer.TheVariants.{Mail}
 use Rattle.ficus_script.specs.declared.command.Command.{Command}
 use Rattle.ficus_script.specs.declared.command.Command.TheVariants as command
 use Rattle.ficus_runs.specs.Actions.{ModelAction, AtMember, AtPeers, Adds, Saves, Posts, Fetches, Opens, Arms}
 use Rattle.ficus_runs.specs.Actions.Adds.{Added}
 use Rattle.ficus_runs.specs.Actions.Saves.{Saved, NotSaved}
-use Rattle.ficus_runs.specs.Actions.Posts.{Posted, NotPosted}
+use Rattle.ficus_runs.specs.Actions.Posts.{IsPosted, NotPosted}
 use Rattle.ficus_runs.specs.Actions.Fetches.{Fetched, NotFetched}
 use Rattle.ficus_runs.specs.Actions.Opens.{Opened, Found, NotOpened}
 use Rattle.ficus_runs.specs.Actions.Arms.{Armed}
-use Rattle.ficus_runs.specs.Exchange.{Asks, Behind, AnAsk, AnAnswer, Handles, GivesMail, GivesNext, receiver}
-use Rattle.ficus_runs.specs.ModelWorld.{ModelWorld, IsUp}
+use Rattle.ficus_runs.specs.Exchange.{Asks, Behind, AnAsk, APiece, Handles, GivesEach, GivesMail, PostsEach, Taken, Taking, Again, OneMore, TheLast, mails_of, receiver}
+use Rattle.ficus_runs.specs.ModelWorld.{ModelWorld, Posted, IsUp}
 use Rattle.ficus_runs.specs.Outcome.{Outcome, is_store_failure, store_failures}
 use Rattle.ficus_runs.specs.Run.{Does, Run, Step}
 use Rattle.ficus_runs.specs.Run.Run.{End, Then}
@@ -87,9 +86,9 @@ module _ (members : ℕ) where
       → StaysAmong W (Adds given event)
   adds_among given event W result left count Added = record { count = count; spares = λ r none. refl }
 
-  posts_among : (position : ModelWorld → ℕ) (size : ℕ) (W : ModelWorld) → StaysAmong W (Posts position size)
-  posts_among position size W result left count Posted = record { count = count; spares = λ r none. refl }
-  posts_among position size W result left count NotPosted = record { count = count; spares = λ r none. refl }
+  posts_among : (behind : Posted) (size : ℕ) (W : ModelWorld) → StaysAmong W (Posts behind size)
+  posts_among behind size W result left count IsPosted = record { count = count; spares = λ r none. refl }
+  posts_among behind size W result left count NotPosted = record { count = count; spares = λ r none. refl }
 
   fetches_among : (W : ModelWorld) → StaysAmong W Fetches
   fetches_among W result left count Fetched = record { count = count; spares = λ r none. refl }
@@ -133,13 +132,29 @@ module _ (members : ℕ) where
         (λ message composed. rule_first _ _ W
         (λ room has_room. first_among _ _ W (saves_among _ by _ W is_up.0) (λ position V. posts_among _ _ V)))))
 
+    posts_each_among : (position index : ℕ) (sizes : List ℕ) (W : ModelWorld)
+        → StaysAmong W (PostsEach position index sizes)
+    posts_each_among position index [] W = by_rule_among _ W
+    posts_each_among position index (size ∷ sizes) W =
+        first_among _ _ W (posts_among _ _ W) (λ number. posts_each_among position (index + 1) sizes)
+
+    taken_among : (asker serve index pieces : ℕ) (taking : Taking) (W : ModelWorld) → IsUp asker W
+        → StaysAmong W (Taken asker serve index pieces taking)
+    taken_among asker serve index pieces (Again have) W up = by_rule_among _ W
+    taken_among asker serve index pieces (OneMore have) W up = adds_among _ _ W
+    taken_among asker serve index pieces TheLast W up = saves_among _ asker _ W up
+
     handles_among : (behind : Behind) (W : ModelWorld) → IsUp (receiver behind) W → StaysAmong W (Handles volume behind)
     handles_among (AnAsk position server) W up =
         rule_first _ _ W
-        (λ message composed. rule_first _ _ W
-        (λ room has_room. first_among _ _ W (posts_among _ _ W) (λ number V. adds_among _ _ V)))
-    handles_among (AnAnswer position asker) W up =
-        rule_first _ _ W (λ wanted answers. saves_among _ asker _ W up)
+        (λ served cut. rule_first _ _ W
+        (λ room has_room. first_among _ _ W (adds_among _ _ W)
+        (λ place V. rule_first _ _ V
+        (λ first is. first_among _ _ V (posts_each_among place 0 _ V) (λ posted. by_rule_among _)))))
+    handles_among (APiece position asker index pieces) W up =
+        rule_first _ _ W
+        (λ wanted answers. rule_first _ _ W
+        (λ alike one. rule_first _ _ W (λ taking comes. taken_among asker position index pieces taking W up)))
 
     gives_mail_among : (number : ℕ) (W : ModelWorld) → StaysAmong W (GivesMail volume number)
     gives_mail_among number W =
@@ -148,16 +163,16 @@ module _ (members : ℕ) where
         (λ fetched V. rule_first _ _ V
         (λ behind found. rule_first _ _ V (λ up is_up. handles_among behind V is_up.0))))
 
-    gives_next_among : (answer : Answer) (W : ModelWorld) → StaysAmong W (GivesNext volume answer)
-    gives_next_among (Mail number) W =
-        first_among _ _ W (gives_mail_among number W) (λ given V. by_rule_among _ V)
-    gives_next_among other W = by_rule_among _ W
+    gives_each_among : (numbers : List ℕ) (W : ModelWorld) → StaysAmong W (GivesEach volume numbers)
+    gives_each_among [] W = by_rule_among _ W
+    gives_each_among (number ∷ numbers) W =
+        first_among _ _ W (gives_mail_among number W) (λ given. gives_each_among numbers)
 
     pulls_among : (by to : ℕ) (W : ModelWorld) → StaysAmong W (PullsFrom volume by to)
     pulls_among by to W =
         first_among _ _ W (at_peers_among by to W)
         (λ peers V. first_among _ _ V (asks_among by to V)
-        (λ number U. first_among _ _ U (gives_mail_among number U) gives_next_among))
+        (λ number U. first_among _ _ U (gives_mail_among number U) (λ given. gives_each_among (mails_of given))))
 
     collects_among : (by : ℕ) (W : ModelWorld) → StaysAmong W (CollectsAt volume by)
     collects_among by W =

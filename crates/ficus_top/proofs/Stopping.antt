@@ -12,7 +12,7 @@ use Rattle.ficus_run_laws.proofs.Arming.{run_arms, step_unarming}
 use Rattle.ficus_run_laws.proofs.Outcomes.{count_append}
 use Rattle.ficus_run_laws.proofs.SweepSteps.{as_step}
 use Rattle.ficus_run_laws.specs.Outcomes.{all_outcomes}
-use Rattle.ficus_runs.specs.Exchange.{Asks, GivesMail}
+use Rattle.ficus_runs.specs.Exchange.{Asks, GivesMail, GivesSome, mails_of}
 use Rattle.ficus_runs.specs.Fuses.{FuseState}
 use Rattle.ficus_runs.specs.ModelWorld.{ModelWorld}
 use Rattle.ficus_runs.specs.Numbered.{IsNumbered}
@@ -36,24 +36,43 @@ module _ (r : ℕ) where
   nothing_unarming same = ap (λ (e : Effect ModelWorld). armings_in r e.outcomes) same
 
   module _ (volume : Volume) where
-    give_unarming : (number : ℕ) (W : ModelWorld) (left : Effect ModelWorld)
-        → CutFirst (GivesMail volume number) NothingDone (λ given. NothingDone) W left → armings_in r left.outcomes ≡ 0
-    give_unarming number W left (InFirst same) = nothing_unarming same
-    give_unarming number W left (InRest {a = answer} {middle = given} {left = last} gives same) =
+    mail_unarming : (number : ℕ) (W : ModelWorld) (answer : Answer) (left : Effect ModelWorld)
+        → GivesMail volume number W (Ok answer) left → armings_in r left.outcomes ≡ 0
+    mail_unarming number W answer left gives =
+        step_unarming r {volume = volume} {old = W} {command = command.Give number} (record {
+          result = Ok answer;
+          does = gives;
+          answer_is = refl;
+        }) (λ calls pick same. cc same)
+
+    some_unarming : (numbers : List ℕ) (W : ModelWorld) (left : Effect ModelWorld) → GivesSome volume numbers W left
+        → armings_in r left.outcomes ≡ 0
+    some_unarming [] W left same = nothing_unarming same
+    some_unarming (number ∷ numbers) W left (InFirst same) = nothing_unarming same
+    some_unarming (number ∷ numbers) W left (InRest {a = answer} {middle = given} {left = last} gives rest) =
         omega (
           arith,
           count_append (is_arming r) given.outcomes last.outcomes,
-          step_unarming r {volume = volume} {old = W} {command = command.Give number} (record {
-            result = Ok answer;
-            does = gives;
-            answer_is = refl;
-          }) (λ calls pick same. cc same),
-          nothing_unarming same,
+          mail_unarming number W answer given gives,
+          some_unarming numbers given.after last rest,
+        )
+
+    give_unarming : (number : ℕ) (W : ModelWorld) (left : Effect ModelWorld)
+        → CutFirst (GivesMail volume number) NothingDone (λ given. GivesSome volume (mails_of given)) W left
+        → armings_in r left.outcomes ≡ 0
+    give_unarming number W left (InFirst same) = nothing_unarming same
+    give_unarming number W left (InRest {a = answer} {middle = given} {left = last} gives rest) =
+        omega (
+          arith,
+          count_append (is_arming r) given.outcomes last.outcomes,
+          mail_unarming number W answer given gives,
+          some_unarming (mails_of answer) given.after last rest,
         )
 
     ask_unarming : (by to : ℕ) (W : ModelWorld) (left : Effect ModelWorld)
         → CutFirst (Asks volume by to) NothingDone
-        (λ number. CutFirst (GivesMail volume number) NothingDone (λ given. NothingDone)) W left
+        (λ number. CutFirst (GivesMail volume number) NothingDone
+        (λ given. GivesSome volume (mails_of given))) W left
         → armings_in r left.outcomes ≡ 0
     ask_unarming by to W left (InFirst same) = nothing_unarming same
     ask_unarming by to W left (InRest {a = number} {middle = asked} {left = last} asks rest) =

@@ -2,6 +2,7 @@
 use Rattle.std.specs.Prelude.{◌≡◌, ℕ, Bool, List, take, Option}
 use Rattle.ficus_disk.specs.declared.disk.Disk.{Ghosts as Disk}
 use Rattle.ficus_disk.specs.declared.pair.Pair.{Pair}
+use Rattle.ficus_model.specs.Events.{generation_of}
 use Rattle.ficus_model.specs.Final.{IsFinal}
 use Rattle.ficus_model.specs.Known.{Knows}
 use Rattle.ficus_model.specs.Lawful.{IsLawful, Volume}
@@ -9,7 +10,6 @@ use Rattle.ficus_model.specs.Live.{ModelEntry, IsLive, IsRemoved}
 use Rattle.ficus_model.specs.declared.event.Event.{Event}
 use Rattle.ficus_script.specs.declared.command.Command.{Command}
 use Rattle.ficus_script.specs.Script.{IsScript}
-use Rattle.ficus_replica.specs.SavedOf.{generation_of}
 use Rattle.ficus_runs.specs.Fuses.{FuseState}
 use Rattle.ficus_runs.specs.Start.{start}
 use Rattle.ficus_summary.specs.Keeper.{IsRegular}

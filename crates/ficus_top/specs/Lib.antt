@@ -10,6 +10,7 @@ pub mod Ending
 pub mod Status
 pub mod Script
 pub mod Making
+pub mod Fresh
 pub mod Modes
 pub mod Program
 pub mod Killed

@@ -7,8 +7,8 @@ ghost use Rattle.ficus_top.specs.Making.{FitsSize, volume_of};
 ghost use Rattle.ficus_top.specs.Modes.Volumes.{AnswersVolumes, AnswersVolumesFront};
 
 use crate::fault::{Fault, ReadingFault};
+use crate::fresh_lines::answer_fresh;
 use crate::read::read_volume_lines;
-use ficus_grafted::answer_fresh;
 use ficus_outside::{Sink, Source};
 use ficus_serving::AnsweringFault;
 use ficus_words::Size;

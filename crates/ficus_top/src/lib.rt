@@ -3,6 +3,8 @@
 
 mod checking;
 mod fault;
+mod fresh;
+mod fresh_lines;
 mod joining;
 mod laws;
 mod making;

@@ -9,7 +9,7 @@ ghost use Rattle.ficus_serving.specs.Serving.{serving_limit, ServesWorld, Serves
 ghost use Rattle.ficus_serving.specs.Serving.{script_limit};
 ghost use Rattle.ficus_world.specs.Disks.{AreDisksOf};
 ghost use Rattle.ficus_world.specs.Follows.{TellsFor};
-ghost use Rattle.ficus_world.specs.World.{WorldStandsFor, event_limit, most_events};
+ghost use Rattle.ficus_world.specs.World.{WorldStandsFor};
 
 use crate::fault::Fault;
 use crate::status::Status;

@@ -12,5 +12,6 @@ pub mod Making
 pub mod Pigeonhole
 pub mod Few
 pub mod Orphaned
+pub mod Links
 pub mod Existing
 pub mod Fitting

@@ -25,7 +25,7 @@ pub made_version : {H : List Event} {U : ℕ → Type 0} {file : Id} (f : IsFile
     IsVersion H file f.made.position
 made_version {file = file} f = record {
   number = file;
-  op = Make f.made.dir f.made.name f.kind;
+  op = Make f.made.dir f.made.name f.kind f.made.text;
   update = f.made.update;
   versions = made_file_of file f.kind f.other;
 }
@@ -44,14 +44,14 @@ module _ (volume : Volume) (H : List Event) (replica : ℕ) (lawful : IsLawful v
         (λ number l p. next_not_covered volume H replica replica lawful p.covering p.known);
   }
 
-  module _ (dir : Id) (name : List ℕ) (kind : Kind) where
-    pub make_shown : kind ≢ Dir → AreShown (H ++ Update replica (Make dir name kind) ∷ [])
-        (Knows (H ++ Update replica (Make dir name kind) ∷ []) replica) (next_number replica H) (advanced replica [] [])
-    make_shown differs = advanced_shown H replica (Make dir name kind) (made_file_of (next_number replica H) kind differs) none_shown
+  module _ (dir : Id) (name : List ℕ) (kind : Kind) (text : List ℕ) where
+    pub make_shown : kind ≢ Dir → AreShown (H ++ Update replica (Make dir name kind text) ∷ [])
+        (Knows (H ++ Update replica (Make dir name kind text) ∷ []) replica) (next_number replica H) (advanced replica text [])
+    make_shown differs = advanced_shown H replica (Make dir name kind text) (made_file_of (next_number replica H) kind differs) none_shown
 
-    pub make_covered : IsCoverOf (H ++ Update replica (Make dir name kind) ∷ [])
-        (Knows (H ++ Update replica (Make dir name kind) ∷ []) replica) (next_number replica H) (λ by. 0)
+    pub make_covered : IsCoverOf (H ++ Update replica (Make dir name kind text) ∷ [])
+        (Knows (H ++ Update replica (Make dir name kind text) ∷ []) replica) (next_number replica H) (λ by. 0)
     make_covered = cover_kept H
-        (Update replica (Make dir name kind)) replica
-        (coverings_back H replica (Make dir name kind) (none_is (next_number replica H)))
+        (Update replica (Make dir name kind text)) replica
+        (coverings_back H replica (Make dir name kind text) (none_is (next_number replica H)))
         none_covered

@@ -41,7 +41,7 @@ module _ (volume : Volume) (H : List Event) (lawful : IsLawful volume H) (reader
 
   written : {position : ℕ} {number file : Id} (op : Op) → IsUpdate H position number op → Knows H reader position →
       version_of number op ≡ Some file → IsFile H (Knows H reader) file
-  written {position} {number} {file} (Make dir name kind) u k e =
+  written {position} {number} {file} (Make dir name kind text) u k e =
       let is = made_file_is number file kind e in
       record {
         kind = kind;
@@ -49,8 +49,9 @@ module _ (volume : Volume) (H : List Event) (lawful : IsLawful volume H) (reader
           position = position;
           dir = dir;
           name = name;
+          text = text;
           known = k;
-          update = subst (λ id. IsUpdate H position id (Make dir name kind)) is.0 u;
+          update = subst (λ id. IsUpdate H position id (Make dir name kind text)) is.0 u;
         };
         other = is.1;
       }

@@ -1,5 +1,5 @@
 -- What operations do to files, by their names.
-use Rattle.std.proofs.Common.{◌≡◌, ◌≢◌, ℕ, List, [], Some, refl, subst}
+use Rattle.std.proofs.Common.{◌≡◌, ◌≢◌, ℕ, List, Some, refl, subst}
 use Rattle.std.proofs.lemmas.Option.{same_Some}
 use Rattle.ficus_ids.specs.declared.id.Id.{Id}
 use Rattle.ficus_ids.specs.declared.kind.Kind.{Kind}
@@ -26,9 +26,9 @@ writes_version ByResolve = (refl, refl)
 
 pub version_writes : (number file : Id) (op : Op) → version_of number op ≡ Some file →
     Writes number op file (bytes_of op)
-version_writes number file (Make dir name kind) e =
+version_writes number file (Make dir name kind text) e =
     let is = made_file_is number file kind e in
-    subst (λ object. Writes number (Make dir name kind) object []) is.0 (ByMake is.1)
+    subst (λ object. Writes number (Make dir name kind text) object text) is.0 (ByMake is.1)
 version_writes number file (Write object bytes) e =
     subst (λ same. Writes number (Write object bytes) same bytes) (same_Some object file e) ByWrite
 version_writes number file (Settle object bytes) e =

@@ -32,20 +32,20 @@ knows_before H n k =
     omega arith
 
 -- no update stands at the end of a history that an Accept ends
-pub update_before_accept : {position : ℕ} {number : Id} {op : Op} (H : List Event) (replica served : ℕ) →
-    IsUpdate (H ++ Accept replica served ∷ []) position number op → position < length H
-update_before_accept {position} {number} {op} H replica served u = go (update_cases (Accept replica served) u)
+pub update_before_accept : {position : ℕ} {number : Id} {op : Op} (H : List Event) (replica served piece : ℕ) →
+    IsUpdate (H ++ Accept replica served piece ∷ []) position number op → position < length H
+update_before_accept {position} {number} {op} H replica served piece u = go (update_cases (Accept replica served piece) u)
   where
     go : IsUpdate H position number op ⊎
-        ((position ≡ length H) × (Accept replica served ≡ Update number.replica op) ×
+        ((position ≡ length H) × (Accept replica served piece ≡ Update number.replica op) ×
         (number ≡ next_number number.replica H)) →
         position < length H
     go (inl was) = update_within was
     go (inr (end, is, next)) = cc
 
-module _ (H : List Event) (replica served server : ℕ) (by_server : IsOf H served server) where
+module _ (H : List Event) (replica served piece server : ℕ) (by_server : IsOf H served server) where
   abbrev after : List Event
-  after = H ++ Accept replica served ∷ []
+  after = H ++ Accept replica served piece ∷ []
 
   abbrev Own : ℕ → Type 0
   Own = Knows H replica
@@ -63,14 +63,14 @@ module _ (H : List Event) (replica served server : ℕ) (by_server : IsOf H serv
   -- an update is known after an Accept exactly where one of the two knew it
   pub taken_known : {position : ℕ} {number : Id} {op : Op} → IsUpdate after position number op →
       Knows after replica position → Joined Own Brought position
-  taken_known u k = accept_knows H replica served server by_server k (update_before_accept H replica served u)
+  taken_known u k = accept_knows H replica served piece server by_server k (update_before_accept H replica served piece u)
 
   pub known_taken : {position : ℕ} → Joined Own Brought position → Knows after replica position
-  known_taken (inl k) = accept_keeps H replica served server by_server k
-  known_taken (inr k) = accept_brings H replica served server by_server k
+  known_taken (inl k) = accept_keeps H replica served piece server by_server k
+  known_taken (inr k) = accept_brings H replica served piece server by_server k
 
   longer : length H ≤ length after
-  longer = omega (arith, length_push H (Accept replica served))
+  longer = omega (arith, length_push H (Accept replica served piece))
 
   module _ {file : Id} where
     there : VersionsWithin after file (Joined Own Brought) (Knows after replica)
@@ -80,7 +80,7 @@ module _ (H : List Event) (replica served server : ℕ) (by_server : IsOf H serv
     back position v k = taken_known v.update k
 
     old_version : {position : ℕ} → IsVersion after file position → position < length H → IsVersion H file position
-    old_version v l = agree_version (agree_back (agree_more H (Accept replica served ∷ []))) l v
+    old_version v l = agree_version (agree_back (agree_more H (Accept replica served piece ∷ []))) l v
 
     -- what the server was shown when it served
     of_served : {position : ℕ} → IsShown (through served H) Brought file position → IsShown H Brought file position
@@ -105,7 +105,7 @@ module _ (H : List Event) (replica served server : ℕ) (by_server : IsOf H serv
     accept_shown s =
         let l = joined_shown
         (agree_shown
-        (agree_back (agree_more H (Accept replica served ∷ []))) joined_below
+        (agree_back (agree_more H (Accept replica served piece ∷ []))) joined_below
         (shown_same back there s)) in
         record { shown = either_to_served l.shown; latest = λ other t p. l.latest other (either_of_served t) p }
 
@@ -113,7 +113,7 @@ module _ (H : List Event) (replica served server : ℕ) (by_server : IsOf H serv
         IsShown after (Knows after replica) file position
     shown_accept l =
         let s = shown_joined (record { shown = either_of_served l.shown; latest = λ other t p. l.latest other (either_to_served t) p }) in
-        shown_same there back (agree_shown (agree_more H (Accept replica served ∷ [])) joined_below s)
+        shown_same there back (agree_shown (agree_more H (Accept replica served piece ∷ [])) joined_below s)
 
     -- and their list is the merge of the two lists
     pub accept_merges : (volume : Volume) {versions others merged : List Item} → IsLawful volume H →
@@ -122,7 +122,7 @@ module _ (H : List Event) (replica served server : ℕ) (by_server : IsOf H serv
     accept_merges volume lawful a b m =
         are_shown_same there back
         (agree_are_shown
-        (agree_more H (Accept replica served ∷ [])) joined_below
+        (agree_more H (Accept replica served piece ∷ [])) joined_below
         (are_shown_merged volume lawful a (agree_are_shown (agree_before (served + 1) H) brought_below b) m))
 
     -- where the replica knows each version of the file that it is told of, its list stays
@@ -131,7 +131,7 @@ module _ (H : List Event) (replica served server : ℕ) (by_server : IsOf H serv
     accept_own within a = are_shown_same
         (λ position v k. known_taken (inl k))
         (λ position v k. own v (back position v k))
-        (agree_are_shown (agree_more H (Accept replica served ∷ [])) (λ position k. knows_within k) a)
+        (agree_are_shown (agree_more H (Accept replica served piece ∷ [])) (λ position k. knows_within k) a)
       where
         own : {position : ℕ} → IsVersion after file position → Joined Own Brought position → Own position
         own v (inl k) = k
@@ -143,7 +143,7 @@ module _ (H : List Event) (replica served server : ℕ) (by_server : IsOf H serv
     accept_brought {others} within b = are_shown_same
         (λ position v k. known_taken (inr k))
         (λ position v k. brought v (back position v k))
-        (agree_are_shown (agree_more H (Accept replica served ∷ [])) (λ position k. joined_below position (inr k)) his)
+        (agree_are_shown (agree_more H (Accept replica served piece ∷ [])) (λ position k. joined_below position (inr k)) his)
       where
         his : AreShown H Brought file others
         his = agree_are_shown (agree_before (served + 1) H) brought_below b
@@ -167,10 +167,10 @@ module _ (H : List Event) (replica served server : ℕ) (by_server : IsOf H serv
     pub cover_accept : {cover other : ℕ → ℕ} → IsCoverOf H Own file cover →
         IsCoverOf (through served H) Brought file other → IsCoverOf after (Knows after replica) file (join cover other)
     cover_accept a b = cover_same coverings_there coverings_back
-        (agree_cover longer (agree_more H (Accept replica served ∷ [])) joined_below (cover_joined a (cover_of_served b)))
+        (agree_cover longer (agree_more H (Accept replica served piece ∷ [])) joined_below (cover_joined a (cover_of_served b)))
 
     old_covering : {position : ℕ} → IsCovering after file position → position < length H → IsCovering H file position
-    old_covering c l = agree_covering (agree_back (agree_more H (Accept replica served ∷ []))) l c
+    old_covering c l = agree_covering (agree_back (agree_more H (Accept replica served piece ∷ []))) l c
 
     -- where the replica knows each Remove and Discard that it is told of, its cover stays
     pub cover_own : {cover : ℕ → ℕ} → CoveringsWithin H file Brought Own →
@@ -178,7 +178,7 @@ module _ (H : List Event) (replica served server : ℕ) (by_server : IsOf H serv
     cover_own within a = cover_same
         (λ position c k. known_taken (inl k))
         (λ position c k. own c (coverings_back position c k))
-        (agree_cover longer (agree_more H (Accept replica served ∷ [])) (λ position k. knows_within k) a)
+        (agree_cover longer (agree_more H (Accept replica served piece ∷ [])) (λ position k. knows_within k) a)
       where
         own : {position : ℕ} → IsCovering after file position → Joined Own Brought position → Own position
         own c (inl k) = k
@@ -190,7 +190,7 @@ module _ (H : List Event) (replica served server : ℕ) (by_server : IsOf H serv
     cover_brought within b = cover_same
         (λ position c k. known_taken (inr k))
         (λ position c k. brought c (coverings_back position c k))
-        (agree_cover longer (agree_more H (Accept replica served ∷ [])) (λ position k. joined_below position (inr k)) (cover_of_served b))
+        (agree_cover longer (agree_more H (Accept replica served piece ∷ [])) (λ position k. joined_below position (inr k)) (cover_of_served b))
       where
         brought : {position : ℕ} → IsCovering after file position → Joined Own Brought position → Brought position
         brought {position} c (inl k) = within position (old_covering c (joined_below position (inl k))) k

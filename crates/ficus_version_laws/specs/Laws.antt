@@ -1,13 +1,15 @@
 -- The laws, as the law functions state them.
 use Rattle.std.specs.Prelude.{◌≡◌, ◌≢◌, ◌↔◌, ◌⊎◌, ℕ, ◌<◌, List, [], ◌∷◌, ◌++◌, length, ◌≤◌, Contains, AllPairs}
 use Rattle.ficus_ids.specs.declared.id.Id.{Id}
+use Rattle.ficus_ids.specs.Kind.{sort_of}
 use Rattle.ficus_ids.specs.declared.kind.Kind.{Kind}
 use Rattle.ficus_ids.specs.declared.kind.Kind.TheVariants.{Dir}
+use Rattle.ficus_ids.specs.declared.kind.Sort.TheVariants.{Fixed}
 use Rattle.ficus_model.specs.declared.event.Event.{Event}
 use Rattle.ficus_model.specs.declared.event.Event.TheVariants.{Update, Accept}
 use Rattle.ficus_model.specs.declared.event.Op.{Op}
 use Rattle.ficus_model.specs.declared.event.Op.TheVariants.{Make}
-use Rattle.ficus_model.specs.Live.{IsFile, HasName}
+use Rattle.ficus_model.specs.Live.{IsFile, IsMade, HasName}
 use Rattle.ficus_model.specs.Events.{IsOf, through, actor, count_of}
 use Rattle.ficus_model.specs.Known.{Knows, HasInPast}
 use Rattle.ficus_model.specs.Lawful.{Volume, IsLawful}
@@ -67,37 +69,38 @@ FewVersionsShown = (volume : Volume) (H : List Event) (reader : ℕ) (file : Id)
 
 -- after an Accept its replica is shown the latest of what it and the server were shown
 abbrev pub AcceptShowsLatest : Type 0
-AcceptShowsLatest = (H : List Event) (replica served server : ℕ) (file : Id) (position : ℕ) → IsOf H served server →
-    let K = H ++ Accept replica served ∷ [] in
+AcceptShowsLatest = (H : List Event) (replica served piece server : ℕ) (file : Id) (position : ℕ) →
+    IsOf H served server →
+    let K = H ++ Accept replica served piece ∷ [] in
     IsShown K (Knows K replica) file position ↔
     IsLatestOfBoth H (Knows H replica) (through served H) (Knows (through served H) server) file position
 
 -- and the list of its versions is the two lists without what is under another, by the vectors alone
 abbrev pub AcceptMergesVersions : Type 0
-AcceptMergesVersions = (volume : Volume) (H : List Event) (replica served server : ℕ) (file : Id)
+AcceptMergesVersions = (volume : Volume) (H : List Event) (replica served piece server : ℕ) (file : Id)
     (versions others merged : List Item) → IsLawful volume H → IsOf H served server →
     AreShown H (Knows H replica) file versions →
     AreShown (through served H) (Knows (through served H) server) file others →
     AreMerged volume.members versions others merged →
-    let K = H ++ Accept replica served ∷ [] in
+    let K = H ++ Accept replica served piece ∷ [] in
     AreShown K (Knows K replica) file merged
 
 -- where the replica knew each version of a file that the server knew, its list stays
 abbrev pub AcceptKeepsList : Type 0
-AcceptKeepsList = (H : List Event) (replica served server : ℕ) (file : Id) (versions : List Item) →
+AcceptKeepsList = (H : List Event) (replica served piece server : ℕ) (file : Id) (versions : List Item) →
     IsOf H served server →
     ((position : ℕ) → IsVersion H file position → Knows (through served H) server position → Knows H replica position) →
     AreShown H (Knows H replica) file versions →
-    let K = H ++ Accept replica served ∷ [] in
+    let K = H ++ Accept replica served piece ∷ [] in
     AreShown K (Knows K replica) file versions
 
 -- where the server knew each version that the replica knew, the server's list is taken
 abbrev pub AcceptTakesList : Type 0
-AcceptTakesList = (H : List Event) (replica served server : ℕ) (file : Id) (others : List Item) →
+AcceptTakesList = (H : List Event) (replica served piece server : ℕ) (file : Id) (others : List Item) →
     IsOf H served server →
     ((position : ℕ) → IsVersion H file position → Knows H replica position → Knows (through served H) server position) →
     AreShown (through served H) (Knows (through served H) server) file others →
-    let K = H ++ Accept replica served ∷ [] in
+    let K = H ++ Accept replica served piece ∷ [] in
     AreShown K (Knows K replica) file others
 
 -- after an update that gives a file a version its replica is shown that version and no other
@@ -133,18 +136,20 @@ abbrev pub VersionsAreOfFiles : Type 0
 VersionsAreOfFiles = (volume : Volume) (H : List Event) (replica : ℕ) (file : Id) (position : ℕ) →
     IsLawful volume H → IsVersion H file position → Knows H replica position → IsFile H (Knows H replica) file
 
--- after a Make of a file its replica is shown one version of it, whose own count is 1, without bytes
+-- after a Make of a file its replica is shown one version of it, whose own count is 1, with its text as bytes
 abbrev pub MakeShowsFirst : Type 0
-MakeShowsFirst = (volume : Volume) (H : List Event) (replica : ℕ) (dir : Id) (name : List ℕ) (kind : Kind) →
+MakeShowsFirst = (volume : Volume) (H : List Event) (replica : ℕ) (dir : Id) (name : List ℕ) (kind : Kind)
+    (text : List ℕ) →
     IsLawful volume H → kind ≢ Dir →
-    let K = H ++ Update replica (Make dir name kind) ∷ [] in
-    AreShown K (Knows K replica) (next_number replica H) (advanced replica [] [])
+    let K = H ++ Update replica (Make dir name kind text) ∷ [] in
+    AreShown K (Knows K replica) (next_number replica H) (advanced replica text [])
 
 -- and of an object just made nothing is covered
 abbrev pub MakeCoversNothing : Type 0
-MakeCoversNothing = (volume : Volume) (H : List Event) (replica : ℕ) (dir : Id) (name : List ℕ) (kind : Kind) →
+MakeCoversNothing = (volume : Volume) (H : List Event) (replica : ℕ) (dir : Id) (name : List ℕ) (kind : Kind)
+    (text : List ℕ) →
     IsLawful volume H →
-    let K = H ++ Update replica (Make dir name kind) ∷ [] in
+    let K = H ++ Update replica (Make dir name kind text) ∷ [] in
     IsCoverOf K (Knows K replica) (next_number replica H) (λ by. 0)
 
 -- each file has a list of its shown versions
@@ -181,31 +186,31 @@ CoversFit = (H : List Event) (reader : ℕ) (file : Id) (cover : ℕ → ℕ) �
 
 -- after an Accept the cover is the join of the two
 abbrev pub AcceptJoinsCovers : Type 0
-AcceptJoinsCovers = (H : List Event) (replica served server : ℕ) (file : Id) (cover other : ℕ → ℕ) →
+AcceptJoinsCovers = (H : List Event) (replica served piece server : ℕ) (file : Id) (cover other : ℕ → ℕ) →
     IsOf H served server →
     IsCoverOf H (Knows H replica) file cover →
     IsCoverOf (through served H) (Knows (through served H) server) file other →
-    let K = H ++ Accept replica served ∷ [] in
+    let K = H ++ Accept replica served piece ∷ [] in
     IsCoverOf K (Knows K replica) file (join cover other)
 
 -- where the replica knew each Remove and Discard of a file that the server knew, its cover stays
 abbrev pub AcceptKeepsCover : Type 0
-AcceptKeepsCover = (H : List Event) (replica served server : ℕ) (file : Id) (cover : ℕ → ℕ) →
+AcceptKeepsCover = (H : List Event) (replica served piece server : ℕ) (file : Id) (cover : ℕ → ℕ) →
     IsOf H served server →
     ((position : ℕ) → IsCovering H file position →
     Knows (through served H) server position → Knows H replica position) →
     IsCoverOf H (Knows H replica) file cover →
-    let K = H ++ Accept replica served ∷ [] in
+    let K = H ++ Accept replica served piece ∷ [] in
     IsCoverOf K (Knows K replica) file cover
 
 -- where the server knew each Remove and Discard that the replica knew, the server's cover is taken
 abbrev pub AcceptTakesCover : Type 0
-AcceptTakesCover = (H : List Event) (replica served server : ℕ) (file : Id) (other : ℕ → ℕ) →
+AcceptTakesCover = (H : List Event) (replica served piece server : ℕ) (file : Id) (other : ℕ → ℕ) →
     IsOf H served server →
     ((position : ℕ) → IsCovering H file position →
     Knows H replica position → Knows (through served H) server position) →
     IsCoverOf (through served H) (Knows (through served H) server) file other →
-    let K = H ++ Accept replica served ∷ [] in
+    let K = H ++ Accept replica served piece ∷ [] in
     IsCoverOf K (Knows K replica) file other
 
 -- after a Remove or a Discard of a file the cover is joined with the vectors of the shown versions
@@ -261,3 +266,15 @@ OthersKeepFile = (H : List Event) (event : Event) (replica : ℕ) (file : Id) �
 -- what a replica knew at some time shows the same in every longer history
 abbrev pub ViewsStay : Type 0
 ViewsStay = (H later : List Event) (replica : ℕ) → ShowSameView H (Knows H replica) (H ++ later) (Knows H replica)
+
+-- an object whose text stays is never in conflict
+abbrev pub LinksNeverConflict : Type 0
+LinksNeverConflict = (volume : Volume) (H : List Event) (replica : ℕ) (object : Id) (kind : Kind) →
+    IsLawful volume H → sort_of kind ≡ Fixed → IsMade H (Knows H replica) object kind →
+    IsInConflict H (Knows H replica) object → ⊥
+
+-- and never an orphan: who removes its last name has heard of its one version
+abbrev pub LinksNeverOrphan : Type 0
+LinksNeverOrphan = (volume : Volume) (H : List Event) (replica : ℕ) (object : Id) (kind : Kind) →
+    IsLawful volume H → sort_of kind ≡ Fixed → IsMade H (Knows H replica) object kind →
+    IsOrphan H (Knows H replica) object → ⊥

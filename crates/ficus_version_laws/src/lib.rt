@@ -13,7 +13,7 @@ mod views;
 
 pub use accepts::{accept_joins_covers, accept_joins_versions};
 pub use covers::{covers_follow_updates, covers_tell_pasts};
-pub use orphans::{conflicts_differ_in_bytes, orphans_have_uncovered_versions};
+pub use orphans::{conflicts_differ_in_bytes, links_stay, orphans_have_uncovered_versions};
 pub use vectors::{vectors_stay, vectors_tell_pasts};
 pub use versions::{
     files_have_lists, files_have_versions, one_version_of_each, update_replaces_versions,

@@ -1,4 +1,4 @@
-ghost use Rattle.ficus_version_laws.specs.Laws.{ConflictsDifferInBytes, OrphansHaveUncovered, UncoveredAreShown};
+ghost use Rattle.ficus_version_laws.specs.Laws.{ConflictsDifferInBytes, LinksNeverConflict, LinksNeverOrphan, OrphansHaveUncovered, UncoveredAreShown};
 
 /// A file is in conflict exactly where two of its shown versions differ in bytes.
 pub fn conflicts_differ_in_bytes()
@@ -9,4 +9,10 @@ pub fn conflicts_differ_in_bytes()
 pub fn orphans_have_uncovered_versions()
     ensures listed { OrphansHaveUncovered }
     ensures shown { UncoveredAreShown }
+{}
+
+/// A symbolic link is never in conflict, and never an orphan.
+pub fn links_stay()
+    ensures settled { LinksNeverConflict }
+    ensures kept { LinksNeverOrphan }
 {}

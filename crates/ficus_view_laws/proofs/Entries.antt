@@ -34,7 +34,8 @@ record IsMadeAt (H : List Event) (U : ℕ → Type 0) (P : Id → Kind → Type 
   dir : Id
   name : List ℕ
   kind : Kind
-  update : IsUpdate H position object (Make dir name kind)
+  text : List ℕ
+  update : IsUpdate H position object (Make dir name kind text)
   holds : P object kind
 
 -- an entry that is entered, and for which this holds
@@ -194,13 +195,13 @@ module _ (H : List Event) (U : ℕ → Type 0) (known : (position : ℕ) → Dec
   -- which operation makes an object
   module _ (P : Id → Kind → Type 0) (decide : (object : Id) (kind : Kind) → Decided (P object kind)) where
     no_make : {position : ℕ} (here : HasUpdateAt H position) →
-        ((dir : Id) (name : List ℕ) (kind : Kind) → here.op ≡ Make dir name kind → ⊥) →
+        ((dir : Id) (name : List ℕ) (kind : Kind) (text : List ℕ) → here.op ≡ Make dir name kind text → ⊥) →
         Decided (IsMadeAt H U P position)
-    no_make here other = inr (λ there. other there.dir there.name there.kind (update_same here.update there.update).1)
+    no_make here other = inr (λ there. other there.dir there.name there.kind there.text (update_same here.update there.update).1)
 
     made_by : {position : ℕ} (k : U position) (number : Id) (op : Op) → IsUpdate H position number op →
         Decided (IsMadeAt H U P position)
-    made_by {position} k number (Make dir name kind) update = pick (decide number kind)
+    made_by {position} k number (Make dir name kind text) update = pick (decide number kind)
       where
         pick : Decided (P number kind) → Decided (IsMadeAt H U P position)
         pick (inl holds) = inl (record {
@@ -209,15 +210,16 @@ module _ (H : List Event) (U : ℕ → Type 0) (known : (position : ℕ) → Dec
           dir = dir;
           name = name;
           kind = kind;
+          text = text;
           update = update;
           holds = holds;
         })
         pick (inr fails) = inr (λ there. fails
             (let s = update_same update there.update in
-            let e : Make dir name kind ≡ Make there.dir there.name there.kind = s.1 in
+            let e : Make dir name kind text ≡ Make there.dir there.name there.kind there.text = s.1 in
             let same : kind ≡ there.kind = cc in
             rw (s.0, same) there.holds))
-    made_by k number op update = no_make (record { number = number; op = op; update = update }) (λ d n c e. cc)
+    made_by k number op update = no_make (record { number = number; op = op; update = update }) (λ d n c t e. cc)
 
     made_at : (position : ℕ) → Decided (IsMadeAt H U P position)
     made_at position = go (known position) (update_or_none H position)
@@ -225,7 +227,7 @@ module _ (H : List Event) (U : ℕ → Type 0) (known : (position : ℕ) → Dec
         go : Decided (U position) → Decided (HasUpdateAt H position) → Decided (IsMadeAt H U P position)
         go (inr unknown) update = inr (λ there. unknown there.known)
         go (inl k) (inr none) = inr (λ there. none
-            (record { number = there.object; op = Make there.dir there.name there.kind; update = there.update }))
+            (record { number = there.object; op = Make there.dir there.name there.kind there.text; update = there.update }))
         go (inl k) (inl here) = made_by k here.number here.op here.update
 
     pub some_made : Decided (HasMade H U P)
@@ -239,6 +241,7 @@ module _ (H : List Event) (U : ℕ → Type 0) (known : (position : ℕ) → Dec
             position = position;
             dir = there.dir;
             name = there.name;
+            text = there.text;
             known = there.known;
             update = there.update;
           };
@@ -252,6 +255,7 @@ module _ (H : List Event) (U : ℕ → Type 0) (known : (position : ℕ) → Dec
             dir = has.made.dir;
             name = has.made.name;
             kind = has.kind;
+            text = has.made.text;
             update = has.made.update;
             holds = has.holds;
           },

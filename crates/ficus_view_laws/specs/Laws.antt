@@ -96,8 +96,8 @@ StandsOnce = (members : ℕ) (H : List Event) (replica : ℕ) (id : Id) (one oth
 -- so what an Accept leaves under it is what the merge table makes of what stood at the replica, and at the server when
 -- it served, and nothing else
 abbrev pub AcceptLeavesOne : Type 0
-AcceptLeavesOne = (volume : Volume) (H : List Event) (replica served server : ℕ) (id : Id)
-    (mine theirs one other : Option State) → IsAnswer volume H replica served server →
+AcceptLeavesOne = (volume : Volume) (H : List Event) (replica served piece server : ℕ) (id : Id)
+    (mine theirs one other : Option State) → IsAnswer volume H replica served piece server →
     StandsAs volume.members H replica id mine → StandsAs volume.members (through served H) server id theirs →
     Merges replica volume.members mine theirs one →
-    StandsAs volume.members (H ++ Accept replica served ∷ []) replica id other → one ≡ other
+    StandsAs volume.members (H ++ Accept replica served piece ∷ []) replica id other → one ≡ other

@@ -6,8 +6,8 @@ ghost use Rattle.ficus_why.specs.Plain.{IsPlain, IsPlainAt, PointsBack};
 use crate::event::actor_of;
 use ficus_model::{Event, History};
 
-/// Whether each event of the history is of a replica from 1 to 8, and the ask or serve that it names stands before it,
-/// as in each history that a world stores. It takes one walk.
+/// Whether each event of the history is of a replica from 1 to 8, and what it serves or whose state it takes stands
+/// before it, as in each history that a world stores. It takes one walk.
 pub fn is_plain(history: &History) -> bool
     ensures { IsTrue result ↔ IsPlain history.now.events }
 {
@@ -43,7 +43,10 @@ fn points_back(event: &Event, position: u32) -> bool
     match event {
         Event::Serve { ask, .. } => *ask < position,
         Event::Accept { serve, .. } => *serve < position,
-        Event::Update { .. } | Event::Ask { .. } | Event::Collect { .. } | Event::Restart { .. } =>
-            true,
+        Event::Update { .. }
+        | Event::Ask { .. }
+        | Event::Take { .. }
+        | Event::Collect { .. }
+        | Event::Restart { .. } => true,
     }
 }

@@ -1,2 +1,2 @@
 pub mod Message
-pub mod WireFault
+pub mod Parts

@@ -1,6 +1,7 @@
-use ficus_entry::{Entries, SharedEntry};
-use ficus_file::{Files, SharedFile};
 use ficus_ids::Listed;
+
+/// The most pieces that an answer has.
+pub const PIECE_LIMIT: u32 = 262_144;
 
 /// What one replica sends to another.
 #[derive(Drop)]
@@ -11,40 +12,42 @@ pub enum Message {
         to: u8,
         number: u64,
     },
-    /// What replica `from` held when it served the ask of replica `to` with this number.
-    Answer {
+    /// A piece of what replica `from` held when it served the ask of replica `to` with this number: its generation was
+    /// `state` then, and its tables have so many pieces, of which this is the one with the index, from 0.
+    Piece {
         from: u8,
         to: u8,
         number: u64,
-        entries: Entries,
-        files: Files,
+        state: u64,
+        pieces: u32,
+        index: u32,
+        bytes: Listed<u8>,
     },
 }
 
-/// A message as it is read, before its tables are made from their rows: who takes them walks along them once, and may
-/// share them.
-#[derive(Drop)]
-pub enum Letter {
-    /// As [`Message::Ask`].
-    Ask {
-        from: u8,
-        to: u8,
-        number: u64,
-    },
-    /// As [`Message::Answer`].
-    Answer {
-        from: u8,
-        to: u8,
-        number: u64,
-        entries: Listed<SharedEntry>,
-        files: Listed<SharedFile>,
-    },
-}
-
-// From whom to whom a message goes, and the number of its ask.
+/// From whom to whom a message goes, and the number of its ask.
 #[derive(Clone, Copy)]
-pub(crate) struct Route {
-    pub(crate) from: u8,
-    pub(crate) to: u8,
-    pub(crate) number: u64,
+pub struct Route {
+    pub from: u8,
+    pub to: u8,
+    pub number: u64,
+}
+
+/// What stands in front of the bytes of a piece: the generation of who served it, how many pieces there are, and which
+/// of them it is, from 0.
+#[derive(Clone, Copy)]
+pub struct PieceHead {
+    pub route: Route,
+    pub state: u64,
+    pub pieces: u32,
+    pub index: u32,
+}
+
+/// A message as it is read. The bytes of a piece are lent by those that were read.
+#[derive(Clone, Copy)]
+pub enum Letter<'a> {
+    /// As [`Message::Ask`].
+    Ask(Route),
+    /// As [`Message::Piece`].
+    Piece(PieceHead, &'a [u8]),
 }

@@ -9,20 +9,20 @@ use std::test::Fail;
 
 // The fresh image of replica 1 of 2, with the default limits.
 const FRESH: [u8; 38] = [
-    70, 73, 67, 49, 1, 2, 0, 1, 134, 160, 0, 64, 0, 0, 0, 0, 0, 1, 0, 0, 0, 0, 0, 0, 0, 0, 0, 0, 0,
+    70, 73, 67, 50, 1, 2, 0, 1, 134, 160, 0, 64, 0, 0, 0, 0, 0, 1, 0, 0, 0, 0, 0, 0, 0, 0, 0, 0, 0,
     0, 0, 0, 0, 0, 0, 0, 0, 0,
 ];
 
 // The image of the same replica after `1 mkdir /a`.
 const DIRECTORY: [u8; 71] = [
-    70, 73, 67, 49, 1, 2, 0, 1, 134, 160, 0, 64, 0, 0, 0, 0, 0, 2, 0, 0, 0, 0, 0, 0, 0, 0, 0, 0, 0,
+    70, 73, 67, 50, 1, 2, 0, 1, 134, 160, 0, 64, 0, 0, 0, 0, 0, 2, 0, 0, 0, 0, 0, 0, 0, 0, 0, 0, 0,
     1, 0, 0, 0, 1, 1, 0, 0, 0, 1, 0, 0, 0, 0, 0, 1, 97, 1, 0, 0, 0, 1, 0, 0, 0, 0, 1, 1, 0, 0, 0,
     1, 0, 0, 0, 0, 0, 0, 0, 0, 0, 0,
 ];
 
 // After `1 mkdir /a` and `1 mkdir /b`, with the two entries exchanged.
 const EXCHANGED: [u8; 104] = [
-    70, 73, 67, 49, 1, 2, 0, 1, 134, 160, 0, 64, 0, 0, 0, 0, 0, 3, 0, 0, 0, 0, 0, 0, 0, 0, 0, 0, 0,
+    70, 73, 67, 50, 1, 2, 0, 1, 134, 160, 0, 64, 0, 0, 0, 0, 0, 3, 0, 0, 0, 0, 0, 0, 0, 0, 0, 0, 0,
     2, 0, 0, 0, 2, 1, 0, 0, 0, 2, 0, 0, 0, 0, 0, 1, 98, 1, 0, 0, 0, 2, 0, 1, 0, 0, 0, 1, 0, 0, 0,
     0, 0, 1, 97, 1, 0, 0, 0, 1, 0, 0, 0, 0, 2, 1, 0, 0, 0, 1, 0, 0, 0, 0, 0, 0, 0, 0, 0, 0, 1, 0,
     0, 0, 2, 0, 0, 0, 0, 0, 0, 0, 0, 0, 0,
@@ -30,16 +30,26 @@ const EXCHANGED: [u8; 104] = [
 
 // The fresh image with a byte more.
 const LONGER: [u8; 39] = [
-    70, 73, 67, 49, 1, 2, 0, 1, 134, 160, 0, 64, 0, 0, 0, 0, 0, 1, 0, 0, 0, 0, 0, 0, 0, 0, 0, 0, 0,
+    70, 73, 67, 50, 1, 2, 0, 1, 134, 160, 0, 64, 0, 0, 0, 0, 0, 1, 0, 0, 0, 0, 0, 0, 0, 0, 0, 0, 0,
     0, 0, 0, 0, 0, 0, 0, 0, 0, 0,
 ];
 
 // After `1 create /a plain` and a write of one byte, by a replica that may write one byte.
 const WRITTEN: [u8; 82] = [
-    70, 73, 67, 49, 1, 2, 0, 1, 134, 160, 0, 0, 0, 1, 0, 0, 0, 3, 0, 0, 0, 1, 0, 0, 0, 0, 0, 0, 0,
+    70, 73, 67, 50, 1, 2, 0, 1, 134, 160, 0, 0, 0, 1, 0, 0, 0, 3, 0, 0, 0, 1, 0, 0, 0, 0, 0, 0, 0,
     2, 0, 0, 0, 1, 1, 0, 0, 0, 1, 0, 0, 0, 0, 0, 1, 97, 1, 0, 0, 0, 1, 0, 0, 0, 0, 1, 1, 0, 0, 0,
     1, 1, 1, 0, 0, 0, 2, 0, 0, 0, 0, 0, 1, 120, 0, 0, 0, 0, 0, 0, 0, 0,
 ];
+
+// After `1 symlink /l "a"`, by a replica with the default limits.
+const LINK: [u8; 82] = [
+    70, 73, 67, 50, 1, 2, 0, 1, 134, 160, 0, 64, 0, 0, 0, 0, 0, 2, 0, 0, 0, 1, 0, 0, 0, 0, 0, 0, 0,
+    1, 0, 0, 0, 1, 1, 0, 0, 0, 1, 0, 0, 0, 0, 0, 1, 108, 1, 0, 0, 0, 1, 0, 0, 0, 0, 1, 1, 0, 0, 0,
+    1, 5, 1, 0, 0, 0, 1, 0, 0, 0, 0, 0, 1, 97, 0, 0, 0, 0, 0, 0, 0, 0,
+];
+
+// The byte that tells version 1.
+const FIRST_VERSION: Change = Change { place: 3, byte: 49 };
 
 // It stays an image: of another member, which may have made more; with the greatest generation; with fewer bytes used;
 // with an entry of a number that was used; with a count of its own that is lower; with any count of the other's, in the
@@ -58,8 +68,8 @@ const STILL: [Change; 8] = [
     Change { place: 77, byte: 2 },
 ];
 
-// It is none any more: a generation above the greatest; a version that the next update makes; more bytes used than it may
-// write; an entry that the next update makes; a version and a cover of updates that it hasn't made.
+// It is none any more: a generation above the greatest; a version that the next update makes; more bytes used than it
+// may write; an entry that the next update makes; a version and a cover of updates that it hasn't made.
 const NO_MORE: [Change; 6] = [
     Change {
         place: 22,
@@ -98,7 +108,7 @@ fn read_front(rest: &mut Reader<'_>) -> Option<Front> {
     let next = rest.number32().ok()?;
     let used = rest.number32().ok()?;
     let generation = rest.number64().ok()?;
-    let fits = magic == b"FIC1".as_slice()
+    let fits = (magic == b"FIC1".as_slice() || magic == b"FIC2".as_slice())
         && (1..=members.count()).contains(&me)
         && (1..=100_000).contains(&ids)
         && bytes <= 4_194_304
@@ -178,7 +188,7 @@ impl Grammar for Images {
         match decode_image(alloc, bytes) {
             Ok(saved) => {
                 let again = encode_image(alloc, &saved)?;
-                Ok(is_image && again.as_slice() == bytes)
+                Ok(is_image && again.starts_with(b"FIC2") && again[4..] == bytes[4..])
             }
             Err(ImageFault::NotImage) => Ok(!is_image),
             Err(ImageFault::Memory) => Err(Memory),
@@ -211,6 +221,7 @@ fn images_are_those_of_the_grammar(rt: HostRuntime) -> Result<(), Fail> {
     assert!(rt; stays_so(rt.alloc(), &FRESH)?);
     assert!(rt; stays_so(rt.alloc(), &DIRECTORY)?);
     assert!(rt; stays_so(rt.alloc(), &WRITTEN)?);
+    assert!(rt; stays_so(rt.alloc(), &LINK)?);
     assert!(rt; reads_variants(&Images, rt.alloc(), &FRESH)?);
     assert!(rt; reads_variants(&Images, rt.alloc(), &DIRECTORY)?);
     Ok(())
@@ -243,6 +254,25 @@ fn is_written(saved: &Saved) -> bool {
         && saved.generation == 2
         && saved.entries.len() == 1
         && saved.files.len() == 1
+}
+
+// Whether an image of version 1 gives what is spelled with these bytes in version 2.
+fn is_read_in_version_1(alloc: Global, bytes: &[u8]) -> Result<bool, Memory> {
+    let earlier = changed(alloc, bytes, FIRST_VERSION)?;
+    match decode_image(alloc, &earlier) {
+        Ok(saved) => Ok(encode_image(alloc, &saved)?.as_slice() == bytes),
+        Err(ImageFault::NotImage) => Ok(false),
+        Err(ImageFault::Memory) => Err(Memory),
+    }
+}
+
+#[test]
+fn version_1_is_read_where_there_is_no_link(rt: HostRuntime) -> Result<(), Fail> {
+    assert!(rt; is_read_in_version_1(rt.alloc(), &FRESH)?);
+    assert!(rt; is_read_in_version_1(rt.alloc(), &DIRECTORY)?);
+    assert!(rt; is_read_in_version_1(rt.alloc(), &WRITTEN)?);
+    assert!(rt; is_refused(rt.alloc(), &changed(rt.alloc(), &LINK, FIRST_VERSION)?));
+    Ok(())
 }
 
 #[test]

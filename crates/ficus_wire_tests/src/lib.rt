@@ -1,12 +1,12 @@
-//! Tests of messages, images and tables as bytes, and of the links in memory, by vectors.
+//! Tests of messages, pieces, images and tables as bytes, by vectors.
 #![tactic(auto)]
 
 #[cfg(test)]
 mod images;
 #[cfg(test)]
-mod links;
-#[cfg(test)]
 mod messages;
+#[cfg(test)]
+mod pieces;
 #[cfg(test)]
 mod tables;
 #[cfg(test)]

@@ -100,7 +100,8 @@ fn read_check(alloc: Global, given: &Given<'_>) -> Result<Mode, WordsFault>
     Ok(Mode::Check { root })
 }
 
-// The folder, where nothing else is given besides the mode. `Usage` comes exactly where there is none, or more is given.
+// The folder, where nothing else is given besides the mode. `Usage` comes exactly where there is none, or more is
+// given.
 fn read_folder_alone(alloc: Global, given: &Given<'_>) -> Result<Root, WordsFault>
     ensures found { IfOk result (HasFolderAlone (given_texts given.now)) }
     ensures usage { IsErrOf result WordsFault.Usage → (root : List ℕ)

@@ -1,5 +1,5 @@
 -- What is carried out on a world and its disks, one action after the other.
-use Rattle.std.proofs.Common.{◌≡◌, ◌≢◌, ◌⊎◌, ℕ, ◌+◌, ◌-◌, ◌≤◌, List, [], ◌∷◌, ◌++◌, length, Result, Ok, Err, Some, Option, refl, sym, ap, subst, ◌∙◌, inl, inr, arith}
+use Rattle.std.proofs.Common.{◌≡◌, ◌≢◌, ◌⊎◌, ℕ, ◌+◌, ◌-◌, ◌≤◌, List, [], ◌∷◌, ◌++◌, length, Result, Ok, Err, Some, Option, refl, sym, ap, ap₂, subst, ◌∙◌, inl, inr, arith}
 use Rattle.std.proofs.lemmas.List.{length-set, length_push}
 use Rattle.ficus_model.specs.declared.event.Event.{Event}
 use Rattle.ficus_replica.specs.declared.replica.Replica.{Replica}
@@ -14,7 +14,7 @@ use Rattle.ficus_script.specs.declared.answer.Answer.{Answer}
 use Rattle.ficus_script.specs.declared.command.Command.{Command}
 use Rattle.ficus_runs.specs.Answers.{OrMemory}
 use Rattle.ficus_runs.specs.Fuses.{FuseState, FusesAllowAll, Keeping, after_outcomes}
-use Rattle.ficus_runs.specs.Outcome.{Outcome, IsDone, IsSaved, LinkFails, SaveFails, armings_in, store_failures}
+use Rattle.ficus_runs.specs.Outcome.{Outcome, IsDone, IsSaved, LinkFails, SaveFails, armings_in, is_arming, is_store_failure, store_failures}
 use Rattle.ficus_runs.specs.Sequence.{Effect, First, joined, unchanged}
 use Rattle.ficus_runs.specs.Sequence.First.{Ends, Goes}
 use Rattle.ficus_world.specs.declared.member.Member.{Member}
@@ -24,8 +24,8 @@ use Rattle.ficus_world.specs.Fuses.{FusesFollow, FusesStand, keeping_of}
 use Rattle.ficus_world.specs.Moves.{CarriesOut, TablesMayWantMemory, WholeAction, advanced, downed, not_saved, saved}
 use Rattle.ficus_world.specs.Stepped.{ComesTo}
 use Rattle.ficus_world.specs.World.{Backed, Whole}
-use Rattle.ficus_world.proofs.Disks.{follows_alike, follows_none, follows_then}
-use Rattle.ficus_world.proofs.Fuses.{fuses_none, fuses_then}
+use Rattle.ficus_world.proofs.Disks.{count_append, follows_alike, follows_none, follows_then}
+use Rattle.ficus_world.proofs.Fuses.{after_then, allow_then, fuses_none, fuses_then}
 
 -- whatever it is
 pub or_memory : {A : Type 0} (rule : Result A Refusal → Type 0) (answer : Result A Refusal) → rule answer
@@ -124,6 +124,20 @@ quiet_failure = record {
   arms = λ r. refl;
   allowed = λ keeping F. (tt, tt);
   after = λ keeping F. refl;
+}
+
+-- one thing after the other
+pub quiet_then : {one other : List Outcome} → AreQuiet one → AreQuiet other → AreQuiet (one ++ other)
+quiet_then {one} {other} first second = record {
+  fails = λ r.
+      count_append (is_store_failure r) one other ∙ ap₂ (λ (m n : ℕ). m + n) (first.fails r) (second.fails r);
+  arms = λ r. count_append (is_arming r) one other ∙ ap₂ (λ (m n : ℕ). m + n) (first.arms r) (second.arms r);
+  allowed = λ keeping F.
+      allow_then keeping F one other (first.allowed keeping F)
+      (subst (λ G. FusesAllowAll keeping G other) (sym (first.after keeping F)) (second.allowed keeping F));
+  after = λ keeping F.
+      after_then keeping F one other ∙ ap (λ G. after_outcomes keeping G other) (first.after keeping F)
+      ∙ second.after keeping F;
 }
 
 -- leaves them as they are
@@ -227,7 +241,7 @@ module _ {K D : Type 0} {keep : Keep K} {disk : Disk D} where
 pub advanced_members : (old new : Whole) (by : ℕ) (was : Member) (replica : Replica) (event : Event)
     → new ≡ advanced old by was replica event → length new.members ≡ length old.members
 advanced_members old new by was replica event is =
-    ap (λ (w : Whole). length w.members) is ∙ length-set old.members (by - 1) (record was { replica = replica })
+    ap (λ (w : Whole). length w.members) is ∙ length-set old.members (by - 1) _
 
 pub advanced_events : (old new : Whole) (by : ℕ) (was : Member) (replica : Replica) (event : Event)
     → new ≡ advanced old by was replica event → length new.events ≤ length old.events + 1

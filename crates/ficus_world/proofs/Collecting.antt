@@ -26,7 +26,7 @@ keeps_no_garbage : (old : Whole) (by entries files : ℕ) (was : Member) → IsN
     → answer.Collected entries files ≡ answer_as result
     → HasCollected (command.Collect by) (answer.Collected entries files) left.after
 keeps_no_garbage old by entries files was is result left (Collects {given = given} gives) same = λ replica held.
-    elim (replaced old.members by by (record was { replica = given.replica }) held.member is.member.at_least held.is) [
+    elim (replaced old.members by by _ held.member is.member.at_least held.is) [
       | inl (here, swapped) ↦
           subst (λ (r : Replica). HoldsNoGarbage r.saved.members r.saved.entries r.saved.files)
           (sym (held.holds ∙ ap (λ (m : Member). m.replica) swapped)) (collect_leaves was.replica given gives)

@@ -25,7 +25,7 @@ use Rattle.ficus_run_laws.proofs.Numbers.{number_exists, number_once}
 use Rattle.ficus_run_laws.proofs.Replaced.{replaced}
 
 -- how often something became of one and the other
-count_append : (test : Outcome → Bool) (one other : List Outcome)
+pub count_append : (test : Outcome → Bool) (one other : List Outcome)
     → count_by test (one ++ other) ≡ count_by test one + count_by test other
 count_append test one other = sum_by-append (λ outcome. cond (test outcome) 1 0) one other
 

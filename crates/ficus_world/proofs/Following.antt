@@ -42,7 +42,7 @@ use Rattle.ficus_runs.specs.Numbered.{IsNumbered}
 use Rattle.ficus_runs.specs.Outcome.{Outcome, AllDone, IsSaved}
 use Rattle.ficus_runs.specs.Peers.{ArePeers}
 use Rattle.ficus_runs.specs.Run.{CommandMayWantMemory, Does, DoesPart}
-use Rattle.ficus_runs.specs.Exchange.{Asks, GivesMail, GivesNext}
+use Rattle.ficus_runs.specs.Exchange.{Asks, GivesEach, GivesMail, GivesSome, mails_of}
 use Rattle.ficus_runs.specs.Sequence.{CutFirst, Effect, First, NothingDone, unchanged}
 use Rattle.ficus_runs.specs.Sequence.CutFirst.{InFirst, InRest}
 use Rattle.ficus_runs.specs.Sequence.ByRule.{Says}
@@ -50,7 +50,7 @@ use Rattle.ficus_runs.specs.Sequence.First.{Ends, Goes}
 use Rattle.ficus_world.specs.declared.member.Member.{Member}
 use Rattle.ficus_world.specs.declared.member.MemberState.TheVariants as state
 use Rattle.ficus_world.specs.Follows.{FollowsIn, FollowsPart, Follows, TellsFor}
-use Rattle.ficus_world.specs.Moves.{TablesMayWantMemory, KeepsAsk, KeepsCollection, KeepsUpdate, GivesMessage, GivesNextMessage, Reopens, CarriesOut, CutShort, Moves}
+use Rattle.ficus_world.specs.Moves.{TablesMayWantMemory, KeepsAsk, KeepsCollection, KeepsUpdate, GivesMessage, GivesMessages, GivesSomeMessages, Reopens, CarriesOut, CutShort, Moves}
 use Rattle.ficus_world.specs.Moves.ArmsDisks.{Arms as ArmsIn, ArmsNone}
 use Rattle.ficus_world.specs.Moves.FindsMember.{Finds, FindsNone}
 use Rattle.ficus_world.specs.Moves.FindsPeers.{FindsBoth, FindsNoPeers, FindsOneDown}
@@ -60,7 +60,7 @@ use Rattle.ficus_world.specs.Moves.KeepsUpdate.{Keeps, KeepsNot}
 use Rattle.ficus_world.specs.Moves.Reopens.{ReopenedAsWas, ReopenedAsPending, NotReopened, NoImageFound}
 use Rattle.ficus_world.specs.World.{Whole, IsUpIn, WorldStandsFor}
 use Rattle.ficus_run_laws.proofs.Agreement.{alike_answer_along, look_answer_along}
-use Rattle.ficus_world.proofs.Exchanging.{ask_lifts, give_lifts, give_next_lifts}
+use Rattle.ficus_world.proofs.Exchanging.{ask_lifts, give_lifts, gives_each_lift, gives_some_lift}
 use Rattle.ficus_world.proofs.Lifts.{one_stored, two_stored, Lifts, CutLifts, first_lifts, cut_lifts, gives_lifts, nothing_lifts, stays}
 use Rattle.ficus_world.proofs.Outcomes.{steady_caused}
 use Rattle.ficus_world.proofs.Pending.{comes_now, pending_comes}
@@ -103,8 +103,8 @@ module _ (volume : Volume) (W : ModelWorld) (old : Whole) (stands : WorldStandsF
           changed_after lawful stands.count.at_least here change (record { replica = next; op = op })
           (record { answer = decided; applied = applied; ask = ask })
 
-      update_comes : Comes volume W old stands by member next is up (event.Update by op) (event.Update by op) refl refl
-      update_comes later lawful here = (changed_later (W.events ++ later) lawful here).after
+      update_comes : Comes volume W old stands by member next is up (event.Update by op) (event.Update by op) refl refl refl
+      update_comes later others lawful here = (changed_later (W.events ++ later) lawful here).after
 
       update_decided : ChangeRule (history_view volume W.events by) change (Ok op)
       update_decided = (changed_later W.events stands.lawful (replica_stands volume W old stands by member is)).answer
@@ -122,7 +122,7 @@ module _ (volume : Volume) (W : ModelWorld) (old : Whole) (stands : WorldStandsF
       stored = one_stored W.events old.events (event.Update by op) (event.Update by op);
       stands =
           saved_stands volume W old stands by member next is up (event.Update by op) (event.Update by op) refl refl
-          (update_comes change op next decided applied ask);
+          refl (update_comes change op next decided applied ask);
     }
     follow_update change op decided result left (KeepsNot {new = next} applied ask) = record {
       after = with_standing W by (model.Down (Some (event.Update by op)));
@@ -133,7 +133,7 @@ module _ (volume : Volume) (W : ModelWorld) (old : Whole) (stands : WorldStandsF
       stored = refl;
       stands =
           unsaved_stands volume W old stands by member next is up (event.Update by op) (event.Update by op) refl refl
-          (update_comes change op next decided applied ask);
+          refl (update_comes change op next decided applied ask);
     }
 
     -- what a collection gives of what the member holds, it gives after what has happened, whatever others do meanwhile
@@ -146,8 +146,8 @@ module _ (volume : Volume) (W : ModelWorld) (old : Whole) (stands : WorldStandsF
         (subst (λ n. StandsFor volume H n member.replica) (sym me) here))
 
     collection_comes : (given : Collected) → CollectGives member.replica given
-        → Comes volume W old stands by member given.replica is up (event.Collect by) (event.Collect by) refl refl
-    collection_comes given gives later lawful here =
+        → Comes volume W old stands by member given.replica is up (event.Collect by) (event.Collect by) refl refl refl
+    collection_comes given gives later others lawful here =
         (collected_stands (W.events ++ later) lawful here given gives).after
 
     -- where the member collects, it does so in the model too
@@ -165,7 +165,7 @@ module _ (volume : Volume) (W : ModelWorld) (old : Whole) (stands : WorldStandsF
           stored = one_stored W.events old.events (event.Collect by) (event.Collect by);
           stands =
               saved_stands volume W old stands by member given.replica is up (event.Collect by) (event.Collect by) refl
-              refl (collection_comes given gives);
+              refl refl (collection_comes given gives);
         }
     collection_follows result left (CollectsNot {given = given} gives) =
         let here = replica_stands volume W old stands by member is in
@@ -178,7 +178,7 @@ module _ (volume : Volume) (W : ModelWorld) (old : Whole) (stands : WorldStandsF
           stored = refl;
           stands =
               unsaved_stands volume W old stands by member given.replica is up (event.Collect by) (event.Collect by)
-              refl refl (collection_comes given gives);
+              refl refl refl (collection_comes given gives);
         }
 
   follow_change : (tells disks_tell : Type 0) (by : ℕ) (change : Change) (result : Result Answer Refusal)
@@ -449,21 +449,25 @@ follow_wanted volume W old stands command wants = wanted volume W old stands com
 module _ (tells : Type 0) (told : tells) (volume : Volume) where
   -- what a pull does behind the look for its members
   pulling : (by to : ℕ) → Lifts volume
-      (First (KeepsAsk tells by to) (λ number. First (GivesMessage tells number) (GivesNextMessage tells)))
-      (First (Asks volume by to) (λ number. First (GivesMail volume number) (GivesNext volume)))
+      (First (KeepsAsk tells by to)
+      (λ number. First (GivesMessage tells number) (λ given. GivesMessages tells (mails_of given))))
+      (First (Asks volume by to)
+      (λ number. First (GivesMail volume number) (λ given. GivesEach volume (mails_of given))))
   pulling by to =
       first_lifts volume (ask_lifts tells told volume by to)
-      (λ number. first_lifts volume (give_lifts tells told volume number) (give_next_lifts tells told volume))
+      (λ number. first_lifts volume (give_lifts tells told volume number)
+      (λ given. gives_each_lift tells told volume (mails_of given)))
 
   pulling_cut : (by to : ℕ) → CutLifts volume
       (CutFirst (KeepsAsk tells by to) NothingDone
-      (λ number. CutFirst (GivesMessage tells number) NothingDone (λ given. NothingDone)))
+      (λ number. CutFirst (GivesMessage tells number) NothingDone
+      (λ given. GivesSomeMessages tells (mails_of given))))
       (CutFirst (Asks volume by to) NothingDone
-      (λ number. CutFirst (GivesMail volume number) NothingDone (λ given. NothingDone)))
+      (λ number. CutFirst (GivesMail volume number) NothingDone (λ given. GivesSome volume (mails_of given))))
   pulling_cut by to =
       cut_lifts volume (ask_lifts tells told volume by to) (nothing_lifts volume)
       (λ number. cut_lifts volume (give_lifts tells told volume number) (nothing_lifts volume)
-      (λ given. nothing_lifts volume))
+      (λ given. gives_some_lift tells told volume (mails_of given)))
 
   pull_lifts : (disks_tell : Type 0) (by to : ℕ)
       → Lifts volume (CarriesOut tells disks_tell (command.Pull by to)) (Does volume (command.Pull by to))

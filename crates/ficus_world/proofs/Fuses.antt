@@ -12,7 +12,6 @@ use Rattle.ficus_keep.specs.Pairs.{PairWithin}
 use Rattle.ficus_keep.specs.declared.keep.Keep.{Ghosts as Keep}
 use Rattle.ficus_saved.specs.declared.saved.Saved.{Saved}
 use Rattle.ficus_stable.specs.Fuses.{DecidedByFuses}
-use Rattle.ficus_image.specs.Image.{image_bytes}
 use Rattle.ficus_leads.specs.Holds.{Holds, OneHeld}
 use Rattle.ficus_leads.proofs.Led.{held_generation}
 use Rattle.ficus_runs.specs.Fuses.{FuseState, FusesAllow, FusesAllowAll, Keeping, after_arming, after_failing, after_outcome, after_outcomes, after_saving, next_calls, next_fuse, with_fuses}
@@ -55,7 +54,7 @@ pub same_generation : (found : Option Kept) (m n : Saved) → Holds found m → 
 same_generation found m n holds also =
     let kept : Kept = record {
       generation = holds.base.generation;
-      image = image_bytes holds.base;
+      image = holds.image;
       records = holds.records;
     } in
     sym (held_generation kept m (subst (λ k. Holds k m) holds.is holds))

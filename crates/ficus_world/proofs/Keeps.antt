@@ -7,7 +7,7 @@ use Rattle.ficus_runs.specs.Numbered.{IsNumbered}
 use Rattle.ficus_world.specs.declared.member.Member.{Member}
 use Rattle.ficus_world.specs.declared.member.MemberState.TheVariants.{Up, Down}
 use Rattle.ficus_world.specs.declared.member.Pending.{Pending}
-use Rattle.ficus_world.specs.Moves.{advanced, downed}
+use Rattle.ficus_world.specs.Moves.{advanced, downed, parts_after}
 use Rattle.ficus_world.specs.World.{Whole, IsSoundMember, IsSoundNext, IsWorld, whole_of}
 use Rattle.ficus_world.proofs.SoundWorlds.{held_sound, put_down_sound, world_after}
 
@@ -15,7 +15,7 @@ module _ (old : Whole) (by : ℕ) (next : Pending) (members : List Member) (even
   -- the members, where one keeps it, and where it is put down
   abbrev pub Held : Type 0
   Held = (was : Member) → IsNumbered old.members by was
-      → members ≡ slice_set old.members (by - 1) (record was { replica = next.replica })
+      → members ≡ slice_set old.members (by - 1) (record was { replica = next.replica; parts = parts_after next.event was.parts })
 
   abbrev pub PutDown : Type 0
   PutDown = (was : Member) → IsNumbered old.members by was
@@ -27,9 +27,9 @@ module _ (old : Whole) (by : ℕ) (next : Pending) (members : List Member) (even
       → IsWorld old → OnOk result Held → OnOk result (events ≡ old.events ++ next.event ∷ []) → OnErr result PutDown
       → OnErr result (events ≡ old.events) → IsWorld (whole_of members events old.post)
   kept_world (Ok done) was is up sound world held stored down kept =
-      let now : Member = record was { replica = next.replica } in
+      let now : Member = record was { replica = next.replica; parts = parts_after next.event was.parts } in
       let grown = length_push old.events next.event in
-      let now_sound = subst (λ n. IsSoundMember (length old.members) n by now) (sym grown) (held_sound up sound) in
+      let now_sound = subst (λ n. IsSoundMember (length old.members) n by now) (sym grown) (held_sound was (parts_after next.event was.parts) up sound) in
       subst (λ list. IsWorld (whole_of members list old.post)) (sym stored)
       (world_after old (old.events ++ next.event ∷ []) by was now is world now_sound (omega (arith, grown)) members
       (held was is))

@@ -16,8 +16,13 @@ pub mod Pulling
 pub mod Restarting
 pub mod Collecting
 pub mod Pending
+pub mod Parts
+pub mod Held
+pub mod Placing
+pub mod Collected
 pub mod Standing
 pub mod Lifts
+pub mod Pieces
 pub mod Exchanging
 pub mod Following
 pub mod Stepping
@@ -31,3 +36,5 @@ pub mod Bad
 pub mod Kills
 pub mod Others
 pub mod Passing
+pub mod Growing
+pub mod Spelling

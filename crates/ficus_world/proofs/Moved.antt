@@ -20,7 +20,7 @@ use Rattle.ficus_rules.proofs.Rules.{refusal_along}
 use Rattle.ficus_answers.specs.View.{tables_view}
 use Rattle.ficus_commands.specs.declared.told.Told.{Told}
 use Rattle.ficus_script.specs.declared.answer.Answer.{Answer}
-use Rattle.ficus_script.specs.declared.answer.Answer.TheVariants.{Alike, Done, Mail, Told as Tells, Collected as Counted}
+use Rattle.ficus_script.specs.declared.answer.Answer.TheVariants.{Alike, Told as Tells, Collected as Counted}
 use Rattle.ficus_script.specs.declared.command.Command.{Command}
 use Rattle.ficus_script.specs.declared.command.Command.TheVariants.{Change as Changes, Look as Looks, Collect as Collects, Alike as Compares}
 use Rattle.ficus_replica.specs.Change.{ChangeGives}
@@ -36,7 +36,7 @@ use Rattle.ficus_runs.specs.Sequence.ByRule.{Says}
 use Rattle.ficus_runs.specs.Sequence.First.{Ends, Goes}
 use Rattle.ficus_world.specs.declared.member.Member.{Member}
 use Rattle.ficus_world.specs.declared.member.MemberState.TheVariants.{Up}
-use Rattle.ficus_world.specs.Moves.{CarriesOut, Compared, FindsPeers, FindsUp, GivesNextMessage, TablesMayWantMemory, WholeAction, advanced, not_saved, pending_of, saved}
+use Rattle.ficus_world.specs.Moves.{CarriesOut, Compared, FindsPeers, FindsUp, TablesMayWantMemory, WholeAction, advanced, not_saved, pending_of, saved}
 use Rattle.ficus_world.specs.Moves.FindsPeers.{FindsBoth, FindsNoPeers, FindsOneDown}
 use Rattle.ficus_world.specs.Moves.FindsUp.{FindsAt, FindsNoneAt, FindsDown}
 use Rattle.ficus_world.specs.Moves.KeepsCollection.{Collects as Gathers, CollectsNot as GathersNot}
@@ -186,12 +186,6 @@ pub answered_cut : (P : Type 0) (came_to : Result Answer Refusal) (result : Resu
 answered_cut P came_to (Ok answer) cut memory = tt
 answered_cut P came_to (Err fault) cut memory =
     cut (subst (λ (r : Result Answer Refusal). IsErrOf r Memory) (sym memory) refl)
-
--- what isn't a message has nothing that is given next
-pub nothing_next : (tells : Type 0) (given : Answer) (world : Whole) → ((number : ℕ) → given ≡ Mail number → ⊥)
-    → GivesNextMessage tells given world (Ok Done) (unchanged world)
-nothing_next tells (Mail number) world none = absurd (none number refl)
-nothing_next tells other world none = Says refl
 
 -- a refusal is the same, whatever would have been given
 pub same_refusal : {A B : Type 0} (r s : Refusal) → IsErrOf {T = A} (Err r) s → IsErrOf {T = B} (Err r) s

@@ -4,7 +4,7 @@ use Rattle.std.proofs.Math.Seq.{drop-append_seam}
 use Rattle.std.proofs.lemmas.List.{ext_get_or}
 use Rattle.ficus_ids.specs.Members.{IsMember}
 use Rattle.ficus_model.specs.declared.event.Event.{Event}
-use Rattle.ficus_model.specs.declared.event.Event.TheVariants.{Serve, Accept}
+use Rattle.ficus_model.specs.declared.event.Event.TheVariants.{Serve, Take, Accept}
 use Rattle.ficus_model.specs.Events.{raised}
 use Rattle.ficus_model.specs.Lawful.{Volume, IsLawful}
 use Rattle.ficus_replica.proofs.Standing.{replica_once}
@@ -12,23 +12,29 @@ use Rattle.ficus_wire.specs.Message.{message_bytes}
 use Rattle.ficus_wire.specs.declared.message.Message.{Message}
 use Rattle.ficus_why_runs.specs.Row.{lowered, run_of}
 use Rattle.ficus_runs.specs.Message.{IsMessageAt}
-use Rattle.ficus_runs.specs.ModelWorld.{ModelWorld, Standing}
+use Rattle.ficus_runs.specs.ModelWorld.{ModelWorld, Posted, Standing}
 use Rattle.ficus_runs.specs.ModelWorld as model
 use Rattle.ficus_runs.specs.Numbered.{IsNumbered}
 use Rattle.ficus_world.specs.declared.member.Member.{Member}
 use Rattle.ficus_world.specs.declared.member.MemberState.{MemberState}
 use Rattle.ficus_world.specs.declared.member.MemberState.TheVariants as state
 use Rattle.ficus_world.specs.declared.member.Pending.{Pending}
+use Rattle.ficus_world.specs.declared.post.Behind.{Behind}
 use Rattle.ficus_world.specs.World.{Whole, IsLastPart, IsPendingFor, IsPosted, StateStandsFor, WorldStandsFor}
 use Rattle.ficus_world.proofs.LastPart.{length_part}
 use Rattle.ficus_run_laws.proofs.Messages.{message_once}
 use Rattle.ficus_run_laws.proofs.Numbers.{number_read, number_once, number_exists}
+use Rattle.ficus_world.proofs.Held.{held_once}
 use Rattle.ficus_world.proofs.Pending.{comes_now}
-use Rattle.ficus_world.proofs.Standing.{fuses_of, fuses_stand, member_stands, raise, replica_stands, standing_of}
+use Rattle.ficus_world.proofs.Standing.{fuses_of, fuses_stand, member_stands, parts_stand, raise, replica_stands, standing_of}
 
 lowered_again : (n : ℕ) (event : Event) → lowered n (raised n event) ≡ event
-lowered_again n (Serve by ask) = let same : ask + n - n ≡ ask = omega arith in ap (Serve by) same
-lowered_again n (Accept by serve) = let same : serve + n - n ≡ serve = omega arith in ap (Accept by) same
+lowered_again n (Serve by ask state pieces) =
+    let same : ask + n - n ≡ ask = omega arith in ap (λ position. Serve by position state pieces) same
+lowered_again n (Take by serve piece) =
+    let same : serve + n - n ≡ serve = omega arith in ap (λ position. Take by position piece) same
+lowered_again n (Accept by serve piece) =
+    let same : serve + n - n ≡ serve = omega arith in ap (λ position. Accept by position piece) same
 lowered_again n event = refl
 
 all_lowered : (n : ℕ) (events : List Event) → map (lowered n) (map (raised n) events) ≡ events
@@ -64,15 +70,18 @@ same_list (x ∷ xs) other same each =
     (number_read other (i + 1) (get_or other i x) x (record { at_least = omega arith; at_most = omega (arith, same) })
     (ap (λ k. get_or other k x) place)))
 
--- one message of each number was posted, behind one position
-posted_once : {volume : Volume} {W : ModelWorld} {number place position : ℕ} {bytes others : List ℕ} →
-    IsPosted volume W number place bytes → IsPosted volume W number position others →
-    (place ≡ position) × (bytes ≡ others)
-posted_once {volume} {W} {place = place} is too =
-    let positions = number_once is.numbered too.numbered in
-    let messages = message_once volume W.events place is.message too.message is.is
-    (subst (λ p. IsMessageAt volume W.events p too.message) (sym positions) too.is) in
-    (positions, is.spelled.is ∙ ap (λ (m : Message). message_bytes volume.members m) messages ∙ sym too.spelled.is)
+-- one message of each number was posted, behind one position, with one index
+posted_once : {volume : Volume} {W : ModelWorld} {number place index position again : ℕ} {bytes others : List ℕ} →
+    IsPosted volume W number place index bytes → IsPosted volume W number position again others →
+    (place ≡ position) × (index ≡ again) × (bytes ≡ others)
+posted_once {volume} {W} {place = place} {index = index} {position = position} {again = again} is too =
+    let same = number_once is.numbered too.numbered in
+    let positions : place ≡ position = ap (λ (p : Posted). p.position) same in
+    let indexes : index ≡ again = ap (λ (p : Posted). p.index) same in
+    let messages = message_once volume W.events place index is.message too.message is.is
+    (subst (λ p. IsMessageAt volume W.events p index too.message) (sym positions)
+    (subst (λ n. IsMessageAt volume W.events position n too.message) (sym indexes) too.is)) in
+    (positions, indexes, is.spelled.is ∙ ap (λ (m : Message). message_bytes m) messages ∙ sym too.spelled.is)
 
 -- what is pending in the model is pending in one way
 pending_once : (volume : Volume) (H : List Event) → IsLawful volume H → (n r : ℕ) (pending again : Pending)
@@ -109,19 +118,19 @@ state_once volume H lawful n r (state.Down (Some pending)) (state.Down None) (mo
 
 module _ (volume : Volume) (W : ModelWorld) (one other : Whole) (stands : WorldStandsFor volume W one)
     (stands_too : WorldStandsFor volume W other) (stored : length one.events ≡ length other.events) where
-  both_posted : (r p q : ℕ) (bytes others : List ℕ) → IsNumbered one.post.behind r p
-      → IsNumbered other.post.behind r q → IsNumbered one.post.posts r bytes → IsNumbered other.post.posts r others → (p ≡ q) × (bytes ≡ others)
+  both_posted : (r : ℕ) (p q : Behind) (bytes others : List ℕ) → IsNumbered one.post.behind r p
+      → IsNumbered other.post.behind r q → IsNumbered one.post.posts r bytes → IsNumbered other.post.posts r others
+      → (p ≡ q) × (bytes ≡ others)
   both_posted r p q bytes others behind behind_too posts posts_too =
-      let same = posted_once (stands.mail r p bytes behind posts) (stands_too.mail r q others behind_too posts_too) in (
-        omega (
-          arith,
-          same.0,
-          stored,
-          length_part one.events W.events stands.stored,
-          length_part other.events W.events stands_too.stored,
-        ),
-        same.1,
-      )
+      let same = posted_once (stands.mail r p bytes behind posts) (stands_too.mail r q others behind_too posts_too) in
+      let positions : p.position ≡ q.position = omega (
+        arith,
+        same.0,
+        stored,
+        length_part one.events W.events stands.stored,
+        length_part other.events W.events stands_too.stored,
+      ) in
+      (λ i. record { position = positions i; index = same.1 i }, same.2)
 
   same_count : length one.post.behind ≡ length other.post.behind
   same_count = sym stands.posted ∙ stands_too.posted
@@ -157,6 +166,8 @@ module _ (volume : Volume) (W : ModelWorld) (one other : Whole) (stands : WorldS
       let fused = fuses_of volume W one stands r is.member in
       let replicas = replica_once (replica_stands volume W one stands r a is)
       (replica_stands volume W other stands_too r b is_too) in
+      let parts = held_once volume W.events stands.lawful r a.parts b.parts (parts_stand volume W one stands r a is)
+      (parts_stand volume W other stands_too r b is_too) in
       let states = state_once volume W.events stands.lawful (raise volume W one stands) r a.state b.state standing.0
       (member_stands volume W one stands r a is standing.0 standing.1)
       (subst (λ n. StateStandsFor volume W.events n r b.state standing.0) (sym raises_same)
@@ -164,7 +175,7 @@ module _ (volume : Volume) (W : ModelWorld) (one other : Whole) (stands : WorldS
       let fuses : a.fused ≡ b.fused =
       fuses_stand volume W one stands r a is fused.0 fused.1
       ∙ sym (fuses_stand volume W other stands_too r b is_too fused.0 fused.1) in
-      λ i. record { replica = replicas i; state = states i; fused = fuses i }
+      λ i. record { replica = replicas i; parts = parts i; state = states i; fused = fuses i }
 
   pub world_once : one.post.faults ≡ other.post.faults → one ≡ other
   world_once faults = λ i. record {

@@ -1,5 +1,5 @@
 -- What was opened is a world, and stands for what its disks stood for.
-use Rattle.std.proofs.Common.{◌≡◌, ℕ, zero, suc, ◌+◌, ◌-◌, ◌≤◌, Bool, List, [], ◌∷◌, ◌++◌, length, replicate, take, Option, None, refl, sym, ap, subst, ◌∙◌, append_assoc, inl, inr, arith}
+use Rattle.std.proofs.Common.{◌≡◌, ℕ, zero, suc, ◌+◌, ◌-◌, ◌≤◌, Bool, List, [], ◌∷◌, ◌++◌, length, replicate, take, Option, None, refl, sym, ap, subst, ◌∙◌, append_assoc, inl, inr, ◌⊎◌, arith}
 use Rattle.std.specs.Prelude.{map}
 use Rattle.std.specs.List.{range_with_len}
 use Rattle.std.proofs.lemmas.Bool.{cases_eq}
@@ -11,13 +11,14 @@ use Rattle.ficus_disk.specs.declared.pair.Pair.{Pair}
 use Rattle.ficus_ids.specs.Members.{IsCount, IsMember}
 use Rattle.ficus_keep.specs.Kept.{Kept, found_in}
 use Rattle.ficus_laws.proofs.Lawful.{lawful_none}
+use Rattle.ficus_laws.proofs.Positions.{at_cases, at_within}
 use Rattle.ficus_model.specs.declared.event.Event.{Event}
-use Rattle.ficus_model.specs.declared.event.Event.TheVariants.{Restart}
-use Rattle.ficus_model.specs.Events.{raised}
+use Rattle.ficus_model.specs.declared.event.Event.TheVariants.{Restart, Serve}
+use Rattle.ficus_model.specs.Events.{IsAt, is_saved, raised}
 use Rattle.ficus_model.specs.Lawful.{Volume}
 use Rattle.ficus_replica.proofs.Events.{fresh_stands, no_restarts, quiet_stands, restart_stands}
 use Rattle.ficus_replica.proofs.Saves.{saved_kept}
-use Rattle.ficus_replica.specs.SavedOf.{IsSavedOf, StandsFor, fresh_saved, is_saved}
+use Rattle.ficus_replica.specs.SavedOf.{IsSavedOf, StandsFor, fresh_saved}
 use Rattle.ficus_replica.specs.declared.replica.Replica.{Replica}
 use Rattle.ficus_saved.specs.Limits.{byte_limit, update_limit}
 use Rattle.ficus_saved.specs.Saved.{FitsImage}
@@ -30,14 +31,17 @@ use Rattle.ficus_runs.specs.Start.{restarts, start}
 use Rattle.ficus_world.specs.Disks.{are_fused}
 use Rattle.ficus_world.specs.Opening.{AreMade, AreOpened, AreRead, IsFirstBad, Opens, StandsOn, Steady, fuses_in}
 use Rattle.ficus_world.specs.Post.{Outbox}
+use Rattle.ficus_world.specs.declared.post.Behind.{Behind}
 use Rattle.ficus_world.specs.Stand.{KeepsOf}
-use Rattle.ficus_world.specs.World.{IsPendingSound, IsSoundMember, IsWorld, MemberStandsFor, StateStandsFor, Whole, WorldStandsFor, whole_of}
+use Rattle.ficus_world.specs.World.{IsPendingSound, IsSoundMember, IsWorld, MemberStandsFor, PartsStandFor, StateStandsFor, Whole, WorldStandsFor, whole_of}
+use Rattle.ficus_wire.specs.Parts.{HeldParts}
 use Rattle.ficus_world.specs.declared.member.Member.{Member}
 use Rattle.ficus_world.specs.declared.member.MemberState.{MemberState}
 use Rattle.ficus_world.specs.declared.member.MemberState.TheVariants.{Up}
 use Rattle.ficus_run_laws.proofs.Numbers.{number_exists}
 use Rattle.ficus_world.proofs.Openings.{opens_of, opens_same}
-use Rattle.ficus_run_laws.proofs.Starts.{restarts_more, restarts_raised, start_lawful}
+use Rattle.ficus_world.proofs.Parts.{others_leave_taken, parts_ended, parts_left}
+use Rattle.ficus_run_laws.proofs.Starts.{restarts_more, restarts_raised, start_lawful, start_of_run}
 use Rattle.ficus_world.proofs.Steadies.{steady_back}
 
 -- nothing is posted
@@ -79,8 +83,9 @@ module _ (members : List Member) (opened : AreOpened members) (count : IsCount (
   opened_world events post empty = record {
     count = count;
     sound = sound (length events);
-    counted = ap (λ (l : List (List ℕ)). length l) empty.posts ∙ sym (ap (λ (l : List ℕ). length l) empty.behind);
+    counted = ap (λ (l : List (List ℕ)). length l) empty.posts ∙ sym (ap (λ (l : List Behind). length l) empty.behind);
     few = omega (arith, ap (λ (l : List (List ℕ)). length l) empty.posts);
+    within = omega (arith, ap (λ (l : List (List ℕ)). length l) empty.posts);
   }
 
   module _ {D : Type 0} (kept : List ℕ → List ℕ → Option Kept) (seen : D → List ℕ) (old now : List (Pair D))
@@ -199,6 +204,54 @@ module _ (volume : Volume) (H : List Event) (r : ℕ) (replica : Replica) (is : 
       (subst (λ (l : List Event). StandsFor volume l r replica) (sym (one_more count))
       (restarted_next count (λ earlier. restarted count one earlier) (omega (arith, within))))
 
+-- and has taken nothing since
+module _ (volume : Volume) (H : List Event) (r : ℕ) where
+  parts_next : (count : ℕ) → (r ≤ count → PartsStandFor volume (H ++ restarts count) r None) → r ≤ count + 1
+      → PartsStandFor volume ((H ++ restarts count) ++ Restart (count + 1) ∷ []) r None
+  parts_next count before within = elim (cases_eq (count + 1) r) [
+    | inl same ↦ parts_ended (H ++ restarts count) (Restart (count + 1)) r volume same
+    | inr differs ↦
+        parts_left (H ++ restarts count) (Restart (count + 1)) r volume
+        (others_leave_taken r (Restart (count + 1)) differs) None (before (omega (arith, within, differs)))
+  ]
+
+  nothing_taken : (count : ℕ) → 1 ≤ r → r ≤ count → PartsStandFor volume (H ++ restarts count) r None
+  nothing_taken zero one within = absurd (omega (arith, one, within))
+  nothing_taken (suc count) one within =
+      let next : count + 1 ≡ suc count = omega arith in
+      let more : H ++ restarts (count + 1) ≡ (H ++ restarts count) ++ Restart (count + 1) ∷ [] =
+      ap (λ (l : List Event). H ++ l) (restarts_more count)
+      ∙ sym (append_assoc H (restarts count) (Restart (count + 1) ∷ [])) in
+      subst (λ n. PartsStandFor volume (H ++ restarts n) r None) next
+      (subst (λ (l : List Event). PartsStandFor volume l r None) (sym more)
+      (parts_next count (λ earlier. nothing_taken count one earlier) (omega (arith, within))))
+
+-- none of the restarts serves
+restarts_serve_none : (H : List Event) (count : ℕ) {position server ask state pieces : ℕ} → length H ≤ position
+    → IsAt (H ++ restarts count) position (Serve server ask state pieces) → ⊥
+restarts_serve_none H zero {position} {server} {ask} {state} {pieces} since at =
+    omega (
+      arith,
+      since,
+      at_within (subst (λ (l : List Event). IsAt l position (Serve server ask state pieces)) (append-nil H) at),
+    )
+restarts_serve_none H (suc count) {position} {server} {ask} {state} {pieces} since at =
+    go (λ was. restarts_serve_none H count since was) (at_cases (Restart (count + 1)) there)
+  where
+    there : IsAt ((H ++ restarts count) ++ Restart (count + 1) ∷ []) position (Serve server ask state pieces)
+    there =
+        subst (λ (l : List Event). IsAt l position (Serve server ask state pieces))
+        (sym (append_assoc H (restarts count) (Restart (count + 1) ∷ [])))
+        (subst (λ (l : List Event). IsAt (H ++ l) position (Serve server ask state pieces)) (restarts_more count)
+        (subst (λ n. IsAt (H ++ restarts n) position (Serve server ask state pieces))
+        (let next : suc count ≡ count + 1 = omega arith in next) at))
+
+    go : (IsAt (H ++ restarts count) position (Serve server ask state pieces) → ⊥)
+        → IsAt (H ++ restarts count) position (Serve server ask state pieces)
+        ⊎ ((position ≡ length (H ++ restarts count)) × (Serve server ask state pieces ≡ Restart (count + 1))) → ⊥
+    go earlier (inl was) = earlier was
+    go earlier (inr (end, is)) = absurd (cc)
+
 stands_up : (volume : Volume) (H : List Event) (raise r : ℕ) (s : MemberState) (modelled : Standing) → s ≡ Up
     → modelled ≡ model.Up → StateStandsFor volume H raise r s modelled
 stands_up volume H raise r s modelled up also =
@@ -261,11 +314,14 @@ module _ {K D : Type 0} (tells : Type 0) (kept : List ℕ → List ℕ → Optio
         };
         began = refl;
         each = each;
+        run = start_of_run volume H volume.members total (take volume.members (fuses_in armings old));
+        served = λ position server ask state pieces saved since at is.
+            absurd (restarts_serve_none H volume.members since at);
         total = total_is;
-        posted = sym (ap (λ (l : List ℕ). length l) empty.behind);
-        counted = ap (λ (l : List (List ℕ)). length l) empty.posts ∙ sym (ap (λ (l : List ℕ). length l) empty.behind);
+        posted = sym (ap (λ (l : List Behind). length l) empty.behind);
+        counted = ap (λ (l : List (List ℕ)). length l) empty.posts ∙ sym (ap (λ (l : List Behind). length l) empty.behind);
         mail = λ number place bytes behind_at posts.
-            let none : 0 ≡ length world.post.behind = sym (ap (λ (l : List ℕ). length l) empty.behind) in
+            let none : 0 ≡ length world.post.behind = sym (ap (λ (l : List Behind). length l) empty.behind) in
             absurd (omega (arith, none, behind_at.member.at_least, behind_at.member.at_most));
       }
     where
@@ -308,6 +364,9 @@ module _ {K D : Type 0} (tells : Type 0) (kept : List ℕ → List ℕ → Optio
             replica =
                 restarted volume H r member.replica (is_of r member at numbered) so.asks volume.members
                 numbered.at_least numbered.at_most;
+            parts =
+                subst (λ (p : Option HeldParts). PartsStandFor volume (H ++ restarts volume.members) r p) (sym so.parts)
+                (nothing_taken volume H r volume.members numbered.at_least numbered.at_most);
             state =
                 stands_up volume (H ++ restarts volume.members) (length H) r member.state modelled so.up
                 (all_up volume.members r modelled at_standing);

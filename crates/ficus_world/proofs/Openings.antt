@@ -40,7 +40,7 @@ module _ (members : List Member) (saved : Saved) (fused : Bool) (number : ℕ) (
   new = members ++ opened_member saved fused ∷ []
 
   made : (first : Saved) → IsOfVolume first saved → IsOpened first number (opened_member saved fused)
-  made first same = record { up = refl; asks = refl; fits = fits; may = record { own = own; same = same } }
+  made first same = record { up = refl; asks = refl; parts = refl; fits = fits; may = record { own = own; same = same } }
 
   each : (r : ℕ) (first member : Member)
       → IsNumbered members 1 first ⊎ ((1 ≡ length members + 1) × (first ≡ opened_member saved fused))

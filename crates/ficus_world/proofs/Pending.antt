@@ -47,6 +47,7 @@ module _ (volume : Volume) (H : List Event) (raise r : ℕ) where
   pending_later event other pending waits is = record {
     raises = is.raises;
     own = is.own;
+    saves = is.saves;
     follows = λ later others lawful.
         subst (λ K. StandsAfter volume K r waits pending.replica) (sym (append_assoc H (event ∷ []) later))
         (is.follows (event ∷ later) (other, others)

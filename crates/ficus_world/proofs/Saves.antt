@@ -24,6 +24,7 @@ use Rattle.ficus_world.specs.declared.member.MemberState.{MemberState}
 use Rattle.ficus_world.specs.declared.member.MemberState.TheVariants.{Up, Down}
 use Rattle.ficus_world.specs.declared.member.Pending.{Pending}
 use Rattle.ficus_world.specs.Disks.{AreDisksOf, DisksFollow, HoldsFor, IsAfterOpening, IsAfterSave, IsPairOf, IsReadAt, ReopensAt, SavesAt, are_fused}
+use Rattle.ficus_wire.specs.Parts.{HeldParts}
 use Rattle.ficus_world.specs.World.{IsPendingSound, IsSoundMember}
 use Rattle.ficus_world.proofs.Disks.{disks_set, disks_set_pair, follows_at, fused_same, holds_down, holds_still, others_set, set_here}
 
@@ -68,13 +69,14 @@ module _ {D : Type 0} {faults : D → ℕ} {armings : D → Option ℕ} {disks :
 -- a member holds what it has saved, or is down, with that pending
 module _ (by : ℕ) (next : Pending) {old new : List Member} (was : Member) (is : IsNumbered old by was)
     (up : was.state ≡ Up) where
-  pub saves_held : {T E : Type 0} (done : T) → new ≡ slice_set old (by - 1) (record was { replica = next.replica })
+  pub saves_held : {T E : Type 0} (parts : Option HeldParts) (done : T)
+      → new ≡ slice_set old (by - 1) (record was { replica = next.replica; parts = parts })
       → SavesAt {T = T} {E = E} by next.replica.saved (Ok done) old new
-  saves_held done set = record {
+  saves_held parts done set = record {
     was = was;
     is = is;
     up = up;
-    now = record was { replica = next.replica };
+    now = record was { replica = next.replica; parts = parts };
     after = (refl, up, refl);
     set = set;
   }
@@ -272,7 +274,8 @@ module _ {K D : Type 0} (tells : Type 0) (kept : List ℕ → List ℕ → Optio
       ]
 
   -- what is pending at a sound member fits an image
-  pending_fits : (count events r : ℕ) (member : Member) (pending : Pending) → member.state ≡ Down (Some pending) → IsSoundMember count events r member → FitsImage pending.replica.saved
+  pending_fits : (count events r : ℕ) (member : Member) (pending : Pending) → member.state ≡ Down (Some pending) → IsSoundMember count events r member →
+      FitsImage pending.replica.saved
   pending_fits count events r member pending down sound =
       let pending_sound = subst (λ z. IsPendingSound count events r member.replica z) down sound.pending in
       pending_sound.0.fits

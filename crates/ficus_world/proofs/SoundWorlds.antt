@@ -1,7 +1,9 @@
 -- What holds of every world stays so as commands change it.
-use Rattle.std.proofs.Common.{◌≡◌, ℕ, ◌+◌, ◌-◌, ◌≤◌, List, length, Result, Ok, Err, Some, None, sym, ap, subst, ◌∙◌, inl, inr, arith}
-use Rattle.std.specs.Prelude.{slice_set, IfOk, OnErr}
+use Rattle.std.proofs.Common.{◌≡◌, ℕ, ◌+◌, ◌-◌, ◌*◌, ◌≤◌, List, [], ◌∷◌, length, Option, Result, Ok, Err, Some, None, sym, ap, subst, ◌∙◌, inl, inr, arith}
+use Rattle.std.specs.Prelude.{slice_set, All, IfOk, OnErr, sum_by}
 use Rattle.std.proofs.lemmas.List.{length-set, length_push}
+use Rattle.std.proofs.lemmas.List.Elements.{All-head, All-tail}
+use Rattle.std.proofs.lemmas.List.Sums.{sum_by-cons}
 use Rattle.ficus_ids.specs.Members.{IsCount}
 use Rattle.ficus_ids.specs.declared.refusal.Refusal.{Refusal}
 use Rattle.ficus_model.specs.declared.event.Event.{Event}
@@ -13,14 +15,21 @@ use Rattle.ficus_record.specs.declared.record.Record.{Record}
 use Rattle.ficus_record.specs.declared.record.Record.TheVariants.{Accept, Ask, Change, Collect}
 use Rattle.ficus_replica.specs.Makes.{Makes}
 use Rattle.ficus_replica.specs.declared.replica.Replica.{Replica}
+use Rattle.ficus_runs.specs.Exchange.{total_limit}
 use Rattle.ficus_runs.specs.Numbered.{IsNumbered}
+use Rattle.ficus_runs.specs.Sequence.{Effect}
+use Rattle.ficus_runs.specs.Sequence.ByRule.{Says}
+use Rattle.ficus_runs.specs.Sequence.First.{Ends, Goes}
+use Rattle.ficus_wire.specs.Parts.{HeldParts}
 use Rattle.ficus_world.specs.declared.member.Member.{Member}
 use Rattle.ficus_world.specs.declared.member.MemberState.{MemberState}
 use Rattle.ficus_world.specs.declared.member.MemberState.TheVariants.{Up, Down}
 use Rattle.ficus_world.specs.declared.member.Pending.{Pending}
-use Rattle.ficus_world.specs.Moves.{IsLike, restarted, still_pending}
+use Rattle.ficus_world.specs.declared.post.Behind.{Behind}
+use Rattle.ficus_world.specs.Moves.{IsLike, SendsEach, restarted, still_pending}
+use Rattle.ficus_world.specs.Moves.Sends.{NotSent, Sent}
 use Rattle.ficus_world.specs.Post.{Outbox, IsSent, HasFailed}
-use Rattle.ficus_world.specs.World.{Whole, IsPendingSound, IsSound, IsSoundMember, IsSoundNext, IsWorld}
+use Rattle.ficus_world.specs.World.{Whole, IsPendingSound, IsSound, IsSoundMember, IsSoundNext, IsWorld, message_limit, smallest_message}
 use Rattle.ficus_run_laws.proofs.Replaced.{replaced}
 
 pub sound_more : {count events more r : ℕ} {replica : Replica} → IsSound count events r replica → events ≤ more
@@ -53,16 +62,16 @@ still_sound count events r replica Up is = tt
 still_sound count events r replica (Down None) is = tt
 still_sound count events r replica (Down (Some pending)) is = is
 
-module _ {count events r : ℕ} {was : Member} where
-  -- a member that is up and saves an event of its own is sound, whether its save is done
-  pub held_sound : {noted : List ℕ} {replica : Replica} → was.state ≡ Up
-      → IsSoundNext count events r noted was.replica replica
-      → IsSoundMember count (events + 1) r (record was { replica = replica })
-  held_sound {replica = replica} up next = record {
-    replica = next.sound;
-    pending = subst (IsPendingSound count (events + 1) r replica) (sym up) tt;
-  }
+-- a member that is up and saves an event of its own is sound, whether its save is done
+pub held_sound : {count events r : ℕ} (was : Member) (parts : Option HeldParts) {noted : List ℕ} {replica : Replica}
+    → was.state ≡ Up → IsSoundNext count events r noted was.replica replica
+    → IsSoundMember count (events + 1) r (record was { replica = replica; parts = parts })
+held_sound {count} {events} {r} was parts {replica = replica} up next = record {
+  replica = next.sound;
+  pending = subst (IsPendingSound count (events + 1) r replica) (sym up) tt;
+}
 
+module _ {count events r : ℕ} {was : Member} where
   -- or not
   pub put_down_sound : {noted : List ℕ} {pending : Pending} → IsSoundMember count events r was
       → IsSoundNext count events r noted was.replica pending.replica
@@ -119,7 +128,52 @@ module _ (old : Whole) (events : List Event) (r : ℕ) (was now : Member) (is : 
         sound = λ q found at. subst (λ n. IsSoundMember n (length events) q found) (sym as_many) (each q found at);
         counted = world.counted;
         few = world.few;
+        within = world.within;
       })
+
+-- what holds of all that is posted in every world
+pub record AreCounted (post : Outbox) : Type 0 where
+  pub counted : length post.posts ≡ length post.behind
+  pub few : smallest_message * length post.posts ≤ post.total
+  pub within : length post.posts ≤ message_limit
+
+pub counted_in : {world : Whole} → IsWorld world → AreCounted world.post
+counted_in world = record { counted = world.counted; few = world.few; within = world.within }
+
+-- one message more, for which there is room
+pub sent_counted : {tells : Type 0} {old new : Outbox} {behind : Behind} {bytes : List ℕ} {number : ℕ}
+    → smallest_message ≤ length bytes → old.total + length bytes ≤ total_limit → AreCounted old
+    → IsSent tells old behind bytes number new → AreCounted new
+sent_counted {tells} {old} {new} {behind} some room counts sent =
+    let longer = ap (λ (list : List Behind). length list) sent.behind_is ∙ length_push old.behind behind in
+    record {
+      counted = sent.counted ∙ ap (λ k. k + 1) counts.counted ∙ sym longer;
+      few = omega (arith, sent.counted, sent.total, counts.few, some);
+      within = omega (arith, sent.counted, counts.few, some, room);
+    }
+
+-- none more, where the link failed
+pub failed_counted : {old new : Outbox} → AreCounted old → HasFailed old new → AreCounted new
+failed_counted {old} {new} counts failed =
+    subst AreCounted (sym failed.same)
+    (record { counted = counts.counted; few = counts.few; within = counts.within })
+
+-- several messages, or the first of them
+pub each_counted : (tells : Type 0) (position index : ℕ) (messages : List (List ℕ)) (old : Whole)
+    (result : Result (Unit {0}) Refusal) (left : Effect Whole) → All (λ bytes. smallest_message ≤ length bytes) messages
+    → old.post.total + sum_by length messages ≤ total_limit → AreCounted old.post
+    → SendsEach tells position index messages old result left → AreCounted left.after.post
+each_counted tells position index [] old result left some room counts (Says is) = counts
+each_counted tells position index (bytes ∷ more) old result left some room counts (Ends (NotSent failed)) =
+    failed_counted counts failed
+each_counted tells position index (bytes ∷ more) old result left some room counts
+    (Goes {left = last} (Sent {post = post} sent) rest) =
+    let all = sum_by-cons length bytes more in
+    each_counted tells position (index + 1) more (record old { post = post }) result last
+    (All-tail (λ bytes. smallest_message ≤ length bytes) bytes more some)
+    (omega (arith, room, all, sent.total))
+    (sent_counted (All-head (λ bytes. smallest_message ≤ length bytes) bytes more some) (omega (arith, room, all)) counts
+    sent) rest
 
 -- something is posted, with at least as many events stored
 module _ (old : Whole) (world : IsWorld old) where
@@ -130,28 +184,25 @@ module _ (old : Whole) (world : IsWorld old) where
     sound = λ r member is. member_more (world.sound r member is) grown;
     counted = world.counted;
     few = world.few;
+    within = world.within;
   }
 
-  pub world_posted : (post : Outbox) → (length post.posts ≡ length post.behind) × (length post.posts ≤ post.total)
-      → IsWorld (record old { post = post })
+  pub world_posted : (post : Outbox) → AreCounted post → IsWorld (record old { post = post })
   world_posted post counts = record {
     count = world.count;
     sound = world.sound;
-    counted = counts.0;
-    few = counts.1;
+    counted = counts.counted;
+    few = counts.few;
+    within = counts.within;
   }
 
-  -- one message more at most, where it has a byte
-  pub sent_counts : (tells : Type 0) (place : ℕ) (bytes : List ℕ) (post : Outbox) (result : Result ℕ Refusal)
-      → 1 ≤ length bytes → IfOk result (λ n. IsSent tells old.post place bytes n post)
-      → OnErr result (HasFailed old.post post)
-      → (length post.posts ≡ length post.behind) × (length post.posts ≤ post.total)
-  sent_counts tells place bytes post (Ok n) some sent failed =
-      let longer = ap (λ (list : List ℕ). length list) sent.behind ∙ length_push old.post.behind place in
-      (sent.counted ∙ ap (λ k. k + 1) world.counted ∙ sym longer, omega (arith, sent.counted, sent.total, world.few, some))
-  sent_counts tells place bytes post (Err r) some sent failed =
-      subst (λ (p : Outbox). (length p.posts ≡ length p.behind) × (length p.posts ≤ p.total)) (sym failed.same)
-      (world.counted, world.few)
+  -- one message more at most, where there is room for it
+  pub sent_counts : (tells : Type 0) (behind : Behind) (bytes : List ℕ) (post : Outbox) (result : Result ℕ Refusal)
+      → smallest_message ≤ length bytes → old.post.total + length bytes ≤ total_limit
+      → IfOk result (λ n. IsSent tells old.post behind bytes n post) → OnErr result (HasFailed old.post post)
+      → AreCounted post
+  sent_counts tells behind bytes post (Ok n) some room sent failed = sent_counted some room (counted_in world) sent
+  sent_counts tells behind bytes post (Err r) some room sent failed = failed_counted (counted_in world) failed
 
 -- an event of its own leaves a replica the same member of as many
 made_same : (old new : Saved) (noted : Record) → Makes old noted new → (new.me ≡ old.me) × (new.members ≡ old.members)

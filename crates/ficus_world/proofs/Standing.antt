@@ -1,35 +1,50 @@
 -- A world stands for one of the model, also after each event, and after a save that failed.
-use Rattle.std.proofs.Common.{◌≡◌, ◌≢◌, ℕ, ◌+◌, ◌-◌, Bool, List, [], ◌∷◌, ◌++◌, length, Some, None, refl, sym, ap, subst, ◌∙◌, inl, inr, ◌⊎◌, arith}
+use Rattle.std.proofs.Common.{◌≡◌, ◌≢◌, ℕ, ◌+◌, ◌-◌, ◌≤◌, Bool, true, List, [], ◌∷◌, ◌++◌, length, Some, None, refl, sym, ap, subst, ◌∙◌, inl, inr, ◌⊎◌, arith}
 use Rattle.std.specs.Prelude.{slice_set}
 use Rattle.std.proofs.lemmas.List.{length-set, length_push}
 use Rattle.ficus_ids.specs.Members.{IsMember}
 use Rattle.ficus_model.specs.declared.event.Event.{Event}
-use Rattle.ficus_model.specs.declared.event.Event.TheVariants.{Restart, Serve}
-use Rattle.ficus_model.specs.Events.{actor, raised}
+use Rattle.ficus_model.specs.declared.event.Event.TheVariants.{Restart, Serve, Take}
+use Rattle.ficus_model.specs.Events.{IsAt, actor, raised, through, traits}
 use Rattle.ficus_model.specs.Lawful.{Volume, IsLawful, MayCome}
 use Rattle.ficus_laws.proofs.Lawful.{lawful_more}
+use Rattle.ficus_laws.proofs.Positions.{at_cases, at_within}
 use Rattle.ficus_replica.specs.declared.replica.Replica.{Replica}
-use Rattle.ficus_replica.specs.SavedOf.{StandsFor, StandsAfter}
+use Rattle.ficus_replica.specs.SavedOf.{IsSavedOf, StandsFor, StandsAfter}
 use Rattle.ficus_replica.proofs.Events.{quiet_stands, restart_stands}
+use Rattle.ficus_replica.proofs.OpenAsks.{through_end, through_more}
+use Rattle.ficus_replica.proofs.Saves.{saved_once}
+use Rattle.ficus_saved.specs.Tables.{FitsTables}
 use Rattle.ficus_saved.specs.declared.saved.Saved.{Saved}
+use Rattle.ficus_wire.specs.Parts.{HeldParts}
 use Rattle.ficus_wire.specs.declared.message.Message.{Message}
 use Rattle.ficus_runs.specs.Actions.{with_event, with_post, with_standing, down_from, restarted as restarted_model}
+use Rattle.ficus_runs.specs.Exchange.{IsServedNow, Served, behind}
 use Rattle.ficus_runs.specs.Message.{IsMessageAt, IsSpelled}
 use Rattle.ficus_runs.specs.ModelWorld.{ModelWorld, Standing, IsUp}
 use Rattle.ficus_runs.specs.ModelWorld as model
 use Rattle.ficus_runs.specs.Numbered.{IsNumbered}
+use Rattle.ficus_runs.specs.RunWorld.{IsNoServe, IsRunWorld}
 use Rattle.ficus_world.specs.declared.member.Member.{Member}
 use Rattle.ficus_world.specs.declared.member.MemberState.TheVariants as state
 use Rattle.ficus_world.specs.declared.member.Pending.{Pending}
-use Rattle.ficus_world.specs.Moves.{advanced, downed, pending_of, restarted, still_pending, with_event as event_in, with_member, with_post as post_in}
-use Rattle.ficus_world.specs.Post.{Outbox, IsSent, HasFailed}
-use Rattle.ficus_world.specs.World.{Whole, IsPendingFor, StateStandsFor, MemberStandsFor, IsPosted, WorldStandsFor}
+use Rattle.ficus_world.specs.Moves.{advanced, collected, downed, parts_after, pending_of, restarted, still_pending, with_event as event_in, with_member, with_post as post_in}
+use Rattle.ficus_world.specs.declared.post.Behind.{Behind}
+use Rattle.ficus_world.specs.Post.{Outbox, IsSent, HasFailed, lies_behind}
+use Rattle.ficus_world.specs.World.{Whole, AreOthers, IsPendingFor, FitsServed, PartsStandFor, StateStandsFor, MemberStandsFor, IsPosted, WorldStandsFor}
 use Rattle.ficus_world.proofs.LastPart.{length_part, part_more}
 use Rattle.ficus_run_laws.proofs.Messages.{message_more}
 use Rattle.ficus_run_laws.proofs.Numbers.{number_exists, number_end, number_more, number_cases}
+use Rattle.ficus_run_laws.proofs.Runs.{world_kept}
+use Rattle.ficus_world.proofs.Parts.{others_leave_taken, parts_after_saved, parts_ended, parts_left, saved_serves_none, serve_leaves}
 use Rattle.ficus_world.proofs.Pending.{comes_now, down_stands, modelled_up, others_leave, state_later, state_up, up_stands}
 use Rattle.ficus_run_laws.proofs.Replaced.{replaced}
 use Rattle.ficus_world.proofs.Sets.{number_set, set_again, set_same}
+
+-- the member that restarts, with what was pending
+abbrev pub found_member : Member → Pending → Member
+found_member was pending =
+    record was { replica = pending.replica; state = state.Up; parts = parts_after pending.event was.parts }
 
 module _ (volume : Volume) (W : ModelWorld) (old : Whole) (stands : WorldStandsFor volume W old) where
   pub member_of : (r : ℕ) → IsMember (length old.members) r → IsMember volume.members r
@@ -68,6 +83,12 @@ module _ (volume : Volume) (W : ModelWorld) (old : Whole) (stands : WorldStandsF
         let fused = fuses_of r is.member in
         (stands.each r member standing.0 fused.0 is standing.1 fused.1).replica
 
+    pub parts_stand : PartsStandFor volume W.events r member.parts
+    parts_stand =
+        let standing = standing_of r is.member in
+        let fused = fuses_of r is.member in
+        (stands.each r member standing.0 fused.0 is standing.1 fused.1).parts
+
     pub fuses_stand : (fused : Bool) → IsNumbered W.fused r fused → member.fused ≡ fused
     fuses_stand fused at =
         let standing = standing_of r is.member in
@@ -85,25 +106,51 @@ module _ (volume : Volume) (W : ModelWorld) (old : Whole) (stands : WorldStandsF
     up_from up = state_up volume W.events raise r member.state model.Up (member_stands model.Up up) refl
 
   -- one event more leaves each posted message as it is
-  posted_more : (standings : List Standing) (event : Event) (number position : ℕ) (bytes : List ℕ)
-      → IsPosted volume W number position bytes
-      → IsPosted volume (record (with_event W event) { standings = standings }) number position bytes
-  posted_more standings event number position bytes posted = record {
+  posted_more : (standings : List Standing) (event : Event) (number position index : ℕ) (bytes : List ℕ)
+      → IsPosted volume W number position index bytes
+      → IsPosted volume (record (with_event W event) { standings = standings }) number position index bytes
+  posted_more standings event number position index bytes posted = record {
     numbered = posted.numbered;
     message = posted.message;
-    is = message_more volume W.events event position posted.message posted.is;
+    is = message_more volume W.events event position index posted.message posted.is;
     spelled = posted.spelled;
   }
 
-  posted_same : (standings : List Standing) (number position : ℕ) (bytes : List ℕ)
-      → IsPosted volume W number position bytes
-      → IsPosted volume (record W { standings = standings }) number position bytes
-  posted_same standings number position bytes posted = record {
+  posted_same : (standings : List Standing) (number position index : ℕ) (bytes : List ℕ)
+      → IsPosted volume W number position index bytes
+      → IsPosted volume (record W { standings = standings }) number position index bytes
+  posted_same standings number position index bytes posted = record {
     numbered = posted.numbered;
     message = posted.message;
     is = posted.is;
     spelled = posted.spelled;
   }
+
+  -- what is served is what fits, also with one event more
+  module _ (event : Event) (fit : (server ask state pieces : ℕ) (saved : Saved)
+      → event ≡ Serve server ask state pieces → IsSavedOf volume (W.events ++ event ∷ []) server saved
+      → FitsTables volume.members saved.entries saved.files) where
+    fits_case : (position server ask state pieces : ℕ) (saved : Saved) → W.earlier ≤ position
+        → IsAt W.events position (Serve server ask state pieces)
+        ⊎ ((position ≡ length W.events) × (Serve server ask state pieces ≡ event))
+        → IsSavedOf volume (through position (W.events ++ event ∷ [])) server saved
+        → FitsTables volume.members saved.entries saved.files
+    fits_case position server ask state pieces saved since (inl was) is =
+        stands.served position server ask state pieces saved since was
+        (subst (λ K. IsSavedOf volume K server saved) (sym (through_more W.events event position (at_within was))) is)
+    fits_case position server ask state pieces saved since (inr (end, same)) is =
+        fit server ask state pieces saved (sym same)
+        (subst (λ K. IsSavedOf volume K server saved)
+        (ap (λ n. through n (W.events ++ event ∷ [])) end ∙ through_end W.events event) is)
+
+    fits_more : FitsServed volume (with_event W event)
+    fits_more position server ask state pieces saved since at is =
+        fits_case position server ask state pieces saved since (at_cases event at) is
+
+  fits_other : (event : Event) → IsNoServe event → FitsServed volume (with_event W event)
+  fits_other event none =
+      fits_more event (λ server ask state pieces saved same is.
+      absurd (let serves : Some ask ≡ None = subst IsNoServe same none in cc))
 
   -- how each member stands after these events, where these standings are the model's
   abbrev EachStands : List Event → List Member → List Standing → Type 0
@@ -114,11 +161,13 @@ module _ (volume : Volume) (W : ModelWorld) (old : Whole) (stands : WorldStandsF
 
   -- an event happens, and the members stand for what has happened then
   next_stands : (stored event : Event) → raised raise stored ≡ event → MayCome volume W.events event
-      → (members : List Member) (standings : List Standing) → length members ≡ length old.members
+      → (members : List Member) (standings : List Standing)
+      → IsRunWorld volume (record (with_event W event) { standings = standings })
+      → FitsServed volume (with_event W event) → length members ≡ length old.members
       → length standings ≡ length W.standings → EachStands (W.events ++ event ∷ []) members standings
       → WorldStandsFor volume (record (with_event W event) { standings = standings })
       (record old { members = members; events = old.events ++ stored ∷ [] })
-  next_stands stored event raises may members standings count count_too each = record {
+  next_stands stored event raises may members standings run fits count count_too each = record {
     count = stands.count;
     members = count ∙ stands.members;
     standings = count_too ∙ stands.standings;
@@ -130,18 +179,22 @@ module _ (volume : Volume) (W : ModelWorld) (old : Whole) (stands : WorldStandsF
     };
     began = stands.began;
     each = each;
+    run = run;
+    served = fits;
     total = stands.total;
     posted = stands.posted;
     counted = stands.counted;
     mail = λ number place bytes behind posts.
-        posted_more standings event number (place + raise) bytes (stands.mail number place bytes behind posts);
+        posted_more standings event number (place.position + raise) place.index bytes
+        (stands.mail number place bytes behind posts);
   }
 
   -- nothing happens, and the members stand for what has happened
-  same_stands : (members : List Member) (standings : List Standing) → length members ≡ length old.members
+  same_stands : (members : List Member) (standings : List Standing)
+      → IsRunWorld volume (record W { standings = standings }) → length members ≡ length old.members
       → length standings ≡ length W.standings → EachStands W.events members standings
       → WorldStandsFor volume (record W { standings = standings }) (record old { members = members })
-  same_stands members standings count count_too each = record {
+  same_stands members standings run count count_too each = record {
     count = stands.count;
     members = count ∙ stands.members;
     standings = count_too ∙ stands.standings;
@@ -150,11 +203,14 @@ module _ (volume : Volume) (W : ModelWorld) (old : Whole) (stands : WorldStandsF
     stored = stands.stored;
     began = stands.began;
     each = each;
+    run = run;
+    served = stands.served;
     total = stands.total;
     posted = stands.posted;
     counted = stands.counted;
     mail = λ number place bytes behind posts.
-        posted_same standings number (place + raise) bytes (stands.mail number place bytes behind posts);
+        posted_same standings number (place.position + raise) place.index bytes
+        (stands.mail number place bytes behind posts);
   }
 
   -- what another member does leaves a member as it is
@@ -163,12 +219,15 @@ module _ (volume : Volume) (W : ModelWorld) (old : Whole) (stands : WorldStandsF
       → MemberStandsFor volume (W.events ++ event ∷ []) raise r member modelled fused
   others_stand event r member modelled fused other is = record {
     replica = quiet_stands volume W.events r member.replica event is.replica (inl other);
+    parts = parts_left W.events event r volume (others_leave_taken r event other) member.parts is.parts;
     state = state_later volume W.events raise r event other member.state modelled is.state;
     fuses = is.fuses;
   }
 
   -- one member is another one now, which stands so
   module _ (r : ℕ) (was new : Member) (is : IsNumbered old.members r was) (standing : Standing)
+      (unserved : (event : Event) → standing ≡ model.Down (Some event)
+      → IsNoServe event ⊎ IsNumbered W.standings r (model.Down (Some event)))
       (fuses : new.fused ≡ was.fused) where
     abbrev members_with : List Member
     members_with = slice_set old.members (r - 1) new
@@ -176,7 +235,7 @@ module _ (volume : Volume) (W : ModelWorld) (old : Whole) (stands : WorldStandsF
     abbrev standings_with : List Standing
     standings_with = slice_set W.standings (r - 1) standing
 
-    module _ (H : List Event) (replica : StandsFor volume H r new.replica)
+    module _ (H : List Event) (replica : StandsFor volume H r new.replica) (parts : PartsStandFor volume H r new.parts)
         (state_is : StateStandsFor volume H raise r new.state standing)
         (others : (q : ℕ) (member : Member) (modelled : Standing) (fused : Bool) → r ≢ q
         → MemberStandsFor volume W.events raise q member modelled fused
@@ -190,6 +249,7 @@ module _ (volume : Volume) (W : ModelWorld) (old : Whole) (stands : WorldStandsF
           (subst (λ (m : Member). MemberStandsFor volume H raise r m modelled fused) (sym swapped)
           (subst (λ (s : Standing). MemberStandsFor volume H raise r new s fused) (sym stood) (record {
             replica = replica;
+            parts = parts;
             state = state_is;
             fuses = fuses ∙ fuses_stand r was is fused (subst (λ n. IsNumbered W.fused n fused) here at);
           })))
@@ -205,41 +265,57 @@ module _ (volume : Volume) (W : ModelWorld) (old : Whole) (stands : WorldStandsF
 
     -- an event of its own happens
     pub changed_stands : (stored event : Event) → raised raise stored ≡ event → MayCome volume W.events event
-        → actor event ≡ r → StandsFor volume (W.events ++ event ∷ []) r new.replica
+        → IsRunWorld volume (with_event W event) → FitsServed volume (with_event W event) → actor event ≡ r
+        → StandsFor volume (W.events ++ event ∷ []) r new.replica
+        → PartsStandFor volume (W.events ++ event ∷ []) r new.parts
         → StateStandsFor volume (W.events ++ event ∷ []) raise r new.state standing
         → WorldStandsFor volume (with_standing (with_event W event) r standing)
         (event_in (with_member old r new) stored)
-    changed_stands stored event raises may own replica state_is =
-        next_stands stored event raises may members_with standings_with (length-set old.members (r - 1) new)
+    changed_stands stored event raises may run fits own replica parts state_is =
+        next_stands stored event raises may members_with standings_with
+        ((world_kept volume).standing (with_event W event) r standing unserved run) fits
+        (length-set old.members (r - 1) new)
         (length-set W.standings (r - 1) standing)
-        (each_replaced (W.events ++ event ∷ []) replica state_is
+        (each_replaced (W.events ++ event ∷ []) replica parts state_is
         (λ q member modelled fused differs here.
         others_stand event q member modelled fused (λ same. differs (sym own ∙ same)) here))
 
     -- its state changes
-    pub stood_stands : StandsFor volume W.events r new.replica
+    pub stood_stands : StandsFor volume W.events r new.replica → PartsStandFor volume W.events r new.parts
         → StateStandsFor volume W.events raise r new.state standing
         → WorldStandsFor volume (with_standing W r standing) (with_member old r new)
-    stood_stands replica state_is =
-        same_stands members_with standings_with (length-set old.members (r - 1) new)
-        (length-set W.standings (r - 1) standing)
-        (each_replaced W.events replica state_is (λ q member modelled fused differs here. here))
+    stood_stands replica parts state_is =
+        same_stands members_with standings_with ((world_kept volume).standing W r standing unserved stands.run)
+        (length-set old.members (r - 1) new) (length-set W.standings (r - 1) standing)
+        (each_replaced W.events replica parts state_is (λ q member modelled fused differs here. here))
 
-  -- a member that is up changes with an event of its own
+  -- a member that is up has nothing pending
+  none_unserved : (r : ℕ) (event : Event) → model.Up ≡ model.Down (Some event)
+      → IsNoServe event ⊎ IsNumbered W.standings r (model.Down (Some event))
+  none_unserved r event is = absurd (cc)
+
+  -- an event that is saved leaves the world one of a run
+  saved_runs : (event : Event) → (traits event).saves ≡ true → MayCome volume W.events event
+      → IsRunWorld volume (with_event W event)
+  saved_runs event saves may = (world_kept volume).other W event (saved_serves_none event saves) may stands.run
+
+  -- a member that is up changes with an event of its own, which it saves
   module _ (r : ℕ) (was : Member) (next : Replica) (is : IsNumbered old.members r was) (up : was.state ≡ state.Up)
-      (stored event : Event) (raises : raised raise stored ≡ event) (own : actor event ≡ r) where
+      (stored event : Event) (raises : raised raise stored ≡ event) (own : actor event ≡ r)
+      (saves : (traits event).saves ≡ true) where
     -- whatever others do meanwhile, it may come, and the member is this one then
     abbrev pub Comes : Type 0
     Comes =
-        (later : List Event) → IsLawful volume (W.events ++ later) → StandsFor volume (W.events ++ later) r was.replica
-        → StandsAfter volume (W.events ++ later) r event next
+        (later : List Event) → AreOthers r later → IsLawful volume (W.events ++ later)
+        → StandsFor volume (W.events ++ later) r was.replica → StandsAfter volume (W.events ++ later) r event next
 
     waits : Comes → IsPendingFor volume W.events raise r (pending_of next stored) event
     waits comes = record {
       raises = raises;
       own = own;
+      saves = saves;
       follows = λ later others lawful.
-          comes later lawful
+          comes later others lawful
           (others_leave volume W.events r was.replica later others (replica_stands r was is));
     }
 
@@ -249,23 +325,35 @@ module _ (volume : Volume) (W : ModelWorld) (old : Whole) (stands : WorldStandsF
         let now = comes_now volume W.events raise r (pending_of next stored) event stands.lawful (waits comes) in
         subst (λ list. WorldStandsFor volume (record (with_event W event) { standings = list })
         (advanced old r was next stored)) (set_same W.standings r model.Up (up_in r was is up))
-        (changed_stands r was (record was { replica = next }) is model.Up refl stored event raises now.lawful own
-        now.stands (up_stands volume (W.events ++ event ∷ []) raise r was.state up))
+        (changed_stands r was (record was { replica = next; parts = parts_after stored was.parts }) is model.Up
+        (none_unserved r) refl stored event raises now.lawful (saved_runs event saves now.lawful)
+        (fits_other event (saved_serves_none event saves)) own now.stands
+        (parts_after_saved volume W.events raise r was.parts (parts_stand r was is) stored event raises own saves)
+        (up_stands volume (W.events ++ event ∷ []) raise r was.state up))
 
     -- its save fails
     pub unsaved_stands : Comes → WorldStandsFor volume (with_standing W r (model.Down (Some event)))
         (downed old r was (Some (pending_of next stored)))
     unsaved_stands comes =
         stood_stands r was (record was { state = state.Down (Some (pending_of next stored)) }) is
-        (model.Down (Some event)) refl (replica_stands r was is) (waits comes)
+        (model.Down (Some event))
+        (λ other same. let is_it : event ≡ other = cc in inl (subst IsNoServe is_it (saved_serves_none event saves))) refl
+        (replica_stands r was is) (parts_stand r was is) (waits comes)
+
+  -- what is pending was so before
+  was_pending : (r : ℕ) (standing : Standing) → IsNumbered W.standings r standing → (event : Event)
+      → down_from standing ≡ model.Down (Some event)
+      → IsNoServe event ⊎ IsNumbered W.standings r (model.Down (Some event))
+  was_pending r model.Up at event is = absurd (cc)
+  was_pending r (model.Down pending) at event is = inr (subst (λ (s : Standing). IsNumbered W.standings r s) is at)
 
   -- the disks of a member fail as they are opened
   pub unopened_stands : (r : ℕ) (was : Member) (standing : Standing) → IsNumbered old.members r was
       → IsNumbered W.standings r standing → WorldStandsFor volume (with_standing W r (down_from standing))
       (downed old r was (still_pending was.state))
   unopened_stands r was standing is at =
-      stood_stands r was (record was { state = state.Down (still_pending was.state) }) is (down_from standing) refl
-      (replica_stands r was is)
+      stood_stands r was (record was { state = state.Down (still_pending was.state) }) is (down_from standing)
+      (was_pending r standing at) refl (replica_stands r was is) (parts_stand r was is)
       (down_stands volume W.events raise r was.state standing (member_stands r was is standing at))
 
   -- a member restarts with what it has saved
@@ -273,36 +361,65 @@ module _ (volume : Volume) (W : ModelWorld) (old : Whole) (stands : WorldStandsF
       → read ≡ was.replica.saved → WorldStandsFor volume (restarted_model W r None)
       (event_in (with_member old r (restarted was read)) (Restart r))
   reopened_stands r was is read same =
-      changed_stands r was (restarted was read) is model.Up refl (Restart r) (Restart r) refl
-      (member_of r is.member) refl
+      changed_stands r was (restarted was read) is model.Up (none_unserved r) refl (Restart r) (Restart r) refl
+      (member_of r is.member) ((world_kept volume).other W (Restart r) refl (member_of r is.member) stands.run) (fits_other (Restart r) refl)
+      refl
       (restart_stands volume W.events r was.replica.saved (restarted was read).replica (replica_stands r was is).saved
-      same refl) tt
+      same refl) (parts_ended W.events (Restart r) r volume refl) tt
 
   -- what is pending at a member comes, and it is up
   pub found_stands : (r : ℕ) (was : Member) → IsNumbered old.members r was → (pending : Pending) (waits : Event)
       → IsPendingFor volume W.events raise r pending waits
       → WorldStandsFor volume (with_standing (with_event W waits) r model.Up)
-      (event_in (with_member old r (record was { replica = pending.replica; state = state.Up })) pending.event)
+      (event_in (with_member old r (found_member was pending)) pending.event)
   found_stands r was is pending waits waiting =
       let now = comes_now volume W.events raise r pending waits stands.lawful waiting in
-      changed_stands r was (record was { replica = pending.replica; state = state.Up }) is model.Up refl pending.event
-      waits waiting.raises now.lawful waiting.own now.stands tt
+      changed_stands r was (found_member was pending) is model.Up (none_unserved r) refl pending.event waits
+      waiting.raises
+      now.lawful (saved_runs waits waiting.saves now.lawful)
+      (fits_other waits (saved_serves_none waits waiting.saves)) waiting.own now.stands
+      (parts_after_saved volume W.events raise r was.parts (parts_stand r was is) pending.event waits waiting.raises
+      waiting.own waiting.saves) tt
+
+  -- a member that is up takes a piece of an answer
+  pub piece_stands : (r place position index : ℕ) (was : Member) (parts : HeldParts) → IsNumbered old.members r was
+      → was.state ≡ state.Up → place + raise ≡ position → MayCome volume W.events (Take r position index)
+      → PartsStandFor volume (W.events ++ Take r position index ∷ []) r (Some parts)
+      → WorldStandsFor volume (with_event W (Take r position index)) (collected old r was parts (Take r place index))
+  piece_stands r place position index was parts is up raises may parts_are =
+      let take = Take r position index in
+      subst (λ list. WorldStandsFor volume (record (with_event W take) { standings = list })
+      (collected old r was parts (Take r place index))) (set_same W.standings r model.Up (up_in r was is up))
+      (changed_stands r was (record was { parts = Some parts }) is model.Up (none_unserved r) refl (Take r place index)
+      take (ap (λ n. Take r n index) raises) may ((world_kept volume).other W take refl may stands.run)
+      (fits_other take refl) refl (quiet_stands volume W.events r was.replica take (replica_stands r was is) (inr tt))
+      parts_are (up_stands volume (W.events ++ take ∷ []) raise r was.state up))
 
   -- a member serves what it holds
-  pub served_stands : (to ask position : ℕ) (peer : Member) → IsNumbered old.members to peer → peer.state ≡ state.Up
-      → ask + raise ≡ position → MayCome volume W.events (Serve to position)
-      → WorldStandsFor volume (with_event W (Serve to position)) (event_in old (Serve to ask))
-  served_stands to ask position peer is up raises may =
-      let serve = Serve to position in
-      let now = changed_stands to peer peer is model.Up refl (Serve to ask) serve (ap (λ n. Serve to n) raises) may refl
-      (quiet_stands volume W.events to peer.replica serve (replica_stands to peer is) (inr tt))
+  pub served_stands : (to position : ℕ) (stored : Event) (peer : Member) (served : Served)
+      → IsNumbered old.members to peer → peer.state ≡ state.Up
+      → raised raise stored ≡ Serve to position served.state (length served.messages)
+      → IsServedNow volume W.events to position served
+      → FitsTables volume.members peer.replica.saved.entries peer.replica.saved.files
+      → WorldStandsFor volume (with_event W (Serve to position served.state (length served.messages)))
+      (event_in old stored)
+  served_stands to position stored peer served is up raises now fits =
+      let serve = Serve to position served.state (length served.messages) in
+      let here = quiet_stands volume W.events to peer.replica serve (replica_stands to peer is) (inr tt) in
+      let changed = changed_stands to peer peer is model.Up (none_unserved to) refl stored serve raises now.may
+      ((world_kept volume).serve W to position served now stands.run)
+      (fits_more serve (λ server ask state pieces saved same is_too.
+      let servers : to ≡ server = cc in
+      let one = saved_once here.saved (subst (λ n. IsSavedOf volume (W.events ++ serve ∷ []) n saved) (sym servers) is_too) in
+      subst (λ (s : Saved). FitsTables volume.members s.entries s.files) one fits)) refl here
+      (parts_left W.events serve to volume (serve_leaves to to position served.state (length served.messages)) peer.parts
+      (parts_stand to peer is))
       (up_stands volume (W.events ++ serve ∷ []) raise to peer.state up) in
-      subst (λ list. WorldStandsFor volume (with_event W serve)
-      (record (event_in old (Serve to ask)) { members = list }))
+      subst (λ list. WorldStandsFor volume (with_event W serve) (record (event_in old stored) { members = list }))
       (set_same old.members to peer is)
       (subst (λ list. WorldStandsFor volume (record (with_event W serve) { standings = list })
-      (record (event_in old (Serve to ask)) { members = slice_set old.members (to - 1) peer }))
-      (set_same W.standings to model.Up (up_in to peer is up)) now)
+      (record (event_in old stored) { members = slice_set old.members (to - 1) peer }))
+      (set_same W.standings to model.Up (up_in to peer is up)) changed)
 
   -- the link fails
   pub failed_stands : (post : Outbox) → HasFailed old.post post → WorldStandsFor volume W (post_in old post)
@@ -316,6 +433,8 @@ module _ (volume : Volume) (W : ModelWorld) (old : Whole) (stands : WorldStandsF
         stored = stands.stored;
         began = stands.began;
         each = stands.each;
+        run = stands.run;
+        served = stands.served;
         total = stands.total;
         posted = stands.posted;
         counted = stands.counted;
@@ -323,48 +442,52 @@ module _ (volume : Volume) (W : ModelWorld) (old : Whole) (stands : WorldStandsF
       })
 
   -- the message behind a position is posted
-  module _ {tells : Type 0} (told : tells) (place position size : ℕ) (bytes : List ℕ) (number : ℕ) (post : Outbox)
-      (sent : IsSent tells old.post place bytes number post) (raises : place + raise ≡ position) (message : Message)
-      (at : IsMessageAt volume W.events position message) (spelled : IsSpelled volume.members bytes message)
+  module _ {tells : Type 0} (told : tells) (place index position size : ℕ) (bytes : List ℕ) (number : ℕ) (post : Outbox)
+      (sent : IsSent tells old.post (lies_behind place index) bytes number post) (raises : place + raise ≡ position)
+      (message : Message) (at : IsMessageAt volume W.events position index message) (spelled : IsSpelled volume.members bytes message)
       (sized : length bytes ≡ size) where
-    still_posted : (n where_to : ℕ) (found : List ℕ) → IsPosted volume W n where_to found
-        → IsPosted volume (with_post W position size) n where_to found
-    still_posted n where_to found posted = record {
-      numbered = number_more W.posted position posted.numbered;
+    abbrev world_after : ModelWorld
+    world_after = with_post W (behind position index) size
+
+    still_posted : (n where_to found_index : ℕ) (found : List ℕ) → IsPosted volume W n where_to found_index found
+        → IsPosted volume world_after n where_to found_index found
+    still_posted n where_to found_index found posted = record {
+      numbered = number_more W.posted (behind position index) posted.numbered;
       message = posted.message;
       is = posted.is;
       spelled = posted.spelled;
     }
 
-    newly_posted : IsPosted volume (with_post W position size) (length old.post.behind + 1) (place + raise) bytes
+    newly_posted : IsPosted volume world_after (length old.post.behind + 1) (place + raise) index bytes
     newly_posted = record {
       numbered =
-          subst (λ n. IsNumbered (W.posted ++ position ∷ []) (n + 1) (place + raise)) stands.posted
-          (subst (IsNumbered (W.posted ++ position ∷ []) (length W.posted + 1)) (sym raises)
-          (number_end W.posted position));
+          subst (λ n. IsNumbered world_after.posted (n + 1) (behind (place + raise) index)) stands.posted
+          (subst (λ p. IsNumbered world_after.posted (length W.posted + 1) (behind p index)) (sym raises)
+          (number_end W.posted (behind position index)));
       message = message;
-      is = subst (λ p. IsMessageAt volume W.events p message) (sym raises) at;
+      is = subst (λ p. IsMessageAt volume W.events p index message) (sym raises) at;
       spelled = spelled;
     }
 
-    mail_posted : (n found_place : ℕ) (found : List ℕ)
-        → IsNumbered old.post.behind n found_place ⊎ ((n ≡ length old.post.behind + 1) × (found_place ≡ place))
+    mail_posted : (n : ℕ) (found_place : Behind) (found : List ℕ)
+        → IsNumbered old.post.behind n found_place
+        ⊎ ((n ≡ length old.post.behind + 1) × (found_place ≡ lies_behind place index))
         → IsNumbered old.post.posts n found ⊎ ((n ≡ length old.post.posts + 1) × (found ≡ bytes))
-        → IsPosted volume (with_post W position size) n (found_place + raise) found
-    mail_posted n found_place found (inl behind) (inl post) =
-        still_posted n (found_place + raise) found (stands.mail n found_place found behind post)
-    mail_posted n found_place found (inr behind) (inr post) =
-        subst (λ k. IsPosted volume (with_post W position size) k (found_place + raise) found) (sym behind.0)
-        (subst (λ p. IsPosted volume (with_post W position size) (length old.post.behind + 1) (p + raise) found)
-        (sym behind.1)
-        (subst (IsPosted volume (with_post W position size) (length old.post.behind + 1) (place + raise)) (sym post.1)
+        → IsPosted volume world_after n (found_place.position + raise) found_place.index found
+    mail_posted n found_place found (inl before) (inl post) =
+        still_posted n (found_place.position + raise) found_place.index found (stands.mail n found_place found before post)
+    mail_posted n found_place found (inr last) (inr post) =
+        subst (λ k. IsPosted volume world_after k (found_place.position + raise) found_place.index found) (sym last.0)
+        (subst (λ (p : Behind). IsPosted volume world_after (length old.post.behind + 1) (p.position + raise) p.index found)
+        (sym last.1)
+        (subst (IsPosted volume world_after (length old.post.behind + 1) (place + raise) index) (sym post.1)
         newly_posted))
-    mail_posted n found_place found (inl behind) (inr post) =
-        absurd (omega (arith, behind.member.at_most, post.0, stands.counted))
-    mail_posted n found_place found (inr behind) (inl post) =
-        absurd (omega (arith, post.member.at_most, behind.0, stands.counted))
+    mail_posted n found_place found (inl before) (inr post) =
+        absurd (omega (arith, before.member.at_most, post.0, stands.counted))
+    mail_posted n found_place found (inr last) (inl post) =
+        absurd (omega (arith, post.member.at_most, last.0, stands.counted))
 
-    pub sent_stands : WorldStandsFor volume (with_post W position size) (post_in old post)
+    pub sent_stands : WorldStandsFor volume world_after (post_in old post)
     sent_stands = record {
       count = stands.count;
       members = stands.members;
@@ -374,26 +497,29 @@ module _ (volume : Volume) (W : ModelWorld) (old : Whole) (stands : WorldStandsF
       stored = stands.stored;
       began = stands.began;
       each = stands.each;
+      run = (world_kept volume).post W (behind position index) size stands.run;
+      served = stands.served;
       total = omega (arith, stands.total, sent.total, sized);
       posted =
           omega (
             arith,
-            length_push W.posted position,
-            length_push old.post.behind place,
-            ap (λ (list : List ℕ). length list) sent.behind,
+            length_push W.posted (behind position index),
+            length_push old.post.behind (lies_behind place index),
+            ap (λ (list : List Behind). length list) sent.behind_is,
             stands.posted,
           );
       counted =
           omega (
             arith,
             sent.counted,
-            length_push old.post.behind place,
-            ap (λ (list : List ℕ). length list) sent.behind,
+            length_push old.post.behind (lies_behind place index),
+            ap (λ (list : List Behind). length list) sent.behind_is,
             stands.counted,
           );
-      mail = λ n found_place found behind posts.
+      mail = λ n found_place found before posts.
           mail_posted n found_place found
-          (number_cases old.post.behind place (subst (λ list. IsNumbered list n found_place) sent.behind behind))
+          (number_cases old.post.behind (lies_behind place index)
+          (subst (λ list. IsNumbered list n found_place) sent.behind_is before))
           (number_cases old.post.posts bytes (subst (λ list. IsNumbered list n found) (sent.told told) posts));
     }
 
@@ -402,7 +528,7 @@ module _ (volume : Volume) (W : ModelWorld) (old : Whole) (stands : WorldStandsF
     (is : IsNumbered old.members r was) (pending : Pending) (waits : Event)
     (waiting : IsPendingFor volume W.events (raise volume W old stands) r pending waits) where
   abbrev found : Member
-  found = record was { replica = pending.replica; state = state.Up }
+  found = found_member was pending
 
   abbrev found_model : ModelWorld
   found_model = with_standing (with_event W waits) r model.Up

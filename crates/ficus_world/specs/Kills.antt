@@ -55,8 +55,8 @@ IsSavedOr next was now old new =
     ⊎ ((now.replica.saved ≡ was.replica.saved) × (pending : Pending) × (now.state ≡ Down (Some pending))
     × (pending.replica.saved ≡ next) × (new ≡ old))
 
--- One member saves, or fails to: of all pairs its own is written alone, and at each moment a crash leaves what holds what
--- it had saved, or what it saves.
+-- One member saves, or fails to: of all pairs its own is written alone, and at each moment a crash leaves what holds
+-- what it had saved, or what it saves.
 pub record WritesAt {K D : Type 0} (keep : Keep K) (disk : Disk D) (by : ℕ) (old new : Whole)
     (old_disks new_disks : List (Pair D)) : Type 0 where
   pub was : Member

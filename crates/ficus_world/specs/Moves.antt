@@ -1,18 +1,21 @@
 -- What a command does to a world, action by action, over what its members hold. `tells`: the link tells its posts.
 -- `disks_tell`: the disks tell what they hold.
-use Rattle.std.specs.Prelude.{◌≡◌, ◌≢◌, ℕ, ◌+◌, ◌-◌, ◌≤◌, true, false, List, [], ◌∷◌, ◌++◌, length, Result, Ok, Err, Option, Some, None, slice_set}
+use Rattle.std.specs.Prelude.{◌≡◌, ◌≢◌, ℕ, ◌+◌, ◌-◌, ◌≤◌, if◌then◌else◌, true, false, All, List, [], ◌∷◌, ◌++◌, length, map, Result, Ok, Err, Option, Some, None, slice_set}
 use Rattle.ficus_ids.specs.Members.{IsMember}
 use Rattle.ficus_ids.specs.declared.refusal.Refusal.{Refusal}
 use Rattle.ficus_ids.specs.declared.refusal.Refusal.TheVariants as refusal
 use Rattle.ficus_model.specs.declared.event.Event.{Event}
 use Rattle.ficus_model.specs.declared.event.Event.TheVariants as event
 use Rattle.ficus_model.specs.declared.event.Op.{Op}
+use Rattle.ficus_model.specs.Events.{traits}
+use Rattle.ficus_codec.specs.Formats.{tables_bytes}
 use Rattle.ficus_entry.specs.declared.entry.Entry.{Entry}
 use Rattle.ficus_file.specs.declared.file.FileReplica.{FileReplica}
 use Rattle.ficus_saved.specs.declared.saved.Saved.{Saved}
 use Rattle.ficus_saved.specs.Saved.{FitsImage}
+use Rattle.ficus_saved.specs.Tables.{FitsTables}
 use Rattle.ficus_replica.specs.declared.replica.Replica.{Replica}
-use Rattle.ficus_replica.specs.Accept.{AcceptGives}
+use Rattle.ficus_replica.specs.Accept.{AcceptGives, IsOpen}
 use Rattle.ficus_replica.specs.Ask.{AskGives}
 use Rattle.ficus_replica.specs.Collect.{CollectGives, HoldsNoGarbage}
 use Rattle.ficus_replica.specs.declared.collect.Collected.{Collected}
@@ -27,25 +30,30 @@ use Rattle.ficus_script.specs.declared.command.Command.{Command}
 use Rattle.ficus_script.specs.declared.command.Command.TheVariants as command
 use Rattle.ficus_script.specs.declared.answer.Answer.{Answer}
 use Rattle.ficus_script.specs.declared.answer.Answer.TheVariants as answer
-use Rattle.ficus_script.specs.declared.answer.Answer.TheVariants.{Done, Mail}
-use Rattle.ficus_wire.specs.Message.{FitsMessage, message_bytes, message_of}
+use Rattle.ficus_script.specs.declared.answer.Answer.TheVariants.{Done, Mail, Part}
+use Rattle.ficus_wire.specs.Message.{FitsMessage, head_of, message_bytes, message_of, messages_of_tables, sizes_of}
+use Rattle.ficus_wire.specs.Parts.{HasAllBut, HasPart, HeldParts, joined as joined_parts, no_parts, with_part}
+use Rattle.ficus_wire.specs.declared.message.Letter.{Letter}
 use Rattle.ficus_wire.specs.declared.message.Message.{Message}
 use Rattle.ficus_wire.specs.declared.message.Message.TheVariants as message
+use Rattle.ficus_wire.specs.declared.message.PieceHead.{PieceHead}
 use Rattle.ficus_runs.specs.Actions.{GivesOnly}
 use Rattle.ficus_runs.specs.Answers.{answer_to, AlikeAnswer, LookAnswer, answer_as}
-use Rattle.ficus_runs.specs.Exchange.{total_limit}
-use Rattle.ficus_runs.specs.Message.{IsSpelled}
+use Rattle.ficus_runs.specs.Exchange.{mailed, mails_of, total_limit}
+use Rattle.ficus_runs.specs.Message.{Reads}
 use Rattle.ficus_runs.specs.Numbered.{IsNumbered}
 use Rattle.ficus_runs.specs.Outcome.{Outcome, IsDone, LinkFails, IsSaved, SaveFails, IsOpened, IsFound, OpeningFails, IsArmed}
 use Rattle.ficus_runs.specs.Peers.{ArePeers}
 use Rattle.ficus_runs.specs.Sequence.{Action, First, ByRule, Cut, CutFirst, Effect, NothingDone, unchanged}
 use Rattle.ficus_world.specs.declared.exchange.Delivery.{Delivery}
-use Rattle.ficus_world.specs.declared.exchange.Fetched.{Fetched}
+use Rattle.ficus_world.specs.declared.taking.Fitting.{Fitting}
+use Rattle.ficus_world.specs.declared.taking.Fitting.TheVariants as fitting
 use Rattle.ficus_world.specs.declared.member.Member.{Member}
 use Rattle.ficus_world.specs.declared.member.MemberState.{MemberState}
 use Rattle.ficus_world.specs.declared.member.MemberState.TheVariants as state
 use Rattle.ficus_world.specs.declared.member.Pending.{Pending}
-use Rattle.ficus_world.specs.Post.{Outbox, IsSent, HasFailed, AreFetched}
+use Rattle.ficus_world.specs.declared.post.Behind.{Behind}
+use Rattle.ficus_world.specs.Post.{Outbox, IsSent, HasFailed, AreFetched, lies_behind}
 use Rattle.ficus_world.specs.World.{Whole, IsReplica, IsUpIn}
 
 -- an action on a world as contracts see it
@@ -56,10 +64,15 @@ WholeAction A = Action Whole A
 abbrev pub with_member : Whole → ℕ → Member → Whole
 with_member old by member = record old { members = slice_set old.members (by - 1) member }
 
+-- what a member still holds of an answer once this event of its own has happened: nothing, where the event ends its ask
+abbrev pub parts_after : Event → Option HeldParts → Option HeldParts
+parts_after event parts = if (traits event).closes then None else parts
+
 -- member `by`, who was this one, holds this replica now, and this event is stored too
 abbrev pub advanced : Whole → ℕ → Member → Replica → Event → Whole
 advanced old by was replica event = record old {
-  members = slice_set old.members (by - 1) (record was { replica = replica });
+  members =
+      slice_set old.members (by - 1) (record was { replica = replica; parts = parts_after event was.parts });
   events = old.events ++ event ∷ [];
 }
 
@@ -125,22 +138,26 @@ pub data KeepsCollection (by : ℕ) (was : Member) (old : Whole) : Result Answer
       → KeepsCollection by was old (Err refusal.Store)
       (not_saved old by was (pending_of given.replica (event.Collect by)))
 
--- these bytes are posted, with this stored position behind them; gives their number. Or the link fails.
-pub data Sends (tells : Type 0) (place : ℕ) (bytes : List ℕ) (old : Whole) :
+-- these bytes are posted, with this behind them; gives their number. Or the link fails.
+pub data Sends (tells : Type 0) (behind : Behind) (bytes : List ℕ) (old : Whole) :
     Result ℕ Refusal → Effect Whole → Type 0 where
-  Sent : {number : ℕ} {post : Outbox} → IsSent tells old.post place bytes number post
-      → Sends tells place bytes old (Ok number) (record { outcomes = IsDone ∷ []; after = with_post old post })
+  Sent : {number : ℕ} {post : Outbox} → IsSent tells old.post behind bytes number post
+      → Sends tells behind bytes old (Ok number) (record { outcomes = IsDone ∷ []; after = with_post old post })
   NotSent : {post : Outbox} → HasFailed old.post post
-      → Sends tells place bytes old (Err refusal.Link)
+      → Sends tells behind bytes old (Err refusal.Link)
       (record { outcomes = LinkFails ∷ []; after = with_post old post })
 
--- the bytes of a message among the members of the world
-abbrev pub bytes_in : Whole → Message → List ℕ
-bytes_in world message = message_bytes (length world.members) message
+-- these bytes are posted in order, with the pieces of what was served by the event stored at a position behind them,
+-- from this index on
+abbrev pub SendsEach : Type 0 → ℕ → ℕ → List (List ℕ) → WholeAction (Unit {0})
+SendsEach tells position index [] = GivesOnly tt
+SendsEach tells position index (bytes ∷ more) =
+    First (Sends tells (lies_behind position index) bytes)
+    (λ number. SendsEach tells position (index + 1) more)
 
--- there is room for the message
-abbrev pub HasRoomFor : Whole → Message → Type 0
-HasRoomFor world message = world.post.total + length (bytes_in world message) ≤ total_limit
+-- there is room for so many bytes
+abbrev pub HasRoomFor : Whole → ℕ → Type 0
+HasRoomFor world size = world.post.total + size ≤ total_limit
 
 -- the message of a replica that has asked
 abbrev pub ask_of : ℕ → ℕ → Replica → Message
@@ -164,97 +181,198 @@ pub data KeepsAsk (tells : Type 0) (by to : ℕ) (old : Whole) : Result ℕ Refu
   AskerDown : {was : Member} → ArePeers (length old.members) by to → IsNumbered old.members by was
       → (was.state ≡ state.Up → ⊥) → KeepsAsk tells by to old (Err refusal.Down) (unchanged old)
   NoRoomToAsk : {was : Member} {asked : Replica} → IsAsking old by to was asked
-      → (HasRoomFor old (ask_of by to asked) → ⊥) → KeepsAsk tells by to old (Err refusal.LinkFull) (unchanged old)
-  NotAsked : {was : Member} {asked : Replica} → IsAsking old by to was asked → HasRoomFor old (ask_of by to asked)
+      → (HasRoomFor old (length (message_bytes (ask_of by to asked))) → ⊥) →
+      KeepsAsk tells by to old (Err refusal.LinkFull) (unchanged old)
+  NotAsked : {was : Member} {asked : Replica} → IsAsking old by to was asked →
+      HasRoomFor old (length (message_bytes (ask_of by to asked)))
       → KeepsAsk tells by to old (Err refusal.Store) (not_saved old by was (pending_of asked (event.Ask by to)))
   Asked : {was : Member} {asked : Replica} {result : Result ℕ Refusal} {left : Effect Whole}
-      → IsAsking old by to was asked → HasRoomFor old (ask_of by to asked)
-      → Sends tells (length old.events) (bytes_in old (ask_of by to asked))
+      → IsAsking old by to was asked → HasRoomFor old (length (message_bytes (ask_of by to asked)))
+      → Sends tells (lies_behind (length old.events) 0) (message_bytes (ask_of by to asked))
       (advanced old by was asked (event.Ask by to)) result left
       → KeepsAsk tells by to old result (saved_then by left)
 
--- a message is fetched and read
-pub data FetchesMail (tells : Type 0) (number : ℕ) (old : Whole) :
-    Result Message Refusal → Effect Whole → Type 0 where
+-- the bytes of a message are fetched
+pub data FetchesBytes (tells : Type 0) (number : ℕ) (old : Whole) :
+    Result (List ℕ) Refusal → Effect Whole → Type 0 where
   NoMail : (IsMember (length old.post.posts) number → ⊥)
-      → FetchesMail tells number old (Err refusal.NoMail) (unchanged old)
+      → FetchesBytes tells number old (Err refusal.NoMail) (unchanged old)
   NotFetched : {post : Outbox} → IsMember (length old.post.posts) number → HasFailed old.post post
-      → FetchesMail tells number old (Err refusal.Link)
+      → FetchesBytes tells number old (Err refusal.Link)
       (record { outcomes = LinkFails ∷ []; after = with_post old post })
-  NotRead : {bytes : List ℕ} → AreFetched tells old.post.posts number bytes
-      → ((m : Message) → IsSpelled (length old.members) bytes m → ⊥)
-      → FetchesMail tells number old (Err refusal.BadMessage) (record { outcomes = IsDone ∷ []; after = old })
-  Read : {bytes : List ℕ} {m : Message} → AreFetched tells old.post.posts number bytes
-      → IsSpelled (length old.members) bytes m
-      → FetchesMail tells number old (Ok m) (record { outcomes = IsDone ∷ []; after = old })
+  Fetched : {bytes : List ℕ} → AreFetched tells old.post.posts number bytes
+      → FetchesBytes tells number old (Ok bytes) (record { outcomes = IsDone ∷ []; after = old })
 
--- the message that was fetched
-abbrev pub fetched_message : {E : Type 0} → Result Fetched E → Result Message E
-fetched_message (Ok came) = Ok (message_of came.letter)
-fetched_message (Err refused) = Err refused
+-- a message is fetched and read
+abbrev pub FetchesMail : Type 0 → ℕ → WholeAction Message
+FetchesMail tells number =
+    First (FetchesBytes tells number) (λ bytes. ByRule (λ world. Reads (length world.members) bytes))
 
--- what the member answers to the ask of this number: its tables
-abbrev pub answer_of : Delivery → Member → Message
-answer_of came peer = message.Answer came.to came.from came.ask peer.replica.saved.entries peer.replica.saved.files
+-- what was read, as messages
+abbrev pub messages_read : {E : Type 0} → Result Letter E → Result Message E
+messages_read (Ok letter) = Ok (message_of letter)
+messages_read (Err fault) = Err fault
 
--- this is the member to whom the ask came, which is up
+-- the spelling of the tables of a member
+abbrev pub tables_in : Whole → Member → List ℕ
+tables_in world member =
+    tables_bytes (length world.members) member.replica.saved.entries member.replica.saved.files
+
+-- the messages in which the member answers the ask of this number: the pieces of the spelling of its tables
+abbrev pub answers_of : Whole → Delivery → Member → List Message
+answers_of old came peer =
+    messages_of_tables came.to came.from came.ask peer.replica.saved.generation (tables_in old peer)
+
+-- this is the member to whom the ask came, which is up, and what it holds fits tables
 pub record IsServing (old : Whole) (came : Delivery) (peer : Member) : Type 0 where
   pub is : IsNumbered old.members came.to peer
   pub up : peer.state ≡ state.Up
-  pub fits : FitsMessage (length old.members) (answer_of came peer)
+  pub fits : FitsTables (length old.members) peer.replica.saved.entries peer.replica.saved.files
 
--- an ask that came is served, with what the member holds
+-- the serving of the ask behind which this lies
+abbrev pub serve_of : Whole → Delivery → Member → Behind → Event
+serve_of old came peer asked =
+    event.Serve came.to asked.position peer.replica.saved.generation (length (answers_of old came peer))
+
+-- these are posted in order, with the pieces of what the last event serves behind them, and answered with their numbers
+abbrev pub SendsAnswers : Type 0 → Whole → List Message → WholeAction Answer
+SendsAnswers tells old messages =
+    First (SendsEach tells (length old.events) 0 (map message_bytes messages))
+    (λ sent. GivesOnly (mailed (length old.post.posts + 1) (length messages)))
+
+-- An ask that came is served, with what the member holds: that happens, and then the pieces are posted. Where a post
+-- fails, what was done before it stands.
 pub data ServesAsk (tells : Type 0) (came : Delivery) (old : Whole) :
     Result Answer Refusal → Effect Whole → Type 0 where
   ServerDown : {peer : Member} → IsNumbered old.members came.to peer → (peer.state ≡ state.Up → ⊥)
       → ServesAsk tells came old (Err refusal.Down) (unchanged old)
-  NoRoomToServe : {peer : Member} → IsServing old came peer → (HasRoomFor old (answer_of came peer) → ⊥)
+  NoRoomToServe : {peer : Member} → IsServing old came peer
+      → (HasRoomFor old (sizes_of (answers_of old came peer)) → ⊥)
       → ServesAsk tells came old (Err refusal.LinkFull) (unchanged old)
-  NotServed : {peer : Member} {post : Outbox} → IsServing old came peer → HasRoomFor old (answer_of came peer)
-      → HasFailed old.post post
-      → ServesAsk tells came old (Err refusal.Link) (record { outcomes = LinkFails ∷ []; after = with_post old post })
-  Serves : {peer : Member} {place number : ℕ} {post : Outbox} → IsServing old came peer
-      → IsNumbered old.post.behind came.number place → HasRoomFor old (answer_of came peer)
-      → IsSent tells old.post (length old.events) (bytes_in old (answer_of came peer)) number post
-      → ServesAsk tells came old (Ok (Mail number)) (record {
-        outcomes = IsDone ∷ [];
-        after = with_post (with_event old (event.Serve came.to place)) post;
-      })
+  Serves : {peer : Member} {asked : Behind} {result : Result Answer Refusal} {left : Effect Whole}
+      → IsServing old came peer → IsNumbered old.post.behind came.number asked
+      → HasRoomFor old (sizes_of (answers_of old came peer))
+      → All (FitsMessage (length old.members)) (answers_of old came peer)
+      → SendsAnswers tells old (answers_of old came peer) (with_event old (serve_of old came peer asked)) result left
+      → ServesAsk tells came old result left
 
--- an answer that came is taken, or refused; or it is pending
-pub data TakesAnswer (came : Delivery) (entries : List Entry) (files : List FileReplica) (old : Whole) :
+-- tables that were served are taken, with the piece of this index, which completes them; or they are refused; or it is
+-- pending
+pub data TakesTables (came : Delivery) (index : ℕ) (entries : List Entry) (files : List FileReplica) (old : Whole) :
     Result Answer Refusal → Effect Whole → Type 0 where
-  AskerIsDown : {was : Member} → IsNumbered old.members came.to was → (was.state ≡ state.Up → ⊥)
-      → TakesAnswer came entries files old (Err refusal.Down) (unchanged old)
-  Takes : {was : Member} {new : Replica} {place : ℕ} → IsNumbered old.members came.to was → was.state ≡ state.Up
-      → IsNumbered old.post.behind came.number place
-      → AcceptGives was.replica came.from came.ask entries files (Ok new)
-      → TakesAnswer came entries files old (Ok Done)
-      (saved came.to (advanced old came.to was new (event.Accept came.to place)))
-  TakesNot : {was : Member} {new : Replica} {place : ℕ} → IsNumbered old.members came.to was
+  Takes : {was : Member} {new : Replica} {place : Behind} → IsNumbered old.members came.to was
       → was.state ≡ state.Up → IsNumbered old.post.behind came.number place
       → AcceptGives was.replica came.from came.ask entries files (Ok new)
-      → TakesAnswer came entries files old (Err refusal.Store)
-      (not_saved old came.to was (pending_of new (event.Accept came.to place)))
+      → TakesTables came index entries files old (Ok Done)
+      (saved came.to (advanced old came.to was new (event.Accept came.to place.position index)))
+  TakesNot : {was : Member} {new : Replica} {place : Behind} → IsNumbered old.members came.to was
+      → was.state ≡ state.Up → IsNumbered old.post.behind came.number place
+      → AcceptGives was.replica came.from came.ask entries files (Ok new)
+      → TakesTables came index entries files old (Err refusal.Store)
+      (not_saved old came.to was (pending_of new (event.Accept came.to place.position index)))
   Refuses : {was : Member} {r : Refusal} → IsNumbered old.members came.to was → was.state ≡ state.Up
       → r ≢ refusal.Memory → AcceptGives was.replica came.from came.ask entries files (Err r)
-      → TakesAnswer came entries files old (Err r) (unchanged old)
+      → TakesTables came index entries files old (Err r) (unchanged old)
+
+-- the tables that these bytes spell from the first to the last are taken; or they spell none
+pub data TakesSpelled (came : Delivery) (index : ℕ) (bytes : List ℕ) (old : Whole) :
+    Result Answer Refusal → Effect Whole → Type 0 where
+  SpellsTables : {entries : List Entry} {files : List FileReplica} {result : Result Answer Refusal}
+      {left : Effect Whole} → FitsTables (length old.members) entries files
+      → bytes ≡ tables_bytes (length old.members) entries files
+      → TakesTables came index entries files old result left → TakesSpelled came index bytes old result left
+  SpellsNone : ((entries : List Entry) (files : List FileReplica) → FitsTables (length old.members) entries files
+      → bytes ≡ tables_bytes (length old.members) entries files → ⊥)
+      → TakesSpelled came index bytes old (Err refusal.BadMessage) (unchanged old)
+
+-- what a member holds of an answer before a piece of it: nothing, which is any number of pieces of any state, or what
+-- it holds already
+abbrev pub parts_held : Option HeldParts → PieceHead → HeldParts
+parts_held None head = no_parts head.state head.pieces
+parts_held (Some parts) head = parts
+
+-- this is the member to whom a piece came, which is up, and waits for the answer
+pub record IsWaiting (old : Whole) (came : Delivery) (was : Member) : Type 0 where
+  pub is : IsNumbered old.members came.to was
+  pub up : was.state ≡ state.Up
+  pub open_ask : IsOpen was.replica came.from came.ask
+
+-- finds to whom a piece came, and is refused where that member is down, doesn't wait for this answer, or holds pieces
+-- of another state or of another number of them
+pub data FindsTaker (came : Delivery) (head : PieceHead) (old : Whole) :
+    Result Member Refusal → Effect Whole → Type 0 where
+  TakerDown : {was : Member} → IsNumbered old.members came.to was → (was.state ≡ state.Up → ⊥)
+      → FindsTaker came head old (Err refusal.Down) (unchanged old)
+  AnswersNone : {was : Member} → IsNumbered old.members came.to was → was.state ≡ state.Up
+      → (IsOpen was.replica came.from came.ask → ⊥) → FindsTaker came head old (Err refusal.Stale) (unchanged old)
+  OfAnotherState : {was : Member} → IsWaiting old came was → (parts_held was.parts head).state ≢ head.state
+      → FindsTaker came head old (Err refusal.Mixed) (unchanged old)
+  OfOtherPieces : {was : Member} → IsWaiting old came was → (parts_held was.parts head).state ≡ head.state
+      → (parts_held was.parts head).pieces ≢ head.pieces
+      → FindsTaker came head old (Err refusal.BadMessage) (unchanged old)
+  FindsIt : {was : Member} → IsWaiting old came was → (parts_held was.parts head).state ≡ head.state
+      → (parts_held was.parts head).pieces ≡ head.pieces → FindsTaker came head old (Ok was) (unchanged old)
+
+-- the member, who was this one, holds this of an answer now, and the taking of a piece is stored too
+abbrev pub collected : Whole → ℕ → Member → HeldParts → Event → Whole
+collected old by was parts event = with_event (with_member old by (record was { parts = Some parts })) event
+
+-- A piece that fits comes to who takes it. Where it is held already, nothing changes; where others are missing beside
+-- it, it is kept; where it is the last, the tables are taken that all spell together.
+pub data TakesFitting (came : Delivery) (head : PieceHead) (bytes : List ℕ) (was : Member) (old : Whole) :
+    Result Answer Refusal → Effect Whole → Type 0 where
+  IsHeld : HasPart (parts_held was.parts head) head.index
+      → TakesFitting came head bytes was old (Ok (Part (length (parts_held was.parts head).have) head.pieces))
+      (unchanged old)
+  IsOneMore : {place : Behind} → (HasPart (parts_held was.parts head) head.index → ⊥)
+      → (HasAllBut (parts_held was.parts head) head.index → ⊥) → IsNumbered old.post.behind came.number place
+      → TakesFitting came head bytes was old
+      (Ok (Part (length (parts_held was.parts head).have + 1) head.pieces)) (record {
+        outcomes = [];
+        after =
+            collected old came.to was (with_part (parts_held was.parts head) head.index bytes)
+            (event.Take came.to place.position head.index);
+      })
+  IsTheLast : {result : Result Answer Refusal} {left : Effect Whole}
+      → (HasPart (parts_held was.parts head) head.index → ⊥) → HasAllBut (parts_held was.parts head) head.index
+      → TakesSpelled came head.index (joined_parts (with_part (parts_held was.parts head) head.index bytes)) old
+      result left
+      → TakesFitting came head bytes was old result left
+
+-- a piece that came is taken, or refused
+abbrev pub TakesPiece : Delivery → PieceHead → List ℕ → WholeAction Answer
+TakesPiece came head bytes = First (FindsTaker came head) (TakesFitting came head bytes)
+
+-- what a piece is to what is held of the answer, of the same state and of as many pieces
+abbrev pub IsPlaced : HeldParts → ℕ → Fitting → Type 0
+IsPlaced held index (fitting.Again have) = HasPart held index × (have ≡ length held.have)
+IsPlaced held index (fitting.OneMore have) =
+    (HasPart held index → ⊥) × (HasAllBut held index → ⊥) × (have ≡ length held.have + 1)
+IsPlaced held index fitting.TheLast = (HasPart held index → ⊥) × HasAllBut held index
 
 -- what came is handled by its receiver
 abbrev pub HandlesMessage : Type 0 → ℕ → Message → WholeAction Answer
 HandlesMessage tells number (message.Ask from to ask) =
     ServesAsk tells (record { number = number; from = from; to = to; ask = ask })
-HandlesMessage tells number (message.Answer from to ask entries files) =
-    TakesAnswer (record { number = number; from = from; to = to; ask = ask }) entries files
+HandlesMessage tells number (message.Piece from to ask state pieces index bytes) =
+    TakesPiece (record { number = number; from = from; to = to; ask = ask })
+    (head_of from to ask state pieces index) bytes
 
 -- a message is given to its receiver
 abbrev pub GivesMessage : Type 0 → ℕ → WholeAction Answer
 GivesMessage tells number = First (FetchesMail tells number) (HandlesMessage tells number)
 
--- where a message was posted, it is given too
-abbrev pub GivesNextMessage : Type 0 → Answer → WholeAction Answer
-GivesNextMessage tells (Mail number) = First (GivesMessage tells number) (λ given. GivesOnly Done)
-GivesNextMessage tells other = GivesOnly Done
+-- these messages are given in order, up to the first refusal
+abbrev pub GivesMessages : Type 0 → List ℕ → WholeAction Answer
+GivesMessages tells [] = GivesOnly Done
+GivesMessages tells (number ∷ numbers) =
+    First (GivesMessage tells number) (λ given. GivesMessages tells numbers)
+
+-- what was done where memory is refused on the way: the gives before
+abbrev pub GivesSomeMessages : Type 0 → List ℕ → Cut Whole
+GivesSomeMessages tells [] = NothingDone
+GivesSomeMessages tells (number ∷ numbers) =
+    CutFirst (GivesMessage tells number) NothingDone (λ given. GivesSomeMessages tells numbers)
 
 -- what was read of a member's disks is of the same member, volume and generation as what it saves
 pub record IsLike (known read : Saved) : Type 0 where
@@ -270,9 +388,9 @@ pub record IsReadAs (disks_tell : Type 0) (known read : Saved) : Type 0 where
   pub like : IsLike known read
   pub told : disks_tell → read ≡ known
 
--- a member that has restarted: it is up, with what was read, and waits for no answer
+-- a member that has restarted: it is up, with what was read, waits for no answer, and holds nothing of one
 abbrev pub restarted : Member → Saved → Member
-restarted was read = record was { replica = record { saved = read; ask = None }; state = state.Up }
+restarted was read = record was { replica = record { saved = read; ask = None }; state = state.Up; parts = None }
 
 -- what is pending at a member whose disks failed
 abbrev pub still_pending : MemberState → Option Pending
@@ -342,7 +460,8 @@ CarriesOut tells disks_tell (command.Ask by to) = First (KeepsAsk tells by to) (
 CarriesOut tells disks_tell (command.Give number) = GivesMessage tells number
 CarriesOut tells disks_tell (command.Pull by to) =
     First (FindsPeers by to)
-    (λ peers. First (KeepsAsk tells by to) (λ number. First (GivesMessage tells number) (GivesNextMessage tells)))
+    (λ peers. First (KeepsAsk tells by to)
+    (λ number. First (GivesMessage tells number) (λ given. GivesMessages tells (mails_of given))))
 CarriesOut tells disks_tell (command.Alike by other) = First (FindsPeers by other) TablesCompare
 CarriesOut tells disks_tell (command.Restart by) = First (FindsMember by) (Reopens disks_tell by)
 CarriesOut tells disks_tell (command.Stop by calls pick) = First (FindsUp by) (ArmsDisks by calls pick)
@@ -381,13 +500,14 @@ TablesMayWantMemory old (command.Stop by calls pick) = ⊥
 TablesMayWantMemory old (command.Sweep order) = ⊥
 TablesMayWantMemory old (command.Why by) = ⊥
 
--- what each command leaves where memory is refused on the way: the world as it was; but a pull keeps its ask, and its
--- first give
+-- what each command leaves where memory is refused on the way: the world as it was; but a pull keeps its ask, and the
+-- gives before
 abbrev pub CutShort : Type 0 → Command → Cut Whole
 CutShort tells (command.Pull by to) =
     CutFirst (FindsPeers by to) NothingDone
     (λ peers. CutFirst (KeepsAsk tells by to) NothingDone
-    (λ number. CutFirst (GivesMessage tells number) NothingDone (λ given. NothingDone)))
+    (λ number. CutFirst (GivesMessage tells number) NothingDone
+    (λ given. GivesSomeMessages tells (mails_of given))))
 CutShort tells (command.Sweep order) = λ old left. ⊥
 CutShort tells (command.Why by) = λ old left. ⊥
 CutShort tells other = NothingDone

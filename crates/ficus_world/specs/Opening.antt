@@ -158,10 +158,12 @@ pub record AreRead {D : Type 0} (kept : List ℕ → List ℕ → Option Kept) (
   pub each : (r : ℕ) (member : Member) → IsNumbered members r member
       → (member.state ≡ Up) × Opens kept seen disks first member.replica.saved r
 
--- a member that was opened: it is up, waits for no answer, and a world may be opened with what it saves
+-- a member that was opened: it is up, waits for no answer, holds nothing of one, and a world may be opened with what it
+-- saves
 pub record IsOpened (first : Saved) (r : ℕ) (member : Member) : Type 0 where
   pub up : member.state ≡ Up
   pub asks : member.replica.ask ≡ None
+  pub parts : member.parts ≡ None
   pub fits : FitsImage member.replica.saved
   pub may : MayOpen first member.replica.saved r
 
@@ -177,4 +179,5 @@ pub record IsOneMore (old new : List Member) : Type 0 where
 
 -- the member that is opened with this
 abbrev pub opened_member : Saved → Bool → Member
-opened_member saved fused = record { replica = record { saved = saved; ask = None }; state = Up; fused = fused }
+opened_member saved fused =
+    record { replica = record { saved = saved; ask = None }; parts = None; state = Up; fused = fused }

@@ -1,34 +1,40 @@
--- A link, with the position of the event behind each posted message.
+-- A link, with what lies behind each posted message.
 use Rattle.std.specs.Prelude.{◌≡◌, ℕ, ◌+◌, ◌≤◌, List, ◌∷◌, [], ◌++◌, length}
 use Rattle.ficus_ids.specs.Members.{IsMember}
 use Rattle.ficus_faults.specs.Faults.{Rose}
 use Rattle.ficus_runs.specs.Numbered.{IsNumbered}
+use Rattle.ficus_world.specs.declared.post.Behind.{Behind}
 
--- where the event behind each posted message is stored; and of the link, its messages, the bytes posted, and its faults
+-- behind the event that is stored at a position lies one message, or, where it is a Serve, the piece with this index
+abbrev pub lies_behind : ℕ → ℕ → Behind
+lies_behind position index = record { position = position; index = index }
+
+-- what lies behind each posted message; and of the link, its messages, the bytes posted, and its faults
 pub record Outbox : Type 0 where
-  pub behind : List ℕ
+  pub behind : List Behind
   pub posts : List (List ℕ)
   pub total : ℕ
   pub faults : ℕ
 
--- and for how many messages and positions there is room
+-- and for how many messages there is room
 pub record PostState : Type 0 where
   pub now : Outbox
   pub link_room : ℕ
   pub place_room : ℕ
 
-pub record HasRoom (state : PostState) : Type 0 where
-  pub link : 1 ≤ state.link_room
-  pub place : 1 ≤ state.place_room
+-- there is room for so many messages
+pub record HasRoom (state : PostState) (count : ℕ) : Type 0 where
+  pub link : count ≤ state.link_room
+  pub place : count ≤ state.place_room
 
--- These bytes were posted, with this stored position behind them, and have this number. That they are what was posted
--- is a claim where the link tells.
-pub record IsSent (tells : Type 0) (old : Outbox) (place : ℕ) (bytes : List ℕ) (number : ℕ) (new : Outbox) :
+-- These bytes were posted, with this behind them, and have this number. That they are what was posted is a claim where
+-- the link tells.
+pub record IsSent (tells : Type 0) (old : Outbox) (behind : Behind) (bytes : List ℕ) (number : ℕ) (new : Outbox) :
     Type 0 where
   pub number_is : number ≡ length old.posts + 1
   pub counted : length new.posts ≡ length old.posts + 1
   pub told : tells → new.posts ≡ old.posts ++ bytes ∷ []
-  pub behind : new.behind ≡ old.behind ++ place ∷ []
+  pub behind_is : new.behind ≡ old.behind ++ behind ∷ []
   pub total : new.total ≡ old.total + length bytes
   pub faults : new.faults ≡ old.faults
 

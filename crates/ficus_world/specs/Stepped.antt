@@ -9,6 +9,7 @@ use Rattle.ficus_script.specs.declared.answer.Answer.{Answer}
 use Rattle.ficus_script.specs.declared.command.Command.{Command}
 use Rattle.ficus_runs.specs.Answers.{OrMemory}
 use Rattle.ficus_runs.specs.Outcome.{Outcome}
+use Rattle.ficus_runs.specs.Sequence.{Cut}
 use Rattle.ficus_world.specs.Disks.{DisksFollow}
 use Rattle.ficus_world.specs.Fuses.{FusesFollow, FusesPermit}
 use Rattle.ficus_world.specs.Moves.{CarriesOut, CutShort, Moves, TablesMayWantMemory}
@@ -38,10 +39,16 @@ pub record Stepped {K D : Type 0} (tells : Type 0) (keep : Keep K) (disk : Disk 
   pub disks : DisksFollow disk.faults disk.armings outcomes old_disks new_disks
   pub fuses : FusesFollow keep disk outcomes old.members new.members old_disks new_disks
 
--- a command that was cut short, for want of memory, the world after it, and the disks
-pub record CutOn {K D : Type 0} (tells : Type 0) (keep : Keep K) (disk : Disk D) (command : Command)
-    (old new : Whole) (old_disks new_disks : List (Pair D)) : Type 0 where
+-- what was cut short, for want of memory, the world after it, and the disks
+pub record CutPart {K D : Type 0} (keep : Keep K) (disk : Disk D) (part : Cut Whole) (old new : Whole)
+    (old_disks new_disks : List (Pair D)) : Type 0 where
   pub outcomes : List Outcome
-  pub cut : CutShort tells command old (record { outcomes = outcomes; after = new })
+  pub cut : part old (record { outcomes = outcomes; after = new })
   pub disks : DisksFollow disk.faults disk.armings outcomes old_disks new_disks
   pub fuses : FusesPermit keep disk outcomes old.members old_disks
+
+-- a command that was cut short
+abbrev pub CutOn : {K D : Type 0} → Type 0 → Keep K → Disk D → Command → Whole → Whole → List (Pair D)
+    → List (Pair D) → Type 0
+CutOn tells keep disk command old new old_disks new_disks =
+    CutPart keep disk (CutShort tells command) old new old_disks new_disks

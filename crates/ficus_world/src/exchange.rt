@@ -1,42 +1,37 @@
-ghost use Rattle.std.specs.Prelude.{◌≡◌, ◌≢◌, ◌+◌, ◌<◌, ◌≤◌, [], Err, List, length, IfErr, IfOk, OnErr, OnOk, IsErrOf};
+ghost use Rattle.std.specs.Prelude.{◌≡◌, ◌≢◌, ◌+◌, ◌^◌, ◌<◌, ◌≤◌, [], Err, List, length, IfErr, IfOk, OnErr, OnOk, IsErrOf};
 ghost use Rattle.ficus_ids.specs.Members.{IsMember};
 ghost use Rattle.ficus_ids.specs.declared.refusal.Refusal.TheVariants.{LinkFull as IsFull, Memory as OutOfMemory};
-ghost use Rattle.ficus_codec.specs.Formats.{tables_bytes};
 ghost use Rattle.ficus_saved.specs.Saved.{FitsImage};
-ghost use Rattle.ficus_saved.specs.Tables.{FitsTables};
-ghost use Rattle.ficus_wire.specs.Message.{FitsMessage, IsRoute, message_of, messages_of, way};
-ghost use Rattle.ficus_runs.specs.Answers.{OrMemory};
-ghost use Rattle.ficus_runs.specs.Exchange.{total_limit};
+ghost use Rattle.ficus_wire.specs.Message.{message_bytes, piece_limit};
+ghost use Rattle.ficus_runs.specs.Exchange.{mails_of, total_limit};
 ghost use Rattle.ficus_runs.specs.Message.{Reads};
 ghost use Rattle.ficus_runs.specs.Peers.{ArePeers};
 ghost use Rattle.ficus_runs.specs.Sequence.{unchanged};
+ghost use Rattle.std.specs.List.{range_with_len};
 ghost use Rattle.ficus_world.specs.Disks.{AreDisksOf, Carried, CarriedOn, DisksComeTo, IsPreparedAt, StaysOn};
 ghost use Rattle.ficus_world.specs.Post.{HasRoom};
-ghost use Rattle.ficus_world.specs.Moves.{FetchesMail, GivesMessage, GivesNextMessage, IsAsking, fetched_message};
-ghost use Rattle.ficus_world.specs.Moves.{IsServing, KeepsAsk, ServesAsk, TakesAnswer, answer_of, ask_of, bytes_in};
+ghost use Rattle.ficus_world.specs.Moves.{FetchesBytes, GivesMessage, GivesMessages, GivesSomeMessages, IsAsking, KeepsAsk, ask_of, messages_read};
 ghost use Rattle.ficus_world.specs.World.{IsSoundNext, IsUpIn, event_limit, most_events};
 ghost use Rattle.ficus_world.specs.declared.member.Member.{Member as MemberValue};
 ghost use Rattle.ficus_world.specs.Kills.{IsSettled, OthersStay, Passes, RestsAt, Touches};
+ghost use Rattle.ficus_world.specs.Stepped.{CutPart};
 
 use crate::World;
 use crate::group::Group;
 use crate::keeping::keep;
 use crate::member::{Pending, is_up};
-use crate::post::Post;
+use crate::post::{Behind, Post};
 use crate::saving::prepare_at;
-use ficus_codec::Known;
 use ficus_disk::{Disk, Pair};
-use ficus_entry::SharedEntry;
-use ficus_file::SharedFile;
-use ficus_ids::{Members, Memory, Refusal};
+use ficus_ids::{Listed, Refusal};
 use ficus_keep::Keep;
 use ficus_model::{Event, History};
 use ficus_outside::Link;
-use ficus_record::{Record, encode_accept, encode_record};
+use ficus_record::{Record, encode_record};
 use ficus_replica::Replica;
 use ficus_script::Answer;
 use ficus_stable::Stable;
-use ficus_wire::{Letter, Message, WireFault, encode, read_letter, receiver_in, tables_in};
+use ficus_wire::{Letter, PieceHead, Route, encode_ask, read_letter};
 use std::alloc::Global;
 
 /// What is known of a message that came: its number, from whom to whom it goes, and the number of its ask.
@@ -54,13 +49,6 @@ struct Asking {
     replica: Replica,
     message: Vec<u8>,
     noted: Vec<u8>,
-}
-
-/// A message that came, as it is read, and its bytes.
-#[derive(Drop)]
-pub(crate) struct Fetched {
-    pub(crate) letter: Letter,
-    pub(crate) bytes: Vec<u8>,
 }
 
 impl<K: Keep + Drop, L: Link + Drop> World<K, L> {
@@ -94,7 +82,7 @@ impl<K: Keep + Drop, L: Link + Drop> World<K, L> {
             .send_asking(&mut self.stables, disks, by, to, asking)
     }
 
-    /// Gives a message to its receiver, who serves an ask and takes an answer.
+    /// Gives a message to its receiver, who serves an ask and takes a piece of an answer.
     pub(crate) fn give<D: Disk>(
         &mut self,
         alloc: Global,
@@ -108,6 +96,7 @@ impl<K: Keep + Drop, L: Link + Drop> World<K, L> {
         ensures gives { CarriedOn K.Keep D.Disk (GivesMessage L.tells mail) result self.old.whole self.new.whole
             disks.old.items disks.new.items }
         ensures wants { IsErrOf result OutOfMemory → IsMember (length self.old.whole.post.posts) mail }
+        ensures few { IfOk result (λ answer. length (mails_of answer) ≤ piece_limit) }
         ensures grows { length self.new.whole.events ≤ length self.old.whole.events + 1 }
         ensures members { length self.new.whole.members ≡ length self.old.whole.members }
         ensures memory { IsErrOf result OutOfMemory → StaysOn D.faults D.armings self.old.whole self.new.whole
@@ -116,9 +105,9 @@ impl<K: Keep + Drop, L: Link + Drop> World<K, L> {
         ensures disks { AreDisksOf D.tells K.kept K.fits D.seen D.may_leave D.armings self.new.whole.members
             self.new.stables disks.new.items }
     {
-        let Fetched { letter, bytes } = self.group.fetch(alloc, mail)?;
-        match letter {
-            Letter::Ask { from, to, number } => {
+        let bytes = self.group.fetch(mail)?;
+        match self.group.letter(bytes.items())? {
+            Letter::Ask(Route { from, to, number }) => {
                 let came = Delivery {
                     number: mail,
                     from,
@@ -127,42 +116,38 @@ impl<K: Keep + Drop, L: Link + Drop> World<K, L> {
                 };
                 self.group.serve(alloc, came)
             }
-            Letter::Answer {
-                from,
-                to,
-                number,
-                entries,
-                files,
-            } => {
+            Letter::Piece(head, piece) => {
                 let came = Delivery {
                     number: mail,
-                    from,
-                    to,
-                    ask: number,
+                    from: head.route.from,
+                    to: head.route.to,
+                    ask: head.route.number,
                 };
-                let tables = tables_in(&bytes);
-                self.take(alloc, disks, came, entries.items(), files.items(), tables)
+                self.take_piece(alloc, disks, came, head, piece)
             }
         }
     }
 
-    // Where a message was posted, gives it too.
-    pub(crate) fn give_next<D: Disk>(
+    /// Gives so many messages from this number on, in order, up to the first refusal.
+    pub(crate) fn give_each<D: Disk>(
         &mut self,
         alloc: Global,
         disks: &mut Vec<Pair<D>>,
-        given: &Answer,
+        first: u32,
+        count: u32,
     ) -> Result<Answer, Refusal>
-        requires room { length self.old.whole.events < event_limit + most_events }
+        requires room { length self.old.whole.events + count < event_limit + most_events }
+        requires numbers { first + count ≤ 2 ^ 32 }
         requires pairs { length self.old.whole.members ≤ length disks.old.items }
         requires disks { AreDisksOf D.tells K.kept K.fits D.seen D.may_leave D.armings self.old.whole.members
             self.old.stables disks.old.items }
-        ensures gives { CarriedOn K.Keep D.Disk (GivesNextMessage L.tells given.now) result self.old.whole
-            self.new.whole disks.old.items disks.new.items }
-        ensures grows { length self.new.whole.events ≤ length self.old.whole.events + 1 }
+        ensures gives { CarriedOn K.Keep D.Disk (GivesMessages L.tells (range_with_len first count)) result
+            self.old.whole self.new.whole disks.old.items disks.new.items }
+        ensures grows { length self.new.whole.events ≤ length self.old.whole.events + count }
         ensures members { length self.new.whole.members ≡ length self.old.whole.members }
-        ensures memory { IsErrOf result OutOfMemory → StaysOn D.faults D.armings self.old.whole self.new.whole
-            disks.old.items disks.new.items }
+        ensures memory { IsErrOf result OutOfMemory → CutPart K.Keep D.Disk
+            (GivesSomeMessages L.tells (range_with_len first count)) self.old.whole self.new.whole disks.old.items
+            disks.new.items }
         ensures passes { IsSettled K.Keep D.Disk self.old.whole disks.old.items
             → IsSettled K.Keep D.Disk self.new.whole disks.new.items
             → Passes L.tells K.Keep D.Disk self.old.whole self.new.whole disks.old.items disks.new.items }
@@ -170,52 +155,11 @@ impl<K: Keep + Drop, L: Link + Drop> World<K, L> {
         ensures disks { AreDisksOf D.tells K.kept K.fits D.seen D.may_leave D.armings self.new.whole.members
             self.new.stables disks.new.items }
     {
-        match given {
-            Answer::Mail(number) => {
-                self.give(alloc, disks, *number)?;
-                Ok(Answer::Done)
-            }
-            _ => Ok(Answer::Done),
+        self.settled(disks);
+        for index in 0..count {
+            self.give(alloc, disks, first + index)?;
+            self.settled(disks);
         }
-    }
-
-    // Takes what was served, in rows and as these are spelled, or refuses it. All memory is taken before anything changes.
-    fn take<D: Disk>(
-        &mut self,
-        alloc: Global,
-        disks: &mut Vec<Pair<D>>,
-        came: Delivery,
-        entries: &[SharedEntry],
-        files: &[SharedFile],
-        tables: &[u8],
-    ) -> Result<Answer, Refusal>
-        requires room { length self.old.whole.events < event_limit + most_events }
-        requires pairs { length self.old.whole.members ≤ length disks.old.items }
-        requires disks { AreDisksOf D.tells K.kept K.fits D.seen D.may_leave D.armings self.old.whole.members
-            self.old.stables disks.old.items }
-        requires mail { IsMember (length self.old.whole.post.behind) came.number }
-        requires to { IsMember (length self.old.whole.members) came.to }
-        requires tables { FitsTables (length self.old.whole.members) entries.now files.now }
-        requires spelled { tables.now ≡ tables_bytes (length self.old.whole.members) entries.now files.now }
-        ensures takes { CarriedOn K.Keep D.Disk (TakesAnswer came entries.now files.now) result self.old.whole
-            self.new.whole disks.old.items disks.new.items }
-        ensures grows { length self.new.whole.events ≤ length self.old.whole.events + 1 }
-        ensures members { length self.new.whole.members ≡ length self.old.whole.members }
-        ensures memory { IsErrOf result OutOfMemory → StaysOn D.faults D.armings self.old.whole self.new.whole
-            disks.old.items disks.new.items }
-        ensures touches { Touches K.Keep D.Disk self.old.whole self.new.whole disks.old.items disks.new.items }
-        ensures disks { AreDisksOf D.tells K.kept K.fits D.seen D.may_leave D.armings self.new.whole.members
-            self.new.stables disks.new.items }
-    {
-        let serve = self.group.post.place(came.number);
-        let replica = &self.group.up(came.to)?.replica;
-        let taken = replica.accept_rows(alloc, came.from, came.ask, entries, files)?;
-        let noted = encode_accept(alloc, tables)?;
-        let next = Pending {
-            replica: taken,
-            event: Event::Accept { by: came.to, serve },
-        };
-        self.save(disks, came.to, next, &noted)?;
         Ok(Answer::Done)
     }
 }
@@ -227,8 +171,7 @@ impl<L: Link + Drop> Group<L> {
         ensures asks { IfOk result (λ asking. (was : MemberValue) × IsAsking self.now by to was asking.replica
             × IsSoundNext (length self.now.members) (length self.now.events) by asking.noted.items was.replica
             asking.replica) }
-        ensures message { IfOk result (λ asking. asking.message.items
-            ≡ bytes_in self.now (ask_of by to asking.replica)) }
+        ensures message { IfOk result (λ asking. asking.message.items ≡ message_bytes (ask_of by to asking.replica)) }
         ensures refused { IfErr result (λ refusal. refusal ≢ OutOfMemory
             → KeepsAsk L.tells by to self.now (Err refusal) (unchanged self.now)) }
         ensures wants { IsErrOf result OutOfMemory → ArePeers (length self.now.members) by to × IsUpIn self.now by }
@@ -241,12 +184,15 @@ impl<L: Link + Drop> Group<L> {
             return Err(Refusal::Down);
         }
         let replica = member.replica.ask(to)?;
-        let ask = Message::Ask {
-            from: by,
-            to,
-            number: replica.saved.generation,
-        };
-        let message = encode(alloc, &ask, self.count())?;
+        let number = replica.saved.generation;
+        let message = encode_ask(
+            alloc,
+            Route {
+                from: by,
+                to,
+                number,
+            },
+        )?;
         let noted = encode_record(alloc, &Record::Ask, self.count())?;
         Ok(Asking {
             replica,
@@ -272,7 +218,7 @@ impl<L: Link + Drop> Group<L> {
         requires asking { (was : MemberValue) × IsAsking self.old by to was asking.replica
             × IsSoundNext (length self.old.members) (length self.old.events) by asking.noted.items was.replica
             asking.replica }
-        requires message { asking.message.items ≡ bytes_in self.old (ask_of by to asking.replica) }
+        requires message { asking.message.items ≡ message_bytes (ask_of by to asking.replica) }
         ensures asks { CarriedOn K.Keep D.Disk (KeepsAsk L.tells by to) result self.old self.new disks.old.items
             disks.new.items }
         ensures grows { length self.new.events ≤ length self.old.events + 1 }
@@ -292,7 +238,10 @@ impl<L: Link + Drop> Group<L> {
             by,
             &asking,
         )?;
-        let place = self.history.len();
+        let behind = Behind {
+            position: self.history.len(),
+            index: 0,
+        };
         let Asking {
             replica,
             message,
@@ -310,16 +259,13 @@ impl<L: Link + Drop> Group<L> {
             by,
             next,
         )?;
-        self.post.send(message, place)
+        self.post.send(message, behind)
     }
 
-    // Fetches a message, and reads it.
-    fn fetch(&mut self, alloc: Global, mail: u32) -> Result<Fetched, Refusal>
-        ensures fetches { Carried (FetchesMail L.tells mail self.old) (fetched_message result) self.new }
+    // The bytes of a message.
+    fn fetch(&mut self, mail: u32) -> Result<Listed<u8>, Refusal>
+        ensures fetches { Carried (FetchesBytes L.tells mail self.old) result self.new }
         ensures wants { IsErrOf result OutOfMemory → IsMember (length self.old.post.posts) mail }
-        ensures there { OnOk result (IsMember (length self.old.post.posts) mail) }
-        ensures fits { IfOk result (λ came. FitsMessage (length self.new.members) (message_of came.letter)) }
-        ensures spelled { IfOk result (λ came. came.bytes.items ≡ bytes_in self.new (message_of came.letter)) }
         ensures behind { OnOk result (IsMember (length self.new.post.behind) mail) }
         ensures same { OnOk result (self.new ≡ self.old) }
         ensures stored { self.new.events ≡ self.old.events }
@@ -329,72 +275,14 @@ impl<L: Link + Drop> Group<L> {
         if !self.post.has(mail) {
             return Err(Refusal::NoMail);
         }
-        let bytes = self.post.fetch(mail)?;
-        let letter = self.letter(alloc, &bytes)?;
-        Ok(Fetched { letter, bytes })
+        Ok(Listed::of(self.post.fetch(mail)?))
     }
 
-    // The message that the bytes spell. What the receiver of an answer holds already is shared.
-    fn letter(&self, alloc: Global, bytes: &[u8]) -> Result<Letter, Refusal>
-        ensures { OrMemory (λ given. Reads (length self.now.members) bytes.now (messages_of given)) result }
+    // The message that the bytes spell.
+    fn letter<'a>(&self, bytes: &'a [u8]) -> Result<Letter<'a>, Refusal>
+        ensures { Reads (length self.now.members) bytes.now (messages_read result) }
     {
-        let known = self.known_to(alloc, receiver_in(bytes))?;
-        read(alloc, bytes, self.count(), &known)
-    }
-
-    // The rows of the member, if there is one.
-    fn known_to(&self, alloc: Global, to: Option<u8>) -> Result<Known, Memory> {
-        match to {
-            Some(to) if self.has(to) => {
-                let saved = &self.member(to).replica.saved;
-                Known::of(&saved.entries, &saved.files)
-            }
-            _ => Ok(Known::none(alloc)),
-        }
-    }
-
-    // Serves an ask with what the member holds. All memory is taken before anything changes.
-    fn serve(&mut self, alloc: Global, came: Delivery) -> Result<Answer, Refusal>
-        requires room { length self.old.events < event_limit + most_events }
-        requires mail { IsMember (length self.old.post.behind) came.number }
-        requires route { IsRoute (length self.old.members) (way came.from came.to came.ask) }
-        ensures serves { Carried (ServesAsk L.tells came self.old) result self.new }
-        ensures grows { length self.new.events ≤ length self.old.events + 1 }
-        ensures members { self.new.members ≡ self.old.members }
-        ensures memory { IsErrOf result OutOfMemory → self.new ≡ self.old }
-    {
-        if !is_up(self.member(came.to)) {
-            return Err(Refusal::Down);
-        }
-        self.history.reserve(1)?;
-        self.post.make_room()?;
-        let ask = self.post.place(came.number);
-        let bytes = self.answer_to(alloc, came)?;
-        if !self.post.has_room_for(&bytes) {
-            return Err(Refusal::LinkFull);
-        }
-        let place = self.history.len();
-        let posted = self.post.send(bytes, place)?;
-        self.history.push(Event::Serve { by: came.to, ask });
-        Ok(Answer::Mail(posted))
-    }
-
-    // The spelling of what the member answers to an ask: its tables.
-    fn answer_to(&self, alloc: Global, came: Delivery) -> Result<Vec<u8>, Memory>
-        requires route { IsRoute (length self.now.members) (way came.from came.to came.ask) }
-        requires up { IsUpIn self.now came.to }
-        ensures { IfOk result (λ bytes. (peer : MemberValue) × IsServing self.now came peer
-            × (bytes.items ≡ bytes_in self.now (answer_of came peer))) }
-    {
-        let saved = &self.member(came.to).replica.saved;
-        let message = Message::Answer {
-            from: came.to,
-            to: came.from,
-            number: came.ask,
-            entries: saved.entries.copy()?,
-            files: saved.files.copy()?,
-        };
-        encode(alloc, &message, self.count())
+        read_letter(bytes, self.count()).ok_or(Refusal::BadMessage)
     }
 }
 
@@ -411,7 +299,7 @@ fn make_ready<K: Keep + Drop, L: Link + Drop, D: Disk>(
     requires pair { IsMember (length disks.old.items) by }
     requires fits { FitsImage asking.now.replica.saved }
     ensures room { OnOk result (1 ≤ history.new.room) }
-    ensures post_room { OnOk result (HasRoom post.new) }
+    ensures post_room { OnOk result (HasRoom post.new 1) }
     ensures prepared { OnOk result (IsPreparedAt K.wants_image K.Takes K.size_of D.room stables.new.items
         disks.new.items by asking.now.replica.saved asking.now.noted.items) }
     ensures small { OnOk result (post.old.now.total + length asking.now.message.items ≤ total_limit) }
@@ -427,22 +315,11 @@ fn make_ready<K: Keep + Drop, L: Link + Drop, D: Disk>(
     ensures rests { RestsAt D.Disk by disks.old.items disks.new.items }
     ensures count { length stables.new.items ≡ length stables.old.items }
 {
-    if !post.has_room_for(&asking.message) {
+    if !post.has_room_for(asking.message.len() as u64) {
         return Err(Refusal::LinkFull);
     }
     history.reserve(1)?;
-    post.make_room()?;
+    post.make_room(1)?;
     prepare_at(stables, disks, by, &asking.replica.saved, &asking.noted)?;
     Ok(())
-}
-
-// The message that the bytes spell.
-fn read(alloc: Global, bytes: &[u8], members: Members, known: &Known) -> Result<Letter, Refusal>
-    ensures { OrMemory (λ given. Reads members bytes.now (messages_of given)) result }
-{
-    match read_letter(alloc, bytes, members, known) {
-        Ok(letter) => Ok(letter),
-        Err(WireFault::NotMessage) => Err(Refusal::BadMessage),
-        Err(WireFault::Memory) => Err(Refusal::Memory),
-    }
 }

@@ -5,7 +5,7 @@ ghost use Rattle.ficus_ids.specs.declared.refusal.Refusal.TheVariants.{Memory as
 ghost use Rattle.ficus_runs.specs.Numbered.{IsNumbered};
 ghost use Rattle.ficus_runs.specs.Outcome.{IsSaved, SaveFails};
 ghost use Rattle.ficus_world.specs.Disks.{AreDisksOf, DisksComeTo, IsPreparedAt, StaysOn};
-ghost use Rattle.ficus_world.specs.Moves.{advanced, downed};
+ghost use Rattle.ficus_world.specs.Moves.{advanced, downed, parts_after};
 ghost use Rattle.ficus_world.specs.World.{IsSoundNext, IsUpIn, event_limit, most_events, whole_of};
 ghost use Rattle.ficus_world.specs.declared.member.Member.{Member as MemberValue};
 ghost use Rattle.ficus_world.specs.declared.member.MemberState.TheVariants.{Down as IsDown, Up as IsUp};
@@ -131,7 +131,8 @@ pub(crate) fn keep<K: Keep + Drop, D: Disk>(
     requires disks { AreDisksOf D.tells K.kept K.fits D.seen D.may_leave D.armings members.old.items stables.old.items
         disks.old.items }
     ensures held { OnOk result ((was : MemberValue) → IsNumbered members.old.items by was
-        → members.new.items ≡ slice_set members.old.items (by - 1) (record was { replica = next.replica })) }
+        → members.new.items ≡ slice_set members.old.items (by - 1)
+        (record was { replica = next.replica; parts = parts_after next.event was.parts })) }
     ensures stored { OnOk result (history.new.events ≡ history.old.events ++ next.event ∷ []) }
     ensures followed { OnOk result (DisksComeTo K.Keep D.Disk (IsSaved by ∷ []) members.old.items members.new.items
         disks.old.items disks.new.items) }
@@ -150,8 +151,9 @@ pub(crate) fn keep<K: Keep + Drop, D: Disk>(
 {
     match commit_at(stables, disks, by, &next.replica.saved) {
         Ok(()) => {
-            hold(members, by, next.replica);
-            history.push(next.event);
+            let Pending { replica, event } = next;
+            hold(members, by, replica, &event);
+            history.push(event);
             Ok(())
         }
         Err(Failed) => {

@@ -7,13 +7,16 @@ mod exchange;
 mod group;
 mod keeping;
 mod laws;
+mod mails;
 mod member;
 mod opening;
 mod post;
 mod restart;
 mod saving;
+mod serving;
 mod settled;
 mod step;
+mod taking;
 mod world;
 
 pub use checking::checks_tell_of_openings;

@@ -1,16 +1,21 @@
-ghost use Rattle.std.specs.Prelude.{◌≡◌, ◌≢◌, ◌↔◌, ◌-◌, IsTrue, Some, None, length, slice_set};
+ghost use Rattle.std.specs.Prelude.{◌≡◌, ◌≢◌, ◌↔◌, ◌-◌, ◌<◌, IsTrue, OnErr, OnOk, Some, None, length, slice_set};
 ghost use Rattle.ficus_ids.specs.Members.{IsMember};
+ghost use Rattle.ficus_model.specs.Events.{traits};
 ghost use Rattle.ficus_saved.specs.declared.saved.Saved.{Saved as SavedValue};
 ghost use Rattle.ficus_runs.specs.Numbered.{IsNumbered};
-ghost use Rattle.ficus_world.specs.Moves.{IsLike, still_pending};
+ghost use Rattle.ficus_wire.specs.Parts.{HasPart, with_part};
+ghost use Rattle.ficus_world.specs.Moves.{IsLike, parts_after, parts_held, still_pending};
 ghost use Rattle.ficus_world.specs.Disks.{IsRisen, IsStateAfter};
 ghost use Rattle.ficus_world.specs.declared.member.Member.{Member as MemberValue};
 ghost use Rattle.ficus_world.specs.declared.member.MemberState.TheVariants.{Down as IsDown, Up as IsUp};
 ghost use Rattle.ficus_world.specs.declared.member.Rising.TheVariants.{AsPending as HasHappened, Neither as IsNeither};
 
+use ficus_ids::Memory;
 use ficus_model::Event;
 use ficus_replica::Replica;
 use ficus_saved::Saved;
+use ficus_wire::{Parts, PieceHead};
+use std::alloc::Global;
 use std::mem;
 
 /// A replica after an event of its own that isn't saved yet, or whose save failed.
@@ -29,10 +34,12 @@ pub enum MemberState {
     Down(Option<Pending>),
 }
 
-/// A member of a volume: the replica that it holds, its state, and whether both of its disks have a fuse.
+/// A member of a volume: the replica that it holds, the pieces that it has of the answer to its open ask, its state,
+/// and whether both of its disks have a fuse.
 #[derive(Drop)]
 pub struct Member {
     pub(crate) replica: Replica,
+    pub(crate) parts: Option<Parts>,
     pub(crate) state: MemberState,
     pub(crate) fused: bool,
 }
@@ -55,13 +62,81 @@ pub(crate) fn is_up(member: &Member) -> bool
     matches!(member.state, MemberState::Up)
 }
 
-/// Has the member of this number hold the replica, in the state in which it was.
-pub(crate) fn hold(members: &mut Vec<Member>, number: u8, replica: Replica)
+/// Has the member of this number hold the replica after this event of its own, in the state in which it was.
+pub(crate) fn hold(members: &mut Vec<Member>, number: u8, replica: Replica, event: &Event)
     requires { IsMember (length members.old.items) number }
     ensures { (was : MemberValue) → IsNumbered members.old.items number was
-        → members.new.items ≡ slice_set members.old.items (number - 1) (record was { replica = replica }) }
+        → members.new.items ≡ slice_set members.old.items (number - 1)
+        (record was { replica = replica; parts = parts_after event.now was.parts }) }
 {
-    members[number as usize - 1].replica = replica;
+    let member = &mut members[number as usize - 1];
+    member.replica = replica;
+    leave(&mut member.parts, event);
+}
+
+// Gives up what is held of an answer, where the event ends the ask.
+fn leave(parts: &mut Option<Parts>, event: &Event)
+    ensures { parts.new ≡ parts_after event.now parts.old }
+{
+    if ends_ask(event) {
+        *parts = None;
+    }
+}
+
+// Whether no answer to an earlier ask of its replica is taken after the event.
+fn ends_ask(event: &Event) -> bool
+    ensures { result ≡ (traits event.now).closes }
+{
+    match event {
+        Event::Ask { .. } | Event::Accept { .. } | Event::Restart { .. } => true,
+        Event::Update { .. } | Event::Serve { .. } | Event::Take { .. } | Event::Collect { .. } =>
+            false,
+    }
+}
+
+/// Has the member of this number hold this piece of an answer too.
+pub(crate) fn add_piece(
+    alloc: Global,
+    members: &mut Vec<Member>,
+    number: u8,
+    head: PieceHead,
+    bytes: &[u8],
+) -> Result<(), Memory>
+    requires member { IsMember (length members.old.items) number }
+    requires missing { (was : MemberValue) → IsNumbered members.old.items number was
+        → HasPart (parts_held was.parts head) head.index → ⊥ }
+    requires index { (was : MemberValue) → IsNumbered members.old.items number was
+        → head.index < (parts_held was.parts head).pieces }
+    ensures added { OnOk result ((was : MemberValue) → IsNumbered members.old.items number was
+        → members.new.items ≡ slice_set members.old.items (number - 1)
+        (record was { parts = Some (with_part (parts_held was.parts head) head.index bytes.now) })) }
+    ensures kept { OnErr result (members.new.items ≡ members.old.items) }
+{
+    let bytes = bytes.to_vec(alloc)?;
+    add_part(alloc, &mut members[number as usize - 1].parts, head, bytes)
+}
+
+// Adds a piece to those that are held.
+fn add_part(
+    alloc: Global,
+    parts: &mut Option<Parts>,
+    head: PieceHead,
+    bytes: Vec<u8>,
+) -> Result<(), Memory>
+    requires missing { HasPart (parts_held parts.old head) head.index → ⊥ }
+    requires index { head.index < (parts_held parts.old head).pieces }
+    ensures added { OnOk result (parts.new ≡ Some (with_part (parts_held parts.old head) head.index bytes.items)) }
+    ensures kept { OnErr result (parts.new ≡ parts.old) }
+{
+    match parts {
+        Some(held) => held.add(head.index, bytes),
+        None => {
+            let mut first = Parts::new(alloc, head.state, head.pieces);
+            first.add(head.index, bytes)?;
+            *parts = Some(first);
+            Ok(())
+        }
+    }
 }
 
 /// Puts the member of this number down, with what is pending.
@@ -88,7 +163,7 @@ pub(crate) fn keep_down(members: &mut Vec<Member>, number: u8)
 }
 
 /// Brings the member of this number up with what was read of its disks, where that is of the generation that it had, or
-/// of the one with what was pending. It waits for no answer then. Else it is down.
+/// of the one with what was pending. It waits for no answer then, and holds nothing of one. Else it is down.
 pub(crate) fn rise(members: &mut Vec<Member>, number: u8, read: Saved) -> Rising
     requires { IsMember (length members.old.items) number }
     ensures { (was : MemberValue) → IsNumbered members.old.items number was
@@ -99,6 +174,7 @@ pub(crate) fn rise(members: &mut Vec<Member>, number: u8, read: Saved) -> Rising
     let rising = come_up(&mut member.state, &member.replica.saved, &read);
     if has_risen(&rising) {
         bring_back(&mut member.replica, read);
+        member.parts = None;
     } else {
         drop(read);
     }

@@ -520,6 +520,7 @@ fn enter<K: Keep + Drop>(
 {
     opened.members.push(Member {
         replica: Replica::open(saved),
+        parts: None,
         state: MemberState::Up,
         fused,
     })?;

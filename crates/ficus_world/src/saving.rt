@@ -25,7 +25,8 @@ use ficus_saved::Saved;
 use ficus_stable::{Stable, one_saved};
 use std::alloc::Global;
 
-/// Takes all memory for what a member saves next, by what is noted of its event. What the disks hold is as before, also where memory is refused.
+/// Takes all memory for what a member saves next, by what is noted of its event. What the disks hold is as before,
+/// also where memory is refused.
 pub(crate) fn prepare_at<K: Keep + Drop, D: Disk>(
     stables: &mut Vec<Stable<K>>,
     disks: &mut Vec<Pair<D>>,

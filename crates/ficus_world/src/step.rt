@@ -2,10 +2,11 @@ ghost use Rattle.std.specs.Prelude.{◌≡◌, ◌≢◌, ◌+◌, ◌<◌, ◌�
 ghost use Rattle.ficus_ids.specs.declared.refusal.Refusal.TheVariants.{Memory as OutOfMemory};
 ghost use Rattle.ficus_runs.specs.Answers.{answer_as, answer_to};
 ghost use Rattle.ficus_world.specs.Disks.{AreDisksOf, DisksFollow, StaysOn};
-ghost use Rattle.ficus_world.specs.World.{event_limit, most_events};
+ghost use Rattle.ficus_world.specs.World.{event_limit, foreseen, most_unforeseen};
 ghost use Rattle.ficus_world.specs.Kills.{AreLeft, IsSettled, OthersStay, Passes, Touches};
 
 use crate::World;
+use crate::mails::{Mails, mails_in};
 use crate::member::Pending;
 use crate::saving::arm_at;
 use ficus_commands::{Change, Look};
@@ -31,9 +32,9 @@ impl<K: Keep + Drop, L: Link + Drop> World<K, L> {
     ghost use Rattle.ficus_world.specs.World.{WorldStandsFor};
 
     /// Carries out one command that is one step, and answers it. What a member saves is on its disks before it is
-    /// answered; where they fail, the answer is `Store`, the member is down, and what it would have saved is pending until
-    /// it is restarted. After `Memory` the world is as before, but that a pull keeps what it has done: its ask, and the
-    /// serving of it.
+    /// answered; where they fail, the answer is `Store`, the member is down, and what it would have saved is pending
+    /// until it is restarted. After `Memory` the world is as before, but that a pull keeps what it has done: its ask,
+    /// the serving of it, and the gives before.
     pub fn step<D: Disk>(
         &mut self,
         alloc: Global,
@@ -48,7 +49,8 @@ impl<K: Keep + Drop, L: Link + Drop> World<K, L> {
             self.old.stables disks.old.items }
         ensures moves { IfOk result (λ answer. Stepped L.tells K.Keep D.Disk self.old.whole command.now answer
             self.new.whole disks.old.items disks.new.items) }
-        ensures grows { length self.new.whole.events ≤ length self.old.whole.events + most_events }
+        // It stores two events at most, and one for each message that it posts.
+        ensures grows { foreseen self.new.whole ≤ foreseen self.old.whole + most_unforeseen }
         ensures members { length self.new.whole.members ≡ length self.old.whole.members }
         ensures pairs { length disks.new.items ≡ length disks.old.items }
         ensures memory { OnErr result (CutOn L.tells K.Keep D.Disk command.now self.old.whole self.new.whole
@@ -104,7 +106,6 @@ impl<K: Keep + Drop, L: Link + Drop> World<K, L> {
             self.old.stables disks.old.items }
         ensures moves { ComesTo L.tells K.Keep D.Disk self.old.whole command.now result self.new.whole disks.old.items
             disks.new.items }
-        ensures grows { length self.new.whole.events ≤ length self.old.whole.events + most_events }
         ensures members { length self.new.whole.members ≡ length self.old.whole.members }
         ensures memory { IsErrOf result OutOfMemory → CutOn L.tells K.Keep D.Disk command.now self.old.whole
             self.new.whole disks.old.items disks.new.items }
@@ -209,7 +210,7 @@ impl<K: Keep + Drop, L: Link + Drop> World<K, L> {
         Ok(answer)
     }
 
-    // An ask, and the gives of its message and of the answer to it.
+    // An ask, and the gives of its message and of each piece of the answer to it.
     fn pull<D: Disk>(
         &mut self,
         alloc: Global,
@@ -223,7 +224,6 @@ impl<K: Keep + Drop, L: Link + Drop> World<K, L> {
             self.old.stables disks.old.items }
         ensures moves { ComesTo L.tells K.Keep D.Disk self.old.whole (Pulls by to) result self.new.whole disks.old.items
             disks.new.items }
-        ensures grows { length self.new.whole.events ≤ length self.old.whole.events + most_events }
         ensures members { length self.new.whole.members ≡ length self.old.whole.members }
         ensures memory { IsErrOf result OutOfMemory → CutOn L.tells K.Keep D.Disk (Pulls by to) self.old.whole
             self.new.whole disks.old.items disks.new.items }
@@ -239,7 +239,8 @@ impl<K: Keep + Drop, L: Link + Drop> World<K, L> {
         self.settled(disks);
         let given = self.give(alloc, disks, asked)?;
         self.settled(disks);
-        self.give_next(alloc, disks, &given)
+        let Mails { first, count } = mails_in(&given);
+        self.give_each(alloc, disks, first, count)
     }
 
     fn alike(&self, alloc: Global, by: u8, other: u8) -> Result<Answer, Refusal>

@@ -15,8 +15,8 @@ abbrev pub IsReplayCode : ℕ → Type 0
 IsReplayCode code = (code ≡ 0) ⊎ (code ≡ 2) ⊎ (code ≡ 3) ⊎ (code ≡ 4) ⊎ (code ≡ 5) ⊎ (code ≡ 6) ⊎ (code ≡ 7)
     ⊎ (code ≡ 8) ⊎ (code ≡ 9)
 
--- No command was carried out: where nothing was there and nothing unsynced, nothing else is there than what is made of a
--- volume of this size. No disk has failed, unless the code says so.
+-- No command was carried out: where nothing was there and nothing unsynced, nothing else is there than what is made
+-- of a volume of this size. No disk has failed, unless the code says so.
 pub record StaysUnmade {S K D : Type 0} (size : Size) (seen : Seen S K D) (status : Status) : Type 0 where
   pub partly : seen.disk.tells → AreEmpty seen.disk.seen (disks_before seen) size.members
       → AreSynced seen.disk.seen seen.disk.may_leave (disks_before seen) size.members

@@ -32,7 +32,8 @@ pub record StaysUnopened {S K D : Type 0} (seen : Seen S K D) (status : Status) 
 -- failed then, and it doesn't come over disks that stand for a lawful history. Code 6 names a member, and none behind
 -- the first replica whose disks are those of no world. Where no command was carried out nothing is written. A script is
 -- answered over disks that stand for a lawful history, unless the outside fails or memory is wanted. On the pairs of no
--- member nothing is written in any case. Where nothing was unsynced at first, what a kill at any moment leaves is known.
+-- member nothing is written in any case. Where nothing was unsynced at first, what a kill at any moment leaves is
+-- known.
 pub record DoesRun {S K D : Type 0} (seen : Seen S K D) (status : Status) : Type 0 where
   pub codes : IsRunCode status.code
   pub reads : seen.source.tells → ReadsScript seen status

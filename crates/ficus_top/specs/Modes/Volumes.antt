@@ -3,7 +3,7 @@ use Rattle.std.specs.Prelude.{◌≡◌, ◌⊎◌, ℕ, List, []}
 use Rattle.ficus_ids.specs.Members.{IsMember}
 use Rattle.ficus_model.specs.Lawful.{IsLawful, Volume}
 use Rattle.ficus_model.specs.declared.event.Event.{Event}
-use Rattle.ficus_grafted.specs.Fresh.{AnswersFresh, AnswersFreshFront}
+use Rattle.ficus_top.specs.Fresh.{AnswersFresh, AnswersFreshFront}
 use Rattle.ficus_script.specs.VolumeLine.{IsVolumeScript}
 use Rattle.ficus_script.specs.declared.volume_line.VolumeLine.{VolumeLine}
 use Rattle.ficus_words.specs.declared.mode.Size.{Size}
@@ -50,8 +50,8 @@ module _ {S K D : Type 0} where
       AnswersVolumesFront seen.sink.tells (volume_of size) count (script_of seen) (put_before seen) (put_after seen)
 
   -- The disks that were handed in stay as they were. With code 0 the source is empty, and what was put are the texts of
-  -- the answers to the script's lines. With codes 3 and 5 it is a front of them, or with code 3 nothing was put. A script
-  -- is answered, unless the outside fails or memory is wanted.
+  -- the answers to the script's lines. With codes 3 and 5 it is a front of them, or with code 3 nothing was put. A
+  -- script is answered, unless the outside fails or memory is wanted.
   pub record DoesVolumes (size : Size) (count : ℕ) (seen : Seen S K D) (status : Status) : Type 0 where
     pub codes : IsVolumesCode status.code
     pub reads : seen.source.tells → ReadsIn (of_volumes count) seen status

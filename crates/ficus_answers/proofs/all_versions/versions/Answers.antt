@@ -1,8 +1,8 @@
 use Rattle.std.proofs.Common.{inl}
 use Rattle.ficus_rules.specs.Versions.{VersionsRule}
-use Rattle.ficus_rules.specs.Walk.{FileRule}
+use Rattle.ficus_rules.specs.Walk.{VersionedRule}
 use Rattle.ficus_rules.proofs.Rules.{behind}
-use Rattle.ficus_rules.proofs.Walks.{file_never, file_once}
+use Rattle.ficus_rules.proofs.Walks.{versioned_never, versioned_once}
 use Rattle.ficus_answers.specs.View.{tables_view}
 use Rattle.ficus_answers.proofs.Refusals.{stopped, wanted}
 use Rattle.ficus_answers.proofs.all_versions.versions.Goals as goal
@@ -11,7 +11,7 @@ pub returns-in_err-file : goal.returns-in_err-file
 returns-in_err-file c =
     let view = tables_view c.args.saved.now in
     let path = c.args.path.now in
-    stopped _ (FileRule view path) (VersionsRule view path) (file_never view path) (λ refusal stops. inl stops) _
+    stopped _ (VersionedRule view path) (VersionsRule view path) (versioned_never view path) (λ refusal stops. inl stops) _
     c.in_err-file.ensures.rule _ c.from_residual.ensures.1
 
 pub returns-in_err-copies : goal.returns-in_err-copies
@@ -19,4 +19,4 @@ returns-in_err-copies c =
     let view = tables_view c.args.saved.now in
     let path = c.args.path.now in
     wanted _ (VersionsRule view path) _ c.from_residual-in_err-copies.ensures.1
-    (λ refusal refuses. behind (file_once view path) c.in_ok-file.file.now.id c.in_ok-file.ensures.rule refuses)
+    (λ refusal refuses. behind (versioned_once view path) c.in_ok-file.file.now.id c.in_ok-file.ensures.rule refuses)

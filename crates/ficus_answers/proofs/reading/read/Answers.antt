@@ -1,9 +1,9 @@
 use Rattle.std.proofs.Common.{◌≡◌, refl, ap, ◌∙◌, inl, inr, rules}
 use Rattle.ficus_commands.specs.declared.told.Told.TheVariants.{Text}
 use Rattle.ficus_rules.specs.Read.{ReadRule}
-use Rattle.ficus_rules.specs.Walk.{FileRule}
+use Rattle.ficus_rules.specs.Walk.{VersionedRule}
 use Rattle.ficus_rules.proofs.Rules.{behind, passed}
-use Rattle.ficus_rules.proofs.Walks.{file_never, file_once}
+use Rattle.ficus_rules.proofs.Walks.{versioned_never, versioned_once}
 use Rattle.ficus_answers.specs.View.{tables_view}
 use Rattle.ficus_answers.proofs.Refusals.{isnt, stopped, wanted}
 use Rattle.ficus_answers.proofs.reading.read.Goals as goal
@@ -12,7 +12,7 @@ pub returns-in_err-file : goal.returns-in_err-file
 returns-in_err-file c =
     let view = tables_view c.args.saved.now in
     let path = c.args.path.now in
-    stopped _ (FileRule view path) (ReadRule view path) (file_never view path) (λ refusal stops. inl stops) _
+    stopped _ (VersionedRule view path) (ReadRule view path) (versioned_never view path) (λ refusal stops. inl stops) _
     c.in_err-file.ensures.rule _ c.from_residual.ensures.1
 
 pub returns-then-is_conflict : goal.returns-then-is_conflict
@@ -25,7 +25,7 @@ returns-in_err-text c =
     let path = c.args.path.now in
     wanted _ (ReadRule view path) _ c.from_residual-in_err-text.ensures.1
     (λ refusal refuses. passed (isnt c.if-is_conflict.ensures)
-    (behind (file_once view path) c.in_ok-file.file.now.id c.in_ok-file.ensures.rule refuses))
+    (behind (versioned_once view path) c.in_ok-file.file.now.id c.in_ok-file.ensures.rule refuses))
 
 pub returns : goal.returns
 returns c =

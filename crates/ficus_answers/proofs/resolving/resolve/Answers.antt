@@ -4,10 +4,10 @@ use Rattle.ficus_model.specs.declared.event.Op.TheVariants.{Resolve}
 use Rattle.ficus_rules.specs.Limits.{LimitsRule}
 use Rattle.ficus_rules.specs.Resolve.{NeedsResolver, ResolveRule}
 use Rattle.ficus_rules.specs.Rule.{Gives}
-use Rattle.ficus_rules.specs.Walk.{FileRule}
+use Rattle.ficus_rules.specs.Walk.{VersionedRule}
 use Rattle.ficus_rules.proofs.Limits.{limits_never}
 use Rattle.ficus_rules.proofs.Rules.{refusal_along}
-use Rattle.ficus_rules.proofs.Walks.{file_never}
+use Rattle.ficus_rules.proofs.Walks.{versioned_never}
 use Rattle.ficus_answers.specs.Files.{ResolvedWithin}
 use Rattle.ficus_answers.specs.View.{tables_view}
 use Rattle.ficus_answers.proofs.Refusals.{isnt, is_resolved, not_resolved, over_limits, stopped}
@@ -17,7 +17,7 @@ pub returns-in_err-file : goal.returns-in_err-file
 returns-in_err-file c =
     let view = tables_view c.args.saved.now in
     let path = c.args.path.now in
-    stopped _ (FileRule view path) (ResolveRule view path) (file_never view path) (λ refusal stops. inl stops) _
+    stopped _ (VersionedRule view path) (ResolveRule view path) (versioned_never view path) (λ refusal stops. inl stops) _
     c.in_err-file.ensures.rule _ c.from_residual.ensures.1
 
 pub returns-then-not-is_conflict : goal.returns-then-not-is_conflict

@@ -3,10 +3,10 @@ use Rattle.ficus_model.specs.declared.event.Op.TheVariants.{Settle}
 use Rattle.ficus_rules.specs.Limits.{LimitsRule}
 use Rattle.ficus_rules.specs.Rule.{Gives}
 use Rattle.ficus_rules.specs.Settle.{SettleRule}
-use Rattle.ficus_rules.specs.Walk.{FileRule}
+use Rattle.ficus_rules.specs.Walk.{VersionedRule}
 use Rattle.ficus_rules.proofs.Limits.{limits_never, limits_none}
 use Rattle.ficus_rules.proofs.Rules.{behind, passed}
-use Rattle.ficus_rules.proofs.Walks.{file_never, file_once}
+use Rattle.ficus_rules.proofs.Walks.{versioned_never, versioned_once}
 use Rattle.ficus_answers.specs.View.{tables_view}
 use Rattle.ficus_answers.proofs.Refusals.{isnt, over_limits, stopped, wanted}
 use Rattle.ficus_answers.proofs.settling.settle.Goals as goal
@@ -15,7 +15,7 @@ pub returns-in_err-file : goal.returns-in_err-file
 returns-in_err-file c =
     let view = tables_view c.args.saved.now in
     let path = c.args.path.now in
-    stopped _ (FileRule view path) (SettleRule view path c.args.bytes.now) (file_never view path)
+    stopped _ (VersionedRule view path) (SettleRule view path c.args.bytes.now) (versioned_never view path)
     (λ refusal stops. inl stops) _ c.in_err-file.ensures.rule _ c.from_residual.ensures.1
 
 pub returns-then-not-is_conflict : goal.returns-then-not-is_conflict
@@ -47,4 +47,4 @@ returns-in_err-to_vec c =
     wanted _ (SettleRule view path bytes) _ c.from_residual-in_err-to_vec.ensures.1
     (λ refusal refuses. limits_none view (length bytes) (Settle file bytes) _ _ c.in_ok-within_limits.ensures refusal
     (passed (λ no_conflict. no_conflict (c.if-not-is_conflict.ensures.0 refl))
-    (behind (file_once view path) file c.in_ok-file.ensures.rule refuses)))
+    (behind (versioned_once view path) file c.in_ok-file.ensures.rule refuses)))

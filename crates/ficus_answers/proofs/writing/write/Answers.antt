@@ -2,11 +2,11 @@ use Rattle.std.proofs.Common.{◌≡◌, length, refl, ap, ◌∙◌, inl, inr, 
 use Rattle.ficus_model.specs.declared.event.Op.TheVariants.{Write}
 use Rattle.ficus_rules.specs.Limits.{LimitsRule}
 use Rattle.ficus_rules.specs.Rule.{Gives}
-use Rattle.ficus_rules.specs.Walk.{FileRule}
+use Rattle.ficus_rules.specs.Walk.{VersionedRule}
 use Rattle.ficus_rules.specs.Write.{WriteRule}
 use Rattle.ficus_rules.proofs.Limits.{limits_never, limits_none}
 use Rattle.ficus_rules.proofs.Rules.{behind, passed}
-use Rattle.ficus_rules.proofs.Walks.{file_never, file_once}
+use Rattle.ficus_rules.proofs.Walks.{versioned_never, versioned_once}
 use Rattle.ficus_answers.specs.View.{tables_view}
 use Rattle.ficus_answers.proofs.Refusals.{isnt, over_limits, stopped, wanted, within_limits}
 use Rattle.ficus_answers.proofs.writing.write.Goals as goal
@@ -15,7 +15,7 @@ pub returns-in_err-file : goal.returns-in_err-file
 returns-in_err-file c =
     let view = tables_view c.args.saved.now in
     let path = c.args.path.now in
-    stopped _ (FileRule view path) (WriteRule view path c.args.bytes.now) (file_never view path)
+    stopped _ (VersionedRule view path) (WriteRule view path c.args.bytes.now) (versioned_never view path)
     (λ refusal stops. inl stops) _ c.in_err-file.ensures.rule _ c.from_residual.ensures.1
 
 pub returns-then-is_conflict : goal.returns-then-is_conflict
@@ -46,7 +46,7 @@ returns-in_err-to_vec c =
     let file = c.in_ok-file.file.now.id in
     wanted _ (WriteRule view path bytes) _ c.from_residual-in_err-to_vec.ensures.1
     (λ refusal refuses. limits_none view (length bytes) (Write file bytes) _ _ c.in_ok-within_limits.ensures refusal
-    (passed (isnt c.if-is_conflict.ensures) (behind (file_once view path) file c.in_ok-file.ensures.rule refuses)))
+    (passed (isnt c.if-is_conflict.ensures) (behind (versioned_once view path) file c.in_ok-file.ensures.rule refuses)))
 
 pub returns : goal.returns
 returns c =

@@ -1,4 +1,4 @@
-use Rattle.std.proofs.Common.{◌≡◌, false, eqb}
+use Rattle.std.proofs.Common.{◌≡◌, false}
 use Rattle.std.specs.Prelude.{◌==◌}
 use Rattle.ficus_formats.proofs.Reading.{passed_all, none_spelled, more_left}
 use Rattle.ficus_codec.specs.Formats.{tables}

@@ -7,8 +7,8 @@ returns-clause-terms c = λ members mine theirs both mine_count theirs_count mer
     merges_agree members mine theirs mine_count theirs_count both merged
 
 pub returns-clause-merged : goal.returns-clause-merged
-returns-clause-merged c = λ volume H replica served server file mine theirs both lawful by_server own brought merged.
-    merged_shown volume H replica served server mine theirs lawful by_server own brought both merged
+returns-clause-merged c = λ volume H replica served piece server file mine theirs both lawful by_server own brought merged.
+    merged_shown volume H replica served server mine theirs lawful by_server own brought piece both merged
 
 pub returns-clause-agree : goal.returns-clause-agree
 returns-clause-agree c = λ volume H replica served server file mine theirs lawful by_server own brought.

@@ -11,5 +11,5 @@ returns-clause-merged c = λ H G replica other file bytes mine theirs both own b
     (resolve_shows H replica file bytes mine own) (resolve_shows G other file bytes theirs brought) merged two
 
 pub returns-clause-taken : goal.returns-clause-taken
-returns-clause-taken c = λ H replica served server file bytes mine theirs by_server own brought have have_too conflict.
-    alike_taken H replica served server file bytes mine theirs by_server own brought have have_too conflict
+returns-clause-taken c = λ H replica served piece server file bytes mine theirs by_server own brought have have_too conflict.
+    alike_taken H replica served piece server file bytes mine theirs by_server own brought have have_too conflict

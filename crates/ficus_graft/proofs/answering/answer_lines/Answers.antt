@@ -13,6 +13,11 @@ loop-line-init g c = record {
   steady = refl;
 }
 
+pub answer_line-requires-clause-room : goal.answer_line-requires-clause-room
+answer_line-requires-clause-room g c = λ v world is.
+    let few = c.loop-line.invariant.room v world is in
+    omega (arith, few, c.loop-line-test.true, c.requires.count)
+
 pub loop-line-preserved : goal.loop-line-preserved
 loop-line-preserved g c = record {
   served = lines_more c.args.lines.now c.loop-line.line-index c.line-item.result c.loop-line-test.true c.line-item.is

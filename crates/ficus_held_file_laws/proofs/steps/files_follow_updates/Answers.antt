@@ -2,8 +2,8 @@ use Rattle.ficus_held_file_laws.proofs.Stepping.{make_steps, write_steps, cover_
 use Rattle.ficus_held_file_laws.proofs.steps.files_follow_updates.Goals as goal
 
 pub returns-clause-made : goal.returns-clause-made
-returns-clause-made c = λ by number dir name kind files after one most none adds.
-    make_steps one most number dir name kind files after none adds
+returns-clause-made c = λ by number dir name kind text files after one most none adds.
+    make_steps one most number dir name kind text files after none adds
 
 pub returns-clause-written : goal.returns-clause-written
 returns-clause-written c = λ by number op file bytes files after one most are overwrites change.

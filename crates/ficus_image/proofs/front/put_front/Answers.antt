@@ -12,7 +12,7 @@ joined out one two three four five six seven eight a b c d e f g h p q r s t u v
 pub returns-clause-put : goal.returns-clause-put
 returns-clause-put c =
     let s = c.args.saved.now in
-    joined c.args.out.now.items _ _ _ _ _ _ _ _ (codes "FIC1") (byte.spell s.me) (byte.spell s.members)
+    joined c.args.out.now.items _ _ _ _ _ _ _ _ (codes "FIC2") (byte.spell s.me) (byte.spell s.members)
     (number32.spell s.ids) (number32.spell s.bytes) (number32.spell s.next) (number32.spell s.used)
     (number64.spell s.generation) c.in_ok-put_bytes.ensures.put c.in_ok-put_u8.ensures.put
     (rw c.count.ensures.value at c.in_ok-put_u8-2.ensures.put) c.in_ok-put_u32.ensures.put c.in_ok-put_u32-2.ensures.put

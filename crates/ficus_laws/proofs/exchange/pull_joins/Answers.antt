@@ -4,20 +4,20 @@ use Rattle.ficus_laws.proofs.Shown.{shows_same}
 use Rattle.ficus_laws.proofs.exchange.pull_joins.Goals as goal
 
 pub returns-clause-lawful : goal.returns-clause-lawful
-returns-clause-lawful c = λ volume H replica server pull. lawful_pulled H replica server volume pull.replica_is pull.server_is pull.differ pull.lawful
+returns-clause-lawful c = λ volume H replica server last pull. lawful_pulled H replica server last volume pull.replica_is pull.server_is pull.differ pull.lawful
 
 pub returns-clause-joined : goal.returns-clause-joined
-returns-clause-joined c = λ H replica server. record {
+returns-clause-joined c = λ H replica server last. record {
   known = λ position below. (
-    λ known. knows_pulled H replica server known below,
+    λ known. knows_pulled H replica server last known below,
     elim [
-      | inl own ↦ pulled_keeps H replica server own
-      | inr his ↦ pulled_brings H replica server his
+      | inl own ↦ pulled_keeps H replica server last own
+      | inr his ↦ pulled_brings H replica server last his
     ],
   );
-  live = λ entry. (pulled_live H replica server, live_pulled H replica server);
-  made = λ object kind. (pulled_made H replica server, made_pulled H replica server);
-  others_know = λ other position differs below. (λ known. knows_pulled_other H replica server differs known below, pulled_keeps H replica server);
-  others_shown = λ other differs. shows_same (same_pulled_other H replica server differs);
-  counts = count_pulled H replica server;
+  live = λ entry. (pulled_live H replica server last, live_pulled H replica server last);
+  made = λ object kind. (pulled_made H replica server last, made_pulled H replica server last);
+  others_know = λ other position differs below. (λ known. knows_pulled_other H replica server last differs known below, pulled_keeps H replica server last);
+  others_shown = λ other differs. shows_same (same_pulled_other H replica server last differs);
+  counts = count_pulled H replica server last;
 }

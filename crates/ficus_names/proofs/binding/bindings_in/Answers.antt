@@ -2,7 +2,6 @@ use Rattle.std.proofs.Common.{◌≡◌, ◌+◌, ◌∷◌, ◌++◌, [], get_o
 use Rattle.std.proofs.lemmas.Grind.{common_steps}
 use Rattle.std.proofs.lemmas.List.{take_more}
 use Rattle.ficus_ids.specs.declared.id.Id.{Id}
-use Rattle.ficus_ids.specs.declared.id.TheConstants.{ROOT}
 use Rattle.ficus_names.proofs.Among.{among_push, among_stay, among_all}
 use Rattle.ficus_names.proofs.binding.bindings_in.Goals as goal
 use Rattle.ficus_names.proofs.binding.bindings_in.Goals.{in-Some+in_ok-copy+in_ok-push, in_default}

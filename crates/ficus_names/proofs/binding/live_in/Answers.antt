@@ -1,4 +1,4 @@
-use Rattle.std.proofs.Common.{◌≡◌, ap, sym, ◌∙◌}
+use Rattle.std.proofs.Common.{ap, sym, ◌∙◌}
 use Rattle.std.proofs.lemmas.Bool.{false≢true}
 use Rattle.ficus_ids.specs.RisingLaws.{one_item}
 use Rattle.ficus_entry.specs.declared.entry.Entry.{Entry}

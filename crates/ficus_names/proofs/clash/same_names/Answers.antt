@@ -1,8 +1,4 @@
-use Rattle.std.proofs.Common.{◌≡◌, ◌↔◌, ℕ, List}
 use Rattle.ficus_ids.specs.Id.{id_cmp}
-use Rattle.ficus_ids.specs.declared.id.Id.{Id}
-use Rattle.ficus_names.specs.Binds.{BindsIn}
-use Rattle.ficus_names.specs.Clash.{LeadsFrom}
 use Rattle.ficus_names.proofs.Leads.{lead_bound, same_leads}
 use Rattle.ficus_names.proofs.Order.{lead_cmp-Equal}
 use Rattle.ficus_names.proofs.clash.same_names.Goals as goal

@@ -1,6 +1,5 @@
-use Rattle.std.specs.Ordering.{eq_by_cmp}
 use Rattle.std.specs.List.{dedup}
-use Rattle.std.proofs.Common.{◌≡◌, ◌∙◌, ap}
+use Rattle.std.proofs.Common.{◌∙◌, ap}
 use Rattle.std.proofs.lemmas.List.Filters.{dedup_is}
 use Rattle.ficus_entry.specs.SortLaws.{rising_after, same_items}
 use Rattle.ficus_names.proofs.once.once_each.Goals as goal

@@ -1,5 +1,7 @@
-use Rattle.std.proofs.Common.{◌≡◌, ap, arith, length}
+use Rattle.std.proofs.Common.{◌≡◌, ◌∙◌, ap, arith, length, sym}
 use Rattle.std.proofs.lemmas.Bool.{both_ways, leb-true, le-leb}
+use Rattle.ficus_ids.specs.Kind.{sort_of}
+use Rattle.ficus_file.specs.File.{most_versions}
 use Rattle.ficus_recon_file.specs.Merge.{AgreeOnBytes}
 use Rattle.ficus_recon_file.specs.Versions.{AreMerged}
 use Rattle.ficus_recon_file.proofs.Current.{one_text, ordered_of, few_of}
@@ -36,6 +38,8 @@ pub returns : goal.returns
 returns c =
     let mine = c.args.mine.now.versions in
     let theirs = c.args.theirs.now.versions in
+    let most = most_versions (sort_of c.args.mine.now.kind) in
+    let limit : c.most_versions.result ≡ most = c.most_versions.ensures ∙ ap most_versions c.sort.ensures in
     let merged : AreMerged mine theirs c.count_merged.ensures.both =
     rw (c.items-versions.ensures, c.items-others.ensures) at c.count_merged.ensures.merged in
     let agree : AgreeOnBytes mine theirs =
@@ -46,7 +50,7 @@ returns c =
         few = λ both is.
             let same : length both ≡ length c.count_merged.ensures.both = ap (λ l. length l)
             (same_versions mine theirs both c.count_merged.ensures.both is merged) in
-            omega (arith, same, c.count_merged.ensures.long, leb-true c.count_merged.result 8 few);
+            omega (arith, same, c.count_merged.ensures.long, leb-true c.count_merged.result most (rw (sym limit) few));
       },
-      λ can. le-leb c.count_merged.result 8 (omega (arith, c.count_merged.ensures.long, can.few c.count_merged.ensures.both merged)),
+      λ can. rw limit (le-leb c.count_merged.result most (omega (arith, c.count_merged.ensures.long, can.few c.count_merged.ensures.both merged))),
     )

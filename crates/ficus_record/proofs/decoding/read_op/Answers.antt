@@ -1,7 +1,7 @@
 use Rattle.ficus_formats.proofs.Reading.{passed}
-use Rattle.ficus_record.specs.Record.{adopting, linking, making, moving, op_under, removing, writing}
+use Rattle.ficus_record.specs.Record.{adopting, linking, making, moving, op_under, removing, symlinking, writing}
 use Rattle.ficus_record.proofs.Reading.{fails_at}
-use Rattle.ficus_record.proofs.Shapes.{make_shaped, link_shaped, remove_shaped, move_shaped, write_shaped, settle_shaped, resolve_shaped, adopt_shaped}
+use Rattle.ficus_record.proofs.Shapes.{make_shaped, symlink_shaped, link_shaped, remove_shaped, move_shaped, write_shaped, settle_shaped, resolve_shaped, adopt_shaped}
 use Rattle.ficus_record.proofs.decoding.read_op.Goals as goal
 
 pub returns-in_err-dir-in-1 : goal.returns-in_err-dir-in-1
@@ -43,3 +43,8 @@ pub returns-in_err-file-in-8 : goal.returns-in_err-file-in-8
 returns-in_err-file-in-8 c =
     passed (op_under c.args.tag) _ _ _ _ c.from_residual-in_err-file-in-8.ensures.1
     (fails_at op_under adopting 8 c.args.tag adopt_shaped c.in-8.is _ _ c.in_err-file-in-8.ensures)
+
+pub returns-in_err-dir-in-13 : goal.returns-in_err-dir-in-13
+returns-in_err-dir-in-13 c =
+    passed (op_under c.args.tag) _ _ _ _ c.from_residual-in_err-dir-in-13.ensures.1
+    (fails_at op_under symlinking 13 c.args.tag symlink_shaped c.in-13.is _ _ c.in_err-dir-in-13.ensures)

@@ -8,27 +8,27 @@ use Rattle.ficus_removal_laws.proofs.Answering.{entered_kept, entered_taken, ent
 use Rattle.ficus_removal_laws.proofs.marks.accept_joins_marks.Goals as goal
 
 pub returns-clause-entered : goal.returns-clause-entered
-returns-clause-entered c = λ H replica served server entry by_server. (
-  entered_split H replica served server by_server,
+returns-clause-entered c = λ H replica served piece server entry by_server. (
+  entered_split H replica served piece server by_server,
   elim [
-    | inl mine ↦ entered_kept H replica served server by_server mine
-    | inr theirs ↦ entered_taken H replica served server by_server theirs
+    | inl mine ↦ entered_kept H replica served piece server by_server mine
+    | inr theirs ↦ entered_taken H replica served piece server by_server theirs
   ],
 )
 
 pub returns-clause-removed : goal.returns-clause-removed
-returns-clause-removed c = λ H replica served server entry by_server. (
-  removed_split H replica served server by_server,
+returns-clause-removed c = λ H replica served piece server entry by_server. (
+  removed_split H replica served piece server by_server,
   elim [
-    | inl mine ↦ removed_kept H replica served server by_server mine
-    | inr theirs ↦ removed_taken H replica served server by_server theirs
+    | inl mine ↦ removed_kept H replica served piece server by_server mine
+    | inr theirs ↦ removed_taken H replica served piece server by_server theirs
   ],
 )
 
 pub returns-clause-heard : goal.returns-clause-heard
-returns-clause-heard c = λ H replica served server peer position by_server differs. (
-  heard_split H replica served server by_server differs,
-  heard_joined H replica served server by_server differs,
+returns-clause-heard c = λ H replica served piece server peer position by_server differs. (
+  heard_split H replica served piece server by_server differs,
+  heard_joined H replica served piece server by_server differs,
 )
 
 one_of_both : {H K : List Event} {replica server peer : ℕ} {entry : Id} →
@@ -44,19 +44,19 @@ two_of_both (inl mine) = inl (two_at_last mine)
 two_of_both (inr theirs) = inr (two_at_last theirs)
 
 pub returns-clause-one : goal.returns-clause-one
-returns-clause-one c = λ H replica served server peer entry by_server differs. (
-  λ o. one_of_both (one_split H replica served server by_server differs (one_from_last o)),
+returns-clause-one c = λ H replica served piece server peer entry by_server differs. (
+  λ o. one_of_both (one_split H replica served piece server by_server differs (one_from_last o)),
   elim [
     | inl mine ↦ one_at_last (one_more _ (one_from_last mine))
-    | inr theirs ↦ one_at_last (one_taken H replica served server by_server (one_from_last theirs))
+    | inr theirs ↦ one_at_last (one_taken H replica served piece server by_server (one_from_last theirs))
   ],
 )
 
 pub returns-clause-two : goal.returns-clause-two
-returns-clause-two c = λ members H replica served server peer entry by_server differs. (
-  λ t. two_of_both (two_split H replica served server by_server differs (two_from_last t)),
+returns-clause-two c = λ members H replica served piece server peer entry by_server differs. (
+  λ t. two_of_both (two_split H replica served piece server by_server differs (two_from_last t)),
   elim [
     | inl mine ↦ two_at_last (all_more _ (two_from_last mine))
-    | inr theirs ↦ two_at_last (two_taken H replica served server by_server (two_from_last theirs))
+    | inr theirs ↦ two_at_last (two_taken H replica served piece server by_server (two_from_last theirs))
   ],
 )

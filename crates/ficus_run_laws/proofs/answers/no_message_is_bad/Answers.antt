@@ -1,6 +1,7 @@
 use Rattle.std.proofs.Common.{Err, refl}
 use Rattle.ficus_ids.specs.declared.refusal.Refusal.TheVariants.{BadMessage}
-use Rattle.ficus_run_laws.proofs.Never.{gives_mail_never, pull_never_bad}
+use Rattle.ficus_run_laws.proofs.Never.{gives_mail_never}
+use Rattle.ficus_run_laws.proofs.Pulls.{pull_refused}
 use Rattle.ficus_run_laws.proofs.answers.no_message_is_bad.Goals as goal
 
 pub returns-clause-give : goal.returns-clause-give
@@ -8,4 +9,5 @@ returns-clause-give c = λ volume W number left does.
     gives_mail_never volume number W (Err BadMessage) left does refl
 
 pub returns-clause-pull : goal.returns-clause-pull
-returns-clause-pull c = λ volume W by to left does. pull_never_bad volume by to W (Err BadMessage) left does refl
+returns-clause-pull c = λ volume W by to left does.
+    let asking = pull_refused volume W by to BadMessage left does in cc

@@ -23,7 +23,7 @@ returns-in-Some-PathAndText c =
     let are = rw arm.is-1 at c.requires.arguments in
     rw (c.is_some-in-Some-PathAndText.ensures, arm.is-0, arm.is-1, are.1.1)
     (told_by_verb (text_command arm.field-0-0 c.args.paths.now.first are.1.0) _ _
-    (c.text_verb.ensures arm.field-0-0 c.args.paths.now.first are.1.0 (rw arm.is-0 at c.requires.replica) are.0))
+    (c.text_verb.ensures arm.field-0-0 are.1.0 (rw arm.is-0 at c.requires.replica) are.1.1))
 
 pub returns-in-Some-TwoPaths : goal.returns-in-Some-TwoPaths
 returns-in-Some-TwoPaths c =

@@ -7,10 +7,10 @@ use Rattle.ficus_sweep.specs.Follows.{most_swept}
 use Rattle.ficus_world.specs.Disks.{AreDisksOf}
 use Rattle.ficus_world.specs.Follows.{TellsFor}
 use Rattle.ficus_world.specs.Kills.{OthersStay}
-use Rattle.ficus_world.specs.World.{WorldStandsFor}
+use Rattle.ficus_world.specs.World.{WorldStandsFor, foreseen}
 use Rattle.ficus_serving.proofs.answering.answer_all.Given as goal
 
--- the commands so far were served, and the disks are still those of the world; none stored too many events; no fault of
+-- the commands so far were served, and the disks are still those of the world; few enough events are foreseen; no fault of
 -- the sink was counted
 abbrev pub invariant-loop-command : goal.invariant-loop-command
 invariant-loop-command g l = record {
@@ -24,6 +24,6 @@ invariant-loop-command g l = record {
   members : length l.world.whole.members ≡ length l.fn.world.whole.members;
   others : OthersStay (length l.fn.world.whole.members) l.fn.disks.items l.disks.items;
   pairs : length l.disks.items ≡ length l.fn.disks.items;
-  grows : length l.world.whole.events ≤ length l.fn.world.whole.events + most_swept * l.command-index;
+  grows : foreseen l.world.whole ≤ foreseen l.fn.world.whole + most_swept * l.command-index;
   steady : g.K.Sink.faults l.output ≡ g.K.Sink.faults l.fn.output;
 }

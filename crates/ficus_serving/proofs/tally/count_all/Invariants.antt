@@ -6,10 +6,10 @@ use Rattle.ficus_serving.specs.Tally.{Tallies}
 use Rattle.ficus_sweep.specs.Follows.{most_swept}
 use Rattle.ficus_world.specs.Disks.{AreDisksOf}
 use Rattle.ficus_world.specs.Follows.{TellsFor}
-use Rattle.ficus_world.specs.World.{WorldStandsFor}
+use Rattle.ficus_world.specs.World.{WorldStandsFor, foreseen}
 use Rattle.ficus_serving.proofs.tally.count_all.Given as goal
 
--- the commands so far were counted, and the disks are still those of the world; none stored too many events
+-- the commands so far were counted, and the disks are still those of the world; few enough events are foreseen
 abbrev pub invariant-loop-command : goal.invariant-loop-command
 invariant-loop-command g l = record {
   counted : g.L.Link.tells → All (TellsFor g.D.Disk.tells) l.commands → (volume : Volume) (W : ModelWorld)
@@ -21,5 +21,5 @@ invariant-loop-command g l = record {
       l.world.whole.members l.world.stables l.disks.items;
   members : length l.world.whole.members ≡ length l.fn.world.whole.members;
   pairs : length l.disks.items ≡ length l.fn.disks.items;
-  grows : length l.world.whole.events ≤ length l.fn.world.whole.events + most_swept * l.command-index;
+  grows : foreseen l.world.whole ≤ foreseen l.fn.world.whole + most_swept * l.command-index;
 }

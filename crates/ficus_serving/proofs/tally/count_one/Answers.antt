@@ -1,5 +1,5 @@
 use Rattle.ficus_run_laws.proofs.Extending.{step_extends}
-use Rattle.ficus_kills.proofs.Stepping.{trail_to}
+use Rattle.ficus_serving.proofs.Stepping.{trail_to}
 use Rattle.ficus_serving.proofs.Tallying.{tallies_one}
 use Rattle.ficus_serving.proofs.tally.count_one.Goals as goal
 

@@ -5,10 +5,10 @@ use Rattle.ficus_runs.specs.Sweep.{SweepStep, Sweeps, command_of, none_swept}
 use Rattle.ficus_sweep.specs.Follows.{CountsFew, FollowsAction, swept_of}
 use Rattle.ficus_world.specs.Disks.{AreDisksOf}
 use Rattle.ficus_world.specs.Kills.{OthersStay, Passes}
-use Rattle.ficus_world.specs.World.{WorldStandsFor, most_events}
+use Rattle.ficus_world.specs.World.{WorldStandsFor, foreseen, most_unforeseen}
 use Rattle.ficus_sweep.proofs.sweeping.take_steps.Given as goal
 
--- the steps so far are done, and the disks are still those of the world; none stored too many events, and none was
+-- the steps so far are done, and the disks are still those of the world; few enough events are foreseen, and none was
 -- counted too often
 abbrev pub invariant-loop-step : goal.invariant-loop-step
 invariant-loop-step g l = record {
@@ -23,6 +23,6 @@ invariant-loop-step g l = record {
   members : length l.world.whole.members ≡ length l.fn.world.whole.members;
   others : OthersStay (length l.fn.world.whole.members) l.fn.disks.items l.disks.items;
   pairs : length l.disks.items ≡ length l.fn.disks.items;
-  grows : length l.world.whole.events ≤ length l.fn.world.whole.events + most_events * l.step-index;
+  grows : foreseen l.world.whole ≤ foreseen l.fn.world.whole + most_unforeseen * l.step-index;
   few : CountsFew l.step-index l.report;
 }

@@ -13,7 +13,7 @@ use Rattle.ficus_world.proofs.Others.{all_others_rest, others_then, stay_rests}
 use Rattle.ficus_top.proofs.Ends.{ends_behind, front_ends_behind, front_ends_where, opened_stands}
 use Rattle.ficus_top.proofs.Resting.{rests_open}
 use Rattle.ficus_top.proofs.Stored.{handed_on, told_on}
-use Rattle.ficus_kills.proofs.Opening.{opened_neighbours}
+use Rattle.ficus_serving.proofs.Opening.{opened_neighbours}
 use Rattle.ficus_summary.specs.Keeper.{kept_in}
 use Rattle.ficus_top.specs.Headline.{fuses_of}
 use Rattle.ficus_top.proofs.Kills.{front_killed_from, killed_from}

@@ -6,7 +6,9 @@ pub returns-clause-files : goal.returns-clause-files
 returns-clause-files c = λ volume H replica file position lawful version known. version_file volume H lawful replica version known
 
 pub returns-clause-first : goal.returns-clause-first
-returns-clause-first c = λ volume H replica dir name kind lawful differs. make_shown volume H replica lawful dir name kind differs
+returns-clause-first c = λ volume H replica dir name kind text lawful differs.
+    make_shown volume H replica lawful dir name kind text differs
 
 pub returns-clause-uncovered : goal.returns-clause-uncovered
-returns-clause-uncovered c = λ volume H replica dir name kind lawful. make_covered volume H replica lawful dir name kind
+returns-clause-uncovered c = λ volume H replica dir name kind text lawful.
+    make_covered volume H replica lawful dir name kind text

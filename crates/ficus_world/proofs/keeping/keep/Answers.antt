@@ -25,7 +25,7 @@ pub returns-in-Ok-clause-disks : goal.returns-in-Ok-clause-disks
 returns-in-Ok-clause-disks g c =
     let was = number_exists c.args.members.now.items c.args.by c.requires.member in
     c.in-Ok.ensures.disks c.args.members.now.items c.hold.new.members.items
-    (saves_held c.args.by c.args.next was.0 was.1 (c.requires.up was.0 was.1) tt (c.hold.ensures was.0 was.1))
+    (saves_held c.args.by c.args.next was.0 was.1 (c.requires.up was.0 was.1) _ tt (c.hold.ensures was.0 was.1))
     c.requires.disks
 
 pub returns-in-Err-clause-disks : goal.returns-in-Err-clause-disks
@@ -42,7 +42,7 @@ returns-in-Ok-clause-followed g c =
       disks = c.in-Ok.ensures.saved;
       fuses =
           c.in-Ok.ensures.fuses c.args.members.now.items c.hold.new.members.items
-          (saves_held c.args.by c.args.next was.0 was.1 (c.requires.up was.0 was.1) tt (c.hold.ensures was.0 was.1))
+          (saves_held c.args.by c.args.next was.0 was.1 (c.requires.up was.0 was.1) _ tt (c.hold.ensures was.0 was.1))
           c.requires.disks;
     }
 
@@ -63,7 +63,7 @@ returns-in-Ok-clause-writes g c = λ post after.
     writes_at g.K.Keep g.D.Disk c.args.by {T = Unit {0}} {E = Unit {0}} {result = Ok tt}
     (whole_of c.args.members.now.items c.args.history.now.events post)
     (whole_of c.hold.new.members.items c.push.new.self.events after) c.args.next.event
-    (saves_held c.args.by c.args.next was.0 was.1 (c.requires.up was.0 was.1) tt (c.hold.ensures was.0 was.1))
+    (saves_held c.args.by c.args.next was.0 was.1 (c.requires.up was.0 was.1) _ tt (c.hold.ensures was.0 was.1))
     c.push.ensures.events tt
     c.requires.disks c.requires.stable (λ was is. led_next _ _ _ (c.requires.prepared.2 was is))
     c.commit_at.ensures.saves

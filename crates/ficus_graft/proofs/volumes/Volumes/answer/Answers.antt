@@ -1,7 +1,7 @@
 use Rattle.std.proofs.Common.{List, sym, ◌∙◌, subst, inl}
 use Rattle.std.proofs.lemmas.Result.{err_from_is_err_and}
 use Rattle.ficus_world.specs.World.{Backed}
-use Rattle.ficus_graft.specs.Runs.{HaveRoom}
+use Rattle.ficus_graft.specs.Runs.{ForeseeFew}
 use Rattle.ficus_graft.proofs.Commands.{second_path}
 use Rattle.ficus_graft.proofs.Lines.{first_halts, one_answers, one_halts, one_stays, parted_halts, pathless_cut, reached_as, second_halts, two_answers, two_stay, without_path}
 use Rattle.ficus_graft.proofs.volumes.Volumes.answer.Goals as goal
@@ -18,7 +18,7 @@ returns-in_err-end-in-One-clause-halts g c =
 pub returns-in_err-arrive-in-One-clause-grows : goal.returns-in_err-arrive-in-One-clause-grows
 returns-in_err-arrive-in-One-clause-grows g c = λ limit room.
     c.in_err-arrive-in-One.ensures.grows limit
-    (subst (λ (w : List (Backed _)). HaveRoom limit w) (sym c.in_ok-end-in-One.ensures.same) room)
+    (subst (λ (w : List (Backed _)). ForeseeFew limit w) (sym c.in_ok-end-in-One.ensures.same) room)
 
 pub returns-in_err-end-in-Two-clause-halts : goal.returns-in_err-end-in-Two-clause-halts
 returns-in_err-end-in-Two-clause-halts g c =
@@ -59,7 +59,7 @@ returns-then-end-other-clause-halts g c =
 pub returns-in_err-arrive-in-Two-clause-grows : goal.returns-in_err-arrive-in-Two-clause-grows
 returns-in_err-arrive-in-Two-clause-grows g c = λ limit room.
     c.in_err-arrive-in-Two.ensures.grows limit
-    (subst (λ (w : List (Backed _)). HaveRoom limit w)
+    (subst (λ (w : List (Backed _)). ForeseeFew limit w)
     (sym (c.in_ok-other-in-Two.ensures.same ∙ c.in_ok-end-in-Two.ensures.same)) room)
 
 pub returns-in_ok-send-in-None-clause-answers : goal.returns-in_ok-send-in-None-clause-answers
@@ -78,7 +78,7 @@ returns-in_ok-arrive-in-One-clause-answers g c =
 pub returns-in_ok-arrive-in-One-clause-grows : goal.returns-in_ok-arrive-in-One-clause-grows
 returns-in_ok-arrive-in-One-clause-grows g c = λ limit room.
     c.in_ok-arrive-in-One.ensures.grows limit
-    (subst (λ (w : List (Backed _)). HaveRoom limit w) (sym c.in_ok-end-in-One.ensures.same) room)
+    (subst (λ (w : List (Backed _)). ForeseeFew limit w) (sym c.in_ok-end-in-One.ensures.same) room)
 
 pub returns-in_ok-arrive-in-Two-clause-answers : goal.returns-in_ok-arrive-in-Two-clause-answers
 returns-in_ok-arrive-in-Two-clause-answers g c =
@@ -96,7 +96,7 @@ returns-in_ok-arrive-in-Two-clause-answers g c =
 pub returns-in_ok-arrive-in-Two-clause-grows : goal.returns-in_ok-arrive-in-Two-clause-grows
 returns-in_ok-arrive-in-Two-clause-grows g c = λ limit room.
     c.in_ok-arrive-in-Two.ensures.grows limit
-    (subst (λ (w : List (Backed _)). HaveRoom limit w)
+    (subst (λ (w : List (Backed _)). ForeseeFew limit w)
     (sym (c.in_ok-other-in-Two.ensures.same ∙ c.in_ok-end-in-Two.ensures.same)) room)
 
 pub returns-in_err-send-in-None-clause-stays : goal.returns-in_err-send-in-None-clause-stays

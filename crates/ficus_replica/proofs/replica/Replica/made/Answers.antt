@@ -9,7 +9,7 @@ enter-requires c =
 
 pub returns : goal.returns
 returns c =
-    made_steps c.requires.fits c.args.dir c.args.name.now c.args.kind c.enter.new.entries c.in_ok-files.files
+    made_steps c.requires.fits c.args.dir c.args.name.now c.args.kind c.args.text.now c.enter.new.entries c.in_ok-files.files
     c.requires.ready.left c.requires.ready.possible c.in_ok-enter.ensures.name c.in_ok-enter.ensures.rising
     (rw (← c.in_ok-entries.ensures) (rw c.next_id.ensures at c.in_ok-enter.ensures.adds)) c.in_ok-files.ensures.files
     c.in_ok-files.ensures.adds

@@ -1,7 +1,5 @@
-use Rattle.std.proofs.Common.{ap, ◌∙◌, arith}
+use Rattle.std.proofs.Common.{arith}
 use Rattle.ficus_record.specs.declared.record.Record.TheVariants.{Ask}
-use Rattle.ficus_wire.specs.Message.{message_bytes}
-use Rattle.ficus_world.specs.Moves.{ask_of}
 use Rattle.ficus_world.specs.Moves.KeepsAsk.{AskerDown, NoPeers}
 use Rattle.ficus_world.proofs.Moved.{not_so}
 use Rattle.ficus_world.proofs.SoundWorlds.{noted_sound}
@@ -38,7 +36,3 @@ returns-clause-asks g c =
         step = c.in_ok-replica.ensures.noted;
       }),
     )
-
-pub returns-clause-message : goal.returns-clause-message
-returns-clause-message g c =
-    c.in_ok-message.ensures ∙ ap (λ n. message_bytes n (ask_of c.args.by c.args.to c.in_ok-replica.replica)) c.count.ensures

@@ -1,4 +1,4 @@
-use Rattle.std.proofs.Common.{◌≡◌, ◌-◌, ◌≤◌, Err, Some, List, ℕ, length, sym, ap, subst, ◌∙◌, arith}
+use Rattle.std.proofs.Common.{◌-◌, ◌≤◌, Err, Some, List, ℕ, length, sym, ap, subst, ◌∙◌, arith}
 use Rattle.std.proofs.lemmas.List.{length-set, length_push}
 use Rattle.std.proofs.lemmas.Result.{err_from_is_err_and}
 use Rattle.ficus_model.specs.declared.event.Event.TheVariants.{Ask}
@@ -7,10 +7,10 @@ use Rattle.ficus_runs.specs.Numbered.{IsNumbered}
 use Rattle.ficus_run_laws.proofs.Numbers.{number_once}
 use Rattle.ficus_world.specs.declared.member.Member.{Member}
 use Rattle.ficus_world.specs.Disks.{CarriedOn}
-use Rattle.ficus_world.specs.Moves.{HasRoomFor, IsAsking, KeepsAsk, advanced, ask_of, bytes_in, downed, pending_of, with_post}
-use Rattle.ficus_world.specs.World.{Whole, IsSoundNext, IsWorld, whole_of}
+use Rattle.ficus_world.specs.Moves.{HasRoomFor, IsAsking, KeepsAsk, advanced, ask_of, downed, parts_after, pending_of, with_post}
+use Rattle.ficus_world.specs.World.{Whole, IsSoundNext, IsWorld, smallest_message, whole_of}
 use Rattle.ficus_world.proofs.Fuses.{comes_then}
-use Rattle.ficus_world.proofs.Sending.{as_reserved, ask_sent, some_bytes, unready, unsaved}
+use Rattle.ficus_world.proofs.Sending.{as_reserved, ask_sent, ask_size, some_bytes, unready, unsaved}
 use Rattle.ficus_world.proofs.SoundWorlds.{held_sound, put_down_sound, sent_counts, world_after, world_posted}
 use Rattle.ficus_ids.specs.Members.{IsMember}
 use Rattle.ficus_model.specs.declared.event.Event.{Event}
@@ -45,8 +45,7 @@ returns-in_err-make_ready-clause-asks g c =
     let asking = subst (λ (w : Whole). (was : Member) × IsAsking w by to was c.args.asking.replica
     × IsSoundNext (length w.members) (length w.events) by c.args.asking.noted.items was.replica c.args.asking.replica) (sym c.self.view_is)
     c.requires.asking in
-    let message = subst (λ (w : Whole). c.args.asking.message.items ≡ bytes_in w (ask_of by to c.args.asking.replica))
-    (sym c.self.view_is) c.requires.message in
+    let message = c.requires.message in
     let moves = unready tells old by to asking.0 c.args.asking.replica asking.1 x y
     (c.in_err-make_ready.ensures.follows old.members)
     (length c.args.asking.message.items) (ap (λ (bytes : List ℕ). length bytes) message) r
@@ -104,10 +103,9 @@ returns-in_err-keep-clause-asks g c =
     let asking = subst (λ (w : Whole). (was : Member) × IsAsking w by to was c.args.asking.replica
     × IsSoundNext (length w.members) (length w.events) by c.args.asking.noted.items was.replica c.args.asking.replica) (sym c.self.view_is)
     c.requires.asking in
-    let message = subst (λ (w : Whole). c.args.asking.message.items ≡ bytes_in w (ask_of by to c.args.asking.replica))
-    (sym c.self.view_is) c.requires.message in
+    let message = c.requires.message in
     let was = asking.0 in
-    let room : HasRoomFor old (ask_of by to c.args.asking.replica) =
+    let room : HasRoomFor old (ask_size by to c.args.asking.replica) =
     omega (arith, c.in_ok-make_ready.ensures.small, ap (λ (bytes : List ℕ). length bytes) message) in
     let moves = unsaved tells old by to was c.args.asking.replica asking.1 x c.make_ready.new.disks.items
     (c.in_ok-make_ready.ensures.follows old.members) room z r c.in_err-keep.ensures.refused
@@ -132,21 +130,20 @@ invariant_of-self-2 g c =
     let asking = subst (λ (w : Whole). (was : Member) × IsAsking w by to was asked
     × IsSoundNext (length w.members) (length w.events) by c.args.asking.noted.items was.replica asked) (sym c.self.view_is)
     c.requires.asking in
-    let message = subst (λ (w : Whole). c.args.asking.message.items ≡ bytes_in w (ask_of by to asked))
-    (sym c.self.view_is) c.requires.message in
+    let message = c.requires.message in
     let was = asking.0 in
     let world : IsWorld old = c.self.invariant in
     let events = rw c.in_ok-make_ready.ensures.events at c.in_ok-keep.ensures.stored in
     let longer = ap length events ∙ length_push c.self.inside.history.events (Ask by to) in
-    let sound = rw (sym longer) at (held_sound {was = was} asking.1.up asking.2) in
+    let sound = rw (sym longer) at (held_sound was (parts_after (Ask by to) was.parts) asking.1.up asking.2) in
     let next = world_after old c.keep.new.history.events by was _ asking.1.is world sound (omega (arith, longer))
     c.keep.new.members.items (c.in_ok-keep.ensures.held was asking.1.is) in
-    let some : 1 ≤ length c.args.asking.message.items =
-    subst (λ bytes. 1 ≤ length bytes) (sym message) (some_bytes (length old.members) (ask_of by to asked)) in
+    let some : smallest_message ≤ length c.args.asking.message.items =
+    subst (λ bytes. smallest_message ≤ length bytes) (sym message) (some_bytes (ask_of by to asked)) in
     let sent = rw c.in_ok-make_ready.ensures.post at c.send.ensures.sent in
     let failed = rw c.in_ok-make_ready.ensures.post at c.send.ensures.failed in
     world_posted _ next c.send.new.self.now
-    (sent_counts _ next g.L.Link.tells _ _ c.send.new.self.now c.send.result some sent failed)
+    (sent_counts _ next g.L.Link.tells _ _ c.send.new.self.now c.send.result some c.in_ok-make_ready.ensures.small sent failed)
 
 pub returns-clause-asks : goal.returns-clause-asks
 returns-clause-asks g c =
@@ -160,12 +157,11 @@ returns-clause-asks g c =
     let asking = subst (λ (w : Whole). (was : Member) × IsAsking w by to was asked
     × IsSoundNext (length w.members) (length w.events) by c.args.asking.noted.items was.replica asked) (sym c.self.view_is)
     c.requires.asking in
-    let message = subst (λ (w : Whole). c.args.asking.message.items ≡ bytes_in w (ask_of by to asked))
-    (sym c.self.view_is) c.requires.message in
+    let message = c.requires.message in
     let was = asking.0 in
-    let room : HasRoomFor old (ask_of by to asked) =
+    let room : HasRoomFor old (ask_size by to asked) =
     omega (arith, c.in_ok-make_ready.ensures.small, ap (λ (bytes : List ℕ). length bytes) message) in
-    let sent = rw (c.len-place.ensures.value, message, c.in_ok-make_ready.ensures.post, c.in_ok-make_ready.ensures.events)
+    let sent = rw (c.len.ensures.value, message, c.in_ok-make_ready.ensures.post, c.in_ok-make_ready.ensures.events)
     at c.send.ensures.sent in
     let failed = rw c.in_ok-make_ready.ensures.post at c.send.ensures.failed in
     let moves = ask_sent tells old by to was asked asking.1 room c.send.new.self.now x z

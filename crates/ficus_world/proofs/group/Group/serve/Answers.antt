@@ -1,99 +1,174 @@
-use Rattle.std.proofs.Common.{[], ◌∷◌, ◌≡◌, ◌≤◌, Ok, Err, length, sym, ap, subst, ◌∙◌, arith}
-use Rattle.std.proofs.lemmas.List.{length_push}
+use Rattle.std.proofs.Common.{◌≡◌, ◌∷◌, ◌++◌, [], Err, List, Ok, ap, length, subst, sym, ◌∙◌, arith}
 use Rattle.std.proofs.lemmas.Result.{err_from_is_err_and}
-use Rattle.ficus_ids.specs.declared.refusal.Refusal.TheVariants as refusal
+use Rattle.ficus_model.specs.declared.event.Event.{Event}
 use Rattle.ficus_model.specs.declared.event.Event.TheVariants.{Serve}
-use Rattle.ficus_script.specs.declared.answer.Answer.TheVariants.{Mail}
-use Rattle.ficus_runs.specs.Outcome.{IsDone}
-use Rattle.ficus_runs.specs.Sequence.{Effect, unchanged}
+use Rattle.ficus_runs.specs.Exchange.{mailed}
+use Rattle.ficus_runs.specs.Numbered.{IsNumbered}
 use Rattle.ficus_world.specs.Disks.{Carried}
-use Rattle.ficus_world.specs.Moves.{ServesAsk, HasRoomFor, answer_of, with_event, with_post}
-use Rattle.ficus_world.specs.Moves.ServesAsk.{NoRoomToServe, ServerDown, Serves}
-use Rattle.ficus_world.specs.World.{Whole, IsWorld, whole_of}
-use Rattle.ficus_world.proofs.Moved.{not_so}
-use Rattle.ficus_world.proofs.Sending.{as_reserved, some_bytes, serve_not_sent}
-use Rattle.ficus_world.proofs.SoundWorlds.{sent_counts, more_stored, world_posted}
+use Rattle.ficus_world.specs.Moves.{ServesAsk, with_event, with_post}
+use Rattle.ficus_world.specs.Post.{Outbox}
+use Rattle.ficus_world.specs.World.{Whole, whole_of}
+use Rattle.ficus_world.proofs.Sending.{HasSentEach, HasServed, mails_count, served_done, served_failed, served_few, served_some, served_world}
 use Rattle.ficus_world.proofs.group.Group.serve.Goals as goal
 
-pub returns-then-not-is_up-clause-serves : goal.returns-then-not-is_up-clause-serves
-returns-then-not-is_up-clause-serves g c = record {
-  outcomes = [];
-  does = ServerDown c.member.ensures.is (not_so c.is_up.result c.is_up.ensures c.if-not-is_up.true);
-}
+pub overflow_cast-pieces : goal.overflow_cast-pieces
+overflow_cast-pieces g c =
+    let old = whole_of c.self.inside.members.items c.self.inside.history.events c.self.inside.post.now in
+    let state = c.in_ok-state.field-0.state in
+    let messages = c.in_ok-state.field-0.messages.items in
+    let pieces = c.len-pieces.result in
+    let serves = subst (λ (w : Whole). HasServed w c.args.came state messages) (sym c.self.view_is)
+    c.in_ok-state.ensures.serves in
+    let counted : pieces ≡ length messages = c.len-pieces.ensures ∙ c.in_ok-state.field-0.messages.ok.0 in
+    let few = served_few g.L.Link.tells old c.args.came state pieces messages serves counted in
+    omega (arith, few)
 
-pub returns-then-not-has_room_for-clause-serves : goal.returns-then-not-has_room_for-clause-serves
-returns-then-not-has_room_for-clause-serves g c =
-    let old = whole_of c.self.inside.members.items c.reserve.new.self.events c.make_room.new.self.now in
-    let same = as_reserved c.self.inside.members.items c.in_ok-reserve.ensures.events c.in_ok-make_room.ensures.same in
-    let serving = c.in_ok-bytes.ensures in
-    let sized = c.deref.ensures.value ∙ serving.2 in
-    let full = rw sized at (not_so c.has_room_for.result c.has_room_for.ensures c.if-not-has_room_for.true) in
-    let moves : ServesAsk g.L.Link.tells c.args.came old (Err refusal.LinkFull) (unchanged old) =
-    NoRoomToServe serving.1 full in
-    record {
-      outcomes = [];
-      does = subst (λ (w : Whole). ServesAsk g.L.Link.tells c.args.came w (Err refusal.LinkFull) (unchanged old))
-          (same ∙ c.self.view_is) moves;
-    }
+pub send_each-requires-clause-few : goal.send_each-requires-clause-few
+send_each-requires-clause-few g c =
+    let old = whole_of c.self.inside.members.items c.self.inside.history.events c.self.inside.post.now in
+    let state = c.in_ok-state.field-0.state in
+    let messages = c.in_ok-state.field-0.messages.items in
+    let pieces = c.len-pieces.result in
+    let serves = subst (λ (w : Whole). HasServed w c.args.came state messages) (sym c.self.view_is)
+    c.in_ok-state.ensures.serves in
+    let counted : pieces ≡ length messages = c.len-pieces.ensures ∙ c.in_ok-state.field-0.messages.ok.0 in
+    let few = served_few g.L.Link.tells old c.args.came state pieces messages serves counted in
+    let same = c.in_ok-make_room.ensures.same in
+    rw same (omega (arith, few, counted, c.self.invariant.within))
 
-pub invariant_of-self-in_err-posted : goal.invariant_of-self-in_err-posted
-invariant_of-self-in_err-posted g c =
-    let old = whole_of c.self.inside.members.items c.reserve.new.self.events c.make_room.new.self.now in
-    let same = as_reserved c.self.inside.members.items c.in_ok-reserve.ensures.events c.in_ok-make_room.ensures.same in
-    let world : IsWorld old = subst IsWorld (sym same) c.self.invariant in
-    let serving = c.in_ok-bytes.ensures in
-    let some : 1 ≤ length c.in_ok-bytes.bytes.items =
-    subst (λ bytes. 1 ≤ length bytes) (sym serving.2) (some_bytes (length old.members) (answer_of c.args.came serving.0)) in
-    world_posted old world c.send.new.self.now
-    (sent_counts old world g.L.Link.tells _ _ c.send.new.self.now c.send.result some c.send.ensures.sent
-    c.send.ensures.failed)
+pub invariant_of-self-in_err-send_each : goal.invariant_of-self-in_err-send_each
+invariant_of-self-in_err-send_each g c =
+    let old = whole_of c.self.inside.members.items c.self.inside.history.events c.self.inside.post.now in
+    let state = c.in_ok-state.field-0.state in
+    let messages = c.in_ok-state.field-0.messages.items in
+    let pieces = c.len-pieces.result in
+    let serves = subst (λ (w : Whole). HasServed w c.args.came state messages) (sym c.self.view_is)
+    c.in_ok-state.ensures.serves in
+    let counted : pieces ≡ length messages = c.len-pieces.ensures ∙ c.in_ok-state.field-0.messages.ok.0 in
+    let same = c.in_ok-make_room.ensures.same in
+    let position : c.len-position.result ≡ length c.self.inside.history.events =
+    c.len-position.ensures.value ∙ ap (λ (list : List Event). length list) c.in_ok-reserve.ensures.events in
+    let place = subst (λ (p : Outbox). IsNumbered p.behind c.args.came.number c.behind-ask.result) same c.behind-ask.ensures in
+    let event = Serve c.args.came.to c.behind-ask.result.position state pieces in
+    let events : c.push.new.self.events ≡ c.self.inside.history.events ++ event ∷ [] =
+    c.push.ensures.events ∙ ap (λ (list : List Event). list ++ event ∷ []) c.in_ok-reserve.ensures.events in
+    let new = c.send_each.new.self.now in
+    let sent : HasSentEach g.L.Link.tells old c.args.came state pieces messages serves counted c.behind-ask.result place new
+    (Err c.in_err-send_each.field-0.0) = λ world. rw (position, same) at (c.in_err-send_each.ensures.sent world) in
+    rw events
+    (served_world g.L.Link.tells old c.args.came state pieces messages serves counted c.behind-ask.result place new
+    c.self.invariant (Err c.in_err-send_each.field-0.0) c.in_err-send_each.ensures.refused sent)
 
-pub returns-in_err-posted-clause-serves : goal.returns-in_err-posted-clause-serves
-returns-in_err-posted-clause-serves g c =
-    let old = whole_of c.self.inside.members.items c.reserve.new.self.events c.make_room.new.self.now in
-    let same = as_reserved c.self.inside.members.items c.in_ok-reserve.ensures.events c.in_ok-make_room.ensures.same in
-    let refused = err_from_is_err_and c.from_residual-in_err-posted.result c.from_residual-in_err-posted.ensures.1 in
-    let r = c.in_err-posted.field-0.0 in
-    let serving = c.in_ok-bytes.ensures in
-    let sized = c.deref.ensures.value ∙ serving.2 in
-    let room : HasRoomFor old (answer_of c.args.came serving.0) =
-    rw sized at (c.has_room_for.ensures.0 c.if-not-has_room_for.false) in
-    let moves = serve_not_sent g.L.Link.tells old c.args.came serving.0 serving.1 room c.send.new.self.now r
-    c.in_err-posted.ensures.failed (let same : Err r ≡ Err refusal.Link = c.in_err-posted.ensures.refused in cc) in
-    rw (refused.1, refused.2)
-    (subst (λ (w : Whole). Carried (ServesAsk g.L.Link.tells c.args.came w) (Err r) (with_post old c.send.new.self.now))
-    (same ∙ c.self.view_is) moves)
+pub returns-in_err-send_each-clause-serves : goal.returns-in_err-send_each-clause-serves
+returns-in_err-send_each-clause-serves g c =
+    let refused = err_from_is_err_and c.from_residual-in_err-send_each.result c.from_residual-in_err-send_each.ensures.1 in
+    let old = whole_of c.self.inside.members.items c.self.inside.history.events c.self.inside.post.now in
+    let state = c.in_ok-state.field-0.state in
+    let messages = c.in_ok-state.field-0.messages.items in
+    let pieces = c.len-pieces.result in
+    let serves = subst (λ (w : Whole). HasServed w c.args.came state messages) (sym c.self.view_is)
+    c.in_ok-state.ensures.serves in
+    let counted : pieces ≡ length messages = c.len-pieces.ensures ∙ c.in_ok-state.field-0.messages.ok.0 in
+    let same = c.in_ok-make_room.ensures.same in
+    let position : c.len-position.result ≡ length c.self.inside.history.events =
+    c.len-position.ensures.value ∙ ap (λ (list : List Event). length list) c.in_ok-reserve.ensures.events in
+    let place = subst (λ (p : Outbox). IsNumbered p.behind c.args.came.number c.behind-ask.result) same c.behind-ask.ensures in
+    let event = Serve c.args.came.to c.behind-ask.result.position state pieces in
+    let events : c.push.new.self.events ≡ c.self.inside.history.events ++ event ∷ [] =
+    c.push.ensures.events ∙ ap (λ (list : List Event). list ++ event ∷ []) c.in_ok-reserve.ensures.events in
+    let new = c.send_each.new.self.now in
+    let sent : HasSentEach g.L.Link.tells old c.args.came state pieces messages serves counted c.behind-ask.result place new
+    (Err c.in_err-send_each.field-0.0) = λ world. rw (position, same) at (c.in_err-send_each.ensures.sent world) in
+    let r = c.in_err-send_each.field-0.0 in
+    rw (refused.1, refused.2, events)
+    (subst (λ (w : Whole). Carried (ServesAsk g.L.Link.tells c.args.came w) (Err r) (with_post (with_event old event) new))
+    c.self.view_is
+    (served_failed g.L.Link.tells old c.args.came state pieces messages serves counted c.behind-ask.result place new r
+    c.in_err-send_each.ensures.refused sent))
 
-pub invariant_of-self-3 : goal.invariant_of-self-3
-invariant_of-self-3 g c =
-    let old = whole_of c.self.inside.members.items c.reserve.new.self.events c.make_room.new.self.now in
-    let same = as_reserved c.self.inside.members.items c.in_ok-reserve.ensures.events c.in_ok-make_room.ensures.same in
-    let world : IsWorld old = subst IsWorld (sym same) c.self.invariant in
-    let serving = c.in_ok-bytes.ensures in
-    let serve = Serve c.args.came.to c.place-ask.result in
-    let longer = ap length c.push.ensures.events ∙ length_push c.reserve.new.self.events serve in
-    let stored = more_stored old world c.push.new.self.events (omega (arith, longer)) in
-    let some : 1 ≤ length c.in_ok-bytes.bytes.items =
-    subst (λ bytes. 1 ≤ length bytes) (sym serving.2) (some_bytes (length old.members) (answer_of c.args.came serving.0)) in
-    world_posted _ stored c.send.new.self.now
-    (sent_counts _ stored g.L.Link.tells _ _ c.send.new.self.now c.send.result some c.send.ensures.sent
-    c.send.ensures.failed)
+pub mailed-requires-clause-some : goal.mailed-requires-clause-some
+mailed-requires-clause-some g c =
+    let old = whole_of c.self.inside.members.items c.self.inside.history.events c.self.inside.post.now in
+    let state = c.in_ok-state.field-0.state in
+    let messages = c.in_ok-state.field-0.messages.items in
+    let pieces = c.len-pieces.result in
+    let serves = subst (λ (w : Whole). HasServed w c.args.came state messages) (sym c.self.view_is)
+    c.in_ok-state.ensures.serves in
+    let counted : pieces ≡ length messages = c.len-pieces.ensures ∙ c.in_ok-state.field-0.messages.ok.0 in
+    served_some g.L.Link.tells old c.args.came state pieces messages serves counted
+
+pub mailed-requires-clause-within : goal.mailed-requires-clause-within
+mailed-requires-clause-within g c =
+    let old = whole_of c.self.inside.members.items c.self.inside.history.events c.self.inside.post.now in
+    let state = c.in_ok-state.field-0.state in
+    let messages = c.in_ok-state.field-0.messages.items in
+    let pieces = c.len-pieces.result in
+    let serves = subst (λ (w : Whole). HasServed w c.args.came state messages) (sym c.self.view_is)
+    c.in_ok-state.ensures.serves in
+    let counted : pieces ≡ length messages = c.len-pieces.ensures ∙ c.in_ok-state.field-0.messages.ok.0 in
+    let few = served_few g.L.Link.tells old c.args.came state pieces messages serves counted in
+    let same = c.in_ok-make_room.ensures.same in
+    let first = rw same at c.next-first.ensures in
+    omega (arith, few, first, c.self.invariant.within)
+
+pub invariant_of-self-2 : goal.invariant_of-self-2
+invariant_of-self-2 g c =
+    let old = whole_of c.self.inside.members.items c.self.inside.history.events c.self.inside.post.now in
+    let state = c.in_ok-state.field-0.state in
+    let messages = c.in_ok-state.field-0.messages.items in
+    let pieces = c.len-pieces.result in
+    let serves = subst (λ (w : Whole). HasServed w c.args.came state messages) (sym c.self.view_is)
+    c.in_ok-state.ensures.serves in
+    let counted : pieces ≡ length messages = c.len-pieces.ensures ∙ c.in_ok-state.field-0.messages.ok.0 in
+    let same = c.in_ok-make_room.ensures.same in
+    let position : c.len-position.result ≡ length c.self.inside.history.events =
+    c.len-position.ensures.value ∙ ap (λ (list : List Event). length list) c.in_ok-reserve.ensures.events in
+    let place = subst (λ (p : Outbox). IsNumbered p.behind c.args.came.number c.behind-ask.result) same c.behind-ask.ensures in
+    let event = Serve c.args.came.to c.behind-ask.result.position state pieces in
+    let events : c.push.new.self.events ≡ c.self.inside.history.events ++ event ∷ [] =
+    c.push.ensures.events ∙ ap (λ (list : List Event). list ++ event ∷ []) c.in_ok-reserve.ensures.events in
+    let new = c.send_each.new.self.now in
+    let sent : HasSentEach g.L.Link.tells old c.args.came state pieces messages serves counted c.behind-ask.result place new
+    (Ok tt) = λ world. rw (position, same) at (c.in_ok-send_each.ensures.sent world) in
+    rw events
+    (served_world g.L.Link.tells old c.args.came state pieces messages serves counted c.behind-ask.result place new
+    c.self.invariant (Ok tt) tt sent)
 
 pub returns-clause-serves : goal.returns-clause-serves
 returns-clause-serves g c =
-    let old = whole_of c.self.inside.members.items c.reserve.new.self.events c.make_room.new.self.now in
-    let same = as_reserved c.self.inside.members.items c.in_ok-reserve.ensures.events c.in_ok-make_room.ensures.same in
-    let serving = c.in_ok-bytes.ensures in
-    let sized = c.deref.ensures.value ∙ serving.2 in
-    let room : HasRoomFor old (answer_of c.args.came serving.0) =
-    rw sized at (c.has_room_for.ensures.0 c.if-not-has_room_for.false) in
-    let sent = rw (c.len-place.ensures.value, serving.2) at c.in_ok-posted.ensures.sent in
-    let new = with_post (with_event old (Serve c.args.came.to c.place-ask.result)) c.send.new.self.now in
-    let left : Effect Whole = record { outcomes = IsDone ∷ []; after = new } in
-    let moves : ServesAsk g.L.Link.tells c.args.came old (Ok (Mail c.in_ok-posted.posted)) left =
-    Serves serving.1 c.place-ask.ensures room sent in
-    rw c.push.ensures.events (record {
-      outcomes = IsDone ∷ [];
-      does = subst (λ (w : Whole). ServesAsk g.L.Link.tells c.args.came w (Ok (Mail c.in_ok-posted.posted)) left)
-          (same ∙ c.self.view_is) moves;
-    })
+    let old = whole_of c.self.inside.members.items c.self.inside.history.events c.self.inside.post.now in
+    let state = c.in_ok-state.field-0.state in
+    let messages = c.in_ok-state.field-0.messages.items in
+    let pieces = c.len-pieces.result in
+    let serves = subst (λ (w : Whole). HasServed w c.args.came state messages) (sym c.self.view_is)
+    c.in_ok-state.ensures.serves in
+    let counted : pieces ≡ length messages = c.len-pieces.ensures ∙ c.in_ok-state.field-0.messages.ok.0 in
+    let same = c.in_ok-make_room.ensures.same in
+    let position : c.len-position.result ≡ length c.self.inside.history.events =
+    c.len-position.ensures.value ∙ ap (λ (list : List Event). length list) c.in_ok-reserve.ensures.events in
+    let place = subst (λ (p : Outbox). IsNumbered p.behind c.args.came.number c.behind-ask.result) same c.behind-ask.ensures in
+    let event = Serve c.args.came.to c.behind-ask.result.position state pieces in
+    let events : c.push.new.self.events ≡ c.self.inside.history.events ++ event ∷ [] =
+    c.push.ensures.events ∙ ap (λ (list : List Event). list ++ event ∷ []) c.in_ok-reserve.ensures.events in
+    let new = c.send_each.new.self.now in
+    let sent : HasSentEach g.L.Link.tells old c.args.came state pieces messages serves counted c.behind-ask.result place new
+    (Ok tt) = λ world. rw (position, same) at (c.in_ok-send_each.ensures.sent world) in
+    let first = rw same at c.next-first.ensures in
+    rw (c.mailed.ensures, events)
+    (subst (λ (w : Whole). Carried (ServesAsk g.L.Link.tells c.args.came w) (Ok (mailed c.next-first.result pieces))
+    (with_post (with_event old event) new)) c.self.view_is
+    (served_done g.L.Link.tells old c.args.came state pieces messages serves counted c.behind-ask.result place new sent
+    c.next-first.result first))
+
+pub returns-clause-few : goal.returns-clause-few
+returns-clause-few g c =
+    let old = whole_of c.self.inside.members.items c.self.inside.history.events c.self.inside.post.now in
+    let state = c.in_ok-state.field-0.state in
+    let messages = c.in_ok-state.field-0.messages.items in
+    let pieces = c.len-pieces.result in
+    let serves = subst (λ (w : Whole). HasServed w c.args.came state messages) (sym c.self.view_is)
+    c.in_ok-state.ensures.serves in
+    let counted : pieces ≡ length messages = c.len-pieces.ensures ∙ c.in_ok-state.field-0.messages.ok.0 in
+    let few = served_few g.L.Link.tells old c.args.came state pieces messages serves counted in
+    let count = mails_count c.next-first.result pieces (omega (arith, c.next-first.ensures)) in
+    rw c.mailed.ensures (omega (arith, few, count))

@@ -117,7 +117,8 @@ returns-in-Stop-clause-memory g c = λ is. absurd (c.stop.ensures.never is)
 
 pub returns-in-Change-clause-passes : goal.returns-in-Change-clause-passes
 returns-in-Change-clause-passes g c = λ before after.
-    comes before after c.change.ensures.touches (command.Change c.in-Change.by c.in-Change.change) c.change.result c.change.ensures.moves c.change.ensures.memory
+    comes before after c.change.ensures.touches (command.Change c.in-Change.by c.in-Change.change) c.change.result c.change.ensures.moves
+    c.change.ensures.memory
 
 pub returns-in-Collect-clause-passes : goal.returns-in-Collect-clause-passes
 returns-in-Collect-clause-passes g c = λ before after.

@@ -22,7 +22,8 @@ returns-in_err-replica-clause-moves g c =
     let old = c.args.self.now.whole in
     rw (refused.1, refused.2)
     (comes_to_none g.L.Link.tells g.K.Keep g.D.Disk old (Changes c.args.by c.args.change.now) _ c.args.disks.now.items
-    (up_ends _ _ c.args.by old c.in_err-replica.field-0.0 (unchanged old) (subst (λ (w : Whole). FindsUp c.args.by w (Err c.in_err-replica.field-0.0) (unchanged w)) (whole_is c.self.view_is) c.in_err-replica.ensures.refused)))
+    (up_ends _ _ c.args.by old c.in_err-replica.field-0.0 (unchanged old)
+    (subst (λ (w : Whole). FindsUp c.args.by w (Err c.in_err-replica.field-0.0) (unchanged w)) (whole_is c.self.view_is) c.in_err-replica.ensures.refused)))
 
 pub returns-in_err-next-clause-moves : goal.returns-in_err-next-clause-moves
 returns-in_err-next-clause-moves g c =

@@ -21,7 +21,8 @@ returns-in_err-up-clause-moves g c =
     let old = c.args.self.now.whole in
     rw (refused.1, refused.2)
     (comes_to_none g.L.Link.tells g.K.Keep g.D.Disk old (Collects c.args.by) _ c.args.disks.now.items
-    (up_ends _ _ c.args.by old c.in_err-up.field-0.0 (unchanged old) (subst (λ (w : Whole). FindsUp c.args.by w (Err c.in_err-up.field-0.0) (unchanged w)) (whole_is c.self.view_is) c.in_err-up.ensures.refused)))
+    (up_ends _ _ c.args.by old c.in_err-up.field-0.0 (unchanged old) (subst (λ (w : Whole). FindsUp c.args.by w (Err c.in_err-up.field-0.0) (unchanged w))
+    (whole_is c.self.view_is) c.in_err-up.ensures.refused)))
 
 pub returns-in_err-collected-clause-moves : goal.returns-in_err-collected-clause-moves
 returns-in_err-collected-clause-moves g c =

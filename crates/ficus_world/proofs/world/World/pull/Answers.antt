@@ -72,12 +72,13 @@ returns-clause-moves g c =
     let old = c.args.self.now.whole in
     let peers = subst (λ (w : Whole). ArePeersUp w c.args.by c.args.to) (whole_is c.self.view_is)
     c.in_ok-up_peers.ensures.peers in
-    comes_to old (Pulls c.args.by c.args.to) c.give_next.result c.give_next.new.self.whole c.args.disks.now.items
-    c.give_next.new.disks.items
+    let last = rw c.mails_in-first.ensures.are at c.give_each.ensures.gives in
+    comes_to old (Pulls c.args.by c.args.to) c.give_each.result c.give_each.new.self.whole c.args.disks.now.items
+    c.give_each.new.disks.items
     (pull_given g.L.Link.tells g.K.Keep g.D.Disk c.args.by c.args.to old peers c.args.disks.now.items c.in_ok-asked.asked
     c.ask.new.self.whole c.ask.new.disks.items c.in_ok-asked.ensures.asks c.in_ok-given.given c.give.new.self.whole
-    c.give.new.disks.items c.in_ok-given.ensures.gives c.give_next.result c.give_next.new.self.whole
-    c.give_next.new.disks.items c.give_next.ensures.gives) (λ is. peers)
+    c.give.new.disks.items c.in_ok-given.ensures.gives c.give_each.result c.give_each.new.self.whole
+    c.give_each.new.disks.items last) (λ is. peers)
 
 pub returns-clause-memory : goal.returns-clause-memory
 returns-clause-memory g c = λ is.
@@ -85,7 +86,8 @@ returns-clause-memory g c = λ is.
     (subst (λ (w : Whole). ArePeersUp w c.args.by c.args.to) (whole_is c.self.view_is) c.in_ok-up_peers.ensures.peers)
     c.args.disks.now.items c.in_ok-asked.asked c.ask.new.self.whole
     c.ask.new.disks.items c.in_ok-asked.ensures.asks c.in_ok-given.given c.give.new.self.whole c.give.new.disks.items
-    c.in_ok-given.ensures.gives c.give_next.new.self.whole c.give_next.new.disks.items (c.give_next.ensures.memory is)
+    c.in_ok-given.ensures.gives c.give_each.new.self.whole c.give_each.new.disks.items
+    (rw c.mails_in-first.ensures.are at c.give_each.ensures.memory is)
 
 pub returns-in_err-up_peers-clause-passes : goal.returns-in_err-up_peers-clause-passes
 returns-in_err-up_peers-clause-passes g c = λ before after. Idles before TouchesNone
@@ -111,7 +113,7 @@ returns-clause-passes g c = λ before after.
     (Joins
     (given c.settled.ensures c.settled-2.ensures c.give.ensures.touches c.in_ok-asked.asked (Ok c.in_ok-given.given)
     c.in_ok-given.ensures.gives c.in_ok-given.ensures.memory)
-    (c.give_next.ensures.passes c.settled-2.ensures after))
+    (c.give_each.ensures.passes c.settled-2.ensures after))
 
 pub returns-in_err-up_peers-clause-others : goal.returns-in_err-up_peers-clause-others
 returns-in_err-up_peers-clause-others g c = others_none (length c.args.self.now.whole.members) c.args.disks.now.items
@@ -130,10 +132,10 @@ returns-in_err-given-clause-others g c =
 pub returns-clause-others : goal.returns-clause-others
 returns-clause-others g c =
     let count = length c.args.self.now.whole.members in
-    others_then count c.args.disks.now.items c.give.new.disks.items c.give_next.new.disks.items
+    others_then count c.args.disks.now.items c.give.new.disks.items c.give_each.new.disks.items
     (others_then count c.args.disks.now.items c.ask.new.disks.items c.give.new.disks.items
     (touches_others c.ask.ensures.touches)
     (subst (λ n. OthersStay n c.ask.new.disks.items c.give.new.disks.items) c.ask.ensures.members
     (touches_others c.give.ensures.touches)))
-    (subst (λ n. OthersStay n c.give.new.disks.items c.give_next.new.disks.items)
-    (c.give.ensures.members ∙ c.ask.ensures.members) c.give_next.ensures.others)
+    (subst (λ n. OthersStay n c.give.new.disks.items c.give_each.new.disks.items)
+    (c.give.ensures.members ∙ c.ask.ensures.members) c.give_each.ensures.others)

@@ -175,7 +175,13 @@ returns-clause-disks g c =
     let disks = subst (λ i. AreDisksOf g.D.Disk.tells g.K.Keep.kept g.K.Keep.fits g.D.Disk.seen g.D.Disk.may_leave
     g.D.Disk.armings i.group.members i.stables.items x) (sym c.self-inside.view_is) before in
     c.reopen_at-read.ensures.disks old.members c.come_back.new.members.items
-    (record { was = found.0; is = found.1; now = back.0; after = back_after c.args.by found.0 c.reopen_at-read.result c.come_back.result back.0 back.1 back.2; set = back.3 }) disks
+    (record {
+      was = found.0;
+      is = found.1;
+      now = back.0;
+      after = back_after c.args.by found.0 c.reopen_at-read.result c.come_back.result back.0 back.1 back.2;
+      set = back.3;
+    }) disks
 
 pub returns-then-not-has-clause-touches : goal.returns-then-not-has-clause-touches
 returns-then-not-has-clause-touches g c = TouchesNone

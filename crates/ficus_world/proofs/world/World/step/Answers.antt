@@ -5,6 +5,7 @@ use Rattle.ficus_world.specs.Moves.{HasCollected}
 use Rattle.ficus_world.specs.Stepped.{CutOn, Stepped}
 use Rattle.ficus_world.proofs.Collecting.{moves_collected}
 use Rattle.ficus_world.proofs.Following.{follow_wanted}
+use Rattle.ficus_world.proofs.Growing.{comes_foreseen}
 use Rattle.ficus_world.proofs.Moved.{answered_cut, answered_moves, answered_wants}
 use Rattle.ficus_world.proofs.Stepping.{cut_stops, step_follows}
 use Rattle.ficus_world.proofs.world.World.step.Goals as goal
@@ -70,3 +71,9 @@ returns-clause-wants g c = λ volume W stands.
 
 pub returns-clause-passes : goal.returns-clause-passes
 returns-clause-passes g c = c.carry_out-came_to.ensures.passes c.settled.ensures c.settled-2.ensures
+
+pub returns-clause-grows : goal.returns-clause-grows
+returns-clause-grows g c =
+    comes_foreseen g.L.Link.tells g.K.Keep g.D.Disk c.args.self.now.whole c.carry_out-came_to.new.self.whole
+    c.args.command.now c.args.disks.now.items c.carry_out-came_to.new.disks.items c.carry_out-came_to.result
+    c.carry_out-came_to.ensures.moves c.carry_out-came_to.ensures.memory c.settled-2.ensures.sound

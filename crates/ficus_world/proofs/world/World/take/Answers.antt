@@ -1,4 +1,4 @@
-use Rattle.std.proofs.Common.{◌≡◌, Err, Ok, length, subst, sym, ◌∙◌}
+use Rattle.std.proofs.Common.{◌≡◌, ℕ, Err, Ok, length, subst, sym, ◌∙◌}
 use Rattle.std.proofs.lemmas.Result.{err_from_is_err_and}
 use Rattle.ficus_codec.specs.Formats.{tables_bytes}
 use Rattle.ficus_ids.specs.declared.refusal.Refusal.TheVariants.{Memory}
@@ -6,44 +6,35 @@ use Rattle.ficus_model.specs.declared.event.Event.TheVariants.{Accept}
 use Rattle.ficus_record.specs.declared.record.Record.TheVariants.{Accept as AcceptOf}
 use Rattle.ficus_script.specs.declared.answer.Answer.TheVariants.{Done}
 use Rattle.ficus_runs.specs.Numbered.{IsNumbered}
-use Rattle.ficus_runs.specs.Sequence.{unchanged}
-use Rattle.ficus_world.specs.Moves.{FindsUp, TakesAnswer, advanced, pending_of, saved}
-use Rattle.ficus_world.specs.Moves.TakesAnswer.{Takes, TakesNot}
-use Rattle.ficus_world.specs.World.{IsSoundMember, IsSoundNext, Whole}
+use Rattle.ficus_world.specs.Moves.{TakesTables, advanced, pending_of, saved}
+use Rattle.ficus_world.specs.Moves.TakesTables.{Takes, TakesNot}
+use Rattle.ficus_world.specs.World.{IsSoundMember, IsSoundNext, IsUpIn, Whole}
 use Rattle.ficus_world.specs.declared.member.Member.{Member}
+use Rattle.ficus_world.specs.declared.member.MemberState.TheVariants.{Up}
 use Rattle.ficus_run_laws.proofs.Numbers.{number_once}
 use Rattle.ficus_world.proofs.SoundWorlds.{noted_sound}
 use Rattle.ficus_world.proofs.Carrying.{advanced_events, advanced_members, carried_none, carried_saved, refused_events, refused_members, save_refused, whole_is}
-use Rattle.ficus_world.proofs.Sending.{take_refused, taker_down}
+use Rattle.ficus_world.proofs.Collected.{tables_refused}
 use Rattle.ficus_world.specs.Kills.Touches.{TouchesNone}
 use Rattle.ficus_world.proofs.world.World.take.Goals as goal
 
-pub returns-in_err-replica-clause-takes : goal.returns-in_err-replica-clause-takes
-returns-in_err-replica-clause-takes g c =
-    let refused = err_from_is_err_and c.from_residual.result c.from_residual.ensures.1 in
-    let old = c.args.self.now.whole in
-    let r = c.in_err-replica.field-0.0 in
-    let entries = c.args.entries.now in
-    let files = c.args.files.now in
-    let finds = subst (λ (w : Whole). FindsUp c.args.came.to w (Err r) (unchanged w)) (whole_is c.self.view_is)
-    c.in_err-replica.ensures.refused in
-    rw (refused.1, refused.2)
-    (carried_none (TakesAnswer c.args.came entries files) (Err r) old c.args.disks.now.items
-    (taker_down old c.args.came entries files r (unchanged old) c.requires.to finds))
+-- the member is up that is
+is_up : {old : Whole} {r : ℕ} {was : Member} → IsUpIn old r → IsNumbered old.members r was → was.state ≡ Up
+is_up {was = was} up is = subst (λ (m : Member). m.state ≡ Up) (number_once up.is is) up.up
 
 pub returns-in_err-taken-clause-takes : goal.returns-in_err-taken-clause-takes
 returns-in_err-taken-clause-takes g c =
-    let refused = err_from_is_err_and c.from_residual-in_err-taken.result c.from_residual-in_err-taken.ensures.1 in
+    let refused = err_from_is_err_and c.from_residual.result c.from_residual.ensures.1 in
     let old = c.args.self.now.whole in
     let r = c.in_err-taken.field-0.0 in
     let entries = c.args.entries.now in
     let files = c.args.files.now in
-    let was = c.in_ok-replica.field-0.now in
+    let was = c.member.result.now in
     let is = subst (λ (w : Whole). IsNumbered w.members c.args.came.to was) (whole_is c.self.view_is)
-    c.in_ok-replica.ensures.is in
+    c.member.ensures.is in
     rw (refused.1, refused.2)
-    (carried_none (TakesAnswer c.args.came entries files) (Err r) old c.args.disks.now.items
-    (take_refused old c.args.came entries files was is c.in_ok-replica.ensures.up r c.in_err-taken.ensures.gives))
+    (carried_none (TakesTables c.args.came c.args.index entries files) (Err r) old c.args.disks.now.items
+    (tables_refused old c.args.came c.args.index entries files was is (is_up c.requires.up is) r c.in_err-taken.ensures.gives))
 
 pub returns-in_err-save-clause-takes : goal.returns-in_err-save-clause-takes
 returns-in_err-save-clause-takes g c =
@@ -51,35 +42,35 @@ returns-in_err-save-clause-takes g c =
     let old = c.args.self.now.whole in
     let r = c.in_err-save.field-0.0 in
     let to = c.args.came.to in
-    let was = c.in_ok-replica.field-0.now in
-    let is = subst (λ (w : Whole). IsNumbered w.members to was) (whole_is c.self.view_is) c.in_ok-replica.ensures.is in
-    let place = subst (λ (w : Whole). IsNumbered w.post.behind c.args.came.number c.place-serve.result)
+    let was = c.member.result.now in
+    let is = subst (λ (w : Whole). IsNumbered w.members to was) (whole_is c.self.view_is) c.member.ensures.is in
+    let place = subst (λ (w : Whole). IsNumbered w.post.behind c.args.came.number c.behind-serve.result)
     (whole_is c.self.view_is)
-    (subst (λ inside. IsNumbered inside.group.post.behind c.args.came.number c.place-serve.result)
-    c.self-inside.view_is c.place-serve.ensures) in
+    (subst (λ inside. IsNumbered inside.group.post.behind c.args.came.number c.behind-serve.result)
+    c.self-inside.view_is c.behind-serve.ensures) in
     rw (refused.1, refused.2)
-    (save_refused (TakesAnswer c.args.came c.args.entries.now c.args.files.now) old c.save.new.self.whole to was
-    (pending_of c.in_ok-taken.taken (Accept to c.place-serve.result)) c.args.disks.now.items c.save.new.disks.items r
+    (save_refused (TakesTables c.args.came c.args.index c.args.entries.now c.args.files.now) old c.save.new.self.whole to was
+    (pending_of c.in_ok-taken.taken (Accept to c.behind-serve.result.position c.args.index)) c.args.disks.now.items c.save.new.disks.items r
     c.in_err-save.ensures.refused (λ e. c.in_err-save.ensures.failed e was is) c.in_err-save.ensures.counted
-    c.in_err-save.ensures.memory (TakesNot is c.in_ok-replica.ensures.up place c.in_ok-taken.ensures.gives))
+    c.in_err-save.ensures.memory (TakesNot is (is_up c.requires.up is) place c.in_ok-taken.ensures.gives))
 
 pub returns-in_err-save-clause-grows : goal.returns-in_err-save-clause-grows
 returns-in_err-save-clause-grows g c =
     let to = c.args.came.to in
-    let was = c.in_ok-replica.field-0.now in
-    let is = subst (λ (w : Whole). IsNumbered w.members to was) (whole_is c.self.view_is) c.in_ok-replica.ensures.is in
+    let was = c.member.result.now in
+    let is = subst (λ (w : Whole). IsNumbered w.members to was) (whole_is c.self.view_is) c.member.ensures.is in
     refused_events c.args.self.now.whole c.save.new.self.whole to was
-    (pending_of c.in_ok-taken.taken (Accept to c.place-serve.result)) c.args.disks.now.items c.save.new.disks.items
+    (pending_of c.in_ok-taken.taken (Accept to c.behind-serve.result.position c.args.index)) c.args.disks.now.items c.save.new.disks.items
     c.in_err-save.field-0.0 c.in_err-save.ensures.refused
     (λ e. c.in_err-save.ensures.failed e was is) c.in_err-save.ensures.memory
 
 pub returns-in_err-save-clause-members : goal.returns-in_err-save-clause-members
 returns-in_err-save-clause-members g c =
     let to = c.args.came.to in
-    let was = c.in_ok-replica.field-0.now in
-    let is = subst (λ (w : Whole). IsNumbered w.members to was) (whole_is c.self.view_is) c.in_ok-replica.ensures.is in
+    let was = c.member.result.now in
+    let is = subst (λ (w : Whole). IsNumbered w.members to was) (whole_is c.self.view_is) c.member.ensures.is in
     refused_members c.args.self.now.whole c.save.new.self.whole to was
-    (pending_of c.in_ok-taken.taken (Accept to c.place-serve.result)) c.args.disks.now.items c.save.new.disks.items
+    (pending_of c.in_ok-taken.taken (Accept to c.behind-serve.result.position c.args.index)) c.args.disks.now.items c.save.new.disks.items
     c.in_err-save.field-0.0 c.in_err-save.ensures.refused
     (λ e. c.in_err-save.ensures.failed e was is) c.in_err-save.ensures.memory
 
@@ -87,37 +78,34 @@ pub returns-clause-takes : goal.returns-clause-takes
 returns-clause-takes g c =
     let old = c.args.self.now.whole in
     let to = c.args.came.to in
-    let was = c.in_ok-replica.field-0.now in
-    let is = subst (λ (w : Whole). IsNumbered w.members to was) (whole_is c.self.view_is) c.in_ok-replica.ensures.is in
-    let place = subst (λ (w : Whole). IsNumbered w.post.behind c.args.came.number c.place-serve.result)
+    let was = c.member.result.now in
+    let is = subst (λ (w : Whole). IsNumbered w.members to was) (whole_is c.self.view_is) c.member.ensures.is in
+    let place = subst (λ (w : Whole). IsNumbered w.post.behind c.args.came.number c.behind-serve.result)
     (whole_is c.self.view_is)
-    (subst (λ inside. IsNumbered inside.group.post.behind c.args.came.number c.place-serve.result)
-    c.self-inside.view_is c.place-serve.ensures) in
-    let takes : TakesAnswer c.args.came c.args.entries.now c.args.files.now old (Ok Done)
-    (saved to (advanced old to was c.in_ok-taken.taken (Accept to c.place-serve.result))) =
-    Takes is c.in_ok-replica.ensures.up place c.in_ok-taken.ensures.gives in
-    carried_saved (TakesAnswer c.args.came c.args.entries.now c.args.files.now) Done old c.save.new.self.whole to was
-    c.in_ok-taken.taken (Accept to c.place-serve.result) c.args.disks.now.items c.save.new.disks.items
+    (subst (λ inside. IsNumbered inside.group.post.behind c.args.came.number c.behind-serve.result)
+    c.self-inside.view_is c.behind-serve.ensures) in
+    let takes : TakesTables c.args.came c.args.index c.args.entries.now c.args.files.now old (Ok Done)
+    (saved to (advanced old to was c.in_ok-taken.taken (Accept to c.behind-serve.result.position c.args.index))) =
+    Takes is (is_up c.requires.up is) place c.in_ok-taken.ensures.gives in
+    carried_saved (TakesTables c.args.came c.args.index c.args.entries.now c.args.files.now) Done old c.save.new.self.whole to was
+    c.in_ok-taken.taken (Accept to c.behind-serve.result.position c.args.index) c.args.disks.now.items c.save.new.disks.items
     (c.in_ok-save.ensures.saved was is) c.in_ok-save.ensures.followed takes
 
 pub returns-clause-grows : goal.returns-clause-grows
 returns-clause-grows g c =
     let to = c.args.came.to in
-    let was = c.in_ok-replica.field-0.now in
-    let is = subst (λ (w : Whole). IsNumbered w.members to was) (whole_is c.self.view_is) c.in_ok-replica.ensures.is in
+    let was = c.member.result.now in
+    let is = subst (λ (w : Whole). IsNumbered w.members to was) (whole_is c.self.view_is) c.member.ensures.is in
     advanced_events c.args.self.now.whole c.save.new.self.whole to was c.in_ok-taken.taken
-    (Accept to c.place-serve.result) (c.in_ok-save.ensures.saved was is)
+    (Accept to c.behind-serve.result.position c.args.index) (c.in_ok-save.ensures.saved was is)
 
 pub returns-clause-members : goal.returns-clause-members
 returns-clause-members g c =
     let to = c.args.came.to in
-    let was = c.in_ok-replica.field-0.now in
-    let is = subst (λ (w : Whole). IsNumbered w.members to was) (whole_is c.self.view_is) c.in_ok-replica.ensures.is in
+    let was = c.member.result.now in
+    let is = subst (λ (w : Whole). IsNumbered w.members to was) (whole_is c.self.view_is) c.member.ensures.is in
     advanced_members c.args.self.now.whole c.save.new.self.whole to was c.in_ok-taken.taken
-    (Accept to c.place-serve.result) (c.in_ok-save.ensures.saved was is)
-
-pub returns-in_err-replica-clause-touches : goal.returns-in_err-replica-clause-touches
-returns-in_err-replica-clause-touches g c = TouchesNone
+    (Accept to c.behind-serve.result.position c.args.index) (c.in_ok-save.ensures.saved was is)
 
 pub returns-in_err-taken-clause-touches : goal.returns-in_err-taken-clause-touches
 returns-in_err-taken-clause-touches g c = TouchesNone
@@ -132,7 +120,7 @@ pub returns-in_err-noted-clause-takes : goal.returns-in_err-noted-clause-takes
 returns-in_err-noted-clause-takes g c =
     let wanted = err_from_is_err_and c.from_residual-in_err-noted.result c.from_residual-in_err-noted.ensures.1 in
     rw (wanted.1, wanted.2)
-    (carried_none (TakesAnswer c.args.came c.args.entries.now c.args.files.now) (Err Memory) c.args.self.now.whole
+    (carried_none (TakesTables c.args.came c.args.index c.args.entries.now c.args.files.now) (Err Memory) c.args.self.now.whole
     c.args.disks.now.items tt)
 
 pub returns-in_err-noted-clause-touches : goal.returns-in_err-noted-clause-touches
@@ -142,11 +130,11 @@ pub save-requires-clause-next : goal.save-requires-clause-next
 save-requires-clause-next g c = λ was is.
     let old = c.args.self.now.whole in
     let to = c.args.came.to in
-    let found = c.in_ok-replica.field-0.now in
+    let found = c.member.result.now in
     let there = subst (λ (w : Whole). IsNumbered w.members to found) (whole_is c.self.view_is)
-    c.in_ok-replica.ensures.is in
+    c.member.ensures.is in
     let sound = subst (λ (w : Whole). IsSoundMember (length w.members) (length w.events) to found)
-    (whole_is c.self.view_is) c.in_ok-replica.ensures.sound in
+    (whole_is c.self.view_is) c.member.ensures.sound in
     let counted = subst (λ n. c.args.tables.now ≡ tables_bytes n c.args.entries.now c.args.files.now)
     (sym sound.replica.members) c.requires.spelled in
     subst (λ (m : Member). IsSoundNext (length old.members) (length old.events) to c.deref.result.now m.replica

@@ -1,0 +1,9 @@
+//! Tests of the program as one call, over sources, sinks, links and disks in memory.
+mod calls;
+mod changed_link;
+mod disks;
+mod links;
+mod modes;
+mod stops;
+mod streams;
+mod volumes;

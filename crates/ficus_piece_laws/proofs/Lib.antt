@@ -1,0 +1,4 @@
+pub mod Saving
+pub mod Mixing
+pub mod Taken
+pub mod Serving

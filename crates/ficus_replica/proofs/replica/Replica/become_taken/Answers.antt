@@ -1,0 +1,5 @@
+use Rattle.ficus_saved.proofs.TableFiles.{are_files}
+use Rattle.ficus_replica.proofs.replica.Replica.become_taken.Goals as goal
+
+pub of-requires : goal.of-requires
+of-requires c = are_files _ _ _ c.requires.tables

@@ -1,0 +1,380 @@
+-- What becomes of a world in which a member keeps a piece of an answer, and what taking a piece does to it.
+use Rattle.std.proofs.Common.{◌≡◌, ◌≢◌, ℕ, ◌+◌, ◌-◌, ◌<◌, ◌≤◌, List, [], ◌∷◌, ◌++◌, length, Option, Some, None, Result, Ok, Err, refl, sym, ap, subst, ◌∙◌, inl, inr, ◌⊎◌, arith}
+use Rattle.std.specs.Prelude.{slice_set, IfErr, IfOk, IsErrOf}
+use Rattle.std.specs.Option.{option_map}
+use Rattle.std.proofs.lemmas.List.{length-set, length_push}
+use Rattle.ficus_codec.specs.Formats.{tables_bytes}
+use Rattle.ficus_disk.specs.declared.disk.Disk.{Ghosts as Disk}
+use Rattle.ficus_disk.specs.declared.pair.Pair.{Pair}
+use Rattle.ficus_entry.specs.declared.entry.Entry.{Entry}
+use Rattle.ficus_file.specs.declared.file.FileReplica.{FileReplica}
+use Rattle.ficus_ids.specs.Members.{IsMember}
+use Rattle.ficus_ids.specs.declared.refusal.Refusal.{Refusal}
+use Rattle.ficus_ids.specs.declared.refusal.Refusal.TheVariants as refusal
+use Rattle.ficus_keep.specs.Kept.{Kept}
+use Rattle.ficus_keep.specs.declared.keep.Keep.{Ghosts as Keep}
+use Rattle.ficus_model.specs.declared.event.Event.{Event}
+use Rattle.ficus_model.specs.declared.event.Event.TheVariants.{Take}
+use Rattle.ficus_replica.specs.Accept.{AcceptGives}
+use Rattle.ficus_run_laws.proofs.Numbers.{number_exists, number_once}
+use Rattle.ficus_run_laws.proofs.Replaced.{replaced}
+use Rattle.ficus_runs.specs.Answers.{OrMemory}
+use Rattle.ficus_runs.specs.Fuses.{FuseState}
+use Rattle.ficus_runs.specs.Numbered.{IsNumbered}
+use Rattle.ficus_runs.specs.Sequence.{Effect, unchanged}
+use Rattle.ficus_runs.specs.Sequence.First.{Ends, Goes}
+use Rattle.ficus_saved.specs.Tables.{FitsTables}
+use Rattle.ficus_script.specs.declared.answer.Answer.{Answer}
+use Rattle.ficus_script.specs.declared.answer.Answer.TheVariants.{Part}
+use Rattle.ficus_stable.specs.declared.stable.Stable.{Stable}
+use Rattle.ficus_wire.specs.Parts.{HeldParts, joined as joined_parts, with_part}
+use Rattle.ficus_wire.specs.declared.message.PieceHead.{PieceHead}
+use Rattle.ficus_world.specs.declared.exchange.Delivery.{Delivery}
+use Rattle.ficus_world.specs.declared.member.Member.{Member}
+use Rattle.ficus_world.specs.declared.member.MemberState.TheVariants.{Up}
+use Rattle.ficus_world.specs.declared.post.Behind.{Behind}
+use Rattle.ficus_world.specs.declared.taking.Fitting.{Fitting}
+use Rattle.ficus_world.specs.declared.taking.Fitting.TheVariants as fitting
+use Rattle.ficus_world.specs.Disks.{AreDisksOf, CarriedOn, IsPairOf}
+use Rattle.ficus_world.specs.Fuses.{FuseStands, FusesFollow, FusesStand}
+use Rattle.ficus_world.specs.Moves.{FindsTaker, IsPlaced, IsWaiting, TakesFitting, TakesPiece, TakesSpelled, TakesTables, collected, parts_held}
+use Rattle.ficus_world.specs.Moves.FindsTaker.{AnswersNone, FindsIt, OfAnotherState, OfOtherPieces, TakerDown}
+use Rattle.ficus_world.specs.Moves.TakesFitting.{IsHeld, IsOneMore, IsTheLast}
+use Rattle.ficus_world.specs.Moves.TakesSpelled.{SpellsNone, SpellsTables}
+use Rattle.ficus_world.specs.Moves.TakesTables.{Refuses}
+use Rattle.ficus_world.specs.Post.{Outbox}
+use Rattle.ficus_world.specs.World.{IsSoundMember, IsUpIn, IsWorld, Whole, whole_of}
+use Rattle.ficus_world.proofs.Carrying.{carried_none, carried_then, or_refused}
+use Rattle.ficus_world.proofs.Disks.{follows_none}
+use Rattle.ficus_world.proofs.Placing.{joined_one}
+use Rattle.ficus_world.proofs.SoundWorlds.{member_more, world_after}
+
+-- a member that holds other parts is to its disks what it was
+module _ (members : List Member) (by : ℕ) (was : Member) (is : IsNumbered members by was) (parts : Option HeldParts) where
+  abbrev now : Member
+  now = record was { parts = parts }
+
+  abbrev pub holding : List Member
+  holding = slice_set members (by - 1) now
+
+  which : (r : ℕ) (member : Member) → IsNumbered holding r member
+      → ((r ≡ by) × (member ≡ now)) ⊎ ((by ≢ r) × IsNumbered members r member)
+  which r member at = replaced members by r now member is.member.at_least at
+
+  module _ {K D : Type 0} (tells : Type 0) (kept : List ℕ → List ℕ → Option Kept)
+      (fits : K → List ℕ → List ℕ → Type 0) (seen : D → List ℕ) (may_leave : D → List ℕ → Type 0)
+      (armings : D → Option ℕ) (stables : List (Stable K)) (disks : List (Pair D)) where
+    pub holding_disks : AreDisksOf tells kept fits seen may_leave armings members stables disks
+        → AreDisksOf tells kept fits seen may_leave armings holding stables disks
+    holding_disks are = record {
+      each = λ r member stable pair at at_stable at_pair. go r member stable pair at_stable at_pair (which r member at);
+    }
+      where
+        go : (r : ℕ) (member : Member) (stable : Stable K) (pair : Pair D) → IsNumbered stables r stable
+            → IsNumbered disks r pair → ((r ≡ by) × (member ≡ now)) ⊎ ((by ≢ r) × IsNumbered members r member)
+            → IsPairOf tells kept fits seen may_leave armings member stable pair
+        go r member stable pair at_stable at_pair (inr (differs, stays)) = are.each r member stable pair stays at_stable at_pair
+        go r member stable pair at_stable at_pair (inl (here, swapped)) =
+            let of = are.each r was stable pair (subst (λ n. IsNumbered members n was) (sym here) is) at_stable at_pair in
+            subst (λ (m : Member). IsPairOf tells kept fits seen may_leave armings m stable pair) (sym swapped)
+            (record { fused = of.fused; holds = of.holds })
+
+  module _ {K D : Type 0} (keep : Keep K) (disk : Disk D) (disks : List (Pair D)) where
+    holding_stand : (F : ℕ → FuseState) → FusesStand keep disk F members disks → FusesStand keep disk F holding disks
+    holding_stand F stand = record { each = λ r member pair at at_pair. go r member pair at_pair (which r member at) }
+      where
+        go : (r : ℕ) (member : Member) (pair : Pair D) → IsNumbered disks r pair
+            → ((r ≡ by) × (member ≡ now)) ⊎ ((by ≢ r) × IsNumbered members r member)
+            → FuseStands keep disk (F r) member pair
+        go r member pair at_pair (inr (differs, stays)) = stand.each r member pair stays at_pair
+        go r member pair at_pair (inl (here, swapped)) =
+            let so = stand.each r was pair (subst (λ n. IsNumbered members n was) (sym here) is) at_pair in
+            subst (λ (m : Member). FuseStands keep disk (F r) m pair) (sym swapped)
+            (record { generation = so.generation; regular = so.regular; so = so.so })
+
+    pub holding_fuses : FusesFollow keep disk [] members holding disks disks
+    holding_fuses = record {
+      permit = record { all = λ fused told F stand. tt };
+      stand = λ fused told F stand. holding_stand F stand;
+    }
+
+-- and the world with an event more is one still
+pub collected_world : (old : Whole) (by : ℕ) (was : Member) (parts : HeldParts) (event : Event) → IsWorld old
+    → IsNumbered old.members by was → IsWorld (collected old by was parts event)
+collected_world old by was parts event world is =
+    let grown = length_push old.events event in
+    let before = world.sound by was is in
+    let sound : IsSoundMember (length old.members) (length old.events) by (record was { parts = Some parts }) =
+    record { replica = before.replica; pending = before.pending } in
+    world_after old (old.events ++ event ∷ []) by was (record was { parts = Some parts }) is world
+    (member_more sound (omega (arith, grown))) (omega (arith, grown))
+    (slice_set old.members (by - 1) (record was { parts = Some parts })) refl
+
+-- so it is where the code has come to that
+pub collected_inside : (members : List Member) (events : List Event) (post : Outbox) (by : ℕ) (was : Member)
+    (parts : HeldParts) (event : Event) (after : List Member) (stored : List Event) → IsWorld (whole_of members events post)
+    → IsNumbered members by was → after ≡ slice_set members (by - 1) (record was { parts = Some parts })
+    → stored ≡ events ++ event ∷ [] → IsWorld (whole_of after stored post)
+collected_inside members events post by was parts event after stored world is now_is stored_is =
+    let whole = whole_of members events post in
+    subst (λ (list : List Member). IsWorld (whole_of list stored post)) (sym now_is)
+    (subst (λ (list : List Event). IsWorld (whole_of (collected whole by was parts event).members list post))
+    (sym stored_is) (collected_world whole by was parts event world is))
+
+pub collected_events : (old new : Whole) (by : ℕ) (was : Member) (parts : HeldParts) (event : Event)
+    → new ≡ collected old by was parts event → length new.events ≤ length old.events + 1
+collected_events old new by was parts event is =
+    let grown = ap (λ (w : Whole). length w.events) is ∙ length_push old.events event in omega (arith, grown)
+
+pub collected_members : (old new : Whole) (by : ℕ) (was : Member) (parts : HeldParts) (event : Event)
+    → new ≡ collected old by was parts event → length new.members ≡ length old.members
+collected_members old new by was parts event is =
+    ap (λ (w : Whole). length w.members) is ∙ length-set old.members (by - 1) _
+
+-- what is found of who takes a piece that came, and what the piece is to what it holds
+abbrev pub FitsAt : Delivery → PieceHead → Whole → Fitting → Type 0
+FitsAt came head old fits =
+    (was : Member) × FindsTaker came head old (Ok was) (unchanged old)
+    × IsPlaced (parts_held was.parts head) head.index fits
+
+module _ (came : Delivery) (head : PieceHead) (old : Whole) where
+  -- a piece for a member that is up, and waits for it, fits, or doesn't
+  module _ (was : Member) (waiting : IsWaiting old came was) where
+    abbrev before : HeldParts
+    before = parts_held was.parts head
+
+    pub fitting_found : (result : Result Fitting Refusal) → IfOk result (λ fits. (before.state ≡ head.state)
+        × (before.pieces ≡ head.pieces) × IsPlaced before head.index fits) → IfOk result (FitsAt came head old)
+    fitting_found (Ok fits) is = (was, FindsIt waiting is.0 is.1, is.2)
+    fitting_found (Err r) is = tt
+
+    pub fitting_refused : (result : Result Fitting Refusal)
+        → (IsErrOf result refusal.Mixed → before.state ≢ head.state)
+        → (IsErrOf result refusal.BadMessage → (before.state ≡ head.state) × (before.pieces ≢ head.pieces))
+        → IfErr result (λ r. (r ≡ refusal.Mixed) ⊎ (r ≡ refusal.BadMessage))
+        → IfErr result (λ r. (r ≢ refusal.Memory) × FindsTaker came head old (Err r) (unchanged old))
+    fitting_refused (Ok fits) mixed otherwise either = tt
+    fitting_refused (Err refusal.Mixed) mixed otherwise either = ((λ e. cc), OfAnotherState waiting (mixed refl))
+    fitting_refused (Err refusal.BadMessage) mixed otherwise either =
+        ((λ e. cc), OfOtherPieces waiting (otherwise refl).0 (otherwise refl).1)
+    fitting_refused (Err r) mixed otherwise (inl is) = absurd (cc)
+    fitting_refused (Err r) mixed otherwise (inr is) = absurd (cc)
+
+  -- who takes it waits for it, and holds pieces of as many
+  taker : (result : Result Member Refusal) (left : Effect Whole) → FindsTaker came head old result left → (was : Member)
+      → result ≡ Ok was → IsWaiting old came was × ((parts_held was.parts head).pieces ≡ head.pieces)
+  taker result left (FindsIt {was = found} waiting states counts) was is =
+      let same : found ≡ was = cc in
+      subst (λ (m : Member). IsWaiting old came m × ((parts_held m.parts head).pieces ≡ head.pieces)) same
+      (waiting, counts)
+  taker result left (TakerDown at down) was is = absurd (cc)
+  taker result left (AnswersNone at up none) was is = absurd (cc)
+  taker result left (OfAnotherState waiting differs) was is = absurd (cc)
+  taker result left (OfOtherPieces waiting states differs) was is = absurd (cc)
+
+  module _ (was : Member) (finds : FindsTaker came head old (Ok was) (unchanged old)) where
+    pub taker_is : IsNumbered old.members came.to was
+    taker_is = let takes = taker (Ok was) (unchanged old) finds was refl in takes.0.is
+
+    pub taker_up : IsUpIn old came.to
+    taker_up =
+        let takes = taker (Ok was) (unchanged old) finds was refl in
+        record { member = was; is = takes.0.is; up = takes.0.up }
+
+    pub taker_pieces : (parts_held was.parts head).pieces ≡ head.pieces
+    taker_pieces = let takes = taker (Ok was) (unchanged old) finds was refl in takes.1
+
+  -- what the piece is to what the member holds to whom it came
+  module _ (fits : Fitting) (at : FitsAt came head old fits) (was : Member) (is : IsNumbered old.members came.to was) where
+    same_taker : at.0 ≡ was
+    same_taker = number_once (taker_is at.0 at.1) is
+
+    pub fits_placed : IsPlaced (parts_held was.parts head) head.index fits
+    fits_placed =
+        subst (λ (m : Member). IsPlaced (parts_held m.parts head) head.index fits) same_taker at.2
+
+    pub fits_index : head.index < head.pieces → head.index < (parts_held was.parts head).pieces
+    fits_index below =
+        subst (λ (m : Member). head.index < (parts_held m.parts head).pieces) same_taker
+        (subst (λ n. head.index < n) (sym (taker_pieces at.0 at.1)) below)
+
+-- who takes a piece that is one more holds it beside the others
+pub record HoldsMore (came : Delivery) (head : PieceHead) (bytes : List ℕ) (have : ℕ) (old new : Whole) : Type 0 where
+  pub was : Member
+  pub finds : FindsTaker came head old (Ok was) (unchanged old)
+  pub placed : IsPlaced (parts_held was.parts head) head.index (fitting.OneMore have)
+  pub place : Behind
+  pub lies : IsNumbered old.post.behind came.number place
+  pub same : new ≡ collected old came.to was (with_part (parts_held was.parts head) head.index bytes)
+      (Take came.to place.position head.index)
+
+pub holds_more : (came : Delivery) (head : PieceHead) (bytes : List ℕ) (have : ℕ) (old new : Whole) (fits : Fitting)
+    → FitsAt came head old fits → fits ≡ fitting.OneMore have → IsMember (length old.post.behind) came.number
+    → ((was : Member) (place : Behind) → IsNumbered old.members came.to was
+    → IsNumbered old.post.behind came.number place
+    → new ≡ collected old came.to was (with_part (parts_held was.parts head) head.index bytes)
+    (Take came.to place.position head.index)) → HoldsMore came head bytes have old new
+holds_more came head bytes have old new fits at is mail collects =
+    let place = number_exists old.post.behind came.number mail in
+    let one = subst (λ (f : Fitting). FitsAt came head old f) is at in
+    record {
+      was = one.0;
+      finds = one.1;
+      placed = one.2;
+      place = place.0;
+      lies = place.1;
+      same = collects one.0 place.0 (taker_is came head old one.0 one.1) place.1;
+    }
+
+-- what is said of rows, and of the count of members, is said of those that are the same
+pub at_rows : {count n : ℕ} {es entries : List Entry} {fs files : List FileReplica}
+    (P : ℕ → List Entry → List FileReplica → Type 0) → n ≡ count → entries ≡ es → files ≡ fs → P n es fs
+    → P count entries files
+at_rows {count} {n} {es} {entries} {fs} {files} P counted entries_are files_are is =
+    subst (λ k. P k entries files) counted
+    (subst (λ (list : List Entry). P n list files) (sym entries_are)
+    (subst (λ (list : List FileReplica). P n es list) (sym files_are) is))
+
+-- the pieces that are held, joined with the last that was missing
+module _ {V : Type 0} (bytes_of : V → List ℕ) (parts : Option HeldParts) (head : PieceHead) (bytes : List ℕ) where
+  abbrev Joins : Option V → Type 0
+  Joins whole =
+      (held : HeldParts) → parts ≡ Some held
+      → option_map bytes_of whole ≡ Some (joined_parts (with_part held head.index bytes))
+
+  pub joined_some : (joined : V) → Joins (Some joined) → (parts ≡ None → Some joined ≡ None)
+      → bytes_of joined ≡ joined_parts (with_part (parts_held parts head) head.index bytes)
+  joined_some joined some none = go parts refl
+    where
+      go : (found : Option HeldParts) → parts ≡ found
+          → bytes_of joined ≡ joined_parts (with_part (parts_held parts head) head.index bytes)
+      go None is = absurd (let never : Some joined ≡ None = none is in cc)
+      go (Some held) is =
+          let same : Some (bytes_of joined) ≡ Some (joined_parts (with_part held head.index bytes)) = some held is in
+          let here : bytes_of joined ≡ joined_parts (with_part held head.index bytes) = cc in
+          subst (λ (p : Option HeldParts). bytes_of joined
+          ≡ joined_parts (with_part (parts_held p head) head.index bytes)) (sym is) here
+
+  -- where none are held, the last is all
+  pub joined_none : head.index < head.pieces → IsPlaced (parts_held parts head) head.index fitting.TheLast
+      → Joins None → bytes ≡ joined_parts (with_part (parts_held parts head) head.index bytes)
+  joined_none below placed some = go parts refl
+    where
+      go : (found : Option HeldParts) → parts ≡ found
+          → bytes ≡ joined_parts (with_part (parts_held parts head) head.index bytes)
+      go None is =
+          let last = subst (λ (p : Option HeldParts). IsPlaced (parts_held p head) head.index fitting.TheLast) is placed
+          in subst (λ (p : Option HeldParts). bytes ≡ joined_parts (with_part (parts_held p head) head.index bytes))
+          (sym is) (sym (joined_one head.state head.pieces head.index below bytes last.1))
+      go (Some held) is =
+          absurd (let never : None ≡ Some (joined_parts (with_part held head.index bytes)) = some held is in cc)
+
+-- What taking a piece does.
+module _ {K D : Type 0} (keep : Keep K) (disk : Disk D) (came : Delivery) (head : PieceHead) (bytes : List ℕ)
+    (old : Whole) (disks : List (Pair D)) where
+  -- it is refused
+  pub piece_refused : (r : Refusal) → FindsTaker came head old (Err r) (unchanged old)
+      → CarriedOn keep disk (TakesPiece came head bytes) (Err r) old old disks disks
+  piece_refused r finds =
+      carried_none (TakesPiece came head bytes) (Err r) old disks
+      (or_refused (λ given. TakesPiece came head bytes old given (unchanged old)) r (λ other. Ends finds))
+
+  module _ (was : Member) (finds : FindsTaker came head old (Ok was) (unchanged old)) where
+    abbrev held : HeldParts
+    held = parts_held was.parts head
+
+    -- it is held already
+    pub piece_again : (have : ℕ) → IsPlaced held head.index (fitting.Again have)
+        → CarriedOn keep disk (TakesPiece came head bytes) (Ok (Part have head.pieces)) old old disks disks
+    piece_again have placed =
+        carried_none (TakesPiece came head bytes) (Ok (Part have head.pieces)) old disks
+        (subst (λ n. TakesPiece came head bytes old (Ok (Part n head.pieces)) (unchanged old)) (sym placed.1)
+        (Goes finds (IsHeld placed.0)))
+
+    -- it is one more
+    pub piece_more : (have : ℕ) (new : Whole) (place : Behind) → IsPlaced held head.index (fitting.OneMore have)
+        → IsNumbered old.post.behind came.number place
+        → new ≡ collected old came.to was (with_part held head.index bytes) (Take came.to place.position head.index)
+        → CarriedOn keep disk (TakesPiece came head bytes) (Ok (Part have head.pieces)) old new disks disks
+    piece_more have new place placed place_is is = record {
+      outcomes = [];
+      does = subst (λ (w : Whole). TakesPiece came head bytes old (Ok (Part have head.pieces))
+          (record { outcomes = []; after = w })) (sym is)
+          (subst (λ n. TakesPiece came head bytes old (Ok (Part n head.pieces)) (record {
+            outcomes = [];
+            after =
+                collected old came.to was (with_part held head.index bytes) (Take came.to place.position head.index);
+          })) (sym placed.2) (Goes finds (IsOneMore placed.0 placed.1 place_is)));
+      disks = follows_none;
+      fuses = subst (λ (w : Whole). FusesFollow keep disk [] old.members w.members disks disks) (sym is)
+          (holding_fuses old.members came.to was (taker_is came head old was finds)
+          (Some (with_part held head.index bytes)) keep disk disks);
+    }
+
+    -- it is the last
+    pub piece_last : (result : Result Answer Refusal) (new : Whole) (after : List (Pair D))
+        → IsPlaced held head.index fitting.TheLast
+        → CarriedOn keep disk (TakesSpelled came head.index (joined_parts (with_part held head.index bytes))) result old
+        new disks after → CarriedOn keep disk (TakesPiece came head bytes) result old new disks after
+    piece_last result new after placed takes =
+        carried_then (FindsTaker came head) (TakesFitting came head bytes) old old new disks disks after result
+        (carried_none (FindsTaker came head) (Ok was) old disks finds) (record {
+          outcomes = takes.outcomes;
+          does = fits_last result takes.does;
+          disks = takes.disks;
+          fuses = takes.fuses;
+        })
+      where
+        left : Effect Whole
+        left = record { outcomes = takes.outcomes; after = new }
+
+        fits_last : (result : Result Answer Refusal) → OrMemory (λ given. TakesSpelled came head.index
+            (joined_parts (with_part held head.index bytes)) old given left) result
+            → OrMemory (λ given. TakesFitting came head bytes was old given left) result
+        fits_last (Ok answer) does = IsTheLast placed.0 placed.1 does
+        fits_last (Err refusal.Memory) does = tt
+        fits_last (Err r) does = IsTheLast placed.0 placed.1 does
+
+-- What taking tables does.
+module _ {K D : Type 0} (keep : Keep K) (disk : Disk D) (came : Delivery) (index : ℕ) (tables : List ℕ) (old : Whole)
+    (disks : List (Pair D)) where
+  pub spelled_refused : (r : Refusal) → (r ≢ refusal.Memory → (r ≡ refusal.BadMessage)
+      × ((entries : List Entry) (files : List FileReplica) → FitsTables (length old.members) entries files
+      → tables ≡ tables_bytes (length old.members) entries files → ⊥))
+      → CarriedOn keep disk (TakesSpelled came index tables) (Err r) old old disks disks
+  spelled_refused r refused =
+      carried_none (TakesSpelled came index tables) (Err r) old disks
+      (or_refused (λ given. TakesSpelled came index tables old given (unchanged old)) r (λ other.
+      subst (λ (given : Refusal). TakesSpelled came index tables old (Err given) (unchanged old))
+      (sym (refused other).0) (SpellsNone (refused other).1)))
+
+  pub spelled_takes : (entries : List Entry) (files : List FileReplica) → FitsTables (length old.members) entries files
+      → tables ≡ tables_bytes (length old.members) entries files → (result : Result Answer Refusal) (new : Whole)
+      (after : List (Pair D)) → CarriedOn keep disk (TakesTables came index entries files) result old new disks after
+      → CarriedOn keep disk (TakesSpelled came index tables) result old new disks after
+  spelled_takes entries files fits is result new after takes = record {
+    outcomes = takes.outcomes;
+    does = spells result takes.does;
+    disks = takes.disks;
+    fuses = takes.fuses;
+  }
+    where
+      left : Effect Whole
+      left = record { outcomes = takes.outcomes; after = new }
+
+      spells : (result : Result Answer Refusal)
+          → OrMemory (λ given. TakesTables came index entries files old given left) result
+          → OrMemory (λ given. TakesSpelled came index tables old given left) result
+      spells (Ok answer) does = SpellsTables fits is does
+      spells (Err refusal.Memory) does = tt
+      spells (Err r) does = SpellsTables fits is does
+
+-- tables that aren't taken leave the world as it was
+pub tables_refused : (old : Whole) (came : Delivery) (index : ℕ) (entries : List Entry) (files : List FileReplica)
+    (was : Member) → IsNumbered old.members came.to was → was.state ≡ Up → (r : Refusal)
+    → AcceptGives was.replica came.from came.ask entries files (Err r)
+    → OrMemory (λ answer. TakesTables came index entries files old answer (unchanged old)) (Err r)
+tables_refused old came index entries files was is up refusal.Memory gives = tt
+tables_refused old came index entries files was is up refusal.Stale gives = Refuses is up (λ e. cc) gives
+tables_refused old came index entries files was is up refusal.BadMessage gives = Refuses is up (λ e. cc) gives
+tables_refused old came index entries files was is up r none = absurd none

@@ -1,0 +1,359 @@
+ghost use Rattle.std.specs.Prelude.{◌≡◌, ◌≢◌, ◌⊎◌, ◌+◌, ◌<◌, ◌≤◌, ℕ, Ok, Err, None, Some, List, IfErr, IfOk, IsErrOf, OnErr, OnOk, length};
+ghost use Rattle.std.specs.Option.{option_map};
+ghost use Rattle.ficus_ids.specs.Members.{IsMember};
+ghost use Rattle.ficus_ids.specs.declared.refusal.Refusal.TheVariants.{BadMessage as IsBad, Memory as OutOfMemory, Mixed as IsMixed};
+ghost use Rattle.ficus_model.specs.declared.event.Event.TheVariants.{Take as Takes};
+ghost use Rattle.ficus_codec.specs.Formats.{tables_bytes};
+ghost use Rattle.ficus_saved.specs.Tables.{FitsTables};
+ghost use Rattle.ficus_entry.specs.declared.entry.Entry.{Entry as EntryValue};
+ghost use Rattle.ficus_file.specs.declared.file.FileReplica.{FileReplica as FileValue};
+ghost use Rattle.ficus_runs.specs.Sequence.{unchanged};
+ghost use Rattle.ficus_world.specs.Disks.{AreDisksOf, CarriedOn, StaysOn};
+ghost use Rattle.ficus_runs.specs.Numbered.{IsNumbered};
+ghost use Rattle.ficus_world.specs.Moves.{FindsTaker, IsPlaced, TakesPiece, TakesSpelled, TakesTables, collected, parts_held};
+ghost use Rattle.ficus_world.specs.World.{IsUpIn, event_limit, most_events};
+ghost use Rattle.ficus_world.specs.Kills.{Touches};
+ghost use Rattle.ficus_wire.specs.Message.{FitsMessage, piece_of};
+ghost use Rattle.ficus_wire.specs.Parts.{HasPart, HeldParts, joined as joined_parts, no_parts, with_part};
+ghost use Rattle.ficus_world.specs.declared.member.Member.{Member as MemberValue};
+ghost use Rattle.ficus_world.specs.declared.post.Behind.{Behind as BehindValue};
+ghost use Rattle.ficus_world.specs.declared.taking.Fitting.TheVariants.{TheLast};
+
+use crate::World;
+use crate::exchange::Delivery;
+use crate::group::Group;
+use crate::member::{Pending, add_piece, is_up};
+use ficus_codec::{Known, read_all_rows};
+use ficus_disk::{Disk, Pair};
+use ficus_entry::SharedEntry;
+use ficus_file::SharedFile;
+use ficus_formats::{ReadFault, Reader};
+use ficus_ids::{Listed, Members, Memory, Refusal};
+use ficus_keep::Keep;
+use ficus_model::Event;
+use ficus_outside::Link;
+use ficus_record::encode_accept;
+use ficus_script::Answer;
+use ficus_wire::{Parts, PieceHead};
+use std::alloc::Global;
+
+/// What a piece is to what a member holds of the answer.
+#[derive(Clone, Copy)]
+pub(crate) enum Fitting {
+    /// It is held already, as one of so many.
+    Again { have: u32 },
+    /// It is one of several that are missing; with it so many are held.
+    OneMore { have: u32 },
+    /// It is the last one that is missing.
+    TheLast,
+}
+
+impl<K: Keep + Drop, L: Link + Drop> World<K, L> {
+    /// Takes a piece of an answer, or refuses it. All memory is taken before anything changes.
+    pub(crate) fn take_piece<D: Disk>(
+        &mut self,
+        alloc: Global,
+        disks: &mut Vec<Pair<D>>,
+        came: Delivery,
+        head: PieceHead,
+        bytes: &[u8],
+    ) -> Result<Answer, Refusal>
+        requires room { length self.old.whole.events < event_limit + most_events }
+        requires pairs { length self.old.whole.members ≤ length disks.old.items }
+        requires disks { AreDisksOf D.tells K.kept K.fits D.seen D.may_leave D.armings self.old.whole.members
+            self.old.stables disks.old.items }
+        requires mail { IsMember (length self.old.whole.post.behind) came.number }
+        requires fits { FitsMessage (length self.old.whole.members) (piece_of head bytes.now) }
+        requires to { came.to ≡ head.route.to }
+        ensures takes { CarriedOn K.Keep D.Disk (TakesPiece came head bytes.now) result self.old.whole
+            self.new.whole disks.old.items disks.new.items }
+        ensures grows { length self.new.whole.events ≤ length self.old.whole.events + 1 }
+        ensures members { length self.new.whole.members ≡ length self.old.whole.members }
+        ensures memory { IsErrOf result OutOfMemory → StaysOn D.faults D.armings self.old.whole self.new.whole
+            disks.old.items disks.new.items }
+        ensures touches { Touches K.Keep D.Disk self.old.whole self.new.whole disks.old.items disks.new.items }
+        ensures disks { AreDisksOf D.tells K.kept K.fits D.seen D.may_leave D.armings self.new.whole.members
+            self.new.stables disks.new.items }
+    {
+        match self.group.fitting(came, head)? {
+            Fitting::Again { have } => Ok(Answer::Part {
+                have,
+                of: head.pieces,
+            }),
+            Fitting::OneMore { have } => {
+                self.group.collect(alloc, came, head, bytes)?;
+                Ok(Answer::Part {
+                    have,
+                    of: head.pieces,
+                })
+            }
+            Fitting::TheLast => self.take_last(alloc, disks, came, head, bytes),
+        }
+    }
+
+    // Takes the tables that a piece and those that are held spell together, or refuses them.
+    fn take_last<D: Disk>(
+        &mut self,
+        alloc: Global,
+        disks: &mut Vec<Pair<D>>,
+        came: Delivery,
+        head: PieceHead,
+        bytes: &[u8],
+    ) -> Result<Answer, Refusal>
+        requires room { length self.old.whole.events < event_limit + most_events }
+        requires pairs { length self.old.whole.members ≤ length disks.old.items }
+        requires disks { AreDisksOf D.tells K.kept K.fits D.seen D.may_leave D.armings self.old.whole.members
+            self.old.stables disks.old.items }
+        requires mail { IsMember (length self.old.whole.post.behind) came.number }
+        requires up { IsUpIn self.old.whole came.to }
+        requires index { head.index < head.pieces }
+        requires last { (was : MemberValue) → IsNumbered self.old.whole.members came.to was
+            → IsPlaced (parts_held was.parts head) head.index TheLast }
+        ensures takes { (was : MemberValue) → IsNumbered self.old.whole.members came.to was
+            → CarriedOn K.Keep D.Disk (TakesSpelled came head.index
+            (joined_parts (with_part (parts_held was.parts head) head.index bytes.now))) result self.old.whole
+            self.new.whole disks.old.items disks.new.items }
+        ensures grows { length self.new.whole.events ≤ length self.old.whole.events + 1 }
+        ensures members { length self.new.whole.members ≡ length self.old.whole.members }
+        ensures memory { IsErrOf result OutOfMemory → StaysOn D.faults D.armings self.old.whole self.new.whole
+            disks.old.items disks.new.items }
+        ensures touches { Touches K.Keep D.Disk self.old.whole self.new.whole disks.old.items disks.new.items }
+        ensures disks { AreDisksOf D.tells K.kept K.fits D.seen D.may_leave D.armings self.new.whole.members
+            self.new.stables disks.new.items }
+    {
+        match self.group.joined(came.to, head.index, bytes)? {
+            Some(joined) => self.take_tables(alloc, disks, came, head.index, &joined),
+            None => self.take_tables(alloc, disks, came, head.index, bytes),
+        }
+    }
+
+    // Takes the tables that the bytes spell, or refuses them. What the taker holds already is shared.
+    fn take_tables<D: Disk>(
+        &mut self,
+        alloc: Global,
+        disks: &mut Vec<Pair<D>>,
+        came: Delivery,
+        index: u32,
+        tables: &[u8],
+    ) -> Result<Answer, Refusal>
+        requires room { length self.old.whole.events < event_limit + most_events }
+        requires pairs { length self.old.whole.members ≤ length disks.old.items }
+        requires disks { AreDisksOf D.tells K.kept K.fits D.seen D.may_leave D.armings self.old.whole.members
+            self.old.stables disks.old.items }
+        requires mail { IsMember (length self.old.whole.post.behind) came.number }
+        requires up { IsUpIn self.old.whole came.to }
+        ensures takes { CarriedOn K.Keep D.Disk (TakesSpelled came index tables.now) result self.old.whole
+            self.new.whole disks.old.items disks.new.items }
+        ensures grows { length self.new.whole.events ≤ length self.old.whole.events + 1 }
+        ensures members { length self.new.whole.members ≡ length self.old.whole.members }
+        ensures memory { IsErrOf result OutOfMemory → StaysOn D.faults D.armings self.old.whole self.new.whole
+            disks.old.items disks.new.items }
+        ensures touches { Touches K.Keep D.Disk self.old.whole self.new.whole disks.old.items disks.new.items }
+        ensures disks { AreDisksOf D.tells K.kept K.fits D.seen D.may_leave D.armings self.new.whole.members
+            self.new.stables disks.new.items }
+    {
+        let known = self.group.known_to(came.to)?;
+        let (entries, files) = rows(alloc, tables, self.members(), &known)?;
+        self.take(
+            alloc,
+            disks,
+            came,
+            index,
+            entries.items(),
+            files.items(),
+            tables,
+        )
+    }
+
+    // Takes what was served, in rows and as these are spelled, or refuses it. All memory is taken before anything
+    // changes.
+    fn take<D: Disk>(
+        &mut self,
+        alloc: Global,
+        disks: &mut Vec<Pair<D>>,
+        came: Delivery,
+        index: u32,
+        entries: &[SharedEntry],
+        files: &[SharedFile],
+        tables: &[u8],
+    ) -> Result<Answer, Refusal>
+        requires room { length self.old.whole.events < event_limit + most_events }
+        requires pairs { length self.old.whole.members ≤ length disks.old.items }
+        requires disks { AreDisksOf D.tells K.kept K.fits D.seen D.may_leave D.armings self.old.whole.members
+            self.old.stables disks.old.items }
+        requires mail { IsMember (length self.old.whole.post.behind) came.number }
+        requires up { IsUpIn self.old.whole came.to }
+        requires tables { FitsTables (length self.old.whole.members) entries.now files.now }
+        requires spelled { tables.now ≡ tables_bytes (length self.old.whole.members) entries.now files.now }
+        ensures takes { CarriedOn K.Keep D.Disk (TakesTables came index entries.now files.now) result self.old.whole
+            self.new.whole disks.old.items disks.new.items }
+        ensures grows { length self.new.whole.events ≤ length self.old.whole.events + 1 }
+        ensures members { length self.new.whole.members ≡ length self.old.whole.members }
+        ensures memory { IsErrOf result OutOfMemory → StaysOn D.faults D.armings self.old.whole self.new.whole
+            disks.old.items disks.new.items }
+        ensures touches { Touches K.Keep D.Disk self.old.whole self.new.whole disks.old.items disks.new.items }
+        ensures disks { AreDisksOf D.tells K.kept K.fits D.seen D.may_leave D.armings self.new.whole.members
+            self.new.stables disks.new.items }
+    {
+        let serve = self.group.post.behind(came.number).position;
+        let replica = &self.group.member(came.to).replica;
+        let taken = replica.accept_rows(alloc, came.from, came.ask, entries, files)?;
+        let noted = encode_accept(alloc, tables)?;
+        let next = Pending {
+            replica: taken,
+            event: Event::Accept {
+                by: came.to,
+                serve,
+                piece: index,
+            },
+        };
+        self.save(disks, came.to, next, &noted)?;
+        Ok(Answer::Done)
+    }
+}
+
+impl<L: Link + Drop> Group<L> {
+    // What a piece is to what its receiver holds of the answer, or why it isn't taken.
+    fn fitting(&self, came: Delivery, head: PieceHead) -> Result<Fitting, Refusal>
+        requires to { IsMember (length self.now.members) came.to }
+        requires index { head.index < head.pieces }
+        ensures fits { IfOk result (λ fitting. (was : MemberValue)
+            × FindsTaker came head self.now (Ok was) (unchanged self.now)
+            × IsPlaced (parts_held was.parts head) head.index fitting) }
+        ensures refused { IfErr result (λ refusal. (refusal ≢ OutOfMemory)
+            × FindsTaker came head self.now (Err refusal) (unchanged self.now)) }
+    {
+        let member = self.member(came.to);
+        if !is_up(member) {
+            return Err(Refusal::Down);
+        }
+        if !member.replica.waits_for(came.from, came.ask) {
+            return Err(Refusal::Stale);
+        }
+        fitting_in(&member.parts, head)
+    }
+
+    // Keeps a piece beside those that its receiver holds. All memory is taken before anything changes.
+    fn collect(
+        &mut self,
+        alloc: Global,
+        came: Delivery,
+        head: PieceHead,
+        bytes: &[u8],
+    ) -> Result<(), Memory>
+        requires room { length self.old.events < event_limit + most_events }
+        requires mail { IsMember (length self.old.post.behind) came.number }
+        requires to { IsMember (length self.old.members) came.to }
+        requires missing { (was : MemberValue) → IsNumbered self.old.members came.to was
+            → HasPart (parts_held was.parts head) head.index → ⊥ }
+        requires index { (was : MemberValue) → IsNumbered self.old.members came.to was
+            → head.index < (parts_held was.parts head).pieces }
+        ensures collects { OnOk result ((was : MemberValue) (place : BehindValue)
+            → IsNumbered self.old.members came.to was → IsNumbered self.old.post.behind came.number place
+            → self.new ≡ collected self.old came.to was (with_part (parts_held was.parts head) head.index bytes.now)
+            (Takes came.to place.position head.index)) }
+        ensures memory { OnErr result (self.new ≡ self.old) }
+    {
+        self.history.reserve(1)?;
+        let serve = self.post.behind(came.number).position;
+        add_piece(alloc, &mut self.members, came.to, head, bytes)?;
+        self.history.push(Event::Take {
+            by: came.to,
+            serve,
+            piece: head.index,
+        });
+        Ok(())
+    }
+
+    // The pieces that a member holds joined with the one that was missing, where it holds any.
+    fn joined(&self, to: u8, index: u32, bytes: &[u8]) -> Result<Option<Vec<u8>>, Memory>
+        requires to { IsMember (length self.now.members) to }
+        ensures joined { (was : MemberValue) (held : HeldParts) → IsNumbered self.now.members to was
+            → was.parts ≡ Some held → IfOk result (λ whole. option_map (λ bytes. bytes.items) whole
+            ≡ Some (joined_parts (with_part held index bytes.now))) }
+        ensures none { (was : MemberValue) → IsNumbered self.now.members to was → was.parts ≡ None
+            → IfOk result (λ whole. whole ≡ None) }
+    {
+        match &self.member(to).parts {
+            Some(held) => Ok(Some(held.whole_with(index, bytes)?)),
+            None => Ok(None),
+        }
+    }
+
+    // The rows of the member.
+    fn known_to(&self, to: u8) -> Result<Known, Memory>
+        requires { IsMember (length self.now.members) to }
+    {
+        let saved = &self.member(to).replica.saved;
+        Known::of(&saved.entries, &saved.files)
+    }
+}
+
+// What a piece is to what is held of the answer, or why it can't be joined with that.
+fn fitting_in(parts: &Option<Parts>, head: PieceHead) -> Result<Fitting, Refusal>
+    requires { head.index < head.pieces }
+    ensures fits { IfOk result (λ fitting. ((parts_held parts.now head).state ≡ head.state)
+        × ((parts_held parts.now head).pieces ≡ head.pieces)
+        × IsPlaced (parts_held parts.now head) head.index fitting) }
+    ensures mixed { IsErrOf result IsMixed → (parts_held parts.now head).state ≢ head.state }
+    ensures otherwise { IsErrOf result IsBad → ((parts_held parts.now head).state ≡ head.state)
+        × ((parts_held parts.now head).pieces ≢ head.pieces) }
+    ensures refused { IfErr result (λ refusal. (refusal ≡ IsMixed) ⊎ (refusal ≡ IsBad)) }
+{
+    let Some(held) = parts else {
+        return Ok(first_of(head.pieces));
+    };
+    if held.state() != head.state {
+        return Err(Refusal::Mixed);
+    }
+    if held.pieces() != head.pieces {
+        return Err(Refusal::BadMessage);
+    }
+    Ok(place_in(held, head.index))
+}
+
+// What the first piece of so many is.
+fn first_of(pieces: u32) -> Fitting
+    ensures { (state index : ℕ) → index < pieces → IsPlaced (no_parts state pieces) index result }
+{
+    if pieces == 1 {
+        Fitting::TheLast
+    } else {
+        Fitting::OneMore { have: 1 }
+    }
+}
+
+// What the piece is to those that are held, of the same state.
+fn place_in(held: &Parts, index: u32) -> Fitting
+    requires { index < held.now.pieces }
+    ensures { IsPlaced held.now index result }
+{
+    let have = held.len();
+    if held.has(index) {
+        Fitting::Again { have }
+    } else if held.lacks_only(index) {
+        Fitting::TheLast
+    } else {
+        Fitting::OneMore { have: have + 1 }
+    }
+}
+
+// The rows of the tables that the bytes spell, from the first to the last. Those that are known are shared.
+fn rows(
+    alloc: Global,
+    tables: &[u8],
+    members: Members,
+    known: &Known,
+) -> Result<(Listed<SharedEntry>, Listed<SharedFile>), Refusal>
+    ensures fits { IfOk result (λ rows. FitsTables members rows.0 rows.1) }
+    ensures spelled { IfOk result (λ rows. tables.now ≡ tables_bytes members rows.0 rows.1) }
+    ensures refused { IfErr result (λ refusal. refusal ≢ OutOfMemory → (refusal ≡ IsBad)
+        × ((entries : List EntryValue) (files : List FileValue) → FitsTables members entries files
+        → tables.now ≡ tables_bytes members entries files → ⊥)) }
+{
+    match read_all_rows(alloc, Reader::new(tables), members, known) {
+        Ok(rows) => Ok(rows),
+        Err(ReadFault::Unspelled) => Err(Refusal::BadMessage),
+        Err(ReadFault::Memory) => Err(Refusal::Memory),
+    }
+}
