@@ -1,10 +1,10 @@
-ghost use Rattle.std.specs.Prelude.{◌≡◌, ◌↔◌, ◌++◌, ◌∷◌, [], length, take, drop, map, All, Contains, IsTrue, IfErr, IfSome, OnErr, OnOk};
+ghost use Rattle.std.specs.Prelude.{◌≡◌, ◌↔◌, ◌+◌, ◌≤◌, ◌++◌, ◌∷◌, [], length, take, drop, map, All, Contains, IsTrue, IfErr, IfSome, OnErr, OnOk};
 ghost use Rattle.ficus_file.specs.File.{HaveOneText};
 ghost use Rattle.ficus_file.specs.Version.{AreCurrent};
 ghost use Rattle.ficus_file.specs.declared.version.Version.{Version as VersionValue};
 ghost use Rattle.std.specs.Int.{w32, to_be_bytes};
-ghost use Rattle.ficus_vv.specs.Vector.{in_order};
-ghost use Rattle.ficus_formats.specs.Format.{Begins, Keeps, Reads, byte, id as id_format, times};
+ghost use Rattle.ficus_vv.specs.Vector.{in_order, no_counts};
+ghost use Rattle.ficus_formats.specs.Format.{Begins, Keeps, Reads, byte, number32, number64, id as id_format, times};
 ghost use Rattle.ficus_codec.specs.Checks.{MayPrecede, IsBare, IsWhole};
 ghost use Rattle.ficus_codec.specs.Formats.{kind, kind as kind_format, kind_number, count, counts, content, version, version_fields, versions, file, file_fields};
 ghost use Rattle.ficus_codec.specs.FormatsUnique.{unique-version, unique-file};
@@ -14,12 +14,16 @@ use crate::entry_format::{is_issuable, passes_id};
 use crate::{FILE_LIMIT, UPDATE_LIMIT};
 use ficus_file::{FileReplica, Version, Versions};
 use ficus_formats::{
-    ReadFault, Reader, RowSpelling, Spelling, put_bytes, put_long_string, put_run, read_run,
+    ReadFault, Reader, RowSpelling, Spelling, Window, WindowSpelling, put_bytes, put_long_string,
+    put_run, read_run,
 };
 use ficus_ids::{FIXED_LIMIT, Id, Kind, Listed, Members, Memory, Sort};
 use ficus_vv::{Standing, Vector};
 use std::alloc::Global;
 use std::cmp::Ordering;
+
+// The bytes of what has no versions, with the counts of all eight.
+const BARE_ROOM: usize = 7 + 4 * 8;
 
 /// Reads a kind: its number in one byte.
 pub fn read_kind(reader: &mut Reader<'_>) -> Result<Kind, ReadFault>
@@ -139,6 +143,7 @@ fn may_precede(earlier: &[Version], next: &Version) -> bool
 }
 
 // Whether the versions may be those of a file.
+#[inline(never)]
 fn are_current(versions: &[Version]) -> bool
     ensures { IsTrue result ↔ AreCurrent versions.now }
 {
@@ -158,7 +163,7 @@ fn are_current(versions: &[Version]) -> bool
 fn is_bare(file: &FileReplica) -> bool
     ensures { IsTrue result ↔ IsBare file.now }
 {
-    file.versions.items().is_empty() && file.covered.compare(Vector::zero()) == Standing::Equal
+    file.versions.items().is_empty() && file.covered == Vector::zero()
 }
 
 // Whether there is one version, with a text that may stay.
@@ -173,6 +178,7 @@ fn have_one_text(versions: &[Version]) -> bool
 
 // Whether what is a directory is bare, what is a file has the versions of one, and what has a text that stays has it
 // alone.
+#[inline(always)]
 fn is_whole(file: &FileReplica) -> bool
     ensures { IsTrue result ↔ IsWhole file.now }
 {
@@ -185,6 +191,7 @@ fn is_whole(file: &FileReplica) -> bool
 }
 
 // Whether the file, with versions and a cover that may be, may stand in tables.
+#[inline(always)]
 fn fits_file(file: &FileReplica, members: Members) -> bool
     requires versions { (version : VersionValue) → Contains file.now.versions version → FitsVersion members version }
     requires covered { FitsCounts members file.now.covered }
@@ -239,13 +246,59 @@ fn passes_kind(reader: &mut Reader<'_>, value: Kind) -> bool
     }
 }
 
-// Passes the counts of a vector, if their spelling stands in front.
-fn passes_counts(reader: &mut Reader<'_>, value: Vector, members: Members) -> bool
+// Passes a count, if it is 0.
+fn passes_zero(reader: &mut Reader<'_>) -> bool
+    ensures { IsTrue result → Begins number32 reader.old 0 reader.new }
+{
+    match reader.number32() {
+        Ok(read) => read == 0,
+        Err(_) => false,
+    }
+}
+
+// Passes two counts at once, if both are 0.
+fn passes_two_zeros(reader: &mut Reader<'_>) -> bool
+    ensures { IsTrue result → Begins number64 reader.old 0 reader.new }
+{
+    match reader.number64() {
+        Ok(read) => read == 0,
+        Err(_) => false,
+    }
+}
+
+// Passes counts of which each is 0, if their spelling stands in front.
+fn passes_no_counts(reader: &mut Reader<'_>, members: Members) -> bool
+    ensures { IsTrue result → Begins (counts members) reader.old no_counts reader.new }
+{
+    let count = members.count();
+    for _ in 0..count / 2 {
+        if !passes_two_zeros(reader) {
+            return false;
+        }
+    }
+    count % 2 == 0 || passes_zero(reader)
+}
+
+// Passes the counts of a vector that has some, if their spelling stands in front.
+#[inline(never)]
+fn passes_some_counts(reader: &mut Reader<'_>, value: Vector, members: Members) -> bool
     ensures { IsTrue result → Begins (counts members) reader.old value reader.new }
 {
     match read_counts(reader, members) {
-        Ok(read) => read.compare(value) == Standing::Equal,
+        Ok(read) => read == value,
         Err(_) => false,
+    }
+}
+
+// Passes the counts of a vector, if their spelling stands in front. Mostly nothing is covered.
+#[inline(always)]
+fn passes_counts(reader: &mut Reader<'_>, value: Vector, members: Members) -> bool
+    ensures { IsTrue result → Begins (counts members) reader.old value reader.new }
+{
+    if value == Vector::zero() {
+        passes_no_counts(reader, members)
+    } else {
+        passes_some_counts(reader, value, members)
     }
 }
 
@@ -267,6 +320,7 @@ fn passes_version(reader: &mut Reader<'_>, value: &Version, members: Members) ->
 }
 
 // Passes these versions, if their spellings stand in front.
+#[inline(never)]
 fn passes_run(reader: &mut Reader<'_>, values: &[Version], members: Members) -> bool
     ensures { IsTrue result → Begins (times (length values.now) (version members)) reader.old values.now reader.new }
 {
@@ -283,6 +337,7 @@ fn passes_versions(reader: &mut Reader<'_>, values: &[Version], members: Members
     ensures { IsTrue result → Begins (versions members) reader.old values.now reader.new }
 {
     match reader.byte() {
+        Ok(0) => values.is_empty(),
         Ok(count) => usize::from(count) == values.len() && passes_run(reader, values, members),
         Err(_) => false,
     }
@@ -368,6 +423,16 @@ fn put_bare(
     put_bytes(out, &spelled[1..])
 }
 
+// Puts what has no versions, and nothing covered, into the window.
+fn put_bare_in(window: &mut Window, id: Id, kind: Kind, members: Members)
+    requires { length window.old + 39 ≤ 2048 }
+    ensures { window.new ≡ window.old
+        ++ (id_format.spell id ++ (kind_format.spell kind ++ (byte.spell 0 ++ (counts members).spell no_counts))) }
+{
+    window.put(&file_head(id, kind, 0));
+    window.put_front(&[0; 32], 4 * usize::from(members.count()));
+}
+
 /// How files are spelled in a volume of so many members.
 #[derive(Drop)]
 pub(crate) struct FileSpelling {
@@ -399,6 +464,24 @@ impl Spelling for FileSpelling {
         put_bytes(out, &file_head(value.id, value.kind, versions.len() as u8))?;
         put_run(&VersionSpelling { members }, out, versions)?;
         put_counts(out, value.covered, members)
+    }
+}
+
+impl WindowSpelling for FileSpelling {
+    fn put_in(
+        &self,
+        window: &mut Window,
+        out: &mut Vec<u8>,
+        value: &FileReplica,
+    ) -> Result<(), Memory> {
+        if value.versions.items().is_empty() {
+            window.make_room(out, BARE_ROOM)?;
+            put_bare_in(window, value.id, value.kind, self.members);
+            Ok(())
+        } else {
+            window.flush(out)?;
+            self.put(out, value)
+        }
     }
 }
 

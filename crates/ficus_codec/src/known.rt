@@ -1,5 +1,5 @@
 ghost use Rattle.std.specs.Prelude.{◌≡◌, IfOk, IfSome, IfNone};
-ghost use Rattle.ficus_formats.specs.Format.{Begins};
+ghost use Rattle.ficus_formats.specs.Format.{Begins, Reads};
 ghost use Rattle.ficus_codec.specs.Formats.{entry, file};
 ghost use Rattle.ficus_codec.specs.FormatsUnique.{unique-entry, unique-file};
 
@@ -7,7 +7,7 @@ use crate::entry_format::{EntrySpelling, entry_behind, read_entry};
 use crate::file_format::{FileSpelling, file_behind};
 use ficus_entry::{Entries, Entry, SharedEntry};
 use ficus_file::{FileReplica, Files, SharedFile};
-use ficus_formats::{ReadFault, Reader, RowSpelling, Spelling};
+use ficus_formats::{ReadFault, Reader, RowSpelling, Spelling, Window, WindowSpelling};
 use ficus_ids::{Id, Members, Memory};
 use ficus_persistent::{Item, PersistentList};
 use ficus_table::Row;
@@ -47,12 +47,13 @@ pub(crate) fn each_of<R: Row>(alloc: Global, rows: &PersistentList<R>) -> Result
     Ok(each)
 }
 
-// The known row with the identifier that stands in front of the bytes, which rise with the rows: mostly the next one.
-fn near<'a, R: Row>(known: &[&'a R], next: &Cell<usize>, reader: &Reader<'_>) -> Option<&'a R> {
+// Where the known row is whose identifier stands in front of the bytes, if it isn't the next one. What is read rises
+// with the rows, so behind it the one after it is the next one.
+fn search<R: Row>(known: &[&R], next: &Cell<usize>, reader: &Reader<'_>) -> Option<usize> {
     let id = reader.again().id().ok()?;
     let place = place_near(known, next.get(), id);
     next.set(place.saturating_add(1));
-    known.get(place).copied()
+    Some(place)
 }
 
 // Where the row with the identifier is, if rows rise and one has it.
@@ -61,6 +62,32 @@ fn place_near<R: Row>(known: &[&R], near: usize, id: Id) -> usize {
         return near;
     }
     known.partition_point(|row| R::id(row.look()) < id)
+}
+
+// An entry of its own. It stands apart, so that no room is made for one where a known entry is passed.
+#[inline(never)]
+fn read_new_entry(
+    alloc: Global,
+    reader: &mut Reader<'_>,
+    members: Members,
+) -> Result<SharedEntry, ReadFault>
+    ensures { Reads (entry members) reader.old result reader.new }
+{
+    let entry = read_entry(reader, members)?;
+    Ok(SharedEntry::of(alloc, entry)?)
+}
+
+// A file of its own. It stands apart, so that no room is made for one where a known file is passed.
+#[inline(never)]
+fn read_new_file(
+    alloc: Global,
+    reader: &mut Reader<'_>,
+    members: Members,
+) -> Result<SharedFile, ReadFault>
+    ensures { Reads (file members) reader.old result reader.new }
+{
+    let file = FileSpelling { members }.read(alloc, reader)?;
+    Ok(SharedFile::of(alloc, file)?)
 }
 
 /// How entries are spelled in a volume of so many members, where some are known.
@@ -84,15 +111,37 @@ impl<'a> KnownEntries<'a> {
         }
     }
 
-    // The known entry whose spelling stands in front, which it passes.
+    // The known entry at the place, if its spelling stands in front, which it passes.
+    #[inline(always)]
+    fn pass_at(&self, place: usize, reader: &mut Reader<'_>) -> Option<&'a SharedEntry>
+        ensures passed { IfSome result (λ row. Begins (entry self.now.members) reader.old row.now reader.new) }
+        ensures kept { IfNone result (reader.new ≡ reader.old) }
+    {
+        let row = *self.known.get(place)?;
+        *reader = entry_behind(row.entry(), reader, self.members)?;
+        self.next.set(place.saturating_add(1));
+        Some(row)
+    }
+
+    // The known entry whose spelling stands in front, which it passes, where it isn't the next one.
+    #[inline(never)]
+    fn pass_another(&self, reader: &mut Reader<'_>) -> Option<&'a SharedEntry>
+        ensures passed { IfSome result (λ row. Begins (entry self.now.members) reader.old row.now reader.new) }
+        ensures kept { IfNone result (reader.new ≡ reader.old) }
+    {
+        let place = search(self.known, &self.next, reader)?;
+        self.pass_at(place, reader)
+    }
+
+    // The known entry whose spelling stands in front, which it passes: mostly the next one.
     fn pass(&self, reader: &mut Reader<'_>) -> Option<&'a SharedEntry>
         ensures passed { IfSome result (λ row. Begins (entry self.now.members) reader.old row.now reader.new) }
         ensures kept { IfNone result (reader.new ≡ reader.old) }
     {
-        let row = near(self.known, &self.next, reader)?;
-        let rest = entry_behind(row.entry(), reader, self.members)?;
-        *reader = rest;
-        Some(row)
+        match self.pass_at(self.next.get(), reader) {
+            Some(row) => Some(row),
+            None => self.pass_another(reader),
+        }
     }
 }
 
@@ -107,13 +156,24 @@ impl<'a> Spelling for KnownEntries<'a> {
         if let Some(row) = self.pass(reader) {
             return Ok(row.copied()?);
         }
-        let entry = read_entry(reader, self.members)?;
-        Ok(SharedEntry::of(alloc, entry)?)
+        read_new_entry(alloc, reader, self.members)
     }
 
     fn put(&self, out: &mut Vec<u8>, value: &SharedEntry) -> Result<(), Memory> {
         let members = self.members;
         EntrySpelling { members }.put(out, value.entry())
+    }
+}
+
+impl<'a> WindowSpelling for KnownEntries<'a> {
+    fn put_in(
+        &self,
+        window: &mut Window,
+        out: &mut Vec<u8>,
+        value: &SharedEntry,
+    ) -> Result<(), Memory> {
+        let members = self.members;
+        EntrySpelling { members }.put_in(window, out, value.entry())
     }
 }
 
@@ -148,15 +208,37 @@ impl<'a> KnownFiles<'a> {
         }
     }
 
-    // The known file whose spelling stands in front, which it passes.
+    // The known file at the place, if its spelling stands in front, which it passes.
+    #[inline(always)]
+    fn pass_at(&self, place: usize, reader: &mut Reader<'_>) -> Option<&'a SharedFile>
+        ensures passed { IfSome result (λ row. Begins (file self.now.members) reader.old row.now reader.new) }
+        ensures kept { IfNone result (reader.new ≡ reader.old) }
+    {
+        let row = *self.known.get(place)?;
+        *reader = file_behind(row.file(), reader, self.members)?;
+        self.next.set(place.saturating_add(1));
+        Some(row)
+    }
+
+    // The known file whose spelling stands in front, which it passes, where it isn't the next one.
+    #[inline(never)]
+    fn pass_another(&self, reader: &mut Reader<'_>) -> Option<&'a SharedFile>
+        ensures passed { IfSome result (λ row. Begins (file self.now.members) reader.old row.now reader.new) }
+        ensures kept { IfNone result (reader.new ≡ reader.old) }
+    {
+        let place = search(self.known, &self.next, reader)?;
+        self.pass_at(place, reader)
+    }
+
+    // The known file whose spelling stands in front, which it passes: mostly the next one.
     fn pass(&self, reader: &mut Reader<'_>) -> Option<&'a SharedFile>
         ensures passed { IfSome result (λ row. Begins (file self.now.members) reader.old row.now reader.new) }
         ensures kept { IfNone result (reader.new ≡ reader.old) }
     {
-        let row = near(self.known, &self.next, reader)?;
-        let rest = file_behind(row.file(), reader, self.members)?;
-        *reader = rest;
-        Some(row)
+        match self.pass_at(self.next.get(), reader) {
+            Some(row) => Some(row),
+            None => self.pass_another(reader),
+        }
     }
 }
 
@@ -171,14 +253,24 @@ impl<'a> Spelling for KnownFiles<'a> {
         if let Some(row) = self.pass(reader) {
             return Ok(row.copied()?);
         }
-        let members = self.members;
-        let file = FileSpelling { members }.read(alloc, reader)?;
-        Ok(SharedFile::of(alloc, file)?)
+        read_new_file(alloc, reader, self.members)
     }
 
     fn put(&self, out: &mut Vec<u8>, value: &SharedFile) -> Result<(), Memory> {
         let members = self.members;
         FileSpelling { members }.put(out, value.file())
+    }
+}
+
+impl<'a> WindowSpelling for KnownFiles<'a> {
+    fn put_in(
+        &self,
+        window: &mut Window,
+        out: &mut Vec<u8>,
+        value: &SharedFile,
+    ) -> Result<(), Memory> {
+        let members = self.members;
+        FileSpelling { members }.put_in(window, out, value.file())
     }
 }
 

@@ -4,3 +4,4 @@ pub mod Keeping
 pub mod Once
 pub mod Reading
 pub mod Runs
+mod Windows

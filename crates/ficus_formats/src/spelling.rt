@@ -2,7 +2,7 @@ ghost use Rattle.std.specs.Prelude.{◌≡◌, ◌++◌, OnErr, OnOk};
 ghost use Rattle.std.specs.List.{flat_map, AllByRecursion};
 ghost use Rattle.ficus_formats.specs.Format.{Format, IsUnique, Keeps, Reads, times};
 
-use crate::{ReadFault, Reader};
+use crate::{ReadFault, Reader, Window};
 use ficus_ids::{Listed, Memory};
 use std::alloc::Global;
 
@@ -28,6 +28,21 @@ pub trait Spelling {
         requires { (format self.now).fits value.now }
         ensures put { OnOk result (out.new.items ≡ out.old.items ++ (format self.now).spell value.now) }
         ensures kept { OnErr result (Keeps out.old.items out.new.items) };
+}
+
+/// A way to spell values that writes them through a window.
+pub trait WindowSpelling: Spelling {
+    /// Puts the spelling of a value behind what was spelled before, of which the window holds the last bytes.
+    fn put_in(
+        &self,
+        window: &mut Window,
+        out: &mut Vec<u8>,
+        value: &Self::Value,
+    ) -> Result<(), Memory>
+        requires { (Self.Spelling.format self.now).fits value.now }
+        ensures put { OnOk result (out.new.items ++ window.new
+            ≡ (out.old.items ++ window.old) ++ (Self.Spelling.format self.now).spell value.now) }
+        ensures kept { Keeps out.old.items out.new.items };
 }
 
 /// Appends the spellings of the values, one after the other.

@@ -7,13 +7,12 @@ use Rattle.std.proofs.lemmas.List.Elements.{All-drop, All-take}
 use Rattle.ficus_path.specs.declared.path.Base.{Base}
 use Rattle.ficus_path.specs.declared.path.Path.{Path}
 use Rattle.ficus_path.specs.Path.{IsBase, IsEntry, IsNew, IsPart, IsPath, path_from}
-use Rattle.ficus_commands.specs.declared.change.Change.{Change}
-use Rattle.ficus_commands.specs.declared.look.Look.{Look}
 use Rattle.ficus_commands.specs.declared.change.Change.TheVariants.{MkDir, Create, Symlink, Write, Settle, Resolve, Rm, Ln, Mv, Adopt, Discard}
 use Rattle.ficus_commands.specs.declared.look.Look.TheVariants.{Ls, Read, Versions, ReadLink, Tree, Conflicts, Orphans, Detached, Marks}
 use Rattle.ficus_script.specs.Command.{IsCommand, IsStep, spelling_of}
 use Rattle.ficus_script.specs.declared.command.Command.{Command}
 use Rattle.ficus_script.specs.declared.command.Command.TheVariants as command
+use Rattle.ficus_runs.specs.Traits.{OpensDisks}
 use Rattle.ficus_world.specs.Follows.{TellsFor}
 use Rattle.ficus_script.specs.Arguments.{Arguments}
 use Rattle.ficus_script.specs.Arguments.{Nothing, OnePath, PathAndKind, PathAndText, TwoPaths, OneNumber, OneOrder, TwoReplicas, Arming}
@@ -169,33 +168,30 @@ command_behind first second (command.Sweep order) is passed = is
 command_behind first second (command.Why by) is passed = is
 
 module _ (f g : Path → Path) where
-  -- it is a step of a world, as before
+  -- it is a step of a world, as before, and opens no disks that it didn't
+  record IsSuch (it : Command) : Type 0 where
+    step : IsStep it → IsStep (along f g it)
+    opens : OpensDisks (along f g it) → OpensDisks it
+
+  such_along : (it : Command) → IsSuch it
+  such_along (command.Change by change) = record { step = λ is. is; opens = λ is. is }
+  such_along (command.Look by look) = record { step = λ is. is; opens = λ is. is }
+  such_along (command.Collect by) = record { step = λ is. is; opens = λ is. is }
+  such_along (command.Ask by to) = record { step = λ is. is; opens = λ is. is }
+  such_along (command.Give mail) = record { step = λ is. is; opens = λ is. is }
+  such_along (command.Pull by to) = record { step = λ is. is; opens = λ is. is }
+  such_along (command.Alike by other) = record { step = λ is. is; opens = λ is. is }
+  such_along (command.Restart by) = record { step = λ is. is; opens = λ is. is }
+  such_along (command.Stop by calls pick) = record { step = λ is. is; opens = λ is. is }
+  such_along (command.Sweep order) = record { step = λ is. is; opens = λ is. is }
+  such_along (command.Why by) = record { step = λ is. is; opens = λ is. is }
+
   pub step_along : (it : Command) → IsStep it → IsStep (along f g it)
-  step_along (command.Change by change) is = tt
-  step_along (command.Look by look) is = tt
-  step_along (command.Collect by) is = tt
-  step_along (command.Ask by to) is = tt
-  step_along (command.Give mail) is = tt
-  step_along (command.Pull by to) is = tt
-  step_along (command.Alike by other) is = tt
-  step_along (command.Restart by) is = tt
-  step_along (command.Stop by calls pick) is = tt
-  step_along (command.Sweep order) is = is
-  step_along (command.Why by) is = is
+  step_along it is = (such_along it).step is
 
   -- the disks need tell no more for it
   pub tells_along : (tells : Type 0) (it : Command) → TellsFor tells it → TellsFor tells (along f g it)
-  tells_along tells (command.Change by change) told = tt
-  tells_along tells (command.Look by look) told = tt
-  tells_along tells (command.Collect by) told = told
-  tells_along tells (command.Ask by to) told = told
-  tells_along tells (command.Give mail) told = told
-  tells_along tells (command.Pull by to) told = told
-  tells_along tells (command.Alike by other) told = told
-  tells_along tells (command.Restart by) told = told
-  tells_along tells (command.Stop by calls pick) told = told
-  tells_along tells (command.Sweep order) told = told
-  tells_along tells (command.Why by) told = told
+  tells_along tells it told = λ opens. told ((such_along it).opens opens)
 
   same_one : (make : Path → Command) (own path : Path) → own ∷ [] ≡ path ∷ [] → make (f own) ≡ make (f path)
   same_one make own path is =
@@ -307,18 +303,3 @@ along_none (command.Restart by) = refl
 along_none (command.Stop by calls pick) = refl
 along_none (command.Sweep order) = refl
 along_none (command.Why by) = refl
-
--- what is neither a change nor a look has no path
-pub pathless : (it : Command) → ((by : ℕ) (change : Change) → it ≡ command.Change by change → ⊥)
-    → ((by : ℕ) (look : Look) → it ≡ command.Look by look → ⊥) → paths_of it ≡ []
-pathless (command.Change by change) no_change no_look = absurd (no_change by change refl)
-pathless (command.Look by look) no_change no_look = absurd (no_look by look refl)
-pathless (command.Collect by) no_change no_look = refl
-pathless (command.Ask by to) no_change no_look = refl
-pathless (command.Give mail) no_change no_look = refl
-pathless (command.Pull by to) no_change no_look = refl
-pathless (command.Alike by other) no_change no_look = refl
-pathless (command.Restart by) no_change no_look = refl
-pathless (command.Stop by calls pick) no_change no_look = refl
-pathless (command.Sweep order) no_change no_look = refl
-pathless (command.Why by) no_change no_look = refl

@@ -1,5 +1,5 @@
 -- One of several volumes, in its place among them.
-use Rattle.std.proofs.Common.{◌≡◌, ℕ, ◌-◌, ◌+◌, ◌≤◌, List, [], ◌∷◌, length, refl, sym, ap, ◌∙◌, subst, inl, inr, arith}
+use Rattle.std.proofs.Common.{◌≡◌, ℕ, ◌-◌, ◌+◌, ◌≤◌, List, [], ◌∷◌, refl, sym, ap, ◌∙◌, subst, inl, inr, arith}
 use Rattle.std.specs.Prelude.{Result, Ok, Err, IfOk, OnErr, Vec, vec_items, slice_set}
 use Rattle.std.specs.declared.alloc.Global.{Global}
 use Rattle.std.proofs.lemmas.List.{length-set}
@@ -21,7 +21,8 @@ use Rattle.ficus_world.proofs.Sets.{set_same}
 use Rattle.ficus_graft.specs.Answered.{Sent, sent_so}
 use Rattle.ficus_graft.specs.Paths.{along}
 use Rattle.ficus_graft.specs.Route.{ls}
-use Rattle.ficus_graft.specs.Runs.{AreHeld, Disks, EachRuns, ForeseeFew, IsCutShort, IsHeld, MayBeCut, Sends}
+use Rattle.ficus_world.specs.Disks.{IsBacked}
+use Rattle.ficus_graft.specs.Runs.{AreHeld, Disks, EachRuns, ForeseeFew, IsCutShort, MayBeCut, Sends}
 use Rattle.ficus_graft.proofs.Commands.{tells_along}
 use Rattle.ficus_graft.proofs.Running.{each_one, each_where}
 
@@ -78,7 +79,7 @@ module _ {K D : Type 0} (keep : Keep K) (disk : Disk D) (worlds : List (Backed K
   }
 
   -- the disks are still those of the worlds
-  pub held_at : AreHeld keep disk worlds disks → IsHeld keep disk next (vec_items later)
+  pub held_at : AreHeld keep disk worlds disks → IsBacked keep disk next (vec_items later)
       → AreHeld keep disk (slice_set worlds (v - 1) next) (slice_set disks (v - 1) later)
   held_at held here = record {
     count = length-set disks (v - 1) later ∙ held.count ∙ sym (length-set worlds (v - 1) next);
@@ -86,8 +87,8 @@ module _ {K D : Type 0} (keep : Keep K) (disk : Disk D) (worlds : List (Backed K
         elim (replaced worlds v u next own is.member.at_least now) [
           | inl mine ↦ elim (replaced disks v u later own_pairs of.member.at_least becomes) [
             | inl ours ↦
-                subst (λ (w : Backed K). IsHeld keep disk w (vec_items own_pairs)) (sym mine.1)
-                (subst (λ (p : Vec (Pair D) Global). IsHeld keep disk next (vec_items p)) (sym ours.1) here)
+                subst (λ (w : Backed K). IsBacked keep disk w (vec_items own_pairs)) (sym mine.1)
+                (subst (λ (p : Vec (Pair D) Global). IsBacked keep disk next (vec_items p)) (sym ours.1) here)
             | inr theirs ↦ absurd (theirs.0 (sym mine.0))
           ]
           | inr others ↦ elim (replaced disks v u later own_pairs of.member.at_least becomes) [
@@ -161,4 +162,4 @@ module _ {K D : Type 0} (keep : Keep K) (disk : Disk D) (link tells : Type 0) (v
       (subst (λ (w : List (Backed K)). EachRuns link keep disk (sent_so v (ls by path) answer ∷ []) old w old_disks
       old_disks) unchanged
       (subst (λ (d : Disks D). EachRuns link keep disk (sent_so v (ls by path) answer ∷ []) old new old_disks d) kept
-      (each_where (λ told. (told, tt)) (each_one (sent_so v (ls by path) answer) old new old_disks new_disks sends))))
+      (each_where (λ told. (told, λ none. absurd none)) (each_one (sent_so v (ls by path) answer) old new old_disks new_disks sends))))

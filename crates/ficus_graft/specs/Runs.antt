@@ -14,7 +14,7 @@ use Rattle.ficus_runs.specs.Numbered.{IsNumbered}
 use Rattle.ficus_runs.specs.Outcome.{Outcome, link_failures}
 use Rattle.ficus_runs.specs.Run.{Run}
 use Rattle.ficus_world.specs.Causes.{AreCaused}
-use Rattle.ficus_world.specs.Disks.{AreDisksOf, DisksFollow}
+use Rattle.ficus_world.specs.Disks.{IsBacked, DisksFollow}
 use Rattle.ficus_world.specs.Follows.{FollowsOn, StopsOn, StoresAsMany}
 use Rattle.ficus_world.specs.Fuses.{FusesFollow}
 use Rattle.ficus_world.specs.World.{Backed, Whole, WorldStandsFor, foreseen}
@@ -129,19 +129,12 @@ HaveRoom {K} limit worlds = (v : ℕ) (world : Backed K) → IsNumbered worlds v
 abbrev pub ForeseeFew : {K : Type 0} → ℕ → List (Backed K) → Type 0
 ForeseeFew {K} limit worlds = (v : ℕ) (world : Backed K) → IsNumbered worlds v world → foreseen world.whole < limit
 
--- the disks are those of the world
-pub record IsHeld {K D : Type 0} (keep : Keep K) (disk : Disk D) (world : Backed K) (pairs : List (Pair D)) :
-    Type 0 where
-  pub enough : length world.whole.members ≤ length pairs
-  pub disks : AreDisksOf disk.tells keep.kept keep.fits disk.seen disk.may_leave disk.armings world.whole.members
-      world.stables pairs
-
 -- each volume has disks, and they are those of its world
 pub record AreHeld {K D : Type 0} (keep : Keep K) (disk : Disk D) (worlds : List (Backed K)) (disks : Disks D) :
     Type 0 where
   pub count : length disks ≡ length worlds
   pub each : (v : ℕ) (world : Backed K) (pairs : Vec (Pair D) Global) → IsNumbered worlds v world
-      → IsNumbered disks v pairs → IsHeld keep disk world (vec_items pairs)
+      → IsNumbered disks v pairs → IsBacked keep disk world (vec_items pairs)
 
 -- The lines have these answers, by what was sent for them, and each volume has run what was sent to it. Over a sink
 -- that tells, the texts of the answers were put, in order, and nothing else.

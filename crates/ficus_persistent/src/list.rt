@@ -7,7 +7,7 @@ ghost use Rattle.ficus_persistent.specs.Cut.{IsCutAt};
 
 use crate::tree::Tree;
 use crate::{Cut, Item};
-use ficus_formats::Spelling;
+use ficus_formats::{Window, WindowSpelling};
 use ficus_ids::Memory;
 use std::alloc::Global;
 use std::marker::Model;
@@ -92,16 +92,19 @@ impl<T: Item> PersistentList<T> {
 
     /// Appends the spellings of the items, one after the other, in one walk. After `Memory` part of them may stand
     /// there.
-    pub fn put_each<S: Spelling<Value = T>>(
+    pub fn put_each<S: WindowSpelling<Value = T>>(
         &self,
         spelling: &S,
         out: &mut Vec<u8>,
     ) -> Result<(), Memory>
-        requires { AllByRecursion (S.format spelling.now).fits self.now }
-        ensures put { OnOk result (out.new.items ≡ out.old.items ++ flat_map (S.format spelling.now).spell self.now) }
+        requires { AllByRecursion (S.Spelling.format spelling.now).fits self.now }
+        ensures put { OnOk result
+            (out.new.items ≡ out.old.items ++ flat_map (S.Spelling.format spelling.now).spell self.now) }
         ensures kept { OnErr result (Keeps out.old.items out.new.items) }
     {
-        self.tree.put_each(spelling, out)
+        let mut window = Window::new();
+        self.tree.put_each(spelling, &mut window, out)?;
+        window.flush(out)
     }
 
     /// The list with one more item, in front of the one at the index.

@@ -1,5 +1,5 @@
 ghost use Rattle.std.specs.Prelude.{◌≡◌, ◌<◌, ◌≤◌, ◌+◌, ◌-◌, ◌*◌, ◌^◌, ℕ, min, max, [], ◌∷◌, ◌++◌, length, map};
-ghost use Rattle.std.specs.Prelude.{slice_get, slice_set, Some, IfOk, IfSome, IfNone, OnErr, OnOk, IsTrue, ◌↔◌};
+ghost use Rattle.std.specs.Prelude.{slice_get, slice_set, Some, IfOk, IfSome, IfNone, OnOk, IsTrue, ◌↔◌};
 ghost use Rattle.std.specs.Option.{SomeIff};
 ghost use Rattle.std.specs.List.{insert, remove, flat_map, AllByRecursion};
 ghost use Rattle.std.specs.List.Sorted.{IsPartitionedBy};
@@ -9,7 +9,7 @@ ghost use Rattle.ficus_persistent.specs.Shape.{nothing, above, DifferByAtMost, I
 ghost use Rattle.ficus_persistent.specs.Node.{top_shape, IsSoundBranch};
 
 use crate::{Cut, Item};
-use ficus_formats::Spelling;
+use ficus_formats::{Window, WindowSpelling};
 use ficus_ids::Memory;
 use std::alloc::Global;
 use std::marker::Model;
@@ -191,25 +191,26 @@ impl<T: Item> Tree<T> {
         }
     }
 
-    /// Appends the spellings of the items in order.
-    pub(crate) fn put_each<S: Spelling<Value = T>>(
+    /// Puts the spellings of the items in order behind what was spelled before.
+    pub(crate) fn put_each<S: WindowSpelling<Value = T>>(
         &self,
         spelling: &S,
+        window: &mut Window,
         out: &mut Vec<u8>,
     ) -> Result<(), Memory>
-        requires { AllByRecursion (S.format spelling.now).fits self.now.items }
-        ensures put { OnOk result (out.new.items ≡ out.old.items
-            ++ flat_map (S.format spelling.now).spell self.now.items) }
-        ensures kept { OnErr result (Keeps out.old.items out.new.items) }
+        requires { AllByRecursion (S.Spelling.format spelling.now).fits self.now.items }
+        ensures put { OnOk result (out.new.items ++ window.new ≡ (out.old.items ++ window.old)
+            ++ flat_map (S.Spelling.format spelling.now).spell self.now.items) }
+        ensures kept { Keeps out.old.items out.new.items }
     {
         match &self.node {
             Node::Empty => Ok(()),
-            Node::One(item) => spelling.put(out, item.as_ref()),
+            Node::One(item) => spelling.put_in(window, out, item.as_ref()),
             Node::Fork(branch) => {
                 let branch = branch.as_ref();
-                branch.left.put_each(spelling, out)?;
-                spelling.put(out, &branch.item)?;
-                branch.right.put_each(spelling, out)
+                branch.left.put_each(spelling, window, out)?;
+                spelling.put_in(window, out, &branch.item)?;
+                branch.right.put_each(spelling, window, out)
             }
         }
     }

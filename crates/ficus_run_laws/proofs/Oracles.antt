@@ -61,53 +61,57 @@ module _ {S : Type 0} (oracle : Oracle S) where
   agrees_behind s (outcome ∷ one) other agrees = agrees_behind (oracle.next s outcome) one other agrees.1
 
   -- what the oracle allows says what the action gives and leaves
-  abbrev pub IsDecided : (A : Type 0) → ModelAction A → Type 0
-  IsDecided A does =
-      (old : ModelWorld) (one other : Result A Refusal) (left right : Effect ModelWorld) (s : S) → does old one left
+  abbrev pub IsDecided : (A : Type 0) → ModelWorld → ModelAction A → Type 0
+  IsDecided A old does =
+      (one other : Result A Refusal) (left right : Effect ModelWorld) (s : S) → does old one left
       → does old other right → Agrees oracle s left.outcomes → Agrees oracle s right.outcomes
       → (one ≡ other) × (left ≡ right)
 
   module _ (allowing : AllowsOne oracle) where
-    module _ {A B : Type 0} (first : ModelAction A) (rest : A → ModelAction B) (first_decided : IsDecided A first)
-        (rest_decided : (a : A) → IsDecided B (rest a)) where
-      behind_decided : IsDecided B (First first rest)
-      behind_decided old one other left right s (Ends {refusal = r} is) (Ends {refusal = q} too) mine theirs =
-          let e = first_decided old (Err r) (Err q) left right s is too mine theirs in
-          let f = e.0 in
-          (ap Err (let h : r ≡ q = cc in h), e.1)
-      behind_decided old one other left right s (Ends {refusal = r} is)
-          (Goes {a = a} {middle = n} {left = k} too then) mine theirs =
-          let e = (first_decided old (Err r) (Ok a) left n s is too mine
-          (agrees_first s n.outcomes k.outcomes theirs)).0 in
-          absurd (cc)
-      behind_decided old one other left right s (Goes {a = a} {middle = m} {left = l} is then)
-          (Ends {refusal = r} too) mine theirs =
-          let e = (first_decided old (Ok a) (Err r) m right s is too (agrees_first s m.outcomes l.outcomes mine)
-          theirs).0 in
-          absurd (cc)
-      behind_decided old one other left right s (Goes {a = a} {middle = m} {left = l} is then)
-          (Goes {a = b} {middle = n} {left = k} too then_too) mine theirs =
-          let e = first_decided old (Ok a) (Ok b) m n s is too (agrees_first s m.outcomes l.outcomes mine)
-          (agrees_first s n.outcomes k.outcomes theirs) in
-          let f = e.0 in
-          let given : b ≡ a = cc in
-          let r = rest_decided a m.after one other l k (after_all oracle s m.outcomes) then
-          (subst (λ (t : Effect ModelWorld). rest a t.after other k) (sym e.1)
-          (subst (λ z. rest z n.after other k) given then_too))
-          (agrees_behind s m.outcomes l.outcomes mine)
-          (subst (λ (t : Effect ModelWorld). Agrees oracle (after_all oracle s t.outcomes) k.outcomes) (sym e.1)
-          (agrees_behind s n.outcomes k.outcomes theirs)) in
-          (r.0, ap₂ joined e.1 r.1)
+    module _ {A B : Type 0} (first : ModelAction A) (rest : A → ModelAction B) (old : ModelWorld)
+        (first_decided : IsDecided A old first)
+        (rest_decided : (a : A) (left : Effect ModelWorld) → first old (Ok a) left → IsDecided B left.after (rest a))
+      where
+        behind_decided : IsDecided B old (First first rest)
+        behind_decided one other left right s (Ends {refusal = r} is) (Ends {refusal = q} too) mine theirs =
+            let e = first_decided (Err r) (Err q) left right s is too mine theirs in
+            let f = e.0 in
+            (ap Err (let h : r ≡ q = cc in h), e.1)
+        behind_decided one other left right s (Ends {refusal = r} is)
+            (Goes {a = a} {middle = n} {left = k} too then) mine theirs =
+            let e = (first_decided (Err r) (Ok a) left n s is too mine
+            (agrees_first s n.outcomes k.outcomes theirs)).0 in
+            absurd (cc)
+        behind_decided one other left right s (Goes {a = a} {middle = m} {left = l} is then)
+            (Ends {refusal = r} too) mine theirs =
+            let e = (first_decided (Ok a) (Err r) m right s is too (agrees_first s m.outcomes l.outcomes mine)
+            theirs).0 in
+            absurd (cc)
+        behind_decided one other left right s (Goes {a = a} {middle = m} {left = l} is then)
+            (Goes {a = b} {middle = n} {left = k} too then_too) mine theirs =
+            let e = first_decided (Ok a) (Ok b) m n s is too (agrees_first s m.outcomes l.outcomes mine)
+            (agrees_first s n.outcomes k.outcomes theirs) in
+            let f = e.0 in
+            let given : b ≡ a = cc in
+            let r = rest_decided a m is one other l k (after_all oracle s m.outcomes) then
+            (subst (λ (t : Effect ModelWorld). rest a t.after other k) (sym e.1)
+            (subst (λ z. rest z n.after other k) given then_too))
+            (agrees_behind s m.outcomes l.outcomes mine)
+            (subst (λ (t : Effect ModelWorld). Agrees oracle (after_all oracle s t.outcomes) k.outcomes) (sym e.1)
+            (agrees_behind s n.outcomes k.outcomes theirs)) in
+            (r.0, ap₂ joined e.1 r.1)
 
     by_rule_decided : {A : Type 0} (rule : ModelWorld → Result A Refusal → Type 0) → ((W : ModelWorld) → Once (rule W))
-        → IsDecided A (ByRule rule)
+        → (old : ModelWorld) → IsDecided A old (ByRule rule)
     by_rule_decided rule once old one other left right s (Says is) (Says too) mine theirs =
         (once old one other is too, refl)
 
-    adds_decided : {A : Type 0} (given : ModelWorld → A) (event : Event) → IsDecided A (Adds given event)
+    adds_decided : {A : Type 0} (given : ModelWorld → A) (event : Event) (old : ModelWorld)
+        → IsDecided A old (Adds given event)
     adds_decided given event old one other left right s Added Added mine theirs = (refl, refl)
 
-    saves_decided : {A : Type 0} (given : ModelWorld → A) (by : ℕ) (event : Event) → IsDecided A (Saves given by event)
+    saves_decided : {A : Type 0} (given : ModelWorld → A) (by : ℕ) (event : Event) (old : ModelWorld)
+        → IsDecided A old (Saves given by event)
     saves_decided given by event old one other left right s Saved Saved mine theirs = (refl, refl)
     saves_decided given by event old one other left right s NotSaved NotSaved mine theirs = (refl, refl)
     saves_decided given by event old one other left right s Saved NotSaved mine theirs =
@@ -115,7 +119,7 @@ module _ {S : Type 0} (oracle : Oracle S) where
     saves_decided given by event old one other left right s NotSaved Saved mine theirs =
         absurd (allowing.saved_or_failed s by theirs.0 mine.0)
 
-    posts_decided : (behind : Posted) (size : ℕ) → IsDecided ℕ (Posts behind size)
+    posts_decided : (behind : Posted) (size : ℕ) (old : ModelWorld) → IsDecided ℕ old (Posts behind size)
     posts_decided behind size old one other left right s IsPosted IsPosted mine theirs = (refl, refl)
     posts_decided behind size old one other left right s NotPosted NotPosted mine theirs = (refl, refl)
     posts_decided behind size old one other left right s IsPosted NotPosted mine theirs =
@@ -123,7 +127,7 @@ module _ {S : Type 0} (oracle : Oracle S) where
     posts_decided behind size old one other left right s NotPosted IsPosted mine theirs =
         absurd (allowing.done_or_failed s theirs.0 mine.0)
 
-    fetches_decided : IsDecided (Unit {0}) Fetches
+    fetches_decided : (old : ModelWorld) → IsDecided (Unit {0}) old Fetches
     fetches_decided old one other left right s Fetched Fetched mine theirs = (refl, refl)
     fetches_decided old one other left right s NotFetched NotFetched mine theirs = (refl, refl)
     fetches_decided old one other left right s Fetched NotFetched mine theirs =
@@ -131,7 +135,7 @@ module _ {S : Type 0} (oracle : Oracle S) where
     fetches_decided old one other left right s NotFetched Fetched mine theirs =
         absurd (allowing.done_or_failed s theirs.0 mine.0)
 
-    opens_decided : (volume : Volume) (by : ℕ) → IsDecided Answer (Opens volume by)
+    opens_decided : (volume : Volume) (by : ℕ) (old : ModelWorld) → IsDecided Answer old (Opens volume by)
     opens_decided volume by old one other left right s (Opened at) (Opened at_too) mine theirs = (refl, refl)
     opens_decided volume by old one other left right s (Found {event = e} at may) (Found {event = f} at_too may_too)
         mine theirs =
@@ -156,22 +160,24 @@ module _ {S : Type 0} (oracle : Oracle S) where
     opens_decided volume by old one other left right s (NotOpened at) (Found at_too may) mine theirs =
         absurd (allowing.found_or_failed s by theirs.0 mine.0)
 
-    arms_decided : (by calls pick : ℕ) → IsDecided Answer (Arms by calls pick)
+    arms_decided : (by calls pick : ℕ) (old : ModelWorld) → IsDecided Answer old (Arms by calls pick)
     arms_decided by calls pick old one other left right s Armed Armed mine theirs = (refl, refl)
 
     actions_decided : (volume : Volume) → HoldsOfActions volume IsDecided
     actions_decided volume = record {
       behind = behind_decided;
       by_rule = by_rule_decided;
-      adds = adds_decided;
-      saves = saves_decided;
+      adds = λ given event W none may. adds_decided given event W;
+      serves = λ server ask served W now. adds_decided _ _ W;
+      saves = λ given by event W up none may. saves_decided given by event W;
       posts = posts_decided;
       fetches = fetches_decided;
-      opens = opens_decided volume;
+      opens = λ by W member. opens_decided volume by W;
     }
 
     -- so it decides one command,
-    pub does_decided : (volume : Volume) (command : Command) → IsDecided Answer (Does volume command)
+    pub does_decided : (volume : Volume) (command : Command) (old : ModelWorld)
+        → IsDecided Answer old (Does volume command)
     does_decided volume command =
         does_holds volume IsDecided (actions_decided volume) command (λ by calls pick same. arms_decided by calls pick)
 

@@ -68,58 +68,61 @@ opening_failed : (by : ℕ) → NothingFails (OpeningFails by ∷ []) → ⊥
 opening_failed by none = counted by (none.stores by)
 
 -- from a world in which all members are up an action in which nothing fails does all, and they stay up
-abbrev StaysUp : (A : Type 0) → ModelAction A → Type 0
-StaysUp A does =
-    (W : ModelWorld) (result : Result A Refusal) (left : Effect ModelWorld) → AreUp W.standings
-    → NothingFails left.outcomes → does W result left → AllDone left.outcomes × AreUp left.after.standings
+abbrev StaysUp : (A : Type 0) → ModelWorld → ModelAction A → Type 0
+StaysUp A W does =
+    (result : Result A Refusal) (left : Effect ModelWorld) → AreUp W.standings → NothingFails left.outcomes
+    → does W result left → AllDone left.outcomes × AreUp left.after.standings
 
-behind_up : {A B : Type 0} (first : ModelAction A) (rest : A → ModelAction B) → StaysUp A first
-    → ((a : A) → StaysUp B (rest a)) → StaysUp B (First first rest)
-behind_up first rest stays behind W result left up none (Ends {refusal = r} is) = stays W (Err r) left up none is
-behind_up first rest stays behind W result left up none (Goes {a = a} {middle = m} {left = l} is next) =
+behind_up : {A B : Type 0} (first : ModelAction A) (rest : A → ModelAction B) (W : ModelWorld) → StaysUp A W first
+    → ((a : A) (left : Effect ModelWorld) → first W (Ok a) left → StaysUp B left.after (rest a))
+    → StaysUp B W (First first rest)
+behind_up first rest W stays behind result left up none (Ends {refusal = r} is) = stays (Err r) left up none is
+behind_up first rest W stays behind result left up none (Goes {a = a} {middle = m} {left = l} is next) =
     let parts = nothing_fails_both m.outcomes l.outcomes none in
-    let here = stays W (Ok a) m up parts.0 is in
-    let there = behind a m.after result l here.1 parts.1 next in
+    let here = stays (Ok a) m up parts.0 is in
+    let there = behind a m is result l here.1 parts.1 next in
     (done_append m.outcomes l.outcomes here.0 there.0, there.1)
 
 by_rule_up : {A : Type 0} (rule : ModelWorld → Result A Refusal → Type 0) → ((W : ModelWorld) → Once (rule W))
-    → StaysUp A (ByRule rule)
+    → (W : ModelWorld) → StaysUp A W (ByRule rule)
 by_rule_up rule once W result left up none (Says is) = (tt, up)
 
-adds_up : {A : Type 0} (given : ModelWorld → A) (event : Event) → StaysUp A (Adds given event)
+adds_up : {A : Type 0} (given : ModelWorld → A) (event : Event) (W : ModelWorld) → StaysUp A W (Adds given event)
 adds_up given event W result left up none Added = (tt, up)
 
-saves_up : {A : Type 0} (given : ModelWorld → A) (by : ℕ) (event : Event) → StaysUp A (Saves given by event)
+saves_up : {A : Type 0} (given : ModelWorld → A) (by : ℕ) (event : Event) (W : ModelWorld)
+    → StaysUp A W (Saves given by event)
 saves_up given by event W result left up none Saved = ((refl, tt), up)
 saves_up given by event W result left up none NotSaved = absurd (save_failed by none)
 
-posts_up : (behind : Posted) (size : ℕ) → StaysUp ℕ (Posts behind size)
+posts_up : (behind : Posted) (size : ℕ) (W : ModelWorld) → StaysUp ℕ W (Posts behind size)
 posts_up behind size W result left up none IsPosted = ((refl, tt), up)
 posts_up behind size W result left up none NotPosted = absurd (link_failed none)
 
-fetches_up : StaysUp (Unit {0}) Fetches
+fetches_up : (W : ModelWorld) → StaysUp (Unit {0}) W Fetches
 fetches_up W result left up none Fetched = ((refl, tt), up)
 fetches_up W result left up none NotFetched = absurd (link_failed none)
 
-opens_up : (volume : Volume) (by : ℕ) → StaysUp Answer (Opens volume by)
+opens_up : (volume : Volume) (by : ℕ) (W : ModelWorld) → StaysUp Answer W (Opens volume by)
 opens_up volume by W result left up none (Opened at) =
     ((refl, tt), up_again W.standings by at.member.at_least up)
 opens_up volume by W result left up none (Found {event = event} at may) =
     let none_down = up.each by (Down (Some event)) at in absurd (cc)
 opens_up volume by W result left up none (NotOpened at) = absurd (opening_failed by none)
 
-arms_up : (by calls pick : ℕ) → StaysUp Answer (Arms by calls pick)
+arms_up : (by calls pick : ℕ) (W : ModelWorld) → StaysUp Answer W (Arms by calls pick)
 arms_up by calls pick W result left up none Armed = ((refl, tt), up)
 
 actions_up : (volume : Volume) → HoldsOfActions volume StaysUp
 actions_up volume = record {
   behind = behind_up;
   by_rule = by_rule_up;
-  adds = adds_up;
-  saves = saves_up;
+  adds = λ given event W none may. adds_up given event W;
+  serves = λ server ask served W now. adds_up _ _ W;
+  saves = λ given by event W up none may. saves_up given by event W;
   posts = posts_up;
   fetches = fetches_up;
-  opens = opens_up volume;
+  opens = λ by W member. opens_up volume by W;
 }
 
 pub step_up : {volume : Volume} {old new : ModelWorld} {command : Command} {outcomes : List Outcome}

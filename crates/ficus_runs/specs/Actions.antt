@@ -1,5 +1,5 @@
 -- The actions of which commands consist, and what each does to a world of the model.
-use Rattle.std.specs.Prelude.{ℕ, ◌+◌, ◌-◌, [], ◌∷◌, ◌++◌, length, slice_set, Result, Ok, Err, Option, Some, None}
+use Rattle.std.specs.Prelude.{ℕ, ◌+◌, ◌-◌, List, [], ◌∷◌, ◌++◌, length, slice_set, Result, Ok, Err, Option, Some, None}
 use Rattle.ficus_ids.specs.Members.{IsMember}
 use Rattle.ficus_ids.specs.declared.refusal.Refusal.{Refusal}
 use Rattle.ficus_ids.specs.declared.refusal.Refusal.TheVariants as refusal
@@ -22,7 +22,7 @@ use Rattle.ficus_runs.specs.ModelWorld.{ModelWorld, Posted, Standing, Up, Down, 
 use Rattle.ficus_runs.specs.Numbered.{IsNumbered}
 use Rattle.ficus_runs.specs.Outcome.{IsDone, LinkFails, IsSaved, SaveFails, IsOpened, IsFound, OpeningFails, IsArmed}
 use Rattle.ficus_runs.specs.Peers.{ArePeers}
-use Rattle.ficus_runs.specs.Sequence.{Action, First, ByRule, Effect}
+use Rattle.ficus_runs.specs.Sequence.{Action, First, ByRule, Cut, CutFirst, Effect, NothingDone}
 
 -- an action on a world of the model
 abbrev pub ModelAction : Type 0 → Type 1
@@ -57,6 +57,16 @@ GivesOnly a = ByRule (λ W. Gives a)
 -- goes on where this is so, and is refused where it isn't
 abbrev pub Wants : {World : Type 0} → (World → Type 0) → Refusal → Action World (Unit {0})
 Wants good refusal = ByRule (λ W. Where (good W) refusal (Gives tt))
+
+-- does this with each of a list in order, up to the first refusal, and then gives this
+abbrev pub Each : {World X A B : Type 0} → (X → Action World A) → B → List X → Action World B
+Each does given [] = GivesOnly given
+Each does given (x ∷ more) = First (does x) (λ a. Each does given more)
+
+-- what was done where memory is refused on the way: all that stands before
+abbrev pub EachPart : {World X A : Type 0} → (X → Action World A) → List X → Cut World
+EachPart does [] = NothingDone
+EachPart does (x ∷ more) = CutFirst (does x) NothingDone (λ a. EachPart does more)
 
 -- the number is a member's, which takes commands
 abbrev pub AtMember : Volume → ℕ → ModelAction (Unit {0})

@@ -17,11 +17,11 @@ use Rattle.ficus_script.specs.declared.answer.Answer.{Answer}
 use Rattle.ficus_script.specs.declared.answer.Answer.TheVariants.{Alike, Collected, Done, Made, Mail, Mails, Part, Refused, Swept, Told, Why}
 use Rattle.ficus_wire.specs.Message.{message_bytes, messages_of_tables}
 use Rattle.ficus_wire.specs.declared.message.Message.{Message}
-use Rattle.ficus_runs.specs.Actions.{ModelAction, Wants, GivesOnly, Adds, Saves, Posts, Fetches, next_mail, next_position}
+use Rattle.ficus_runs.specs.Actions.{ModelAction, Wants, GivesOnly, Each, EachPart, Adds, Saves, Posts, Fetches, next_mail, next_position}
 use Rattle.ficus_runs.specs.Message.{IsMessageAt}
 use Rattle.ficus_runs.specs.ModelWorld.{ModelWorld, Posted, IsUp}
 use Rattle.ficus_runs.specs.Numbered.{IsNumbered}
-use Rattle.ficus_runs.specs.Sequence.{First, ByRule, Cut, CutFirst, NothingDone}
+use Rattle.ficus_runs.specs.Sequence.{First, ByRule, Cut}
 
 -- how many bytes the message has
 abbrev pub size_of : Message → ℕ
@@ -183,13 +183,11 @@ mails_of (Refused refusal) = []
 
 -- these messages are given in order, up to the first refusal
 abbrev pub GivesEach : Volume → List ℕ → ModelAction Answer
-GivesEach volume [] = GivesOnly Done
-GivesEach volume (number ∷ numbers) = First (GivesMail volume number) (λ given. GivesEach volume numbers)
+GivesEach volume = Each (GivesMail volume) Done
 
 -- what was done where memory is refused on the way: the gives before
 abbrev pub GivesSome : Volume → List ℕ → Cut ModelWorld
-GivesSome volume [] = NothingDone
-GivesSome volume (number ∷ numbers) = CutFirst (GivesMail volume number) NothingDone (λ given. GivesSome volume numbers)
+GivesSome volume = EachPart (GivesMail volume)
 
 -- each Serve of the run had as many pieces as the tables that its server saved there have
 pub record ServesAll (volume : Volume) (W : ModelWorld) : Type 0 where

@@ -8,6 +8,8 @@ pub mod Peers
 pub mod Actions
 pub mod Exchange
 pub mod RunWorld
+pub mod Traits
+pub mod Plan
 pub mod Run
 pub mod Start
 pub mod Fuses

@@ -7,49 +7,57 @@ use Rattle.ficus_model.specs.Lawful.{Volume}
 use Rattle.ficus_script.specs.declared.command.Command.{Command}
 use Rattle.ficus_script.specs.declared.command.Command.TheVariants as command
 use Rattle.ficus_script.specs.declared.answer.Answer.{Answer}
-use Rattle.ficus_script.specs.declared.answer.Answer.TheVariants.{Mail}
 use Rattle.ficus_rules.specs.Change.{MayWantMemory}
 use Rattle.ficus_rules.specs.View.{history_view}
-use Rattle.ficus_runs.specs.Actions.{ModelAction, AtMember, Decides, Updates, Sees, GivesOnly, AtPeers, Compares, Explaining, Wants, Opens, Arms}
+use Rattle.ficus_runs.specs.Actions.{ModelAction, Arms, AtMember, AtPeers, Collects, Compares, Counts, Decides, Explaining, GivesOnly, Opens, Sees, Updates, Wants}
 use Rattle.ficus_runs.specs.Answers.{answer_as}
 use Rattle.ficus_runs.specs.Exchange.{Asks, GivesMail}
 use Rattle.ficus_runs.specs.ModelWorld.{ModelWorld, IsUp, IsFused}
 use Rattle.ficus_runs.specs.Outcome.{Outcome, AllDone}
 use Rattle.ficus_runs.specs.Peers.{ArePeers}
-use Rattle.ficus_runs.specs.Sequence.{Cut, Effect, First, NothingDone}
-use Rattle.ficus_runs.specs.Sweep.{CollectsAt, PullsFrom, PullsPart, Sweeps, SweepsPart, none_swept, sweep_steps, swept_answer}
+use Rattle.ficus_runs.specs.Plan.{Actions, at_once, plan}
+use Rattle.ficus_runs.specs.Sequence.{Cut, Effect, First}
+use Rattle.ficus_runs.specs.Traits.{traits}
+use Rattle.ficus_runs.specs.Sweep.{Sweeps, SweepsPart, none_swept, sweep_steps, swept_answer}
+
+-- the actions of which commands consist, over worlds of the model
+abbrev pub of_model : Volume → Actions ModelWorld
+of_model volume = record {
+  Found = Unit {0};
+  FoundUp = Unit {0};
+  FoundPeers = Unit {0};
+  finds = λ by. Wants (λ W. IsMember volume.members by) refusal.Member;
+  finds_up = AtMember volume;
+  finds_peers = AtPeers volume;
+  decides = λ by member. Decides volume by;
+  updates = λ by member. Updates by;
+  shows = λ by member. Sees volume by;
+  collects = λ by member. First (Counts volume by) (Collects by);
+  asks = Asks volume;
+  gives = GivesMail volume;
+  compares = λ by other peers. Compares volume by other;
+  opens = λ by member. Opens volume by;
+  arms = λ by calls pick member. First (Wants (IsFused by) refusal.NoFuse) (λ fused. Arms by calls pick);
+  sweeps = λ order. record {
+    does = First (Sweeps volume (sweep_steps order volume.members) none_swept)
+        (λ swept. GivesOnly (swept_answer swept));
+    part = SweepsPart volume (sweep_steps order volume.members);
+  };
+  explains = λ by. at_once (First (AtMember volume by) (λ member. Explaining by));
+}
 
 -- what each command does, action by action
 abbrev pub Does : Volume → Command → ModelAction Answer
-Does volume (command.Change by change) =
-    First (AtMember volume by) (λ member. First (Decides volume by change) (Updates by))
-Does volume (command.Look by look) = First (AtMember volume by) (λ member. Sees volume by look)
-Does volume (command.Collect by) = CollectsAt volume by
-Does volume (command.Ask by to) = First (Asks volume by to) (λ number. GivesOnly (Mail number))
-Does volume (command.Give number) = GivesMail volume number
-Does volume (command.Pull by to) = PullsFrom volume by to
-Does volume (command.Alike by other) = First (AtPeers volume by other) (λ peers. Compares volume by other)
-Does volume (command.Restart by) =
-    First (Wants (λ W. IsMember volume.members by) refusal.Member) (λ member. Opens volume by)
-Does volume (command.Stop by calls pick) =
-    First (AtMember volume by) (λ member. First (Wants (IsFused by) refusal.NoFuse) (λ fused. Arms by calls pick))
-Does volume (command.Sweep order) =
-    First (Sweeps volume (sweep_steps order volume.members) none_swept) (λ swept. GivesOnly (swept_answer swept))
-Does volume (command.Why by) = First (AtMember volume by) (λ member. Explaining by)
+Does volume command = (plan (of_model volume) command).does
+
+-- What each command has done where memory is refused on the way: nothing; but a pull keeps its ask, and the gives
+-- before, and a sweep the steps before the one in which it is, and what that one has done.
+abbrev pub DoesPart : Volume → Command → Cut ModelWorld
+DoesPart volume command = (plan (of_model volume) command).part
 
 -- the command asks only for what is shown
 abbrev pub OnlyLooks : Command → Type 0
-OnlyLooks (command.Change by change) = ⊥
-OnlyLooks (command.Look by look) = Unit {0}
-OnlyLooks (command.Collect by) = ⊥
-OnlyLooks (command.Ask by to) = ⊥
-OnlyLooks (command.Give mail) = ⊥
-OnlyLooks (command.Pull by to) = ⊥
-OnlyLooks (command.Alike by other) = Unit {0}
-OnlyLooks (command.Restart by) = ⊥
-OnlyLooks (command.Stop by calls pick) = ⊥
-OnlyLooks (command.Sweep order) = ⊥
-OnlyLooks (command.Why by) = Unit {0}
+OnlyLooks command = (traits command).looks
 
 -- nothing refuses the command, where all that it asks of the outside is done
 abbrev pub IsUnrefused : Volume → ModelWorld → Command → Type 0
@@ -78,13 +86,6 @@ CommandMayWantMemory volume W (command.Restart by) = IsMember volume.members by
 CommandMayWantMemory volume W (command.Stop by calls pick) = ⊥
 CommandMayWantMemory volume W (command.Sweep order) = Unit {0}
 CommandMayWantMemory volume W (command.Why by) = IsUnrefused volume W (command.Why by)
-
--- What each command has done where memory is refused on the way: nothing; but a pull keeps its ask, and the gives
--- before, and a sweep the steps before the one in which it is, and what that one has done.
-abbrev pub DoesPart : Volume → Command → Cut ModelWorld
-DoesPart volume (command.Pull by to) = PullsPart volume by to
-DoesPart volume (command.Sweep order) = SweepsPart volume (sweep_steps order volume.members)
-DoesPart volume other = NothingDone
 
 -- one command: what became of all that it asked of the outside, its answer, and the world after it
 pub record Step (volume : Volume) (old : ModelWorld) (command : Command) (outcomes : List Outcome) (answer : Answer)

@@ -11,23 +11,18 @@ use Rattle.ficus_script.specs.declared.command.Command.TheVariants as command
 use Rattle.ficus_script.specs.declared.order.Order.{Order}
 use Rattle.ficus_script.specs.declared.order.Order.TheVariants.{Star, Ring}
 use Rattle.ficus_runs.specs.Actions.{ModelAction, AtMember, AtPeers, Counts, GivesOnly, Collects as SavesCollection}
-use Rattle.ficus_runs.specs.Exchange.{Asks, GivesMail, GivesEach, GivesSome, mails_of}
+use Rattle.ficus_runs.specs.Exchange.{Asks, GivesMail}
 use Rattle.ficus_runs.specs.ModelWorld.{ModelWorld}
+use Rattle.ficus_runs.specs.Plan.{Pulls, PullsSome}
 use Rattle.ficus_runs.specs.Sequence.{Cut, CutFirst, First, NothingDone}
 
 -- the member pulls from the other: it asks, its message is given, and then each that was posted in answer
 abbrev pub PullsFrom : Volume → ℕ → ℕ → ModelAction Answer
-PullsFrom volume by to =
-    First (AtPeers volume by to)
-    (λ peers. First (Asks volume by to)
-    (λ number. First (GivesMail volume number) (λ given. GivesEach volume (mails_of given))))
+PullsFrom volume by to = Pulls (AtPeers volume by to) (Asks volume by to) (GivesMail volume)
 
 -- what a pull has done where memory is refused on the way: it keeps its ask, and the gives before
 abbrev pub PullsPart : Volume → ℕ → ℕ → Cut ModelWorld
-PullsPart volume by to =
-    CutFirst (AtPeers volume by to) NothingDone
-    (λ peers. CutFirst (Asks volume by to) NothingDone
-    (λ number. CutFirst (GivesMail volume number) NothingDone (λ given. GivesSome volume (mails_of given))))
+PullsPart volume by to = PullsSome (AtPeers volume by to) (Asks volume by to) (GivesMail volume)
 
 -- the member gives up what everybody knows to be removed everywhere
 abbrev pub CollectsAt : Volume → ℕ → ModelAction Answer

@@ -15,8 +15,6 @@ use Rattle.ficus_model.specs.Events.{actor, generation_of, is_saved, traits}
 use Rattle.ficus_laws.proofs.Updates.{is_own}
 use Rattle.ficus_model.specs.Lawful.{Volume}
 use Rattle.ficus_saved.specs.declared.saved.Saved.{Saved}
-use Rattle.ficus_script.specs.declared.command.Command.{Command}
-use Rattle.ficus_script.specs.declared.command.Command.TheVariants as command
 use Rattle.ficus_leads.specs.Holds.{Holds}
 use Rattle.ficus_runs.specs.ModelWorld.{IsUp, ModelWorld, Standing}
 use Rattle.ficus_runs.specs.ModelWorld as model
@@ -28,7 +26,7 @@ use Rattle.ficus_world.specs.declared.member.Member.{Member}
 use Rattle.ficus_world.specs.declared.member.MemberState.{MemberState}
 use Rattle.ficus_world.specs.declared.member.MemberState.TheVariants as state
 use Rattle.ficus_world.specs.declared.member.Pending.{Pending}
-use Rattle.ficus_world.specs.Follows.{StoresAsMany, TellsFor}
+use Rattle.ficus_world.specs.Follows.{StoresAsMany}
 use Rattle.ficus_world.specs.Kills.{IsSettled, Passes, PairRests, Touches, WritesAt, latest}
 use Rattle.ficus_world.specs.Kills.Passes.{Idles, Joins, Links}
 use Rattle.ficus_world.specs.Kills.Touches.{TouchesNone, TouchesOne, WritesOne}
@@ -319,19 +317,6 @@ module _ {K D : Type 0} (keep : Keep K) (disk : Disk D)
     pub extends : Extends W.events after.events
 
   module _ (tells : Type 0) (told : tells) (disks_told : disk.tells) where
-    tells_for : (command : Command) → TellsFor disk.tells command
-    tells_for (command.Change by change) = tt
-    tells_for (command.Look by look) = tt
-    tells_for (command.Collect by) = tt
-    tells_for (command.Ask by to) = tt
-    tells_for (command.Give number) = tt
-    tells_for (command.Pull by to) = tt
-    tells_for (command.Alike by other) = tt
-    tells_for (command.Restart by) = disks_told
-    tells_for (command.Stop by calls pick) = tt
-    tells_for (command.Sweep order) = tt
-    tells_for (command.Why by) = tt
-
     pub lift : (W : ModelWorld) (old new : Whole) (x y : List (Pair D)) → WorldStandsFor volume W old
         → Passes tells keep disk old new x y → Lifted W old new x y
     lift W old new x y stands (Idles settled touches) = record {
@@ -343,7 +328,7 @@ module _ {K D : Type 0} (keep : Keep K) (disk : Disk D)
       extends = as_it_was W.events;
     }
     lift W old new x y stands (Links {command = command} {outcomes = outcomes} {answer = answer} settled after moves touches) =
-        let follows = follow tells disk.tells told volume W old stands command (tells_for command) outcomes answer new
+        let follows = follow tells disk.tells told volume W old stands command (λ opens. disks_told) outcomes answer new
         moves in
         record {
           after = follows.after;

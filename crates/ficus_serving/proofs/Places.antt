@@ -7,7 +7,6 @@ use Rattle.ficus_disk.specs.declared.pair.Pair.{Pair}
 use Rattle.ficus_runs.specs.Numbered.{IsNumbered}
 use Rattle.ficus_run_laws.proofs.Numbers.{number_exists}
 use Rattle.ficus_script.specs.declared.command.Command.{Command}
-use Rattle.ficus_script.specs.declared.command.Command.TheVariants.{Restart}
 use Rattle.ficus_world.specs.Causes.{AreCaused}
 use Rattle.ficus_world.specs.Disks.{are_fused}
 use Rattle.ficus_world.specs.Follows.{TellsFor}
@@ -16,8 +15,7 @@ use Rattle.ficus_world.proofs.Disks.{fused_same}
 
 -- disks that tell what they hold do so for each command
 pub tells_for : {tells : Type 0} → tells → (command : Command) → TellsFor tells command
-tells_for told (Restart by) = told
-tells_for told other = tt
+tells_for told command = λ opens. told
 
 pub tells_all : {tells : Type 0} → tells → (commands : List Command) → All (TellsFor tells) commands
 tells_all told commands = λ k d within. tells_for told (get_or commands k d)

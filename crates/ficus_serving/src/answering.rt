@@ -1,4 +1,4 @@
-ghost use Rattle.std.specs.Prelude.{◌≡◌, ◌⊎◌, ◌+◌, ◌<◌, ◌≤◌, ◌∷◌, [], ◌++◌, List, length, All, OnOk, OnErr, IfErr, IsErrOf};
+ghost use Rattle.std.specs.Prelude.{◌≡◌, ◌+◌, ◌<◌, ◌≤◌, ◌∷◌, [], ◌++◌, length, All, OnOk, OnErr, IfErr, IsErrOf};
 ghost use Rattle.ficus_model.specs.Lawful.{Volume};
 ghost use Rattle.ficus_faults.specs.Faults.{Rose};
 ghost use Rattle.ficus_runs.specs.ModelWorld.{ModelWorld};
@@ -8,7 +8,7 @@ ghost use Rattle.ficus_serving.specs.Puts.{PutsFront};
 ghost use Rattle.ficus_serving.specs.Serving.{serving_limit, ServesWorld, ServesWorldFront};
 ghost use Rattle.ficus_serving.specs.Serving.{script_limit};
 ghost use Rattle.ficus_sweep.specs.Follows.{most_swept, sweeping_limit};
-ghost use Rattle.ficus_world.specs.Disks.{AreDisksOf};
+ghost use Rattle.ficus_world.specs.Disks.{IsBacked};
 ghost use Rattle.ficus_world.specs.Follows.{TellsFor};
 ghost use Rattle.ficus_world.specs.Kills.{OthersStay};
 ghost use Rattle.ficus_world.specs.World.{WorldStandsFor, foreseen};
@@ -34,9 +34,7 @@ pub fn answer_all<K: Sink, D: Disk, P: Keep + Drop, L: Link + Drop>(
     requires commands { All IsCommand commands.now }
     requires count { length commands.now ≤ script_limit }
     requires room { length world.old.whole.events < serving_limit }
-    requires pairs { length world.old.whole.members ≤ length disks.old.items }
-    requires disks { AreDisksOf D.tells P.kept P.fits D.seen D.may_leave D.armings world.old.whole.members
-        world.old.stables disks.old.items }
+    requires backed { IsBacked P.Keep D.Disk world.old disks.old.items }
     ensures answers { L.tells → All (TellsFor D.tells) commands.now → OnOk result ((volume : Volume) (W : ModelWorld)
         → WorldStandsFor volume W world.old.whole
         → ServesWorld K.tells P.Keep D.Disk volume W world.old.whole commands.now world.new.whole
@@ -46,8 +44,7 @@ pub fn answer_all<K: Sink, D: Disk, P: Keep + Drop, L: Link + Drop>(
         → ServesWorldFront K.tells (fault ≡ AnsweringFault.Memory) P.Keep D.Disk volume W world.old.whole commands.now
         world.new.whole (K.written output.old) (K.written output.new)
         disks.old.items disks.new.items) }
-    ensures disks { AreDisksOf D.tells P.kept P.fits D.seen D.may_leave D.armings world.new.whole.members
-        world.new.stables disks.new.items }
+    ensures backed { IsBacked P.Keep D.Disk world.new disks.new.items }
     ensures members { length world.new.whole.members ≡ length world.old.whole.members }
     ensures others { OthersStay (length world.old.whole.members) disks.old.items disks.new.items }
     ensures pairs { length disks.new.items ≡ length disks.old.items }
@@ -71,9 +68,7 @@ fn answer_one<K: Sink, D: Disk, P: Keep + Drop, L: Link + Drop>(
 ) -> Result<(), AnsweringFault>
     requires command { IsCommand command.now }
     requires room { length world.old.whole.events < sweeping_limit }
-    requires pairs { length world.old.whole.members ≤ length disks.old.items }
-    requires disks { AreDisksOf D.tells P.kept P.fits D.seen D.may_leave D.armings world.old.whole.members
-        world.old.stables disks.old.items }
+    requires backed { IsBacked P.Keep D.Disk world.old disks.old.items }
     ensures answer { L.tells → TellsFor D.tells command.now → OnOk result ((volume : Volume) (W : ModelWorld)
         → WorldStandsFor volume W world.old.whole
         → ServesWorld K.tells P.Keep D.Disk volume W world.old.whole (command.now ∷ []) world.new.whole
@@ -83,8 +78,7 @@ fn answer_one<K: Sink, D: Disk, P: Keep + Drop, L: Link + Drop>(
         → ServesWorldFront K.tells (fault ≡ AnsweringFault.Memory) P.Keep D.Disk volume W world.old.whole
         (command.now ∷ []) world.new.whole (K.written output.old) (K.written output.new)
         disks.old.items disks.new.items) }
-    ensures disks { AreDisksOf D.tells P.kept P.fits D.seen D.may_leave D.armings world.new.whole.members
-        world.new.stables disks.new.items }
+    ensures backed { IsBacked P.Keep D.Disk world.new disks.new.items }
     ensures members { length world.new.whole.members ≡ length world.old.whole.members }
     ensures others { OthersStay (length world.old.whole.members) disks.old.items disks.new.items }
     ensures pairs { length disks.new.items ≡ length disks.old.items }

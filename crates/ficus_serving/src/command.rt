@@ -5,7 +5,7 @@ ghost use Rattle.ficus_script.specs.Command.{IsCommand};
 ghost use Rattle.ficus_script.specs.declared.command.Command.TheVariants.{Sweep as Sweeps};
 ghost use Rattle.ficus_serving.specs.Sweeping.{AnswersSweep};
 ghost use Rattle.ficus_sweep.specs.Follows.{most_swept, sweeping_limit};
-ghost use Rattle.ficus_world.specs.Disks.{AreDisksOf};
+ghost use Rattle.ficus_world.specs.Disks.{IsBacked};
 ghost use Rattle.ficus_world.specs.Follows.{FollowsOn, StopsOn, TellsFor};
 ghost use Rattle.ficus_world.specs.Kills.{OthersStay, Passes};
 ghost use Rattle.ficus_world.specs.World.{WorldStandsFor, foreseen};
@@ -29,9 +29,7 @@ pub(crate) fn carry_out<D: Disk, P: Keep + Drop, L: Link + Drop>(
 ) -> Result<Answer, Memory>
     requires command { IsCommand command.now }
     requires room { length world.old.whole.events < sweeping_limit }
-    requires pairs { length world.old.whole.members ≤ length disks.old.items }
-    requires disks { AreDisksOf D.tells P.kept P.fits D.seen D.may_leave D.armings world.old.whole.members
-        world.old.stables disks.old.items }
+    requires backed { IsBacked P.Keep D.Disk world.old disks.old.items }
     ensures stands { L.tells → TellsFor D.tells command.now → (volume : Volume) (W : ModelWorld)
         → WorldStandsFor volume W world.old.whole
         → IfOk result (λ answer. FollowsOn P.Keep D.Disk volume W world.old.whole command.now answer world.new.whole
@@ -41,8 +39,7 @@ pub(crate) fn carry_out<D: Disk, P: Keep + Drop, L: Link + Drop>(
         disks.new.items) }
     ensures passes { Passes L.tells P.Keep D.Disk world.old.whole world.new.whole disks.old.items disks.new.items }
     ensures others { OthersStay (length world.old.whole.members) disks.old.items disks.new.items }
-    ensures disks { AreDisksOf D.tells P.kept P.fits D.seen D.may_leave D.armings world.new.whole.members
-        world.new.stables disks.new.items }
+    ensures backed { IsBacked P.Keep D.Disk world.new disks.new.items }
     ensures members { length world.new.whole.members ≡ length world.old.whole.members }
     ensures pairs { length disks.new.items ≡ length disks.old.items }
     ensures grows { foreseen world.new.whole ≤ foreseen world.old.whole + most_swept }
@@ -65,9 +62,7 @@ fn answer_sweep<D: Disk, P: Keep + Drop, L: Link + Drop>(
     order: Order,
 ) -> Result<Answer, Memory>
     requires room { length world.old.whole.events < sweeping_limit }
-    requires pairs { length world.old.whole.members ≤ length disks.old.items }
-    requires disks { AreDisksOf D.tells P.kept P.fits D.seen D.may_leave D.armings world.old.whole.members
-        world.old.stables disks.old.items }
+    requires backed { IsBacked P.Keep D.Disk world.old disks.old.items }
     ensures stands { L.tells → (volume : Volume) (W : ModelWorld) → WorldStandsFor volume W world.old.whole
         → IfOk result (λ answer. FollowsOn P.Keep D.Disk volume W world.old.whole (Sweeps order) answer world.new.whole
         disks.old.items disks.new.items) }
@@ -76,8 +71,7 @@ fn answer_sweep<D: Disk, P: Keep + Drop, L: Link + Drop>(
         disks.new.items) }
     ensures passes { Passes L.tells P.Keep D.Disk world.old.whole world.new.whole disks.old.items disks.new.items }
     ensures others { OthersStay (length world.old.whole.members) disks.old.items disks.new.items }
-    ensures disks { AreDisksOf D.tells P.kept P.fits D.seen D.may_leave D.armings world.new.whole.members
-        world.new.stables disks.new.items }
+    ensures backed { IsBacked P.Keep D.Disk world.new disks.new.items }
     ensures members { length world.new.whole.members ≡ length world.old.whole.members }
     ensures pairs { length disks.new.items ≡ length disks.old.items }
     ensures grows { foreseen world.new.whole ≤ foreseen world.old.whole + most_swept }

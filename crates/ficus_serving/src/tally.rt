@@ -5,7 +5,7 @@ ghost use Rattle.ficus_script.specs.Command.{IsCommand};
 ghost use Rattle.ficus_serving.specs.Serving.{script_limit, serving_limit};
 ghost use Rattle.ficus_serving.specs.Tally.{Tallies, with_answer};
 ghost use Rattle.ficus_sweep.specs.Follows.{most_swept, sweeping_limit};
-ghost use Rattle.ficus_world.specs.Disks.{AreDisksOf};
+ghost use Rattle.ficus_world.specs.Disks.{IsBacked};
 ghost use Rattle.ficus_world.specs.Follows.{TellsFor};
 ghost use Rattle.ficus_world.specs.World.{WorldStandsFor, foreseen};
 
@@ -48,9 +48,7 @@ pub fn count_all<D: Disk, P: Keep + Drop, L: Link + Drop>(
     requires commands { All IsCommand commands.now }
     requires count { length commands.now ≤ script_limit }
     requires room { length world.old.whole.events < serving_limit }
-    requires pairs { length world.old.whole.members ≤ length disks.old.items }
-    requires disks { AreDisksOf D.tells P.kept P.fits D.seen D.may_leave D.armings world.old.whole.members
-        world.old.stables disks.old.items }
+    requires backed { IsBacked P.Keep D.Disk world.old disks.old.items }
     ensures answers { L.tells → All (TellsFor D.tells) commands.now → IfOk result (λ tally. (volume : Volume)
         (W : ModelWorld) → WorldStandsFor volume W world.old.whole
         → Tallies P.Keep D.Disk volume W world.old.whole commands.now world.new.whole (record { ok = 0; no = 0 }) tally
@@ -74,16 +72,13 @@ fn count_one<D: Disk, P: Keep + Drop, L: Link + Drop>(
     requires command { IsCommand command.now }
     requires few { tally.old.ok + tally.old.no < script_limit }
     requires room { length world.old.whole.events < sweeping_limit }
-    requires pairs { length world.old.whole.members ≤ length disks.old.items }
-    requires disks { AreDisksOf D.tells P.kept P.fits D.seen D.may_leave D.armings world.old.whole.members
-        world.old.stables disks.old.items }
+    requires backed { IsBacked P.Keep D.Disk world.old disks.old.items }
     ensures answer { L.tells → TellsFor D.tells command.now → OnOk result ((volume : Volume) (W : ModelWorld)
         → WorldStandsFor volume W world.old.whole
         → Tallies P.Keep D.Disk volume W world.old.whole (command.now ∷ []) world.new.whole tally.old tally.new
         disks.old.items disks.new.items) }
     ensures more { OnOk result (tally.new.ok + tally.new.no ≡ tally.old.ok + tally.old.no + 1) }
-    ensures disks { AreDisksOf D.tells P.kept P.fits D.seen D.may_leave D.armings world.new.whole.members
-        world.new.stables disks.new.items }
+    ensures backed { IsBacked P.Keep D.Disk world.new disks.new.items }
     ensures members { length world.new.whole.members ≡ length world.old.whole.members }
     ensures pairs { length disks.new.items ≡ length disks.old.items }
     ensures grows { foreseen world.new.whole ≤ foreseen world.old.whole + most_swept }

@@ -1,11 +1,11 @@
 -- What is in force after a commit on one of the disks.
 use Rattle.std.proofs.Common.{◌≡◌, ◌⊎◌, inl, inr, ℕ, ◌+◌, ◌%◌, ◌==◌, ◌<◌, Bool, true, false, Option, Some, None, if◌then◌else◌, List, refl, sym, ◌∙◌, ap, arith}
 use Rattle.std.proofs.lemmas.Bool.Decides.{nat_tests}
-use Rattle.ficus_keep.specs.Kept.{image_alone}
+use Rattle.ficus_keep.specs.Kept.{Kept, generation_of, image_alone}
 use Rattle.ficus_slot.specs.Slot.{Saved, slot_in}
 use Rattle.ficus_slot.specs.Stays.{IsFound, IsOld, Stays}
 use Rattle.ficus_slot.proofs.Written.{open_of}
-use Rattle.ficus_store.specs.Slots.{IsRegular, Stands, greater, kept_in, kept_slot}
+use Rattle.ficus_store.specs.Slots.{IsRegular, Stands, StandsOn, greater, kept_in, kept_slot}
 
 -- the greater generation is in force
 second_wins : (x y : Option Saved) (old new : Saved) → x ≡ Some old → y ≡ Some new → old.generation < new.generation
@@ -72,6 +72,26 @@ pub kept_before_a : (generation : ℕ) (shut : Bool) (a b : List ℕ) (stands : 
     → kept_in a b ≡ Some (image_alone generation stands.body)
 kept_before_a generation shut a b stands =
     ap kept_slot (stays_second (saved_as generation stands.body) (slot_in a) (slot_in b) stands.in_force stands.loses)
+
+-- what a commit is given, by the disk on which the slot in force lies
+pub record Given (on_a : Bool) (generation new : ℕ) (shut : Bool) (a b : List ℕ) : Type 0 where
+  pub stands : StandsOn on_a generation shut a b
+  pub next : new ≡ generation + 1
+
+pub given : (on_a is_on_a : Bool) (generation new : ℕ) (shut : Bool) (a b : List ℕ) → on_a ≡ is_on_a
+    → StandsOn on_a generation shut a b
+    → ((before : Kept) → kept_in a b ≡ Some before → new ≡ generation_of before + 1)
+    → Given is_on_a generation new shut a b
+given true true generation new shut a b is stands next = record {
+  stands = stands;
+  next = next_of generation new (next (image_alone generation stands.body) (kept_before_b generation shut a b stands));
+}
+given false false generation new shut a b is stands next = record {
+  stands = stands;
+  next = next_of generation new (next (image_alone generation stands.body) (kept_before_a generation shut a b stands));
+}
+given true false generation new shut a b is stands next = absurd (cc)
+given false true generation new shut a b is stands next = absurd (cc)
 
 module _ (generation new : ℕ) (shut : Bool) (a b body : List ℕ) (next : new ≡ generation + 1) where
   -- the slot in force lies on a, and b is written

@@ -1,16 +1,16 @@
-ghost use Rattle.std.specs.Prelude.{◌≡◌, ℕ, ◌+◌, ◌≤◌, All, IfOk, length};
+ghost use Rattle.std.specs.Prelude.{◌≡◌, ℕ, ◌≤◌, All, IfOk, length};
 ghost use Rattle.ficus_generator.specs.Lines.{StopsNothing};
 ghost use Rattle.ficus_ids.specs.Members.{IsCount, IsMember};
 ghost use Rattle.ficus_runs.specs.Fuses.{FuseState};
 ghost use Rattle.ficus_runs.specs.Start.{default_volume};
 ghost use Rattle.ficus_script.specs.Command.{IsCommand};
 ghost use Rattle.ficus_serving.specs.Serving.{script_limit};
-ghost use Rattle.ficus_summary.specs.Keeper.{Fits, keeper, kept_in};
+ghost use Rattle.ficus_summary.specs.Keeper.{keeper};
 ghost use Rattle.ficus_summary.specs.Running.{CountedAs, HoldingsIn};
-ghost use Rattle.ficus_summary.specs.Summary.{ComesTo, fresh_start};
-ghost use Rattle.ficus_world.specs.Disks.{AreDisksOf};
+ghost use Rattle.ficus_summary.specs.Summary.{fresh_start};
+ghost use Rattle.ficus_world.specs.Disks.{IsBacked};
 ghost use Rattle.ficus_world.specs.Fuses.{FusesStand, at_rest};
-ghost use Rattle.ficus_world.specs.World.{IsUpIn, Whole, WorldStandsFor};
+ghost use Rattle.ficus_world.specs.World.{IsUpIn, WorldStandsFor};
 
 use crate::counts::Counts;
 use crate::keeper::Keeper;
@@ -41,8 +41,7 @@ pub(crate) fn run<D: Disk>(
     requires pairs { length disks.old.items ≡ 8 }
     requires stands { WorldStandsFor (default_volume members) (fresh_start members) world.old.whole }
     requires unfailed { world.old.whole.post.faults ≡ 0 }
-    requires disks { AreDisksOf D.tells kept_in Fits D.seen D.may_leave D.armings world.old.whole.members
-        world.old.stables disks.old.items }
+    requires backed { IsBacked keeper D.Disk world.old disks.old.items }
     requires fuses { (F : ℕ → FuseState) → ((r : ℕ) → F r ≡ at_rest 0)
         → FusesStand keeper D.Disk F world.old.whole.members disks.old.items }
     ensures counted { IfOk result (λ counts. CountedAs members commands.now counts world.new.whole) }

@@ -3,9 +3,9 @@ ghost use Rattle.ficus_ids.specs.Members.{IsCount};
 ghost use Rattle.ficus_runs.specs.Fuses.{FuseState};
 ghost use Rattle.ficus_runs.specs.Start.{start};
 ghost use Rattle.ficus_saved.specs.Limits.{byte_limit, update_limit};
-ghost use Rattle.ficus_summary.specs.Keeper.{Fits, IsRegular, keeper, kept_in};
+ghost use Rattle.ficus_summary.specs.Keeper.{IsRegular, keeper, kept_in};
 ghost use Rattle.ficus_summary.specs.Sized.{sized};
-ghost use Rattle.ficus_world.specs.Disks.{AreDisksOf};
+ghost use Rattle.ficus_world.specs.Disks.{IsBacked};
 ghost use Rattle.ficus_world.specs.Fuses.{AreRegular, AreUnarmed, FusesStand, at_rest};
 ghost use Rattle.ficus_world.specs.Opening.{AreEmpty, AreMade, Steady, fuses_in};
 ghost use Rattle.ficus_world.specs.World.{WorldStandsFor};
@@ -39,8 +39,7 @@ pub fn fresh_world<D: Disk>(
     ensures stands { IfOk result (λ world. WorldStandsFor (sized members ids bytes)
         (start [] members total (take members (fuses_in D.armings disks.old.items))) world.whole) }
     ensures unfailed { IfOk result (λ world. world.whole.post.faults ≡ 0) }
-    ensures disks { IfOk result (λ world. AreDisksOf D.tells kept_in Fits D.seen D.may_leave D.armings
-        world.whole.members world.stables disks.new.items) }
+    ensures backed { IfOk result (λ world. IsBacked keeper D.Disk world disks.new.items) }
     ensures fuses { IfOk result (λ world. (F : ℕ → FuseState) → ((r : ℕ) → F r ≡ at_rest 0)
         → FusesStand keeper D.Disk F world.whole.members disks.new.items) }
     ensures pairs { length disks.new.items ≡ 8 }
@@ -99,8 +98,7 @@ fn open<D: Disk>(
     ensures stands { IfOk result (λ world. WorldStandsFor (sized members ids bytes)
         (start [] members total (take members (fuses_in D.armings disks.old.items))) world.whole) }
     ensures unfailed { IfOk result (λ world. world.whole.post.faults ≡ 0) }
-    ensures disks { IfOk result (λ world. AreDisksOf D.tells kept_in Fits D.seen D.may_leave D.armings
-        world.whole.members world.stables disks.new.items) }
+    ensures backed { IfOk result (λ world. IsBacked keeper D.Disk world disks.new.items) }
     ensures fuses { IfOk result (λ world. (F : ℕ → FuseState) → ((r : ℕ) → F r ≡ at_rest 0)
         → FusesStand keeper D.Disk F world.whole.members disks.new.items) }
     ensures pairs { length disks.new.items ≡ 8 }

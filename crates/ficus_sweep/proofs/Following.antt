@@ -77,8 +77,8 @@ pub tells_for : (tells : Type 0) (step : SweepStep) (command : Command) → comm
 tells_for tells step command same = subst (TellsFor tells) (sym same) (go step)
   where
     go : (step : SweepStep) → TellsFor tells (command_of step)
-    go (Pulling by to) = tt
-    go (Collecting by) = tt
+    go (Pulling by to) = λ none. absurd none
+    go (Collecting by) = λ none. absurd none
 
 nothing_swept : (volume : Volume) (steps : List SweepStep) (W : ModelWorld) → SweepsPart volume steps W (unchanged W)
 nothing_swept volume [] W = refl

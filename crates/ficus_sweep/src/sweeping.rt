@@ -4,7 +4,7 @@ ghost use Rattle.ficus_runs.specs.ModelWorld.{ModelWorld};
 ghost use Rattle.ficus_runs.specs.Sweep.{SweepStep, command_of, sweep_steps};
 ghost use Rattle.ficus_script.specs.Command.{IsCommand};
 ghost use Rattle.ficus_sweep.specs.Follows.{CountsFew, FollowsStep, FollowsSweep, GivesUpFew, IsSweepCommand, LeavesSwept, ReportsSo, most_steps, most_swept, swept_of, sweeping_limit};
-ghost use Rattle.ficus_world.specs.Disks.{AreDisksOf};
+ghost use Rattle.ficus_world.specs.Disks.{IsBacked};
 ghost use Rattle.ficus_world.specs.Kills.{OthersStay, Passes};
 ghost use Rattle.ficus_world.specs.World.{WorldStandsFor, event_limit, foreseen, most_unforeseen};
 
@@ -27,9 +27,7 @@ pub fn sweep<D: Disk, K: Keep + Drop, L: Link + Drop>(
     order: Order,
 ) -> Result<SweepReport, SweepFault>
     requires room { length world.old.whole.events < sweeping_limit }
-    requires pairs { length world.old.whole.members ≤ length disks.old.items }
-    requires disks { AreDisksOf D.tells K.kept K.fits D.seen D.may_leave D.armings world.old.whole.members
-        world.old.stables disks.old.items }
+    requires backed { IsBacked K.Keep D.Disk world.old disks.old.items }
     // Whatever the world stood for before, over a link that tells its posts: the model sweeps so, and the world stands
     // for what that leads to.
     ensures follows { L.tells → (volume : Volume) (W : ModelWorld) → WorldStandsFor volume W world.old.whole
@@ -42,8 +40,7 @@ pub fn sweep<D: Disk, K: Keep + Drop, L: Link + Drop>(
     // At each moment of it the disks are as before, or one member saves: link by link, a link for each message.
     ensures passes { Passes L.tells K.Keep D.Disk world.old.whole world.new.whole disks.old.items disks.new.items }
     ensures others { OthersStay (length world.old.whole.members) disks.old.items disks.new.items }
-    ensures disks { AreDisksOf D.tells K.kept K.fits D.seen D.may_leave D.armings world.new.whole.members
-        world.new.stables disks.new.items }
+    ensures backed { IsBacked K.Keep D.Disk world.new disks.new.items }
     ensures members { length world.new.whole.members ≡ length world.old.whole.members }
     ensures pairs { length disks.new.items ≡ length disks.old.items }
     ensures grows { foreseen world.new.whole ≤ foreseen world.old.whole + most_swept }
@@ -64,17 +61,14 @@ fn take_steps<D: Disk, K: Keep + Drop, L: Link + Drop>(
     requires each { All IsSweepCommand steps.now }
     requires count { length steps.now ≤ most_steps }
     requires room { length world.old.whole.events < sweeping_limit }
-    requires pairs { length world.old.whole.members ≤ length disks.old.items }
-    requires disks { AreDisksOf D.tells K.kept K.fits D.seen D.may_leave D.armings world.old.whole.members
-        world.old.stables disks.old.items }
+    requires backed { IsBacked K.Keep D.Disk world.old disks.old.items }
     ensures follows { L.tells → (some : List SweepStep) → steps.now ≡ map command_of some → (volume : Volume)
         (W : ModelWorld) → WorldStandsFor volume W world.old.whole
         → FollowsSweep K.Keep D.Disk volume W world.old.whole some result world.new.whole disks.old.items
         disks.new.items }
     ensures passes { Passes L.tells K.Keep D.Disk world.old.whole world.new.whole disks.old.items disks.new.items }
     ensures others { OthersStay (length world.old.whole.members) disks.old.items disks.new.items }
-    ensures disks { AreDisksOf D.tells K.kept K.fits D.seen D.may_leave D.armings world.new.whole.members
-        world.new.stables disks.new.items }
+    ensures backed { IsBacked K.Keep D.Disk world.new disks.new.items }
     ensures members { length world.new.whole.members ≡ length world.old.whole.members }
     ensures pairs { length disks.new.items ≡ length disks.old.items }
     ensures grows { foreseen world.new.whole ≤ foreseen world.old.whole + most_swept }
@@ -103,9 +97,7 @@ fn take_step<D: Disk, K: Keep + Drop, L: Link + Drop>(
     requires step { IsSweepCommand step.now }
     requires few { CountsFew most_steps report }
     requires room { length world.old.whole.events < event_limit }
-    requires pairs { length world.old.whole.members ≤ length disks.old.items }
-    requires disks { AreDisksOf D.tells K.kept K.fits D.seen D.may_leave D.armings world.old.whole.members
-        world.old.stables disks.old.items }
+    requires backed { IsBacked K.Keep D.Disk world.old disks.old.items }
     ensures follows { L.tells → (sweep_step : SweepStep) → step.now ≡ command_of sweep_step → (volume : Volume)
         (W : ModelWorld) → WorldStandsFor volume W world.old.whole
         → FollowsStep K.Keep D.Disk volume W world.old.whole sweep_step (swept_of report) result world.new.whole
@@ -113,8 +105,7 @@ fn take_step<D: Disk, K: Keep + Drop, L: Link + Drop>(
     ensures few { (count : ℕ) → CountsFew count report → IfOk result (CountsFew (count + 1)) }
     ensures passes { Passes L.tells K.Keep D.Disk world.old.whole world.new.whole disks.old.items disks.new.items }
     ensures others { OthersStay (length world.old.whole.members) disks.old.items disks.new.items }
-    ensures disks { AreDisksOf D.tells K.kept K.fits D.seen D.may_leave D.armings world.new.whole.members
-        world.new.stables disks.new.items }
+    ensures backed { IsBacked K.Keep D.Disk world.new disks.new.items }
     ensures members { length world.new.whole.members ≡ length world.old.whole.members }
     ensures pairs { length disks.new.items ≡ length disks.old.items }
     ensures grows { foreseen world.new.whole ≤ foreseen world.old.whole + most_unforeseen }

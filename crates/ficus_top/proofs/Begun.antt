@@ -23,7 +23,8 @@ use Rattle.ficus_world.specs.Fuses.{at_rest}
 use Rattle.ficus_script.specs.declared.volume_line.VolumeLine.{VolumeLine}
 use Rattle.ficus_graft.specs.Answered.{AreAnswered, Sent}
 use Rattle.ficus_graft.specs.Answered.AreAnswered.{None}
-use Rattle.ficus_graft.specs.Runs.{AnswersFront, AnswersLines, Disks, EachRuns, HaveRoom, IsHeld, IsNextCut}
+use Rattle.ficus_world.specs.Disks.{IsBacked}
+use Rattle.ficus_graft.specs.Runs.{AnswersFront, AnswersLines, Disks, EachRuns, HaveRoom, IsNextCut}
 use Rattle.ficus_graft.specs.Serving.{Told}
 use Rattle.ficus_top.specs.Fresh.{AnswersFresh, AnswersFreshFront, AreFresh, AreUnfailed, IsFresh, RunsFresh, begun}
 
@@ -44,7 +45,7 @@ few_events volume world count stands =
 module _ (volume : Volume) (worlds : List (Backed Keeper)) (disks : Disks MemDisk) (world : Backed Keeper)
     (pairs : Vec (Pair MemDisk) Global) where
   -- one volume more
-  pub fresh_more : IsHeld keeper MemDiskDisk.TheImpl.ghosts world (vec_items pairs)
+  pub fresh_more : IsBacked keeper MemDiskDisk.TheImpl.ghosts world (vec_items pairs)
       → IsFresh volume world (vec_items pairs) → AreFresh volume worlds disks
       → AreFresh volume (worlds ++ world ∷ []) (disks ++ pairs ∷ [])
   fresh_more held fresh are = record {
@@ -59,9 +60,9 @@ module _ (volume : Volume) (worlds : List (Backed Keeper)) (disks : Disks MemDis
             | inr last ↦ elim (number_cases disks pairs of) [
               | inl before ↦ absurd (omega (arith, last.0, before.member.at_most, are.held.count))
               | inr too ↦
-                  subst (λ (w : Backed Keeper). IsHeld keeper MemDiskDisk.TheImpl.ghosts w
+                  subst (λ (w : Backed Keeper). IsBacked keeper MemDiskDisk.TheImpl.ghosts w
                   (vec_items own_pairs)) (sym last.1)
-                  (subst (λ (p : Vec (Pair MemDisk) Global). IsHeld keeper
+                  (subst (λ (p : Vec (Pair MemDisk) Global). IsBacked keeper
                   MemDiskDisk.TheImpl.ghosts world (vec_items p)) (sym too.1) held)
             ]
           ];

@@ -6,7 +6,7 @@ ghost use Rattle.ficus_runs.specs.ModelWorld.{ModelWorld};
 ghost use Rattle.ficus_runs.specs.Start.{start};
 ghost use Rattle.ficus_saved.specs.declared.saved.Saved.{Saved as SavedValue};
 ghost use Rattle.ficus_script.specs.Command.{IsCommand};
-ghost use Rattle.ficus_summary.specs.Keeper.{Fits, keeper, kept_in};
+ghost use Rattle.ficus_summary.specs.Keeper.{keeper, kept_in};
 ghost use Rattle.ficus_top.specs.Ending.{IsAnswering, IsIdle, IsInterruption, IsOfRunning, IsUntouched, TakesAsEnded};
 ghost use Rattle.ficus_top.specs.Ends.{AllUp, Ends, EndsFront, StandNow};
 ghost use Rattle.ficus_top.specs.Killed.{EndsFrontKilled, EndsFrontOn, EndsKilled, EndsOn, KilledAnswers, KilledAnswersFront};
@@ -14,7 +14,7 @@ ghost use Rattle.ficus_top.specs.Headline.{Answers, AnswersFront, AreFusesAtRest
 ghost use Rattle.ficus_top.specs.Making.{FitsSize, volume_of};
 ghost use Rattle.ficus_serving.specs.Serving.{script_limit};
 ghost use Rattle.ficus_serving.specs.Serving.{serving_limit};
-ghost use Rattle.ficus_world.specs.Disks.{AreDisksOf};
+ghost use Rattle.ficus_world.specs.Disks.{IsBacked};
 ghost use Rattle.ficus_world.specs.Kills.{AllRest, OthersRest, OthersStay};
 ghost use Rattle.ficus_world.specs.World.{WorldStandsFor};
 ghost use Rattle.ficus_world.specs.Fuses.{AreUnarmed};
@@ -248,9 +248,7 @@ fn answer_on<K: Sink, D: Disk>(
     requires commands { All IsCommand commands.now }
     requires count { length commands.now ≤ script_limit }
     requires room { length world.old.whole.events < serving_limit }
-    requires pairs { length world.old.whole.members ≤ length disks.old.items }
-    requires disks { AreDisksOf D.tells kept_in Fits D.seen D.may_leave D.armings
-        world.old.whole.members world.old.stables disks.old.items }
+    requires backed { IsBacked keeper D.Disk world.old disks.old.items }
     requires unfailed { world.old.whole.post.faults ≡ 0 }
     ensures answers { D.tells → OnOk result ((volume : Volume) (W : ModelWorld)
         → WorldStandsFor volume W world.old.whole

@@ -1,13 +1,11 @@
-ghost use Rattle.std.specs.Prelude.{◌≡◌, ◌⊎◌, ◌+◌, ◌<◌, ◌≤◌, ◌∷◌, [], ◌++◌, List, length, All, OnOk, OnErr, IfErr, IsErrOf};
+ghost use Rattle.std.specs.Prelude.{◌≡◌, ◌⊎◌, ◌+◌, ◌<◌, ◌≤◌, length, All};
 ghost use Rattle.ficus_model.specs.Lawful.{Volume};
 ghost use Rattle.ficus_faults.specs.Faults.{Rose};
 ghost use Rattle.ficus_runs.specs.ModelWorld.{ModelWorld};
-ghost use Rattle.ficus_script.specs.Answer.{answer_text_of};
 ghost use Rattle.ficus_script.specs.Command.{IsCommand};
-ghost use Rattle.ficus_serving.specs.Puts.{PutsFront};
 ghost use Rattle.ficus_serving.specs.Serving.{serving_limit, ServesWorld, ServesWorldFront};
 ghost use Rattle.ficus_serving.specs.Serving.{script_limit};
-ghost use Rattle.ficus_world.specs.Disks.{AreDisksOf};
+ghost use Rattle.ficus_world.specs.Disks.{IsBacked};
 ghost use Rattle.ficus_world.specs.Follows.{TellsFor};
 ghost use Rattle.ficus_world.specs.World.{WorldStandsFor};
 
@@ -34,9 +32,7 @@ pub fn serve<K: Sink, D: Disk, P: Keep + Drop, L: Link + Drop>(
     requires commands { All IsCommand commands.now }
     requires count { length commands.now ≤ script_limit }
     requires room { length world.old.whole.events < serving_limit }
-    requires pairs { length world.old.whole.members ≤ length disks.old.items }
-    requires disks { AreDisksOf D.tells P.kept P.fits D.seen D.may_leave D.armings world.old.whole.members
-        world.old.stables disks.old.items }
+    requires backed { IsBacked P.Keep D.Disk world.old disks.old.items }
     ensures codes { (result.code ≡ 0) ⊎ (result.code ≡ 3) ⊎ (result.code ≡ 5) }
 
     // Whatever the world stood for before, over a link that tells its posts, and for restarts over disks that tell what
@@ -51,8 +47,7 @@ pub fn serve<K: Sink, D: Disk, P: Keep + Drop, L: Link + Drop>(
         → (volume : Volume) (W : ModelWorld) → WorldStandsFor volume W world.old.whole
         → ServesWorldFront K.tells (result.code ≡ 3) P.Keep D.Disk volume W world.old.whole commands.now
         world.new.whole (K.written output.old) (K.written output.new) disks.old.items disks.new.items }
-    ensures disks { AreDisksOf D.tells P.kept P.fits D.seen D.may_leave D.armings world.new.whole.members
-        world.new.stables disks.new.items }
+    ensures backed { IsBacked P.Keep D.Disk world.new disks.new.items }
     ensures members { length world.new.whole.members ≡ length world.old.whole.members }
     ensures pairs { length disks.new.items ≡ length disks.old.items }
 

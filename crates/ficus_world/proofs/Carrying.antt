@@ -1,6 +1,5 @@
 -- What is carried out on a world and its disks, one action after the other.
-use Rattle.std.proofs.Common.{◌≡◌, ◌≢◌, ◌⊎◌, ℕ, ◌+◌, ◌-◌, ◌≤◌, List, [], ◌∷◌, ◌++◌, length, Result, Ok, Err, Some, Option, refl, sym, ap, ap₂, subst, ◌∙◌, inl, inr, arith}
-use Rattle.std.proofs.lemmas.List.{length-set, length_push}
+use Rattle.std.proofs.Common.{◌≡◌, ◌≢◌, ℕ, ◌+◌, ◌-◌, List, [], ◌∷◌, ◌++◌, Result, Ok, Err, Option, refl, sym, ap, ap₂, subst, ◌∙◌}
 use Rattle.ficus_model.specs.declared.event.Event.{Event}
 use Rattle.ficus_replica.specs.declared.replica.Replica.{Replica}
 use Rattle.std.specs.Prelude.{IsErrOf}
@@ -19,9 +18,11 @@ use Rattle.ficus_runs.specs.Sequence.{Effect, First, joined, unchanged}
 use Rattle.ficus_runs.specs.Sequence.First.{Ends, Goes}
 use Rattle.ficus_world.specs.declared.member.Member.{Member}
 use Rattle.ficus_world.specs.declared.member.Pending.{Pending}
+use Rattle.ficus_runs.specs.Numbered.{IsNumbered}
+use Rattle.ficus_world.specs.Acts.{SavesNext}
 use Rattle.ficus_world.specs.Disks.{Carried, CarriedOn, DisksComeTo, DisksFollow, StaysOn}
 use Rattle.ficus_world.specs.Fuses.{FusesFollow, FusesStand, keeping_of}
-use Rattle.ficus_world.specs.Moves.{CarriesOut, TablesMayWantMemory, WholeAction, advanced, downed, not_saved, saved}
+use Rattle.ficus_world.specs.Moves.{CarriesOut, TablesMayWantMemory, WholeAction, advanced, not_saved, saved}
 use Rattle.ficus_world.specs.Stepped.{ComesTo}
 use Rattle.ficus_world.specs.World.{Backed, Whole}
 use Rattle.ficus_world.proofs.Disks.{count_append, follows_alike, follows_none, follows_then}
@@ -213,63 +214,26 @@ module _ {K D : Type 0} {keep : Keep K} {disk : Disk D} where
   -- A save that isn't done: the member is down, and the event is pending; or memory was refused.
   module _ {A : Type 0} (action : WholeAction A) (old new : Whole) (by : ℕ)
       (was : Member) (next : Pending) (x y : List (Pair D)) where
-    pub save_refused : (r : Refusal) → (r ≡ refusal.Store) ⊎ (r ≡ refusal.Memory)
-        → (IsErrOf {T = Unit {0}} (Err r) refusal.Store → new ≡ downed old by was (Some next))
-        → (IsErrOf {T = Unit {0}} (Err r) refusal.Store
-        → DisksComeTo keep disk (SaveFails by ∷ []) old.members new.members x y)
+    pub save_refused : (r : Refusal) → IsNumbered old.members by was
+        → SavesNext keep disk by next (Err r) old new x y
         → (IsErrOf {T = Unit {0}} (Err r) refusal.Memory → StaysOn disk.faults disk.armings old new x y)
         → action old (Err refusal.Store) (not_saved old by was next)
         → CarriedOn keep disk action (Err r) old new x y
-    save_refused refusal.Store cases failed counted memory does = record {
+    save_refused refusal.Store is saves memory does = record {
       outcomes = SaveFails by ∷ [];
       does = subst
           (λ (w : Whole). action old (Err refusal.Store) (record { outcomes = SaveFails by ∷ []; after = w }))
-          (sym (failed refl)) does;
-      disks = (counted refl).disks;
-      fuses = (counted refl).fuses;
+          (sym (saves.0 was is)) does;
+      disks = saves.1.disks;
+      fuses = saves.1.fuses;
     }
-    save_refused refusal.Memory cases failed counted memory does = record {
+    save_refused refusal.Memory is saves memory does = record {
       outcomes = [];
       does = tt;
       disks = (memory refl).disks;
       fuses = tt;
     }
-    save_refused r (inl e) failed counted memory does = absurd (cc)
-    save_refused r (inr e) failed counted memory does = absurd (cc)
-
--- a member in place of another, or one more event: as many members, and at most one event more
-pub advanced_members : (old new : Whole) (by : ℕ) (was : Member) (replica : Replica) (event : Event)
-    → new ≡ advanced old by was replica event → length new.members ≡ length old.members
-advanced_members old new by was replica event is =
-    ap (λ (w : Whole). length w.members) is ∙ length-set old.members (by - 1) _
-
-pub advanced_events : (old new : Whole) (by : ℕ) (was : Member) (replica : Replica) (event : Event)
-    → new ≡ advanced old by was replica event → length new.events ≤ length old.events + 1
-advanced_events old new by was replica event is =
-    let grown = ap (λ (w : Whole). length w.events) is ∙ length_push old.events event in omega (arith, grown)
-
-module _ {D : Type 0} {faults : D → ℕ} {armings : D → Option ℕ} (old new : Whole) (by : ℕ) (was : Member)
-    (next : Pending) (x y : List (Pair D)) where
-  pub refused_members : (r : Refusal) → (r ≡ refusal.Store) ⊎ (r ≡ refusal.Memory)
-      → (IsErrOf {T = Unit {0}} (Err r) refusal.Store → new ≡ downed old by was (Some next))
-      → (IsErrOf {T = Unit {0}} (Err r) refusal.Memory → StaysOn faults armings old new x y)
-      → length new.members ≡ length old.members
-  refused_members refusal.Store cases failed memory =
-      ap (λ (w : Whole). length w.members) (failed refl) ∙ length-set old.members (by - 1) _
-  refused_members refusal.Memory cases failed memory = ap (λ (w : Whole). length w.members) (memory refl).same
-  refused_members r (inl e) failed memory = absurd (cc)
-  refused_members r (inr e) failed memory = absurd (cc)
-
-  pub refused_events : (r : Refusal) → (r ≡ refusal.Store) ⊎ (r ≡ refusal.Memory)
-      → (IsErrOf {T = Unit {0}} (Err r) refusal.Store → new ≡ downed old by was (Some next))
-      → (IsErrOf {T = Unit {0}} (Err r) refusal.Memory → StaysOn faults armings old new x y)
-      → length new.events ≤ length old.events + 1
-  refused_events refusal.Store cases failed memory =
-      let same = ap (λ (w : Whole). length w.events) (failed refl) in omega (arith, same)
-  refused_events refusal.Memory cases failed memory =
-      let same = ap (λ (w : Whole). length w.events) (memory refl).same in omega (arith, same)
-  refused_events r (inl e) failed memory = absurd (cc)
-  refused_events r (inr e) failed memory = absurd (cc)
+    save_refused r is saves memory does = absurd saves
 
 -- an action whose save is done
 pub carried_saved : {A K D : Type 0} {keep : Keep K} {disk : Disk D} (action : WholeAction A) (given : A)

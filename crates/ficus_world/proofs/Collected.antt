@@ -11,7 +11,6 @@ use Rattle.ficus_file.specs.declared.file.FileReplica.{FileReplica}
 use Rattle.ficus_ids.specs.Members.{IsMember}
 use Rattle.ficus_ids.specs.declared.refusal.Refusal.{Refusal}
 use Rattle.ficus_ids.specs.declared.refusal.Refusal.TheVariants as refusal
-use Rattle.ficus_keep.specs.Kept.{Kept}
 use Rattle.ficus_keep.specs.declared.keep.Keep.{Ghosts as Keep}
 use Rattle.ficus_model.specs.declared.event.Event.{Event}
 use Rattle.ficus_model.specs.declared.event.Event.TheVariants.{Take}
@@ -35,7 +34,9 @@ use Rattle.ficus_world.specs.declared.member.MemberState.TheVariants.{Up}
 use Rattle.ficus_world.specs.declared.post.Behind.{Behind}
 use Rattle.ficus_world.specs.declared.taking.Fitting.{Fitting}
 use Rattle.ficus_world.specs.declared.taking.Fitting.TheVariants as fitting
-use Rattle.ficus_world.specs.Disks.{AreDisksOf, CarriedOn, IsPairOf}
+use Rattle.ficus_world.specs.Acts.{Acts}
+use Rattle.ficus_world.specs.Kills.Touches.{TouchesNone}
+use Rattle.ficus_world.specs.Disks.{AreDisksOf, CarriedOn, IsBacked, IsPairOf}
 use Rattle.ficus_world.specs.Fuses.{FuseStands, FusesFollow, FusesStand}
 use Rattle.ficus_world.specs.Moves.{FindsTaker, IsPlaced, IsWaiting, TakesFitting, TakesPiece, TakesSpelled, TakesTables, collected, parts_held}
 use Rattle.ficus_world.specs.Moves.FindsTaker.{AnswersNone, FindsIt, OfAnotherState, OfOtherPieces, TakerDown}
@@ -43,7 +44,7 @@ use Rattle.ficus_world.specs.Moves.TakesFitting.{IsHeld, IsOneMore, IsTheLast}
 use Rattle.ficus_world.specs.Moves.TakesSpelled.{SpellsNone, SpellsTables}
 use Rattle.ficus_world.specs.Moves.TakesTables.{Refuses}
 use Rattle.ficus_world.specs.Post.{Outbox}
-use Rattle.ficus_world.specs.World.{IsSoundMember, IsUpIn, IsWorld, Whole, whole_of}
+use Rattle.ficus_world.specs.World.{IsSoundMember, IsUpIn, IsWorld, Whole, backed_by, whole_of}
 use Rattle.ficus_world.proofs.Carrying.{carried_none, carried_then, or_refused}
 use Rattle.ficus_world.proofs.Disks.{follows_none}
 use Rattle.ficus_world.proofs.Placing.{joined_one}
@@ -61,22 +62,19 @@ module _ (members : List Member) (by : ℕ) (was : Member) (is : IsNumbered memb
       → ((r ≡ by) × (member ≡ now)) ⊎ ((by ≢ r) × IsNumbered members r member)
   which r member at = replaced members by r now member is.member.at_least at
 
-  module _ {K D : Type 0} (tells : Type 0) (kept : List ℕ → List ℕ → Option Kept)
-      (fits : K → List ℕ → List ℕ → Type 0) (seen : D → List ℕ) (may_leave : D → List ℕ → Type 0)
-      (armings : D → Option ℕ) (stables : List (Stable K)) (disks : List (Pair D)) where
-    pub holding_disks : AreDisksOf tells kept fits seen may_leave armings members stables disks
-        → AreDisksOf tells kept fits seen may_leave armings holding stables disks
+  module _ {K D : Type 0} (keep : Keep K) (disk : Disk D) (stables : List (Stable K)) (disks : List (Pair D)) where
+    pub holding_disks : AreDisksOf keep disk members stables disks → AreDisksOf keep disk holding stables disks
     holding_disks are = record {
       each = λ r member stable pair at at_stable at_pair. go r member stable pair at_stable at_pair (which r member at);
     }
       where
         go : (r : ℕ) (member : Member) (stable : Stable K) (pair : Pair D) → IsNumbered stables r stable
             → IsNumbered disks r pair → ((r ≡ by) × (member ≡ now)) ⊎ ((by ≢ r) × IsNumbered members r member)
-            → IsPairOf tells kept fits seen may_leave armings member stable pair
+            → IsPairOf keep disk member stable pair
         go r member stable pair at_stable at_pair (inr (differs, stays)) = are.each r member stable pair stays at_stable at_pair
         go r member stable pair at_stable at_pair (inl (here, swapped)) =
             let of = are.each r was stable pair (subst (λ n. IsNumbered members n was) (sym here) is) at_stable at_pair in
-            subst (λ (m : Member). IsPairOf tells kept fits seen may_leave armings m stable pair) (sym swapped)
+            subst (λ (m : Member). IsPairOf keep disk m stable pair) (sym swapped)
             (record { fused = of.fused; holds = of.holds })
 
   module _ {K D : Type 0} (keep : Keep K) (disk : Disk D) (disks : List (Pair D)) where
@@ -121,7 +119,7 @@ collected_inside members events post by was parts event after stored world is no
     (subst (λ (list : List Event). IsWorld (whole_of (collected whole by was parts event).members list post))
     (sym stored_is) (collected_world whole by was parts event world is))
 
-pub collected_events : (old new : Whole) (by : ℕ) (was : Member) (parts : HeldParts) (event : Event)
+collected_events : (old new : Whole) (by : ℕ) (was : Member) (parts : HeldParts) (event : Event)
     → new ≡ collected old by was parts event → length new.events ≤ length old.events + 1
 collected_events old new by was parts event is =
     let grown = ap (λ (w : Whole). length w.events) is ∙ length_push old.events event in omega (arith, grown)
@@ -130,6 +128,27 @@ pub collected_members : (old new : Whole) (by : ℕ) (was : Member) (parts : Hel
     → new ≡ collected old by was parts event → length new.members ≡ length old.members
 collected_members old new by was parts event is =
     ap (λ (w : Whole). length w.members) is ∙ length-set old.members (by - 1) _
+
+-- so it is one action
+pub piece_acts : {K D A : Type 0} {keep : Keep K} {disk : Disk D} {given : A} {old new : Whole}
+    {stables : List (Stable K)} {x : List (Pair D)} (by : ℕ) {was : Member} (parts : HeldParts) (event : Event)
+    → IsNumbered old.members by was → new ≡ collected old by was parts event
+    → IsBacked keep disk (backed_by old stables) x
+    → Acts keep disk 1 (Ok given) (backed_by old stables) (backed_by new stables) x x
+piece_acts {keep = keep} {disk = disk} {old = old} {new = new} {stables = stables} {x = x} by {was} parts event is same backed =
+    let members = collected_members old new by was parts event same in
+    record {
+      grows = collected_events old new by was parts event same;
+      members = members;
+      stables = refl;
+      memory = λ e. absurd (cc);
+      touches = TouchesNone;
+      backed = record {
+        pairs = omega (arith, members, backed.pairs);
+        disks = subst (λ (w : Whole). AreDisksOf keep disk w.members stables x) (sym same)
+            (holding_disks old.members by was is (Some parts) keep disk stables x backed.disks);
+      };
+    }
 
 -- what is found of who takes a piece that came, and what the piece is to what it holds
 abbrev pub FitsAt : Delivery → PieceHead → Whole → Fitting → Type 0

@@ -14,7 +14,7 @@ use Rattle.ficus_runs.specs.Outcome.{Outcome}
 use Rattle.ficus_runs.specs.Sequence.{Effect}
 use Rattle.ficus_runs.specs.Sequence.First.{Ends, Goes}
 use Rattle.ficus_world.specs.declared.member.Member.{Member}
-use Rattle.ficus_world.specs.Moves.{CarriesOut, HasCollected, KeepsCollection, Moves}
+use Rattle.ficus_world.specs.Moves.{CarriesOut, HasCollected, HasNoGarbage, KeepsCollection, Moves}
 use Rattle.ficus_world.specs.Moves.FindsUp.{FindsAt, FindsNoneAt, FindsDown}
 use Rattle.ficus_world.specs.Moves.KeepsCollection.{Collects, CollectsNot}
 use Rattle.ficus_world.specs.World.{Whole}
@@ -24,7 +24,7 @@ use Rattle.ficus_run_laws.proofs.Replaced.{replaced}
 keeps_no_garbage : (old : Whole) (by entries files : ℕ) (was : Member) → IsNumbered old.members by was
     → (result : Result Answer Refusal) (left : Effect Whole) → KeepsCollection by was old result left
     → answer.Collected entries files ≡ answer_as result
-    → HasCollected (command.Collect by) (answer.Collected entries files) left.after
+    → HasNoGarbage by left.after
 keeps_no_garbage old by entries files was is result left (Collects {given = given} gives) same = λ replica held.
     elim (replaced old.members by by _ held.member is.member.at_least held.is) [
       | inl (here, swapped) ↦
@@ -37,7 +37,7 @@ keeps_no_garbage old by entries files was is result left (CollectsNot gives) sam
 holds_no_garbage : (tells disks_tell : Type 0) (old : Whole) (by entries files : ℕ) (result : Result Answer Refusal)
     (left : Effect Whole) → CarriesOut tells disks_tell (command.Collect by) old result left
     → answer.Collected entries files ≡ answer_as result
-    → HasCollected (command.Collect by) (answer.Collected entries files) left.after
+    → HasNoGarbage by left.after
 holds_no_garbage tells disks_tell old by entries files result left (Ends (FindsNoneAt none)) same = absurd (cc)
 holds_no_garbage tells disks_tell old by entries files result left (Ends (FindsDown is down)) same = absurd (cc)
 holds_no_garbage tells disks_tell old by entries files result left
@@ -45,10 +45,11 @@ holds_no_garbage tells disks_tell old by entries files result left
     keeps_no_garbage old by entries files was is result behind keeps same
 
 -- a member that has collected holds no garbage
-pub moves_collected : (tells disks_tell : Type 0) (old : Whole) (command : Command) (outcomes : List Outcome)
-    (answer : Answer) (new : Whole) → Moves tells disks_tell old command outcomes answer new
-    → HasCollected command answer new
-moves_collected tells disks_tell old (command.Collect by) outcomes (answer.Collected entries files) new moves =
-    holds_no_garbage tells disks_tell old by entries files moves.result (record { outcomes = outcomes; after = new })
-    moves.does moves.answer_is
-moves_collected tells disks_tell old command outcomes answer new moves = tt
+pub moves_collected : (tells disks_tell : Type 0) (old : Whole) (asked : Command) (outcomes : List Outcome)
+    (given : Answer) (new : Whole) → Moves tells disks_tell old asked outcomes given new
+    → HasCollected asked given new
+moves_collected tells disks_tell old asked outcomes given new moves = λ by entries files is told.
+    let left : Effect Whole = record { outcomes = outcomes; after = new } in
+    holds_no_garbage tells disks_tell old by entries files moves.result left
+    (subst (λ (c : Command). CarriesOut tells disks_tell c old moves.result left) is moves.does)
+    (sym told ∙ moves.answer_is)

@@ -4,10 +4,12 @@ use Rattle.std.specs.Prelude.{count_by, slice_set}
 use Rattle.std.proofs.lemmas.Bool.{cases_eq}
 use Rattle.std.proofs.lemmas.List.{length-set}
 use Rattle.std.proofs.lemmas.List.Sums.{sum_by-append}
+use Rattle.ficus_disk.specs.declared.disk.Disk.{Ghosts as Disk}
 use Rattle.ficus_disk.specs.Pair.{PairRose}
 use Rattle.ficus_disk.specs.declared.pair.Pair.{Pair}
 use Rattle.ficus_ids.specs.Members.{IsMember}
-use Rattle.ficus_keep.specs.Kept.{Kept, found_in}
+use Rattle.ficus_keep.specs.declared.keep.Keep.{Ghosts as Keep}
+use Rattle.ficus_keep.specs.Kept.{found_in}
 use Rattle.ficus_keep.specs.Pairs.{PairSame, PairWithin}
 use Rattle.ficus_saved.specs.declared.saved.Saved.{Saved}
 use Rattle.ficus_leads.proofs.Led.{held_at}
@@ -164,23 +166,31 @@ pub set_here : {A : Type 0} (by : ℕ) (list : List A) (now found : A) → 1 ≤
 set_here by list now found one is =
     elim (replaced list by by now found one is) [ inl here ↦ here.1 | inr other ↦ absurd (other.0 refl) ]
 
-module _ {K D : Type 0} {tells : Type 0} {kept : List ℕ → List ℕ → Option Kept}
-    {fits : K → List ℕ → List ℕ → Type 0} {seen : D → List ℕ} {may_leave : D → List ℕ → Type 0}
-    {armings : D → Option ℕ} {old new : List Member} {stables : List (Stable K)} {disks : List (Pair D)} (by : ℕ)
-    (others : OthersStay by old new)
-    (before : AreDisksOf tells kept fits seen may_leave armings old stables disks) where
+-- the same of a list in whose place another was set
+pub others_as : {A : Type 0} {by : ℕ} {list new : List A} (now : A) → 1 ≤ by → new ≡ slice_set list (by - 1) now
+    → OthersStay by list new
+others_as {by = by} {list = list} now one set = λ r x differs is.
+    others_set by list now one r x differs (subst (λ l. IsNumbered l r x) set is)
+
+pub set_as : {A : Type 0} {by : ℕ} {new : List A} (list : List A) (now found : A) → 1 ≤ by → new ≡ slice_set list (by - 1) now
+    → IsNumbered new by found → found ≡ now
+set_as {by = by} list now found one set is = set_here by list now found one (subst (λ l. IsNumbered l by found) set is)
+
+module _ {K D : Type 0} {keep : Keep K} {disk : Disk D} {old new : List Member} {stables : List (Stable K)}
+    {disks : List (Pair D)} (by : ℕ) (others : OthersStay by old new)
+    (before : AreDisksOf keep disk old stables disks) where
   disks_moved : (now_stables : List (Stable K)) (now_disks : List (Pair D)) → OthersStay by stables now_stables
       → OthersStay by disks now_disks → ((member : Member) (stable : Stable K) (pair : Pair D)
       → IsNumbered new by member → IsNumbered now_stables by stable → IsNumbered now_disks by pair
-      → IsPairOf tells kept fits seen may_leave armings member stable pair)
-      → AreDisksOf tells kept fits seen may_leave armings new now_stables now_disks
+      → IsPairOf keep disk member stable pair)
+      → AreDisksOf keep disk new now_stables now_disks
   disks_moved now_stables now_disks other_stables other_disks here = record {
     each = λ r member stable pair is is_stable is_pair. go r member stable pair is is_stable is_pair (cases_eq r by);
   }
     where
       go : (r : ℕ) (member : Member) (stable : Stable K) (pair : Pair D) → IsNumbered new r member
           → IsNumbered now_stables r stable → IsNumbered now_disks r pair → (r ≡ by) ⊎ (r ≢ by)
-          → IsPairOf tells kept fits seen may_leave armings member stable pair
+          → IsPairOf keep disk member stable pair
       go r member stable pair is is_stable is_pair (inl same) =
           here member stable pair (subst (λ n. IsNumbered new n member) same is)
           (subst (λ n. IsNumbered now_stables n stable) same is_stable)
@@ -193,27 +203,26 @@ module _ {K D : Type 0} {tells : Type 0} {kept : List ℕ → List ℕ → Optio
   -- where a member, its stable and its pair change, it is enough that they belong together
   pub disks_set : (stable : Stable K) (pair : Pair D) → 1 ≤ by
       → ((member : Member) → IsNumbered new by member
-      → IsPairOf tells kept fits seen may_leave armings member stable pair)
-      → AreDisksOf tells kept fits seen may_leave armings new (slice_set stables (by - 1) stable)
-      (slice_set disks (by - 1) pair)
+      → IsPairOf keep disk member stable pair)
+      → AreDisksOf keep disk new (slice_set stables (by - 1) stable) (slice_set disks (by - 1) pair)
   disks_set stable pair one here =
       disks_moved (slice_set stables (by - 1) stable) (slice_set disks (by - 1) pair)
       (others_set by stables stable one) (others_set by disks pair one)
       (λ member found found_pair is is_stable is_pair.
-      subst (λ z. IsPairOf tells kept fits seen may_leave armings member z found_pair)
+      subst (λ z. IsPairOf keep disk member z found_pair)
       (sym (set_here by stables stable found one is_stable))
-      (subst (λ z. IsPairOf tells kept fits seen may_leave armings member stable z)
+      (subst (λ z. IsPairOf keep disk member stable z)
       (sym (set_here by disks pair found_pair one is_pair)) (here member is)))
 
   -- the same where its stable stays
   pub disks_set_pair : (pair : Pair D) → 1 ≤ by
       → ((member : Member) (stable : Stable K) → IsNumbered new by member → IsNumbered stables by stable
-      → IsPairOf tells kept fits seen may_leave armings member stable pair)
-      → AreDisksOf tells kept fits seen may_leave armings new stables (slice_set disks (by - 1) pair)
+      → IsPairOf keep disk member stable pair)
+      → AreDisksOf keep disk new stables (slice_set disks (by - 1) pair)
   disks_set_pair pair one here =
       disks_moved stables (slice_set disks (by - 1) pair) (λ r x differs is. is) (others_set by disks pair one)
       (λ member stable found_pair is is_stable is_pair.
-      subst (λ z. IsPairOf tells kept fits seen may_leave armings member stable z)
+      subst (λ z. IsPairOf keep disk member stable z)
       (sym (set_here by disks pair found_pair one is_pair)) (here member stable is is_stable))
 
 -- whether a pair is fused stays where its armings do
@@ -222,32 +231,31 @@ pub fused_same : {D : Type 0} (armings : D → Option ℕ) {old new : Pair D} �
 fused_same armings {old} {new} same =
     ap₂ (λ (one other : Option ℕ). is_some one && is_some other) same.a same.b
 
-module _ {K D : Type 0} (kept : List ℕ → List ℕ → Option Kept) (fits : K → List ℕ → List ℕ → Type 0)
-    (seen : D → List ℕ) (may_leave : D → List ℕ → Type 0) where
+module _ {K D : Type 0} (keep : Keep K) (disk : Disk D) where
   -- a crash that leaves no more leaves one of the same two
-  one_of_within : {before after : Option Saved} {old new : Pair D} → PairWithin may_leave old new
-      → HoldsOneOf kept may_leave old before after → HoldsOneOf kept may_leave new before after
+  one_of_within : {before after : Option Saved} {old new : Pair D} → PairWithin disk.may_leave old new
+      → HoldsOneOf keep.kept disk.may_leave old before after → HoldsOneOf keep.kept disk.may_leave new before after
   one_of_within within holds = record {
     each = λ a b left_a left_b. holds.each a b (within.a a left_a) (within.b b left_b);
   }
 
   -- what is ready leaves one thing
   ready_leaves : (stable : Stable K) (pair : Pair D) (saved : Saved)
-      → IsReady kept fits seen may_leave stable pair saved → HoldsOneOf kept may_leave pair (Some saved) (Some saved)
+      → IsReady keep.kept keep.fits disk.seen disk.may_leave stable pair saved → HoldsOneOf keep.kept disk.may_leave pair (Some saved) (Some saved)
   ready_leaves stable pair saved ready = record {
     each = λ a b left_a left_b.
-        let same : kept a b ≡ found_in kept seen pair
-        = ap₂ kept (ready.settled.synced_a a left_a) (ready.settled.synced_b b left_b) in
+        let same : keep.kept a b ≡ found_in keep.kept disk.seen pair
+        = ap₂ keep.kept (ready.settled.synced_a a left_a) (ready.settled.synced_b b left_b) in
         inl (held_at _ _ saved same ready.holds);
   }
 
   -- what becomes of a pair that a crash leaves no more of, and that stays ready
   pub holds_still : (state : MemberState) (saved : Saved) (stable now_stable : Stable K) (pair now_pair : Pair D)
-      → PairWithin may_leave pair now_pair
-      → (IsReady kept fits seen may_leave stable pair saved
-      → IsReady kept fits seen may_leave now_stable now_pair saved)
-      → HoldsFor kept fits seen may_leave stable pair saved state
-      → HoldsFor kept fits seen may_leave now_stable now_pair saved state
+      → PairWithin disk.may_leave pair now_pair
+      → (IsReady keep.kept keep.fits disk.seen disk.may_leave stable pair saved
+      → IsReady keep.kept keep.fits disk.seen disk.may_leave now_stable now_pair saved)
+      → HoldsFor keep disk stable pair saved state
+      → HoldsFor keep disk now_stable now_pair saved state
   holds_still Up saved stable now_stable pair now_pair within stays holds = stays holds
   holds_still (Down None) saved stable now_stable pair now_pair within stays holds = one_of_within within holds
   holds_still (Down (Some pending)) saved stable now_stable pair now_pair within stays holds =
@@ -255,8 +263,8 @@ module _ {K D : Type 0} (kept : List ℕ → List ℕ → Option Kept) (fits : K
 
   -- the same where the member is put down
   pub holds_down : (state : MemberState) (saved : Saved) (stable now_stable : Stable K) (pair now_pair : Pair D)
-      → PairWithin may_leave pair now_pair → HoldsFor kept fits seen may_leave stable pair saved state
-      → HoldsFor kept fits seen may_leave now_stable now_pair saved (Down (still_pending state))
+      → PairWithin disk.may_leave pair now_pair → HoldsFor keep disk stable pair saved state
+      → HoldsFor keep disk now_stable now_pair saved (Down (still_pending state))
   holds_down Up saved stable now_stable pair now_pair within holds =
       one_of_within within (ready_leaves stable pair saved holds)
   holds_down (Down None) saved stable now_stable pair now_pair within holds = one_of_within within holds

@@ -509,40 +509,52 @@ module _ (tells : Type 0) (told : tells) (volume : Volume) where
         stands = follows.stands;
       }
 
-  follow_command : (disks_tell : Type 0) (command : Command) → TellsFor disks_tell command
-      → Lifts volume (CarriesOut tells disks_tell command) (Does volume command)
-  follow_command disks_tell (command.Change by change) disks_told =
-      λ W old stands. follow_change volume W old stands tells disks_tell by change
-  follow_command disks_tell (command.Look by look) disks_told =
-      λ W old stands. follow_look volume W old stands tells disks_tell by look
-  follow_command disks_tell (command.Collect by) disks_told =
-      λ W old stands. follow_collect volume W old stands tells disks_tell by
-  follow_command disks_tell (command.Ask by to) disks_told =
-      first_lifts volume (ask_lifts tells told volume by to) (λ number. gives_lifts volume (Mail number))
-  follow_command disks_tell (command.Give number) disks_told = give_lifts tells told volume number
-  follow_command disks_tell (command.Pull by to) disks_told = pull_lifts disks_tell by to
-  follow_command disks_tell (command.Alike by other) disks_told =
-      λ W old stands. follow_alike volume W old stands tells disks_tell by other
-  follow_command disks_tell (command.Restart by) disks_told =
-      λ W old stands. follow_restart volume W old stands tells disks_tell disks_told by
-  follow_command disks_tell (command.Stop by calls pick) disks_told =
-      λ W old stands. follow_stop volume W old stands tells disks_tell by calls pick
-  follow_command disks_tell (command.Sweep order) disks_told = λ W old stands result left none. absurd none
-  follow_command disks_tell (command.Why by) disks_told = λ W old stands result left none. absurd none
+  -- what a command does is lifted where the disks tell, if it opens any again; and so is what is cut short of it
+  record PlanLifts (disks_tell : Type 0) (command : Command) : Type 0 where
+    does : TellsFor disks_tell command → Lifts volume (CarriesOut tells disks_tell command) (Does volume command)
+    part : CutLifts volume (CutShort tells command) (DoesPart volume command)
 
-  -- where memory is refused
-  cut_command : (command : Command) → CutLifts volume (CutShort tells command) (DoesPart volume command)
-  cut_command (command.Pull by to) = pull_cut_lifts by to
-  cut_command (command.Change by change) = nothing_lifts volume
-  cut_command (command.Look by look) = nothing_lifts volume
-  cut_command (command.Collect by) = nothing_lifts volume
-  cut_command (command.Ask by to) = nothing_lifts volume
-  cut_command (command.Give number) = nothing_lifts volume
-  cut_command (command.Alike by other) = nothing_lifts volume
-  cut_command (command.Restart by) = nothing_lifts volume
-  cut_command (command.Stop by calls pick) = nothing_lifts volume
-  cut_command (command.Sweep order) = λ W old stands left none. absurd none
-  cut_command (command.Why by) = λ W old stands left none. absurd none
+  plan_lifts : (disks_tell : Type 0) (command : Command) → PlanLifts disks_tell command
+  plan_lifts disks_tell (command.Change by change) = record {
+    does = λ disks_told W old stands. follow_change volume W old stands tells disks_tell by change;
+    part = nothing_lifts volume;
+  }
+  plan_lifts disks_tell (command.Look by look) = record {
+    does = λ disks_told W old stands. follow_look volume W old stands tells disks_tell by look;
+    part = nothing_lifts volume;
+  }
+  plan_lifts disks_tell (command.Collect by) = record {
+    does = λ disks_told W old stands. follow_collect volume W old stands tells disks_tell by;
+    part = nothing_lifts volume;
+  }
+  plan_lifts disks_tell (command.Ask by to) = record {
+    does = λ disks_told. first_lifts volume (ask_lifts tells told volume by to) (λ number. gives_lifts volume (Mail number));
+    part = nothing_lifts volume;
+  }
+  plan_lifts disks_tell (command.Give number) =
+      record { does = λ disks_told. give_lifts tells told volume number; part = nothing_lifts volume }
+  plan_lifts disks_tell (command.Pull by to) =
+      record { does = λ disks_told. pull_lifts disks_tell by to; part = pull_cut_lifts by to }
+  plan_lifts disks_tell (command.Alike by other) = record {
+    does = λ disks_told W old stands. follow_alike volume W old stands tells disks_tell by other;
+    part = nothing_lifts volume;
+  }
+  plan_lifts disks_tell (command.Restart by) = record {
+    does = λ disks_told W old stands. follow_restart volume W old stands tells disks_tell (disks_told tt) by;
+    part = nothing_lifts volume;
+  }
+  plan_lifts disks_tell (command.Stop by calls pick) = record {
+    does = λ disks_told W old stands. follow_stop volume W old stands tells disks_tell by calls pick;
+    part = nothing_lifts volume;
+  }
+  plan_lifts disks_tell (command.Sweep order) = record {
+    does = λ disks_told W old stands result left none. absurd none;
+    part = λ W old stands left none. absurd none;
+  }
+  plan_lifts disks_tell (command.Why by) = record {
+    does = λ disks_told W old stands result left none. absurd none;
+    part = λ W old stands left none. absurd none;
+  }
 
 -- whatever a command does to the world, it does to what the world stands for
 pub follow : (tells disks_tell : Type 0) (told : tells) (volume : Volume) (W : ModelWorld) (old : Whole)
@@ -550,7 +562,7 @@ pub follow : (tells disks_tell : Type 0) (told : tells) (volume : Volume) (W : M
     (answer : Answer) (new : Whole) → Moves tells disks_tell old command outcomes answer new
     → Follows volume W old command outcomes answer new
 follow tells disks_tell told volume W old stands command disks_told outcomes answer new moves =
-    let follows = follow_command tells told volume disks_tell command disks_told W old stands moves.result
+    let follows = (plan_lifts tells told volume disks_tell command).does disks_told W old stands moves.result
     (record { outcomes = outcomes; after = new }) moves.does in
     record {
       after = follows.after;
@@ -564,4 +576,5 @@ follow tells disks_tell told volume W old stands command disks_told outcomes ans
 pub follow_cut : (tells : Type 0) (told : tells) (volume : Volume) (command : Command) (W : ModelWorld) (old : Whole)
     → WorldStandsFor volume W old → (left : Effect Whole) → CutShort tells command old left
     → FollowsPart volume W old (DoesPart volume command) left
-follow_cut tells told volume command W old stands left cut = cut_command tells told volume command W old stands left cut
+follow_cut tells told volume command W old stands left cut =
+    (plan_lifts tells told volume ⊥ command).part W old stands left cut

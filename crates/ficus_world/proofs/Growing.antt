@@ -11,21 +11,25 @@ use Rattle.ficus_ids.specs.declared.refusal.Refusal.TheVariants as refusal
 use Rattle.ficus_keep.specs.declared.keep.Keep.{Ghosts as Keep}
 use Rattle.ficus_model.specs.declared.event.Event.TheVariants as event
 use Rattle.ficus_model.specs.declared.event.Op.{Op}
+use Rattle.ficus_commands.specs.declared.change.Change.{Change}
 use Rattle.ficus_script.specs.declared.answer.Answer.{Answer}
+use Rattle.ficus_script.specs.declared.answer.Answer.TheVariants.{Mail}
 use Rattle.ficus_script.specs.declared.command.Command.{Command}
 use Rattle.ficus_script.specs.declared.command.Command.TheVariants as command
 use Rattle.ficus_wire.specs.Message.{message_bytes}
 use Rattle.ficus_wire.specs.declared.message.Message.{Message}
 use Rattle.ficus_wire.specs.declared.message.Message.TheVariants as message
 use Rattle.ficus_wire.specs.declared.message.PieceHead.{PieceHead}
+use Rattle.ficus_runs.specs.Actions.{GivesOnly}
 use Rattle.ficus_runs.specs.Exchange.{mails_of}
-use Rattle.ficus_runs.specs.Sequence.{Effect, NothingDone}
+use Rattle.ficus_runs.specs.Plan.{Plan, PullsSome, plan}
+use Rattle.ficus_runs.specs.Sequence.{ByRule, Cut, Effect, First, NothingDone}
 use Rattle.ficus_runs.specs.Sequence.ByRule.{Says}
 use Rattle.ficus_runs.specs.Sequence.CutFirst.{InFirst, InRest}
 use Rattle.ficus_runs.specs.Sequence.First.{Ends, Goes}
 use Rattle.ficus_world.specs.declared.exchange.Delivery.{Delivery}
 use Rattle.ficus_world.specs.declared.member.Member.{Member}
-use Rattle.ficus_world.specs.Moves.{CarriesOut, CutShort, GivesMessage, GivesMessages, GivesSomeMessages, HandlesMessage, KeepsAsk, KeepsCollection, KeepsUpdate, Reopens, SendsEach, ServesAsk, TakesFitting, TakesPiece, TakesSpelled, TakesTables, answers_of, serve_of, with_event}
+use Rattle.ficus_world.specs.Moves.{ArmsDisks, Compared, FindsMember, FindsPeers, FindsUp, GivesMessage, GivesMessages, GivesSomeMessages, HandlesMessage, KeepsAsk, KeepsCollection, KeepsUpdate, Reopens, SendsEach, ServesAsk, TakesFitting, TablesDecide, TakesPiece, TakesSpelled, TakesTables, WholeAction, answers_of, of_tables, serve_of, with_event}
 use Rattle.ficus_world.specs.Moves.ArmsDisks.{Arms, ArmsNone}
 use Rattle.ficus_world.specs.Moves.FetchesBytes.{Fetched, NoMail, NotFetched}
 use Rattle.ficus_world.specs.Moves.FindsMember.{Finds, FindsNone}
@@ -219,88 +223,127 @@ reopening_grows {by = by} {old = old} (ReopenedAsPending {pending = pending} dow
 reopening_grows {old = old} NotReopened = record { few = omega arith }
 reopening_grows {old = old} (NoImageFound untold) = record { few = omega arith }
 
--- a command stores two events at most beside one for each message that it posts
-command_grows : (tells disks_tell : Type 0) (c : Command) {old : Whole} (result : Result Answer Refusal)
-    (left : Effect Whole) → CarriesOut tells disks_tell c old result left → Grows 2 0 old left.after
-command_grows tells disks_tell (command.Change by change) {old} result left (Ends (FindsNoneAt none)) = same_grows old
-command_grows tells disks_tell (command.Change by change) {old} result left (Ends (FindsDown is down)) = same_grows old
-command_grows tells disks_tell (command.Change by change) {old} result left (Goes (FindsAt is up) (Ends (Says refused))) = same_grows old
-command_grows tells disks_tell (command.Change by change) result left (Goes (FindsAt is up) (Goes (Says decided) keeps)) = update_grows keeps
-command_grows tells disks_tell (command.Look by look) {old} result left (Ends (FindsNoneAt none)) = same_grows old
-command_grows tells disks_tell (command.Look by look) {old} result left (Ends (FindsDown is down)) = same_grows old
-command_grows tells disks_tell (command.Look by look) {old} result left (Goes (FindsAt is up) (Says shown)) = same_grows old
-command_grows tells disks_tell (command.Collect by) {old} result left (Ends (FindsNoneAt none)) = same_grows old
-command_grows tells disks_tell (command.Collect by) {old} result left (Ends (FindsDown is down)) = same_grows old
-command_grows tells disks_tell (command.Collect by) result left (Goes (FindsAt is up) keeps) = collection_grows keeps
-command_grows tells disks_tell (command.Ask by to) result left (Ends {refusal = r} asks) =
+-- an action stores two events at most beside one for each message that it posts
+abbrev IsGrowing : {A : Type 0} → WholeAction A → Type 0
+IsGrowing {A} does =
+    (old : Whole) (result : Result A Refusal) (left : Effect Whole) → does old result left → Grows 2 0 old left.after
+
+up_grows : {A : Type 0} (by : ℕ) (rest : Member → WholeAction A) → ((member : Member) → IsGrowing (rest member))
+    → IsGrowing (First (FindsUp by) rest)
+up_grows by rest behind old result left (Ends (FindsNoneAt none)) = same_grows old
+up_grows by rest behind old result left (Ends (FindsDown is down)) = same_grows old
+up_grows by rest behind old result left (Goes {a = member} {left = last} (FindsAt is up) next) =
+    behind member old result last next
+
+peers_grow : {A : Type 0} (by other : ℕ) (rest : Compared → WholeAction A)
+    → ((both : Compared) → IsGrowing (rest both)) → IsGrowing (First (FindsPeers by other) rest)
+peers_grow by other rest behind old result left (Ends (FindsNoPeers none)) = same_grows old
+peers_grow by other rest behind old result left (Ends (FindsOneDown peers is is_too down)) = same_grows old
+peers_grow by other rest behind old result left (Goes {a = both} {left = last} (FindsBoth peers is is_too up up_too) next) =
+    behind both old result last next
+
+rule_grows : {A : Type 0} (rule : Whole → Result A Refusal → Type 0) → IsGrowing (ByRule rule)
+rule_grows rule old result left (Says is) = same_grows old
+
+change_grows : (by : ℕ) (change : Change) (was : Member)
+    → IsGrowing (First (TablesDecide was change) (KeepsUpdate by was))
+change_grows by change was old result left (Ends (Says refused)) = same_grows old
+change_grows by change was old result left (Goes (Says decided) keeps) = update_grows keeps
+
+asking_grows : (tells : Type 0) (by to : ℕ)
+    → IsGrowing (First (KeepsAsk tells by to) (λ number. GivesOnly (Mail number)))
+asking_grows tells by to old result left (Ends {refusal = r} asks) =
     let asked = ask_grows (Err r) asks in record { few = omega (arith, asked.few) }
-command_grows tells disks_tell (command.Ask by to) result left (Goes {a = number} asks (Says is)) =
+asking_grows tells by to old result left (Goes {a = number} asks (Says is)) =
     let asked = ask_grows (Ok number) asks in record { few = omega (arith, asked.few) }
-command_grows tells disks_tell (command.Give number) result left gives =
+
+giving_grows : (tells : Type 0) (number : ℕ) → IsGrowing (GivesMessage tells number)
+giving_grows tells number old result left gives =
     let given = give_grows number result gives in record { few = omega (arith, given.few) }
-command_grows tells disks_tell (command.Pull by to) {old} result left (Ends (FindsNoPeers none)) = same_grows old
-command_grows tells disks_tell (command.Pull by to) {old} result left (Ends (FindsOneDown peers is is_too down)) = same_grows old
-command_grows tells disks_tell (command.Pull by to) result left (Goes (FindsBoth peers is is_too up up_too) (Ends {refusal = r} asks)) =
+
+pulling_grows : (tells : Type 0) (by to : ℕ)
+    → IsGrowing (First (KeepsAsk tells by to)
+    (λ number. First (GivesMessage tells number) (λ given. GivesMessages tells (mails_of given))))
+pulling_grows tells by to old result left (Ends {refusal = r} asks) =
     let asked = ask_grows (Err r) asks in record { few = omega (arith, asked.few) }
-command_grows tells disks_tell (command.Pull by to) result left
-    (Goes (FindsBoth peers is is_too up up_too) (Goes {a = number} asks (Ends {refusal = r} gives))) =
+pulling_grows tells by to old result left (Goes {a = number} asks (Ends {refusal = r} gives)) =
     let asked = ask_grows (Ok number) asks in
     let given = give_grows number (Err r) gives in
     record { few = omega (arith, asked.few, given.few) }
-command_grows tells disks_tell (command.Pull by to) result left
-    (Goes (FindsBoth peers is is_too up up_too) (Goes {a = number} asks (Goes {a = answer} {left = last} gives more))) =
+pulling_grows tells by to old result left (Goes {a = number} asks (Goes {a = answer} {left = last} gives more)) =
     let asked = ask_grows (Ok number) asks in
     let given = give_grows number (Ok answer) gives in
     let rest = gives_grow tells (mails_of answer) result last more in
     record { few = omega (arith, asked.few, given.few, rest.few) }
-command_grows tells disks_tell (command.Alike by other) {old} result left (Ends (FindsNoPeers none)) = same_grows old
-command_grows tells disks_tell (command.Alike by other) {old} result left (Ends (FindsOneDown peers is is_too down)) = same_grows old
-command_grows tells disks_tell (command.Alike by other) {old} result left (Goes (FindsBoth peers is is_too up up_too) (Says compared)) =
-    same_grows old
-command_grows tells disks_tell (command.Restart by) {old} result left (Ends (FindsNone none)) = same_grows old
-command_grows tells disks_tell (command.Restart by) result left (Goes (Finds is) reopens) = reopening_grows reopens
-command_grows tells disks_tell (command.Stop by calls pick) {old} result left (Ends (FindsNoneAt none)) = same_grows old
-command_grows tells disks_tell (command.Stop by calls pick) {old} result left (Ends (FindsDown is down)) = same_grows old
-command_grows tells disks_tell (command.Stop by calls pick) {old} result left (Goes (FindsAt is up) (Arms fused)) = same_grows old
-command_grows tells disks_tell (command.Stop by calls pick) {old} result left (Goes (FindsAt is up) (ArmsNone none)) = same_grows old
-command_grows tells disks_tell (command.Sweep order) result left none = absurd none
-command_grows tells disks_tell (command.Why by) result left none = absurd none
+
+reopens_grow : (disks_tell : Type 0) (by : ℕ) → IsGrowing (First (FindsMember by) (Reopens disks_tell by))
+reopens_grow disks_tell by old result left (Ends (FindsNone none)) = same_grows old
+reopens_grow disks_tell by old result left (Goes (Finds is) reopens) = reopening_grows reopens
+
+arming_grows : (by calls pick : ℕ) (was : Member) → IsGrowing (ArmsDisks by calls pick was)
+arming_grows by calls pick was old result left (Arms fused) = same_grows old
+arming_grows by calls pick was old result left (ArmsNone none) = same_grows old
 
 -- also where memory is refused on the way
-cut_grows : (tells : Type 0) (c : Command) {old : Whole} (left : Effect Whole) → CutShort tells c old left
-    → Grows 2 0 old left.after
-cut_grows tells (command.Pull by to) left (InFirst same) = nothing_grows 2 same
-cut_grows tells (command.Pull by to) left (InRest (FindsBoth peers is is_too up up_too) (InFirst same)) = nothing_grows 2 same
-cut_grows tells (command.Pull by to) left
+abbrev IsGrowingPart : Cut Whole → Type 0
+IsGrowingPart cut = (old : Whole) (left : Effect Whole) → cut old left → Grows 2 0 old left.after
+
+nothing_done_grows : IsGrowingPart NothingDone
+nothing_done_grows old left same = nothing_grows 2 same
+
+pull_part_grows : (tells : Type 0) (by to : ℕ)
+    → IsGrowingPart (PullsSome (FindsPeers by to) (KeepsAsk tells by to) (GivesMessage tells))
+pull_part_grows tells by to old left (InFirst same) = nothing_grows 2 same
+pull_part_grows tells by to old left (InRest (FindsBoth peers is is_too up up_too) (InFirst same)) = nothing_grows 2 same
+pull_part_grows tells by to old left
     (InRest (FindsBoth peers is is_too up up_too) (InRest {a = number} {middle = middle} asks (InFirst same))) =
     let asked = ask_grows (Ok number) asks in
     let rest = nothing_grows {old = middle.after} 0 same in
     record { few = omega (arith, asked.few, rest.few) }
-cut_grows tells (command.Pull by to) left
+pull_part_grows tells by to old left
     (InRest (FindsBoth peers is is_too up up_too) (InRest {a = number} asks (InRest {a = answer} {left = last} gives more))) =
     let asked = ask_grows (Ok number) asks in
     let given = give_grows number (Ok answer) gives in
     let rest = some_grow tells (mails_of answer) last more in
     record { few = omega (arith, asked.few, given.few, rest.few) }
-cut_grows tells (command.Change by change) left same = nothing_grows 2 same
-cut_grows tells (command.Look by look) left same = nothing_grows 2 same
-cut_grows tells (command.Collect by) left same = nothing_grows 2 same
-cut_grows tells (command.Ask by to) left same = nothing_grows 2 same
-cut_grows tells (command.Give number) left same = nothing_grows 2 same
-cut_grows tells (command.Alike by other) left same = nothing_grows 2 same
-cut_grows tells (command.Restart by) left same = nothing_grows 2 same
-cut_grows tells (command.Stop by calls pick) left same = nothing_grows 2 same
-cut_grows tells (command.Sweep order) left none = absurd none
-cut_grows tells (command.Why by) left none = absurd none
+
+-- so it is of each command, and of what is cut short of it
+record PlanGrows (its : Plan Whole) : Type 0 where
+  does : IsGrowing its.does
+  part : IsGrowingPart its.part
+
+plan_grows : (tells disks_tell : Type 0) (c : Command) → PlanGrows (plan (of_tables tells disks_tell) c)
+plan_grows tells disks_tell (command.Change by change) =
+    record { does = up_grows by _ (change_grows by change); part = nothing_done_grows }
+plan_grows tells disks_tell (command.Look by look) =
+    record { does = up_grows by _ (λ was. rule_grows _); part = nothing_done_grows }
+plan_grows tells disks_tell (command.Collect by) =
+    record { does = up_grows by _ (λ was old result left keeps. collection_grows keeps); part = nothing_done_grows }
+plan_grows tells disks_tell (command.Ask by to) =
+    record { does = asking_grows tells by to; part = nothing_done_grows }
+plan_grows tells disks_tell (command.Give number) =
+    record { does = giving_grows tells number; part = nothing_done_grows }
+plan_grows tells disks_tell (command.Pull by to) =
+    record { does = peers_grow by to _ (λ both. pulling_grows tells by to); part = pull_part_grows tells by to }
+plan_grows tells disks_tell (command.Alike by other) =
+    record { does = peers_grow by other _ (λ both. rule_grows _); part = nothing_done_grows }
+plan_grows tells disks_tell (command.Restart by) =
+    record { does = reopens_grow disks_tell by; part = nothing_done_grows }
+plan_grows tells disks_tell (command.Stop by calls pick) =
+    record { does = up_grows by _ (arming_grows by calls pick); part = nothing_done_grows }
+plan_grows tells disks_tell (command.Sweep order) =
+    record { does = λ old result left none. absurd none; part = λ old left none. absurd none }
+plan_grows tells disks_tell (command.Why by) =
+    record { does = λ old result left none. absurd none; part = λ old left none. absurd none }
 
 -- what a command comes to
 module _ {K D : Type 0} (tells : Type 0) (keep : Keep K) (disk : Disk D) (old new : Whole) (c : Command)
     (x y : List (Pair D)) where
   came_grows : (result : Result Answer Refusal) → ComesTo tells keep disk old c result new x y
       → (IsErrOf result refusal.Memory → CutOn tells keep disk c old new x y) → Grows 2 0 old new
-  came_grows (Ok answer) is cut = command_grows tells _ c (Ok answer) _ is.does
-  came_grows (Err refusal.Memory) is cut = cut_grows tells c _ (cut refl).cut
-  came_grows (Err r) is cut = command_grows tells _ c (Err r) _ is.does
+  came_grows (Ok answer) is cut = (plan_grows tells disk.tells c).does old (Ok answer) _ is.does
+  came_grows (Err refusal.Memory) is cut = (plan_grows tells ⊥ c).part old _ (cut refl).cut
+  came_grows (Err r) is cut = (plan_grows tells disk.tells c).does old (Err r) _ is.does
 
   pub comes_foreseen : (result : Result Answer Refusal) → ComesTo tells keep disk old c result new x y
       → (IsErrOf result refusal.Memory → CutOn tells keep disk c old new x y) → IsWorld new

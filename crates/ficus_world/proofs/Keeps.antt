@@ -1,8 +1,16 @@
 -- What becomes of a world where a member keeps an event of its own, or is put down.
-use Rattle.std.proofs.Common.{◌≡◌, ℕ, ◌-◌, List, [], ◌∷◌, ◌++◌, length, Result, Ok, Err, Some, sym, ap, ap₂, subst, ◌∙◌, OnOk, OnErr, arith}
+use Rattle.std.proofs.Common.{◌≡◌, ◌≢◌, ℕ, ◌-◌, ◌+◌, ◌≤◌, List, [], ◌∷◌, ◌++◌, length, Result, Ok, Err, Some, sym, ap, ap₂, subst, ◌∙◌, OnOk, OnErr, arith}
 use Rattle.std.specs.Prelude.{slice_set}
 use Rattle.std.proofs.lemmas.List.{length-set, length_push}
 use Rattle.ficus_model.specs.declared.event.Event.{Event}
+use Rattle.ficus_disk.specs.declared.disk.Disk.{Ghosts as Disk}
+use Rattle.ficus_disk.specs.declared.pair.Pair.{Pair}
+use Rattle.ficus_ids.specs.declared.refusal.Refusal.{Refusal}
+use Rattle.ficus_ids.specs.declared.refusal.Refusal.TheVariants.{Memory, Store}
+use Rattle.ficus_keep.specs.declared.keep.Keep.{Ghosts as Keep}
+use Rattle.ficus_runs.specs.Outcome.{IsSaved, SaveFails}
+use Rattle.ficus_world.specs.Acts.{SavesNext}
+use Rattle.ficus_world.specs.Disks.{DisksComeTo}
 use Rattle.ficus_runs.specs.Numbered.{IsNumbered}
 use Rattle.ficus_world.specs.declared.member.Member.{Member}
 use Rattle.ficus_world.specs.declared.member.MemberState.TheVariants.{Up, Down}
@@ -63,3 +71,32 @@ module _ (old : Whole) (by : ℕ) (next : Pending) (members : List Member) (even
       ap (λ (list : List Member). length list) (held was is) ∙ length-set old.members (by - 1) _
   kept_count (Err failed) was is held down =
       ap (λ (list : List Member). length list) (down was is) ∙ length-set old.members (by - 1) _
+
+  -- and one event more at most
+  pub kept_grows : {T E : Type 0} (result : Result T E) → OnOk result (events ≡ old.events ++ next.event ∷ [])
+      → OnErr result (events ≡ old.events) → length events ≤ length old.events + 1
+  kept_grows (Ok done) stored kept =
+      let grown = ap (λ (list : List Event). length list) stored ∙ length_push old.events next.event in
+      omega (arith, grown)
+  kept_grows (Err failed) stored kept =
+      let same = ap (λ (list : List Event). length list) kept in omega (arith, same)
+
+-- what became of a save, by what was kept
+pub saves_next : {K D : Type 0} (keep : Keep K) (disk : Disk D) (old new : Whole) (by : ℕ) (next : Pending)
+    (x y : List (Pair D)) (result : Result (Unit {0}) Refusal)
+    → OnOk result ((was : Member) → IsNumbered old.members by was → new ≡ advanced old by was next.replica next.event)
+    → OnOk result (DisksComeTo keep disk (IsSaved by ∷ []) old.members new.members x y)
+    → OnErr result ((was : Member) → IsNumbered old.members by was → new ≡ downed old by was (Some next))
+    → OnErr result (DisksComeTo keep disk (SaveFails by ∷ []) old.members new.members x y)
+    → OnErr result (result ≡ Err Store) → SavesNext keep disk by next result old new x y
+saves_next keep disk old new by next x y (Ok done) saved followed failed counted refused = (saved, followed)
+saves_next keep disk old new by next x y (Err r) saved followed failed counted refused =
+    subst (λ (z : Result (Unit {0}) Refusal). SavesNext keep disk by next z old new x y) (sym refused) (failed, counted)
+
+-- a refusal that is another is no want of memory
+pub refused_not : {A : Type 0} {r : Refusal} (result : Result A Refusal) → OnErr result (result ≡ Err r)
+    → (r ≡ Memory → ⊥) → result ≢ Err Memory
+refused_not (Ok done) refused differs = λ is. cc
+refused_not {r = r} (Err other) refused differs = λ is.
+    let both = sym refused ∙ is in
+    differs (let same : r ≡ Memory = cc in same)

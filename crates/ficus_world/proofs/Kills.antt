@@ -29,6 +29,17 @@ use Rattle.ficus_world.proofs.Disks.{set_here}
 use Rattle.ficus_world.proofs.Saves.{up_ready}
 use Rattle.ficus_world.proofs.Sets.{set_again, set_same}
 
+-- there are as many pairs
+pub rests_count : {D : Type 0} {disk : Disk D} {by : ℕ} {old new : List (Pair D)} → RestsAt disk by old new
+    → length new ≡ length old
+rests_count {by = by} {old = old} rests =
+    ap (λ (list : List (Pair _)). length list) rests.set ∙ length-set old (by - 1) rests.now
+
+pub writes_count : {K D : Type 0} {keep : Keep K} {disk : Disk D} {by : ℕ} {before after : Whole}
+    {old new : List (Pair D)} → WritesAt keep disk by before after old new → length new ≡ length old
+writes_count {by = by} {old = old} writes =
+    ap (λ (list : List (Pair _)). length list) writes.set_pair ∙ length-set old (by - 1) writes.now_pair
+
 module _ {D : Type 0} (disk : Disk D) where
   -- no call
   pub rests_none : (pair : Pair D) → PairRests disk pair pair
@@ -176,7 +187,7 @@ module _ {K D : Type 0} (keep : Keep K) (disk : Disk D) (by : ℕ) where
   pub writes_at : {T E : Type 0} {next : Saved} {result : Result T E} (old new : Whole) (event : Event)
       {stables : List (Stable K)} {x z : List (Pair D)} → SavesAt by next result old.members new.members
       → OnOk result (new.events ≡ old.events ++ event ∷ []) → OnErr result (new.events ≡ old.events)
-      → AreDisksOf disk.tells keep.kept keep.fits disk.seen disk.may_leave disk.armings old.members stables x
+      → AreDisksOf keep disk old.members stables x
       → IsMember (length stables) by
       → ((was : Member) → IsNumbered old.members by was → next.generation ≡ was.replica.saved.generation + 1)
       → SavesOn keep disk by next x z → WritesAt keep disk by old new x z
@@ -196,7 +207,7 @@ module _ {K D : Type 0} (keep : Keep K) (disk : Disk D) (by : ℕ) where
         set_pair = on.set;
         between = λ told moments.
             let stable = number_exists stables by member in
-            let ready = up_ready disk.tells keep.kept keep.fits disk.seen disk.may_leave disk.armings saves.was stable.0
+            let ready = up_ready keep disk saves.was stable.0
             on.was saves.up ((are.each by saves.was stable.0 on.was saves.is stable.1 on.is).holds told) in
             on.between told saves.was.replica.saved ready.holds;
         spans = on.spans;
@@ -209,7 +220,7 @@ module _ {K D : Type 0} (keep : Keep K) (disk : Disk D) (by : ℕ) where
       → disk.left_since d t c)
       (earlier : (d : D) (t u : ℕ) (c : List ℕ) → t ≤ u → disk.left_since d u c → disk.left_since d t c) where
     pub rests_then_writes : {old new : Whole} {stables : List (Stable K)} {x y z : List (Pair D)}
-        → AreDisksOf disk.tells keep.kept keep.fits disk.seen disk.may_leave disk.armings old.members stables x
+        → AreDisksOf keep disk old.members stables x
         → IsMember (length stables) by → RestsAt disk by x y → WritesAt keep disk by old new y z
         → WritesAt keep disk by old new x z
     rests_then_writes {stables = stables} {x = x} {z = z} are member rests writes =
@@ -236,7 +247,7 @@ module _ {K D : Type 0} (keep : Keep K) (disk : Disk D) (by : ℕ) where
               ∙ set_again x (by - 1) rests.now writes.now_pair;
           between = λ told moments.
               let stable = number_exists stables by member in
-              let ready = up_ready disk.tells keep.kept keep.fits disk.seen disk.may_leave disk.armings writes.was
+              let ready = up_ready keep disk writes.was
               stable.0 rests.was writes.up
               ((are.each by writes.was stable.0 rests.was writes.is stable.1 rests.is).holds told) in
               let crossing = subst
@@ -261,7 +272,7 @@ module _ {K D : Type 0} (keep : Keep K) (disk : Disk D) (by : ℕ) where
 module _ {K D : Type 0} (keep : Keep K) (disk : Disk D) where
   -- what a crash leaves of a member's pair holds what it has saved, or what is pending
   holds_latest : (stable : Stable K) (pair : Pair D) (saved : Saved) (state : MemberState)
-      → HoldsFor keep.kept keep.fits disk.seen disk.may_leave stable pair saved state
+      → HoldsFor keep disk stable pair saved state
       → HoldsOneOf keep.kept disk.may_leave pair (Some saved) (Some (latest saved state))
   holds_latest stable pair saved Up ready = record {
     each = λ a b left_a left_b.
@@ -273,7 +284,7 @@ module _ {K D : Type 0} (keep : Keep K) (disk : Disk D) where
 
   pub settled_so : (world : Whole) (stables : List (Stable K)) (disks : List (Pair D)) → IsWorld world
       → length stables ≡ length world.members
-      → AreDisksOf disk.tells keep.kept keep.fits disk.seen disk.may_leave disk.armings world.members stables disks
+      → AreDisksOf keep disk world.members stables disks
       → IsSettled keep disk world disks
   settled_so world stables disks sound count are = record {
     sound = sound;

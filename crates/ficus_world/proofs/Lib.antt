@@ -38,3 +38,5 @@ pub mod Others
 pub mod Passing
 pub mod Growing
 pub mod Spelling
+pub mod Acting
+pub mod Asking

@@ -6,8 +6,10 @@ use Rattle.std.proofs.lemmas.List.{length_push}
 use Rattle.ficus_check.specs.Judged.{HoldsNoneOf, IsOfVolume, IsOwn, IsSound, MayOpen}
 use Rattle.ficus_check.specs.declared.checked.Checked.{Checked}
 use Rattle.ficus_check.proofs.Owning.{is_false}
+use Rattle.ficus_disk.specs.declared.disk.Disk.{Ghosts as Disk}
 use Rattle.ficus_disk.specs.declared.pair.Pair.{Pair}
 use Rattle.ficus_ids.specs.Members.{IsMember}
+use Rattle.ficus_keep.specs.declared.keep.Keep.{Ghosts as Keep}
 use Rattle.ficus_keep.specs.Kept.{Kept, found_in}
 use Rattle.ficus_saved.specs.Saved.{FitsImage}
 use Rattle.ficus_saved.specs.declared.saved.Saved.{Saved}
@@ -68,11 +70,9 @@ module _ (members : List Member) (saved : Saved) (fused : Bool) (number : ℕ) (
 pub one_more : (members : List Member) (next : Member) → IsOneMore members (members ++ next ∷ [])
 one_more members next = record { count = length_push members next; stays = λ r member at. number_more members next at }
 
-module _ {K D : Type 0} (tells : Type 0) (kept : List ℕ → List ℕ → Option Kept)
-    (fits : K → List ℕ → List ℕ → Type 0) (seen : D → List ℕ) (may_leave : D → List ℕ → Type 0)
-    (armings : D → Option ℕ) where
+module _ {K D : Type 0} (keep : Keep K) (disk : Disk D) where
   pub disks_none : (members : List Member) (stables : List (Stable K)) (disks : List (Pair D)) → members ≡ []
-      → AreDisksOf tells kept fits seen may_leave armings members stables disks
+      → AreDisksOf keep disk members stables disks
   disks_none members stables disks none = record {
     each = λ r member stable pair at at_stable at_pair.
         absurd (omega (arith, at.member.at_least, at.member.at_most, ap (λ (l : List Member). length l) none));
@@ -81,10 +81,10 @@ module _ {K D : Type 0} (tells : Type 0) (kept : List ℕ → List ℕ → Optio
   -- the disks of one member more
   module _ (members : List Member) (stables : List (Stable K)) (disks : List (Pair D)) (index : ℕ) (saved : Saved)
       (fused : Bool) (stable : Stable K) (after : Pair D) (counted : length stables ≡ length members)
-      (next : index ≡ length members) (are : AreDisksOf tells kept fits seen may_leave armings members stables disks)
-      (is_fused : fused ≡ are_fused armings after)
-      (ready : tells → IsReady kept fits seen may_leave stable after saved) where
-    pub disks_more : AreDisksOf tells kept fits seen may_leave armings (members ++ opened_member saved fused ∷ [])
+      (next : index ≡ length members) (are : AreDisksOf keep disk members stables disks)
+      (is_fused : fused ≡ are_fused disk.armings after)
+      (ready : disk.tells → IsReady keep.kept keep.fits disk.seen disk.may_leave stable after saved) where
+    pub disks_more : AreDisksOf keep disk (members ++ opened_member saved fused ∷ [])
         (stables ++ stable ∷ []) (slice_set disks index after)
     disks_more = record {
       each = λ r m s p at at_stable at_pair.
@@ -96,12 +96,12 @@ module _ {K D : Type 0} (tells : Type 0) (kept : List ℕ → List ℕ → Optio
                 | inr (also, is_stable) ↦ record {
                   fused =
                       ap (λ (x : Member). x.fused) is_new ∙ is_fused
-                      ∙ ap (λ (x : Pair D). are_fused armings x) (sym is);
+                      ∙ ap (λ (x : Pair D). are_fused disk.armings x) (sym is);
                   holds = λ told.
-                      subst (λ (x : Member). HoldsFor kept fits seen may_leave s p x.replica.saved x.state)
+                      subst (λ (x : Member). HoldsFor keep disk s p x.replica.saved x.state)
                       (sym is_new)
-                      (subst (λ (x : Stable K). IsReady kept fits seen may_leave x p saved) (sym is_stable)
-                      (subst (λ (x : Pair D). IsReady kept fits seen may_leave stable x saved) (sym is)
+                      (subst (λ (x : Stable K). IsReady keep.kept keep.fits disk.seen disk.may_leave x p saved) (sym is_stable)
+                      (subst (λ (x : Pair D). IsReady keep.kept keep.fits disk.seen disk.may_leave stable x saved) (sym is)
                       (ready told)));
                 }
               ]
@@ -119,16 +119,16 @@ module _ {K D : Type 0} (tells : Type 0) (kept : List ℕ → List ℕ → Optio
   -- what the disks of a member hold that was opened
   pub held_of : (members : List Member) (stables : List (Stable K)) (disks : List (Pair D))
       → length stables ≡ length members → AreOpened members
-      → AreDisksOf tells kept fits seen may_leave armings members stables disks → tells → (r : ℕ) (member : Member)
+      → AreDisksOf keep disk members stables disks → disk.tells → (r : ℕ) (member : Member)
       (pair : Pair D) → IsNumbered members r member → IsNumbered disks r pair
-      → Holds (found_in kept seen pair) member.replica.saved
+      → Holds (found_in keep.kept disk.seen pair) member.replica.saved
   held_of members stables disks counted opened are told r member pair at at_pair =
       let first =
       number_exists members 1
       (record { at_least = omega arith; at_most = omega (arith, at.member.at_least, at.member.at_most) }) in
       let stable = number_exists stables r (subst (λ n. IsMember n r) (sym counted) at.member) in
       let up = (opened.each r first.0 member first.1 at).up in
-      (subst (λ (s : MemberState). HoldsFor kept fits seen may_leave stable.0 pair member.replica.saved s) up
+      (subst (λ (s : MemberState). HoldsFor keep disk stable.0 pair member.replica.saved s) up
       ((are.each r member stable.0 pair at stable.1 at_pair).holds told)).holds
 
 module _ {D : Type 0} (kept : List ℕ → List ℕ → Option Kept) (seen : D → List ℕ) where

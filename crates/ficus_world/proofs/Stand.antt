@@ -1,8 +1,9 @@
 -- The disks of a world stand for what the world stands for.
-use Rattle.std.proofs.Common.{◌≡◌, ℕ, List, length, Option, Some, None, sym, subst, inl, inr}
+use Rattle.std.proofs.Common.{◌≡◌, ℕ, List, length, Some, None, sym, subst, inl, inr}
+use Rattle.ficus_disk.specs.declared.disk.Disk.{Ghosts as Disk}
 use Rattle.ficus_disk.specs.declared.pair.Pair.{Pair}
 use Rattle.ficus_ids.specs.Members.{IsMember}
-use Rattle.ficus_keep.specs.Kept.{Kept}
+use Rattle.ficus_keep.specs.declared.keep.Keep.{Ghosts as Keep}
 use Rattle.ficus_model.specs.declared.event.Event.{Event}
 use Rattle.ficus_model.specs.Lawful.{Volume, IsLawful}
 use Rattle.ficus_saved.specs.Saved.{FitsImage}
@@ -19,31 +20,30 @@ use Rattle.ficus_world.specs.declared.member.MemberState.TheVariants as state
 use Rattle.ficus_world.specs.Disks.{AreDisksOf, HoldsFor}
 use Rattle.ficus_world.specs.Stand.{ArePending, DisksOutlast, DisksStand, KeepsFor, KeepsOf}
 use Rattle.ficus_world.specs.declared.member.Pending.{Pending}
-use Rattle.ficus_world.specs.World.{Whole, IsPendingFor, IsPendingSound, IsWorld, StateStandsFor, WorldStandsFor}
+use Rattle.ficus_world.specs.World.{Backed, Whole, IsPendingFor, IsPendingSound, IsWorld, StateStandsFor, WorldStandsFor}
 use Rattle.ficus_run_laws.proofs.Numbers.{number_exists}
 use Rattle.ficus_world.proofs.Standing.{member_from, member_stands, raise, replica_stands}
 
-module _ {K D : Type 0} (kept : List ℕ → List ℕ → Option Kept) (fits : K → List ℕ → List ℕ → Type 0)
-    (seen : D → List ℕ) (may_leave : D → List ℕ → Type 0) (volume : Volume) where
+module _ {K D : Type 0} (keep : Keep K) (disk : Disk D) (volume : Volume) where
   -- what a crash leaves of a member's pair holds what the member saves, by its state; where it is down, maybe what it
   -- saves with the event that is pending
   module _ (H : List Event) (lawful : IsLawful volume H) (raise r : ℕ) (replica : Replica)
       (stands : StandsFor volume H r replica) (fit : FitsImage replica.saved) (stable : Stable K) (pair : Pair D)
-      (a b : List ℕ) (left_a : may_leave pair.a a) (left_b : may_leave pair.b b) where
-    keeps : Holds (kept a b) replica.saved → KeepsOf volume H r (kept a b)
+      (a b : List ℕ) (left_a : disk.may_leave pair.a a) (left_b : disk.may_leave pair.b b) where
+    keeps : Holds (keep.kept a b) replica.saved → KeepsOf volume H r (keep.kept a b)
     keeps holds = record { saved = replica.saved; is = stands.saved; fits = fit; holds = holds }
 
     -- where nothing is unsynced, that is what a read gives
-    still : IsReady kept fits seen may_leave stable pair replica.saved → Holds (kept a b) replica.saved
+    still : IsReady keep.kept keep.fits disk.seen disk.may_leave stable pair replica.saved → Holds (keep.kept a b) replica.saved
     still ready =
-        subst (λ (c : List ℕ). Holds (kept c b) replica.saved) (sym (ready.settled.synced_a a left_a))
-        (subst (λ (c : List ℕ). Holds (kept (seen pair.a) c) replica.saved) (sym (ready.settled.synced_b b left_b))
+        subst (λ (c : List ℕ). Holds (keep.kept c b) replica.saved) (sym (ready.settled.synced_a a left_a))
+        (subst (λ (c : List ℕ). Holds (keep.kept (disk.seen pair.a) c) replica.saved) (sym (ready.settled.synced_b b left_b))
         ready.holds)
 
     keeps_for : (count events : ℕ) (stood : MemberState) (modelled : Standing)
         → StateStandsFor volume H raise r stood modelled → IsPendingSound count events r replica stood
-        → HoldsFor kept fits seen may_leave stable pair replica.saved stood
-        → KeepsFor volume H r (kept a b) modelled
+        → HoldsFor keep disk stable pair replica.saved stood
+        → KeepsFor volume H r (keep.kept a b) modelled
     keeps_for count events state.Up model.Up is sound ready = keeps (still ready)
     keeps_for count events (state.Down None) (model.Down None) is sound holds =
         elim (holds.each a b left_a left_b) [ inl here ↦ keeps here | inr here ↦ keeps here ]
@@ -62,15 +62,16 @@ module _ {K D : Type 0} (kept : List ℕ → List ℕ → Option Kept) (fits : K
     keeps_for count events stood modelled is sound holds = absurd is
 
   -- so it is of each member
-  pub disks_outlast_for : (tells : Type 0) → tells → (armings : D → Option ℕ) (W : ModelWorld) (whole : Whole)
-      (stables : List (Stable K)) (disks : List (Pair D)) → IsWorld whole → length stables ≡ length whole.members
-      → WorldStandsFor volume W whole → AreDisksOf tells kept fits seen may_leave armings whole.members stables disks
-      → DisksOutlast kept may_leave volume W disks
-  disks_outlast_for tells told armings W whole stables disks world count stands are = record {
+  pub disks_outlast_for : disk.tells → (W : ModelWorld) (world : Backed K) (disks : List (Pair D)) → IsWorld world.whole
+      → length world.stables ≡ length world.whole.members → WorldStandsFor volume W world.whole
+      → AreDisksOf keep disk world.whole.members world.stables disks
+      → DisksOutlast keep.kept disk.may_leave volume W disks
+  disks_outlast_for told W backed disks world count stands are = record {
     each = λ r pair standing at stood a b left_a left_b.
+        let whole = backed.whole in
         let here = member_from volume W whole stands r (subst (λ n. IsMember n r) stands.standings stood.member) in
         let member = number_exists whole.members r here in
-        let stable = number_exists stables r (subst (λ n. IsMember n r) (sym count) here) in
+        let stable = number_exists backed.stables r (subst (λ n. IsMember n r) (sym count) here) in
         let sound = world.sound r member.0 member.1 in
         keeps_for W.events stands.lawful (raise volume W whole stands) r member.0.replica
         (replica_stands volume W whole stands r member.0 member.1) sound.replica.fits stable.0 pair a b left_a left_b
@@ -80,11 +81,11 @@ module _ {K D : Type 0} (kept : List ℕ → List ℕ → Option Kept) (fits : K
   }
 
   -- what a read gives is what a crash may leave too
-  pub outlast_stand : ((disk : D) → may_leave disk (seen disk)) → (W : ModelWorld) (disks : List (Pair D))
-      → DisksOutlast kept may_leave volume W disks → DisksStand kept seen volume W disks
+  pub outlast_stand : ((d : D) → disk.may_leave d (disk.seen d)) → (W : ModelWorld) (disks : List (Pair D))
+      → DisksOutlast keep.kept disk.may_leave volume W disks → DisksStand keep.kept disk.seen volume W disks
   outlast_stand seen_left W disks outlast = record {
     each = λ r pair standing at stood.
-        outlast.each r pair standing at stood (seen pair.a) (seen pair.b) (seen_left pair.a) (seen_left pair.b);
+        outlast.each r pair standing at stood (disk.seen pair.a) (disk.seen pair.b) (seen_left pair.a) (seen_left pair.b);
   }
 
 -- what is pending in the model is pending in the code

@@ -37,7 +37,7 @@ module _ {D A : Type 0} (what : D → A) where
         record { a = ap (λ (p : Pair D). what p.a) (sym same); b = ap (λ (p : Pair D). what p.b) (sym same) };
   }
 
-  same_trans : (one two three : Pair D) → PairSame what one two → PairSame what two three → PairSame what one three
+  pub same_trans : (one two three : Pair D) → PairSame what one two → PairSame what two three → PairSame what one three
   same_trans one two three first second = record { a = second.a ∙ first.a; b = second.b ∙ first.b }
 
   -- as many pairs, so that each has its like
@@ -82,7 +82,7 @@ none_at : (q r : ℕ) → r ≢ q → ◌≡◌ {A = ℕ} (if q == r then 1 else
 none_at q r differs = grind arith
 
 module _ {D : Type 0} (faults : D → ℕ) where
-  rose_from : (by : ℕ) (was before now : Pair D) → PairSame faults was before → PairRose faults by before now
+  pub rose_from : (by : ℕ) (was before now : Pair D) → PairSame faults was before → PairRose faults by before now
       → PairRose faults by was now
   rose_from by was before now same rose = record {
     a = omega (arith, same.a, rose.a);

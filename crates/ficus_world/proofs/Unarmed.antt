@@ -86,7 +86,7 @@ module _ {D : Type 0} (Regular : List ℕ → List ℕ → Type 0) (seen : D →
 module _ {K D : Type 0} (keep : Keep K) (disk : Disk D) (told : disk.tells) (members : List Member)
     (stables : List (Stable K)) (old new : List (Pair D)) (counted : length stables ≡ length members)
     (opened : AreOpened members)
-    (are : AreDisksOf disk.tells keep.kept keep.fits disk.seen disk.may_leave disk.armings members stables new)
+    (are : AreDisksOf keep disk members stables new)
     (same : Steady disk.seen old new) (none : AreUnarmed disk.fuse new)
     (regular : AreRegular keep.Regular disk.seen old (length members)) where
   stands_opened : (r : ℕ) (member : Member) (pair : Pair D) → IsNumbered members r member → IsNumbered new r pair
@@ -98,7 +98,7 @@ module _ {K D : Type 0} (keep : Keep K) (disk : Disk D) (told : disk.tells) (mem
       let stable = number_exists stables r (subst (λ n. IsMember n r) (sym counted) at.member) in
       let was = number_exists old r (subst (λ n. IsMember n r) same.count at_pair.member) in
       let seen = same.each r was.0 pair was.1 at_pair in
-      let ready = up_ready disk.tells keep.kept keep.fits disk.seen disk.may_leave disk.armings member stable.0 pair
+      let ready = up_ready keep disk member stable.0 pair
       up ((are.each r member stable.0 pair at stable.1 at_pair).holds told) in
       let is = regular.each r was.0 was.1 at.member.at_most in
       record {

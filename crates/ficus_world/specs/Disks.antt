@@ -1,5 +1,5 @@
 -- How the disks of a world stand to its members, and what a command does to them.
-use Rattle.std.specs.Prelude.{◌≡◌, ◌⊎◌, ℕ, ◌-◌, Bool, ◌&&◌, List, [], ◌∷◌, length, Option, Some, None, Result, Ok, Err, is_some, slice_set}
+use Rattle.std.specs.Prelude.{◌≡◌, ◌⊎◌, ℕ, ◌-◌, ◌≤◌, Bool, ◌&&◌, List, [], ◌∷◌, length, Option, Some, None, Result, Ok, Err, is_some, slice_set}
 use Rattle.ficus_ids.specs.declared.refusal.Refusal.{Refusal}
 use Rattle.ficus_ids.specs.declared.refusal.Refusal.TheVariants as refusal
 use Rattle.ficus_model.specs.declared.event.Event.{Event}
@@ -9,7 +9,6 @@ use Rattle.ficus_script.specs.declared.answer.Answer.TheVariants.{Done}
 use Rattle.ficus_disk.specs.Pair.{PairRose}
 use Rattle.ficus_disk.specs.declared.disk.Disk.{Ghosts as Disk}
 use Rattle.ficus_disk.specs.declared.pair.Pair.{Pair}
-use Rattle.ficus_keep.specs.Kept.{Kept}
 use Rattle.ficus_keep.specs.declared.keep.Keep.{Ghosts as Keep}
 use Rattle.ficus_keep.specs.declared.fault.StoreFault.{StoreFault}
 use Rattle.ficus_keep.specs.declared.fault.StoreFault.TheVariants.{Failed, Memory, NoImage}
@@ -28,7 +27,7 @@ use Rattle.ficus_world.specs.declared.member.Rising.{Rising}
 use Rattle.ficus_world.specs.declared.member.Rising.TheVariants.{AsWas, AsPending, Neither}
 use Rattle.ficus_world.specs.Fuses.{FusesFollow}
 use Rattle.ficus_world.specs.Moves.{IsLike, WholeAction, restarted, still_pending}
-use Rattle.ficus_world.specs.World.{Whole}
+use Rattle.ficus_world.specs.World.{Backed, IsSoundMember, Whole}
 use Rattle.ficus_world.specs.declared.member.MemberState.{MemberState}
 use Rattle.ficus_world.specs.declared.member.MemberState.TheVariants.{Up, Down}
 
@@ -38,29 +37,30 @@ are_fused armings pair = is_some (armings pair.a) && is_some (armings pair.b)
 
 -- What the disks of a member hold: what it has saved, where it is up, and its keeper is ready to save what follows.
 -- Where it is down, whatever a crash leaves of them holds that, or what it saves with the event that is pending.
-abbrev pub HoldsFor : {K D : Type 0} → (List ℕ → List ℕ → Option Kept) → (K → List ℕ → List ℕ → Type 0)
-    → (D → List ℕ) → (D → List ℕ → Type 0) → Stable K → Pair D → Saved → MemberState → Type 0
-HoldsFor kept fits seen may_leave stable pair saved Up = IsReady kept fits seen may_leave stable pair saved
-HoldsFor kept fits seen may_leave stable pair saved (Down None) =
-    HoldsOneOf kept may_leave pair (Some saved) (Some saved)
-HoldsFor kept fits seen may_leave stable pair saved (Down (Some pending)) =
-    HoldsOneOf kept may_leave pair (Some saved) (Some pending.replica.saved)
+abbrev pub HoldsFor : {K D : Type 0} → Keep K → Disk D → Stable K → Pair D → Saved → MemberState → Type 0
+HoldsFor keep disk stable pair saved Up = IsReady keep.kept keep.fits disk.seen disk.may_leave stable pair saved
+HoldsFor keep disk stable pair saved (Down None) =
+    HoldsOneOf keep.kept disk.may_leave pair (Some saved) (Some saved)
+HoldsFor keep disk stable pair saved (Down (Some pending)) =
+    HoldsOneOf keep.kept disk.may_leave pair (Some saved) (Some pending.replica.saved)
 
 -- the pair is this member's; what it holds is a claim where the disks tell it
-pub record IsPairOf {K D : Type 0} (tells : Type 0) (kept : List ℕ → List ℕ → Option Kept)
-    (fits : K → List ℕ → List ℕ → Type 0) (seen : D → List ℕ) (may_leave : D → List ℕ → Type 0)
-    (armings : D → Option ℕ) (member : Member) (stable : Stable K) (pair : Pair D) : Type 0 where
-  pub fused : member.fused ≡ are_fused armings pair
-  pub holds : tells → HoldsFor kept fits seen may_leave stable pair member.replica.saved member.state
+pub record IsPairOf {K D : Type 0} (keep : Keep K) (disk : Disk D) (member : Member) (stable : Stable K)
+    (pair : Pair D) : Type 0 where
+  pub fused : member.fused ≡ are_fused disk.armings pair
+  pub holds : disk.tells → HoldsFor keep disk stable pair member.replica.saved member.state
 
--- each member has a pair
-pub record AreDisksOf {K D : Type 0} (tells : Type 0) (kept : List ℕ → List ℕ → Option Kept)
-    (fits : K → List ℕ → List ℕ → Type 0) (seen : D → List ℕ) (may_leave : D → List ℕ → Type 0)
-    (armings : D → Option ℕ) (members : List Member) (stables : List (Stable K)) (disks : List (Pair D)) :
-    Type 0 where
+-- the pair of each member is its own
+pub record AreDisksOf {K D : Type 0} (keep : Keep K) (disk : Disk D) (members : List Member) (stables : List (Stable K))
+    (disks : List (Pair D)) : Type 0 where
   pub each : (r : ℕ) (member : Member) (stable : Stable K) (pair : Pair D) → IsNumbered members r member
-      → IsNumbered stables r stable → IsNumbered disks r pair
-      → IsPairOf tells kept fits seen may_leave armings member stable pair
+      → IsNumbered stables r stable → IsNumbered disks r pair → IsPairOf keep disk member stable pair
+
+-- disks stand under a world: there is a pair for each member, and it is its own
+pub record IsBacked {K D : Type 0} (keep : Keep K) (disk : Disk D) (world : Backed K) (under : List (Pair D)) :
+    Type 0 where
+  pub pairs : length world.whole.members ≤ length under
+  pub disks : AreDisksOf keep disk world.whole.members world.stables under
 
 -- the count of a pair's faults rose by as many failures at least, or stands at its last value; and it was armed only
 -- where a command armed it
@@ -173,6 +173,35 @@ pub record ReopensAt (by : ℕ) (result : Result Saved StoreFault) (old new : Li
   pub now : Member
   pub after : IsAfterOpening was result now
   pub set : new ≡ slice_set old (by - 1) now
+
+-- disks that are those of some members are so still
+abbrev pub DisksStay : {K D : Type 0} → Keep K → Disk D → List (Stable K) → List (Stable K) → List (Pair D)
+    → List (Pair D) → Type 0
+DisksStay keep disk old_stables new_stables old new =
+    (members : List Member) → AreDisksOf keep disk members old_stables old
+    → AreDisksOf keep disk members new_stables new
+
+-- of whatever members they are, the disks are those of the members after a save, and so are their fuses
+abbrev pub DisksSave : {K D T E : Type 0} → Keep K → Disk D → ℕ → Saved → Result T E → List (Stable K)
+    → List (Stable K) → List (Pair D) → List (Pair D) → Type 0
+DisksSave keep disk by next result old_stables new_stables old_disks new_disks =
+    (old new : List Member) → SavesAt by next result old new → AreDisksOf keep disk old old_stables old_disks
+    → AreDisksOf keep disk new new_stables new_disks
+    × FusesFollow keep disk (save_outcome by result ∷ []) old new old_disks new_disks
+
+-- and of the members where the disks of one were opened again
+abbrev pub DisksReopen : {K D : Type 0} → Keep K → Disk D → ℕ → Result Saved StoreFault → List (Stable K)
+    → List (Stable K) → List (Pair D) → List (Pair D) → Type 0
+DisksReopen keep disk by result old_stables new_stables old_disks new_disks =
+    (old new : List Member) → ReopensAt by result old new → AreDisksOf keep disk old old_stables old_disks
+    → AreDisksOf keep disk new new_stables new_disks
+
+-- this is a sound member of some whose disks these are
+pub record IsHeldBy {K D : Type 0} (keep : Keep K) (disk : Disk D) (count events by : ℕ) (members : List Member)
+    (was : Member) (stables : List (Stable K)) (under : List (Pair D)) : Type 0 where
+  pub is : IsNumbered members by was
+  pub sound : IsSoundMember count events by was
+  pub disks : AreDisksOf keep disk members stables under
 
 -- What a member that was this one comes to, which events are stored, and what is answered, by what was read of its
 -- disks.

@@ -6,13 +6,13 @@ use Rattle.ficus_ids.specs.declared.refusal.Refusal.{Refusal}
 use Rattle.ficus_keep.specs.declared.keep.Keep.{Ghosts as Keep}
 use Rattle.ficus_model.specs.Lawful.{Volume}
 use Rattle.ficus_script.specs.declared.command.Command.{Command}
-use Rattle.ficus_script.specs.declared.command.Command.TheVariants as command
 use Rattle.ficus_script.specs.declared.answer.Answer.{Answer}
 use Rattle.ficus_runs.specs.Actions.{ModelAction}
 use Rattle.ficus_runs.specs.ModelWorld.{ModelWorld}
 use Rattle.ficus_runs.specs.Outcome.{Outcome, link_failures}
 use Rattle.ficus_runs.specs.Run.{Step, DoesPart}
 use Rattle.ficus_runs.specs.Sequence.{Cut, Effect}
+use Rattle.ficus_runs.specs.Traits.{OpensDisks}
 use Rattle.ficus_world.specs.Causes.{AreCaused}
 use Rattle.ficus_world.specs.Disks.{DisksFollow}
 use Rattle.ficus_world.specs.Fuses.{FusesFollow, FusesPermit}
@@ -56,10 +56,9 @@ abbrev pub Stops : Volume → ModelWorld → Whole → Command → List Outcome 
 Stops volume W old command outcomes new =
     FollowsPart volume W old (DoesPart volume command) (record { outcomes = outcomes; after = new })
 
--- The disks tell what they hold, where the command is a restart, which alone uses that.
+-- The disks tell what they hold, where the command opens some again, which alone uses that.
 abbrev pub TellsFor : Type 0 → Command → Type 0
-TellsFor tells (command.Restart by) = tells
-TellsFor tells other = Unit {0}
+TellsFor tells command = OpensDisks command → tells
 
 -- the world follows the model, by some outcomes, which the disks and their fuses follow
 pub record FollowsOn {K D : Type 0} (keep : Keep K) (disk : Disk D) (volume : Volume) (W : ModelWorld) (old : Whole)

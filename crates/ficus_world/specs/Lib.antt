@@ -7,5 +7,6 @@ pub mod Disks
 pub mod Stepped
 pub mod Follows
 pub mod Stand
-pub mod Opening
 pub mod Kills
+pub mod Acts
+pub mod Opening

@@ -30,21 +30,22 @@ use Rattle.ficus_script.specs.declared.command.Command.{Command}
 use Rattle.ficus_script.specs.declared.command.Command.TheVariants as command
 use Rattle.ficus_script.specs.declared.answer.Answer.{Answer}
 use Rattle.ficus_script.specs.declared.answer.Answer.TheVariants as answer
-use Rattle.ficus_script.specs.declared.answer.Answer.TheVariants.{Done, Mail, Part}
+use Rattle.ficus_script.specs.declared.answer.Answer.TheVariants.{Done, Part}
 use Rattle.ficus_wire.specs.Message.{FitsMessage, head_of, message_bytes, message_of, messages_of_tables, sizes_of}
 use Rattle.ficus_wire.specs.Parts.{HasAllBut, HasPart, HeldParts, joined as joined_parts, no_parts, with_part}
 use Rattle.ficus_wire.specs.declared.message.Letter.{Letter}
 use Rattle.ficus_wire.specs.declared.message.Message.{Message}
 use Rattle.ficus_wire.specs.declared.message.Message.TheVariants as message
 use Rattle.ficus_wire.specs.declared.message.PieceHead.{PieceHead}
-use Rattle.ficus_runs.specs.Actions.{GivesOnly}
+use Rattle.ficus_runs.specs.Actions.{Each, EachPart, GivesOnly}
 use Rattle.ficus_runs.specs.Answers.{answer_to, AlikeAnswer, LookAnswer, answer_as}
-use Rattle.ficus_runs.specs.Exchange.{mailed, mails_of, total_limit}
+use Rattle.ficus_runs.specs.Exchange.{mailed, total_limit}
 use Rattle.ficus_runs.specs.Message.{Reads}
 use Rattle.ficus_runs.specs.Numbered.{IsNumbered}
 use Rattle.ficus_runs.specs.Outcome.{Outcome, IsDone, LinkFails, IsSaved, SaveFails, IsOpened, IsFound, OpeningFails, IsArmed}
 use Rattle.ficus_runs.specs.Peers.{ArePeers}
-use Rattle.ficus_runs.specs.Sequence.{Action, First, ByRule, Cut, CutFirst, Effect, NothingDone, unchanged}
+use Rattle.ficus_runs.specs.Plan.{Actions, Plan, plan}
+use Rattle.ficus_runs.specs.Sequence.{Action, First, ByRule, Cut, Effect, unchanged}
 use Rattle.ficus_world.specs.declared.exchange.Delivery.{Delivery}
 use Rattle.ficus_world.specs.declared.taking.Fitting.{Fitting}
 use Rattle.ficus_world.specs.declared.taking.Fitting.TheVariants as fitting
@@ -364,15 +365,11 @@ GivesMessage tells number = First (FetchesMail tells number) (HandlesMessage tel
 
 -- these messages are given in order, up to the first refusal
 abbrev pub GivesMessages : Type 0 → List ℕ → WholeAction Answer
-GivesMessages tells [] = GivesOnly Done
-GivesMessages tells (number ∷ numbers) =
-    First (GivesMessage tells number) (λ given. GivesMessages tells numbers)
+GivesMessages tells = Each (GivesMessage tells) Done
 
 -- what was done where memory is refused on the way: the gives before
 abbrev pub GivesSomeMessages : Type 0 → List ℕ → Cut Whole
-GivesSomeMessages tells [] = NothingDone
-GivesSomeMessages tells (number ∷ numbers) =
-    CutFirst (GivesMessage tells number) NothingDone (λ given. GivesSomeMessages tells numbers)
+GivesSomeMessages tells = EachPart (GivesMessage tells)
 
 -- what was read of a member's disks is of the same member, volume and generation as what it saves
 pub record IsLike (known read : Saved) : Type 0 where
@@ -450,23 +447,35 @@ abbrev pub TablesCompare : Compared → WholeAction Answer
 TablesCompare both =
     ByRule (λ world. AlikeAnswer (tables_view both.one.replica.saved) (tables_view both.other.replica.saved))
 
--- what each command does to a world, action by action; one that is no step of a world comes to nothing at all
+-- a command that is no step of a world comes to nothing at all
+abbrev pub no_step : Plan Whole
+no_step = record { does = λ old result left. ⊥; part = λ old left. ⊥ }
+
+-- the actions of which commands consist, over what the members of a world hold
+abbrev pub of_tables : Type 0 → Type 0 → Actions Whole
+of_tables tells disks_tell = record {
+  Found = Member;
+  FoundUp = Member;
+  FoundPeers = Compared;
+  finds = FindsMember;
+  finds_up = FindsUp;
+  finds_peers = FindsPeers;
+  decides = λ by. TablesDecide;
+  updates = KeepsUpdate;
+  shows = λ by. TablesShow;
+  collects = KeepsCollection;
+  asks = KeepsAsk tells;
+  gives = GivesMessage tells;
+  compares = λ by other. TablesCompare;
+  opens = Reopens disks_tell;
+  arms = ArmsDisks;
+  sweeps = λ order. no_step;
+  explains = λ by. no_step;
+}
+
+-- what each command does to a world, action by action
 abbrev pub CarriesOut : Type 0 → Type 0 → Command → WholeAction Answer
-CarriesOut tells disks_tell (command.Change by change) =
-    First (FindsUp by) (λ member. First (TablesDecide member change) (KeepsUpdate by member))
-CarriesOut tells disks_tell (command.Look by look) = First (FindsUp by) (λ member. TablesShow member look)
-CarriesOut tells disks_tell (command.Collect by) = First (FindsUp by) (KeepsCollection by)
-CarriesOut tells disks_tell (command.Ask by to) = First (KeepsAsk tells by to) (λ number. GivesOnly (Mail number))
-CarriesOut tells disks_tell (command.Give number) = GivesMessage tells number
-CarriesOut tells disks_tell (command.Pull by to) =
-    First (FindsPeers by to)
-    (λ peers. First (KeepsAsk tells by to)
-    (λ number. First (GivesMessage tells number) (λ given. GivesMessages tells (mails_of given))))
-CarriesOut tells disks_tell (command.Alike by other) = First (FindsPeers by other) TablesCompare
-CarriesOut tells disks_tell (command.Restart by) = First (FindsMember by) (Reopens disks_tell by)
-CarriesOut tells disks_tell (command.Stop by calls pick) = First (FindsUp by) (ArmsDisks by calls pick)
-CarriesOut tells disks_tell (command.Sweep order) = λ old result left. ⊥
-CarriesOut tells disks_tell (command.Why by) = λ old result left. ⊥
+CarriesOut tells disks_tell command = (plan (of_tables tells disks_tell) command).does
 
 -- a member that is up may want memory for what it holds
 pub record IsWantedBy (old : Whole) (by : ℕ) (may : Member → Type 0) : Type 0 where
@@ -500,17 +509,10 @@ TablesMayWantMemory old (command.Stop by calls pick) = ⊥
 TablesMayWantMemory old (command.Sweep order) = ⊥
 TablesMayWantMemory old (command.Why by) = ⊥
 
--- what each command leaves where memory is refused on the way: the world as it was; but a pull keeps its ask, and the
--- gives before
+-- What each command leaves where memory is refused on the way: the world as it was; but a pull keeps its ask, and the
+-- gives before. What the disks tell says nothing of it.
 abbrev pub CutShort : Type 0 → Command → Cut Whole
-CutShort tells (command.Pull by to) =
-    CutFirst (FindsPeers by to) NothingDone
-    (λ peers. CutFirst (KeepsAsk tells by to) NothingDone
-    (λ number. CutFirst (GivesMessage tells number) NothingDone
-    (λ given. GivesSomeMessages tells (mails_of given))))
-CutShort tells (command.Sweep order) = λ old left. ⊥
-CutShort tells (command.Why by) = λ old left. ⊥
-CutShort tells other = NothingDone
+CutShort tells command = (plan (of_tables tells ⊥) command).part
 
 -- one command: what became of all that it asked of the outside, its answer, and the world after it
 pub record Moves (tells disks_tell : Type 0) (old : Whole) (command : Command) (outcomes : List Outcome)
@@ -519,9 +521,13 @@ pub record Moves (tells disks_tell : Type 0) (old : Whole) (command : Command) (
   pub does : CarriesOut tells disks_tell command old result (record { outcomes = outcomes; after = new })
   pub answer_is : answer ≡ answer_as result
 
+-- the member holds no garbage
+abbrev pub HasNoGarbage : ℕ → Whole → Type 0
+HasNoGarbage by world =
+    (replica : Replica) → IsReplica world.members by replica
+    → HoldsNoGarbage replica.saved.members replica.saved.entries replica.saved.files
+
 -- where a member has collected, it holds no garbage
 abbrev pub HasCollected : Command → Answer → Whole → Type 0
-HasCollected (command.Collect by) (answer.Collected entries files) new =
-    (replica : Replica) → IsReplica new.members by replica
-    → HoldsNoGarbage replica.saved.members replica.saved.entries replica.saved.files
-HasCollected command answer new = Unit {0}
+HasCollected asked given new =
+    (by entries files : ℕ) → asked ≡ command.Collect by → given ≡ answer.Collected entries files → HasNoGarbage by new

@@ -1,8 +1,9 @@
 -- What it means that a volume is made on disks, and that a world is opened on them.
-use Rattle.std.specs.Prelude.{◌≡◌, ◌≢◌, ◌⊎◌, ℕ, ◌^◌, ◌<◌, ◌≤◌, ◌+◌, ◌==◌, Bool, if◌then◌else◌, List, [], length, map, Option, None, Some, Result, IsErrOf}
+use Rattle.std.specs.Prelude.{◌≡◌, ◌≢◌, ◌⊎◌, ℕ, ◌^◌, ◌<◌, ◌≤◌, ◌+◌, ◌==◌, Bool, if◌then◌else◌, List, [], length, map, Option, None, Some, Result, IsErrOf, OnOk}
 use Rattle.ficus_check.specs.Judged.{IsEmptyPair, MayOpen}
 use Rattle.ficus_disk.specs.Crash.{Only}
 use Rattle.ficus_disk.specs.Pair.{PairRose}
+use Rattle.ficus_disk.specs.declared.disk.Disk.{Ghosts as Disk}
 use Rattle.ficus_disk.specs.declared.fuse.Fuse.{Fuse}
 use Rattle.ficus_disk.specs.declared.pair.Pair.{Pair}
 use Rattle.ficus_ids.specs.Members.{IsCount, IsMember}
@@ -23,6 +24,7 @@ use Rattle.ficus_world.specs.declared.opening.WorldFault.{WorldFault}
 use Rattle.ficus_world.specs.declared.opening.WorldFault.TheVariants.{Image, Memory, Occupied, Store}
 use Rattle.ficus_world.specs.Disks.{are_fused}
 use Rattle.ficus_world.specs.Fuses.{AreUnarmed}
+use Rattle.ficus_world.specs.Kills.{AllRest, PairRests}
 use Rattle.ficus_world.specs.Stand.{DisksKeep}
 
 -- the disks of the members up to this one hold nothing
@@ -135,6 +137,38 @@ IsUnfailed (Store r) = ⊥
 IsUnfailed (Occupied r) = Unit {0}
 IsUnfailed (Image r) = Unit {0}
 IsUnfailed Memory = Unit {0}
+
+-- What a call does to the disks of member `number`, whatever it answers: a fault of a disk is told with this number,
+-- and was counted, and no other was; none is armed; and where none was, none fails.
+pub record PairAsked {A D : Type 0} (disk : Disk D) (number : ℕ) (result : Result A WorldFault) (old new : Pair D) :
+    Type 0 where
+  pub failed : (r : ℕ) → IsErrOf result (Store r) → (r ≡ number) × PairRose disk.faults 1 old new
+  pub spared : (fault : WorldFault) → IsUnfailed fault → IsErrOf result fault → PairSame disk.faults old new
+  pub steady : OnOk result (PairSame disk.faults old new)
+  pub armings : PairSame disk.armings old new
+  pub unfailing : disk.tells_fuse → PairUnfailing disk.fuse result old new
+
+-- the same where nothing is written on them, and what a read gives stays
+pub record PairLooked {A D : Type 0} (disk : Disk D) (number : ℕ) (result : Result A WorldFault) (old new : Pair D) :
+    Type 0 where
+  pub asked : PairAsked disk number result old new
+  pub same : disk.tells → PairSame disk.seen old new
+  pub rests : PairRests disk old new
+
+-- the same of the disks of all members
+pub record DisksAsked {A D : Type 0} (disk : Disk D) (result : Result A WorldFault) (old new : List (Pair D)) :
+    Type 0 where
+  pub failed : (r : ℕ) → IsErrOf result (Store r) → IsAtFault disk.faults old new r
+  pub spared : (fault : WorldFault) → IsUnfailed fault → IsErrOf result fault → Steady disk.faults old new
+  pub steady : OnOk result (Steady disk.faults old new)
+  pub armings : Steady disk.armings old new
+  pub unfailing : disk.tells_fuse → Unfailing disk.fuse result old new
+
+pub record DisksLooked {A D : Type 0} (disk : Disk D) (result : Result A WorldFault) (old new : List (Pair D)) :
+    Type 0 where
+  pub asked : DisksAsked disk result old new
+  pub same : disk.tells → SeenSame disk.seen old new
+  pub rests : AllRest disk old new
 
 -- a disk failed, or memory was refused
 abbrev pub IsStoreFault : WorldFault → Type 0

@@ -45,6 +45,10 @@ pub record Backed (K : Type 0) : Type 0 where
   pub whole : Whole
   pub stables : List (Stable K)
 
+-- a world with these keepers
+abbrev pub backed_by : {K : Type 0} → Whole → List (Stable K) → Backed K
+backed_by whole stables = record { whole = whole; stables = stables }
+
 -- the most events that one command stores: a pull its ask, the serving of it, and one for each piece of the answer
 abbrev pub most_events : ℕ
 most_events = 2 + piece_limit

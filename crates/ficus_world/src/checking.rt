@@ -1,16 +1,14 @@
 ghost use Rattle.std.specs.Prelude.{◌≡◌, ℕ, List, length, IfOk, IsErrOf, OnOk};
 ghost use Rattle.ficus_check.specs.Judged.{HoldsNoneOf, IsEmptyPair, IsJudged, IsOfVolume, IsSound};
 ghost use Rattle.ficus_check.specs.declared.checked.Checked.{Checked as CheckedValue};
-ghost use Rattle.ficus_disk.specs.Pair.{PairRose};
 ghost use Rattle.ficus_disk.specs.declared.pair.Pair.{Pair as PairValue};
 ghost use Rattle.ficus_ids.specs.Members.{IsMember};
 ghost use Rattle.ficus_keep.specs.Kept.{found_in};
-ghost use Rattle.ficus_keep.specs.Pairs.{PairSame};
 ghost use Rattle.ficus_leads.specs.Holds.{Holds};
 ghost use Rattle.ficus_runs.specs.Numbered.{IsNumbered};
 ghost use Rattle.ficus_saved.specs.declared.saved.Saved.{Saved as SavedValue};
-ghost use Rattle.ficus_world.specs.Kills.{PairRests, RestsAt};
-ghost use Rattle.ficus_world.specs.Opening.{IsAtFault, IsBad, IsUnfailed, Opens, PairUnfailing, SeenSame, Steady, Unfailing};
+ghost use Rattle.ficus_world.specs.Kills.{RestsAt};
+ghost use Rattle.ficus_world.specs.Opening.{IsAtFault, IsBad, IsUnfailed, Opens, PairLooked, SeenSame, Steady, Unfailing};
 ghost use Rattle.ficus_world.specs.declared.opening.WorldFault.{WorldFault as WorldFaultValue};
 
 use crate::opening::{look_at, open_one};
@@ -65,17 +63,9 @@ fn check_one<K: Keep + Drop, D: Disk>(
     number: u8,
 ) -> Result<Checked, WorldFault>
     ensures judged { D.tells → IfOk result (IsJudged K.kept D.seen number pair.old) }
-    ensures failed { (r : ℕ) → IsErrOf result (WorldFault.Store r)
-        → (r ≡ number) × PairRose D.faults 1 pair.old pair.new }
     ensures never_occupied { (r : ℕ) → IsErrOf result (WorldFault.Occupied r) → ⊥ }
     ensures never_image { (r : ℕ) → IsErrOf result (WorldFault.Image r) → ⊥ }
-    ensures same { D.tells → PairSame D.seen pair.old pair.new }
-    ensures spared { (fault : WorldFaultValue) → IsUnfailed fault → IsErrOf result fault
-        → PairSame D.faults pair.old pair.new }
-    ensures rests { PairRests D.Disk pair.old pair.new }
-    ensures steady { OnOk result (PairSame D.faults pair.old pair.new) }
-    ensures armings { PairSame D.armings pair.old pair.new }
-    ensures unfailing { D.tells_fuse → PairUnfailing D.fuse result pair.old pair.new }
+    ensures looked { PairLooked D.Disk number result pair.old pair.new }
 {
     if look_at(pair, number)? {
         return Ok(Checked::Empty);
@@ -91,17 +81,9 @@ fn judge<K: Keep + Drop, D: Disk>(
 ) -> Result<Checked, WorldFault>
     ensures judged { D.tells → (IsEmptyPair D.seen pair.old → ⊥)
         → IfOk result (IsJudged K.kept D.seen number pair.old) }
-    ensures failed { (r : ℕ) → IsErrOf result (WorldFault.Store r)
-        → (r ≡ number) × PairRose D.faults 1 pair.old pair.new }
     ensures never_occupied { (r : ℕ) → IsErrOf result (WorldFault.Occupied r) → ⊥ }
     ensures never_image { (r : ℕ) → IsErrOf result (WorldFault.Image r) → ⊥ }
-    ensures same { D.tells → PairSame D.seen pair.old pair.new }
-    ensures spared { (fault : WorldFaultValue) → IsUnfailed fault → IsErrOf result fault
-        → PairSame D.faults pair.old pair.new }
-    ensures rests { PairRests D.Disk pair.old pair.new }
-    ensures steady { OnOk result (PairSame D.faults pair.old pair.new) }
-    ensures armings { PairSame D.armings pair.old pair.new }
-    ensures unfailing { D.tells_fuse → PairUnfailing D.fuse result pair.old pair.new }
+    ensures looked { PairLooked D.Disk number result pair.old pair.new }
 {
     match open_one::<K, D>(alloc, pair, number) {
         Ok(found) => Ok(soundness_of(&found.saved)),

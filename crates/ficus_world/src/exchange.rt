@@ -1,4 +1,4 @@
-ghost use Rattle.std.specs.Prelude.{◌≡◌, ◌≢◌, ◌+◌, ◌^◌, ◌<◌, ◌≤◌, [], Err, List, length, IfErr, IfOk, OnErr, OnOk, IsErrOf};
+ghost use Rattle.std.specs.Prelude.{◌≡◌, ◌≢◌, ◌+◌, ◌^◌, ◌<◌, ◌≤◌, Err, length, IfErr, IfOk, OnErr, OnOk, IsErrOf};
 ghost use Rattle.ficus_ids.specs.Members.{IsMember};
 ghost use Rattle.ficus_ids.specs.declared.refusal.Refusal.TheVariants.{LinkFull as IsFull, Memory as OutOfMemory};
 ghost use Rattle.ficus_saved.specs.Saved.{FitsImage};
@@ -8,12 +8,12 @@ ghost use Rattle.ficus_runs.specs.Message.{Reads};
 ghost use Rattle.ficus_runs.specs.Peers.{ArePeers};
 ghost use Rattle.ficus_runs.specs.Sequence.{unchanged};
 ghost use Rattle.std.specs.List.{range_with_len};
-ghost use Rattle.ficus_world.specs.Disks.{AreDisksOf, Carried, CarriedOn, DisksComeTo, IsPreparedAt, StaysOn};
+ghost use Rattle.ficus_world.specs.Disks.{Carried, CarriedOn, IsBacked, IsPreparedAt};
+ghost use Rattle.ficus_world.specs.Acts.{Acts, ActsOn, StaysAt};
 ghost use Rattle.ficus_world.specs.Post.{HasRoom};
 ghost use Rattle.ficus_world.specs.Moves.{FetchesBytes, GivesMessage, GivesMessages, GivesSomeMessages, IsAsking, KeepsAsk, ask_of, messages_read};
-ghost use Rattle.ficus_world.specs.World.{IsSoundNext, IsUpIn, event_limit, most_events};
+ghost use Rattle.ficus_world.specs.World.{IsSoundNext, IsUpIn, backed_by, event_limit, most_events};
 ghost use Rattle.ficus_world.specs.declared.member.Member.{Member as MemberValue};
-ghost use Rattle.ficus_world.specs.Kills.{IsSettled, OthersStay, Passes, RestsAt, Touches};
 ghost use Rattle.ficus_world.specs.Stepped.{CutPart};
 
 use crate::World;
@@ -62,20 +62,12 @@ impl<K: Keep + Drop, L: Link + Drop> World<K, L> {
         to: u8,
     ) -> Result<u32, Refusal>
         requires room { length self.old.whole.events < event_limit }
-        requires pairs { length self.old.whole.members ≤ length disks.old.items }
-        requires disks { AreDisksOf D.tells K.kept K.fits D.seen D.may_leave D.armings self.old.whole.members
-            self.old.stables disks.old.items }
+        requires backed { IsBacked K.Keep D.Disk self.old disks.old.items }
         ensures asks { CarriedOn K.Keep D.Disk (KeepsAsk L.tells by to) result self.old.whole self.new.whole
             disks.old.items disks.new.items }
         ensures wants { IsErrOf result OutOfMemory → ArePeers (length self.old.whole.members) by to
             × IsUpIn self.old.whole by }
-        ensures grows { length self.new.whole.events ≤ length self.old.whole.events + 1 }
-        ensures members { length self.new.whole.members ≡ length self.old.whole.members }
-        ensures memory { IsErrOf result OutOfMemory → StaysOn D.faults D.armings self.old.whole self.new.whole
-            disks.old.items disks.new.items }
-        ensures touches { Touches K.Keep D.Disk self.old.whole self.new.whole disks.old.items disks.new.items }
-        ensures disks { AreDisksOf D.tells K.kept K.fits D.seen D.may_leave D.armings self.new.whole.members
-            self.new.stables disks.new.items }
+        ensures acts { Acts K.Keep D.Disk 1 result self.old self.new disks.old.items disks.new.items }
     {
         let asking = self.group.asking(alloc, by, to)?;
         self.group
@@ -90,20 +82,12 @@ impl<K: Keep + Drop, L: Link + Drop> World<K, L> {
         mail: u32,
     ) -> Result<Answer, Refusal>
         requires room { length self.old.whole.events < event_limit + most_events }
-        requires pairs { length self.old.whole.members ≤ length disks.old.items }
-        requires disks { AreDisksOf D.tells K.kept K.fits D.seen D.may_leave D.armings self.old.whole.members
-            self.old.stables disks.old.items }
+        requires backed { IsBacked K.Keep D.Disk self.old disks.old.items }
         ensures gives { CarriedOn K.Keep D.Disk (GivesMessage L.tells mail) result self.old.whole self.new.whole
             disks.old.items disks.new.items }
         ensures wants { IsErrOf result OutOfMemory → IsMember (length self.old.whole.post.posts) mail }
         ensures few { IfOk result (λ answer. length (mails_of answer) ≤ piece_limit) }
-        ensures grows { length self.new.whole.events ≤ length self.old.whole.events + 1 }
-        ensures members { length self.new.whole.members ≡ length self.old.whole.members }
-        ensures memory { IsErrOf result OutOfMemory → StaysOn D.faults D.armings self.old.whole self.new.whole
-            disks.old.items disks.new.items }
-        ensures touches { Touches K.Keep D.Disk self.old.whole self.new.whole disks.old.items disks.new.items }
-        ensures disks { AreDisksOf D.tells K.kept K.fits D.seen D.may_leave D.armings self.new.whole.members
-            self.new.stables disks.new.items }
+        ensures acts { Acts K.Keep D.Disk 1 result self.old self.new disks.old.items disks.new.items }
     {
         let bytes = self.group.fetch(mail)?;
         match self.group.letter(bytes.items())? {
@@ -138,22 +122,13 @@ impl<K: Keep + Drop, L: Link + Drop> World<K, L> {
     ) -> Result<Answer, Refusal>
         requires room { length self.old.whole.events + count < event_limit + most_events }
         requires numbers { first + count ≤ 2 ^ 32 }
-        requires pairs { length self.old.whole.members ≤ length disks.old.items }
-        requires disks { AreDisksOf D.tells K.kept K.fits D.seen D.may_leave D.armings self.old.whole.members
-            self.old.stables disks.old.items }
+        requires backed { IsBacked K.Keep D.Disk self.old disks.old.items }
         ensures gives { CarriedOn K.Keep D.Disk (GivesMessages L.tells (range_with_len first count)) result
             self.old.whole self.new.whole disks.old.items disks.new.items }
-        ensures grows { length self.new.whole.events ≤ length self.old.whole.events + count }
-        ensures members { length self.new.whole.members ≡ length self.old.whole.members }
         ensures memory { IsErrOf result OutOfMemory → CutPart K.Keep D.Disk
             (GivesSomeMessages L.tells (range_with_len first count)) self.old.whole self.new.whole disks.old.items
             disks.new.items }
-        ensures passes { IsSettled K.Keep D.Disk self.old.whole disks.old.items
-            → IsSettled K.Keep D.Disk self.new.whole disks.new.items
-            → Passes L.tells K.Keep D.Disk self.old.whole self.new.whole disks.old.items disks.new.items }
-        ensures others { OthersStay (length self.old.whole.members) disks.old.items disks.new.items }
-        ensures disks { AreDisksOf D.tells K.kept K.fits D.seen D.may_leave D.armings self.new.whole.members
-            self.new.stables disks.new.items }
+        ensures acts { ActsOn L.tells K.Keep D.Disk self.old self.new disks.old.items disks.new.items }
     {
         self.settled(disks);
         for index in 0..count {
@@ -212,23 +187,15 @@ impl<L: Link + Drop> Group<L> {
     ) -> Result<u32, Refusal>
         requires room { length self.old.events < event_limit }
         requires stables { length stables.old.items ≡ length self.old.members }
-        requires pairs { length self.old.members ≤ length disks.old.items }
-        requires disks { AreDisksOf D.tells K.kept K.fits D.seen D.may_leave D.armings self.old.members
-            stables.old.items disks.old.items }
+        requires backed { IsBacked K.Keep D.Disk (backed_by self.old stables.old.items) disks.old.items }
         requires asking { (was : MemberValue) × IsAsking self.old by to was asking.replica
             × IsSoundNext (length self.old.members) (length self.old.events) by asking.noted.items was.replica
             asking.replica }
         requires message { asking.message.items ≡ message_bytes (ask_of by to asking.replica) }
         ensures asks { CarriedOn K.Keep D.Disk (KeepsAsk L.tells by to) result self.old self.new disks.old.items
             disks.new.items }
-        ensures grows { length self.new.events ≤ length self.old.events + 1 }
-        ensures members { length self.new.members ≡ length self.old.members }
-        ensures stables { length stables.new.items ≡ length stables.old.items }
-        ensures memory { IsErrOf result OutOfMemory → StaysOn D.faults D.armings self.old self.new disks.old.items
-            disks.new.items }
-        ensures touches { Touches K.Keep D.Disk self.old self.new disks.old.items disks.new.items }
-        ensures disks { AreDisksOf D.tells K.kept K.fits D.seen D.may_leave D.armings self.new.members
-            stables.new.items disks.new.items }
+        ensures acts { Acts K.Keep D.Disk 1 result (backed_by self.old stables.old.items)
+            (backed_by self.new stables.new.items) disks.old.items disks.new.items }
     {
         make_ready(
             &mut self.history,
@@ -307,13 +274,7 @@ fn make_ready<K: Keep + Drop, L: Link + Drop, D: Disk>(
         × (post.old.now.total + length asking.now.message.items ≤ total_limit → ⊥)) }
     ensures events { history.new.events ≡ history.old.events }
     ensures post { post.new.now ≡ post.old.now }
-    ensures disks { (members : List MemberValue)
-        → AreDisksOf D.tells K.kept K.fits D.seen D.may_leave D.armings members stables.old.items disks.old.items
-        → AreDisksOf D.tells K.kept K.fits D.seen D.may_leave D.armings members stables.new.items disks.new.items }
-    ensures follows { (members : List MemberValue) → DisksComeTo K.Keep D.Disk [] members members disks.old.items
-        disks.new.items }
-    ensures rests { RestsAt D.Disk by disks.old.items disks.new.items }
-    ensures count { length stables.new.items ≡ length stables.old.items }
+    ensures stays { StaysAt K.Keep D.Disk by stables.old.items stables.new.items disks.old.items disks.new.items }
 {
     if !post.has_room_for(asking.message.len() as u64) {
         return Err(Refusal::LinkFull);

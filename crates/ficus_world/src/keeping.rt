@@ -1,15 +1,16 @@
-ghost use Rattle.std.specs.Prelude.{◌≡◌, ◌⊎◌, ◌+◌, ◌-◌, ◌<◌, ◌≤◌, ◌++◌, ◌∷◌, [], ℕ, Err, List, Some, length, IfErr, slice_set, IfOk, OnErr, OnOk, IsErrOf};
+ghost use Rattle.std.specs.Prelude.{◌≡◌, ◌+◌, ◌-◌, ◌<◌, ◌≤◌, ◌++◌, ◌∷◌, [], ℕ, Err, List, Some, length, slice_set, OnErr, OnOk};
 ghost use Rattle.ficus_ids.specs.Members.{IsMember};
 ghost use Rattle.ficus_leads.specs.Holds.{Leads};
-ghost use Rattle.ficus_ids.specs.declared.refusal.Refusal.TheVariants.{Memory as OutOfMemory, Store as StoreFailed};
+ghost use Rattle.ficus_ids.specs.declared.refusal.Refusal.TheVariants.{Store as StoreFailed};
 ghost use Rattle.ficus_runs.specs.Numbered.{IsNumbered};
 ghost use Rattle.ficus_runs.specs.Outcome.{IsSaved, SaveFails};
-ghost use Rattle.ficus_world.specs.Disks.{AreDisksOf, DisksComeTo, IsPreparedAt, StaysOn};
-ghost use Rattle.ficus_world.specs.Moves.{advanced, downed, parts_after};
-ghost use Rattle.ficus_world.specs.World.{IsSoundNext, IsUpIn, event_limit, most_events, whole_of};
+ghost use Rattle.ficus_world.specs.Disks.{AreDisksOf, DisksComeTo, IsBacked, IsPreparedAt};
+ghost use Rattle.ficus_world.specs.Acts.{Acts, SavesNext};
+ghost use Rattle.ficus_world.specs.Moves.{parts_after};
+ghost use Rattle.ficus_world.specs.World.{IsSoundNext, IsUpIn, backed_by, event_limit, most_events, whole_of};
 ghost use Rattle.ficus_world.specs.declared.member.Member.{Member as MemberValue};
 ghost use Rattle.ficus_world.specs.declared.member.MemberState.TheVariants.{Down as IsDown, Up as IsUp};
-ghost use Rattle.ficus_world.specs.Kills.{Touches, WritesAt};
+ghost use Rattle.ficus_world.specs.Kills.{WritesAt};
 ghost use Rattle.ficus_world.specs.Post.{Outbox};
 
 use crate::World;
@@ -35,27 +36,14 @@ impl<K: Keep + Drop, L: Link + Drop> World<K, L> {
         noted: &[u8],
     ) -> Result<(), Refusal>
         requires room { length self.old.whole.events < event_limit + most_events }
-        requires pairs { length self.old.whole.members ≤ length disks.old.items }
-        requires disks { AreDisksOf D.tells K.kept K.fits D.seen D.may_leave D.armings self.old.whole.members
-            self.old.stables disks.old.items }
+        requires backed { IsBacked K.Keep D.Disk self.old disks.old.items }
         requires up { IsUpIn self.old.whole by }
         requires next { (was : MemberValue) → IsNumbered self.old.whole.members by was
             → IsSoundNext (length self.old.whole.members) (length self.old.whole.events) by noted.now was.replica
             next.replica }
-        ensures saved { OnOk result ((was : MemberValue) → IsNumbered self.old.whole.members by was
-            → self.new.whole ≡ advanced self.old.whole by was next.replica next.event) }
-        ensures followed { OnOk result (DisksComeTo K.Keep D.Disk (IsSaved by ∷ []) self.old.whole.members
-            self.new.whole.members disks.old.items disks.new.items) }
-        ensures failed { IsErrOf result StoreFailed → ((was : MemberValue) → IsNumbered self.old.whole.members by was
-            → self.new.whole ≡ downed self.old.whole by was (Some next)) }
-        ensures counted { IsErrOf result StoreFailed → DisksComeTo K.Keep D.Disk (SaveFails by ∷ [])
-            self.old.whole.members self.new.whole.members disks.old.items disks.new.items }
-        ensures memory { IsErrOf result OutOfMemory → StaysOn D.faults D.armings self.old.whole self.new.whole
-            disks.old.items disks.new.items }
-        ensures refused { IfErr result (λ refusal. (refusal ≡ StoreFailed) ⊎ (refusal ≡ OutOfMemory)) }
-        ensures touches { Touches K.Keep D.Disk self.old.whole self.new.whole disks.old.items disks.new.items }
-        ensures disks { AreDisksOf D.tells K.kept K.fits D.seen D.may_leave D.armings self.new.whole.members
-            self.new.stables disks.new.items }
+        ensures saves { SavesNext K.Keep D.Disk by next result self.old.whole self.new.whole disks.old.items
+            disks.new.items }
+        ensures acts { Acts K.Keep D.Disk 1 result self.old self.new disks.old.items disks.new.items }
     {
         self.group.save(&mut self.stables, disks, by, next, noted)
     }
@@ -73,28 +61,13 @@ impl<L: Link + Drop> Group<L> {
     ) -> Result<(), Refusal>
         requires room { length self.old.events < event_limit + most_events }
         requires stables { length stables.old.items ≡ length self.old.members }
-        requires pairs { length self.old.members ≤ length disks.old.items }
-        requires disks { AreDisksOf D.tells K.kept K.fits D.seen D.may_leave D.armings self.old.members
-            stables.old.items disks.old.items }
+        requires backed { IsBacked K.Keep D.Disk (backed_by self.old stables.old.items) disks.old.items }
         requires up { IsUpIn self.old by }
         requires next { (was : MemberValue) → IsNumbered self.old.members by was
             → IsSoundNext (length self.old.members) (length self.old.events) by noted.now was.replica next.replica }
-        ensures saved { OnOk result ((was : MemberValue) → IsNumbered self.old.members by was
-            → self.new ≡ advanced self.old by was next.replica next.event) }
-        ensures followed { OnOk result (DisksComeTo K.Keep D.Disk (IsSaved by ∷ []) self.old.members self.new.members
-            disks.old.items disks.new.items) }
-        ensures failed { IsErrOf result StoreFailed → ((was : MemberValue) → IsNumbered self.old.members by was
-            → self.new ≡ downed self.old by was (Some next)) }
-        ensures counted { IsErrOf result StoreFailed → DisksComeTo K.Keep D.Disk (SaveFails by ∷ []) self.old.members
-            self.new.members disks.old.items disks.new.items }
-        ensures memory { IsErrOf result OutOfMemory → StaysOn D.faults D.armings self.old self.new disks.old.items
-            disks.new.items }
-        ensures refused { IfErr result (λ refusal. (refusal ≡ StoreFailed) ⊎ (refusal ≡ OutOfMemory)) }
-        ensures members { length self.new.members ≡ length self.old.members }
-        ensures stables { length stables.new.items ≡ length stables.old.items }
-        ensures touches { Touches K.Keep D.Disk self.old self.new disks.old.items disks.new.items }
-        ensures disks { AreDisksOf D.tells K.kept K.fits D.seen D.may_leave D.armings self.new.members
-            stables.new.items disks.new.items }
+        ensures saves { SavesNext K.Keep D.Disk by next result self.old self.new disks.old.items disks.new.items }
+        ensures acts { Acts K.Keep D.Disk 1 result (backed_by self.old stables.old.items)
+            (backed_by self.new stables.new.items) disks.old.items disks.new.items }
     {
         self.history.reserve(1)?;
         prepare_at(stables, disks, by, &next.replica.saved, noted)?;
@@ -128,7 +101,7 @@ pub(crate) fn keep<K: Keep + Drop, D: Disk>(
         → Leads body was.replica.saved next.replica.saved) }
     requires room { 1 ≤ history.old.room }
     requires few { length history.old.events < event_limit + most_events }
-    requires disks { AreDisksOf D.tells K.kept K.fits D.seen D.may_leave D.armings members.old.items stables.old.items
+    requires disks { AreDisksOf K.Keep D.Disk members.old.items stables.old.items
         disks.old.items }
     ensures held { OnOk result ((was : MemberValue) → IsNumbered members.old.items by was
         → members.new.items ≡ slice_set members.old.items (by - 1)
@@ -145,7 +118,7 @@ pub(crate) fn keep<K: Keep + Drop, D: Disk>(
     ensures writes { (post after : Outbox) → WritesAt K.Keep D.Disk by
         (whole_of members.old.items history.old.events post) (whole_of members.new.items history.new.events after)
         disks.old.items disks.new.items }
-    ensures disks { AreDisksOf D.tells K.kept K.fits D.seen D.may_leave D.armings members.new.items stables.new.items
+    ensures disks { AreDisksOf K.Keep D.Disk members.new.items stables.new.items
         disks.new.items }
     ensures count { length stables.new.items ≡ length stables.old.items }
 {

@@ -48,8 +48,7 @@ pub fn disks_stand<K: Keep + Drop, L: Link + Drop, D: Disk>(
     world: &World<K, L>,
     disks: &Vec<Pair<D>>,
 )
-    requires { AreDisksOf D.tells K.kept K.fits D.seen D.may_leave D.armings world.now.whole.members world.now.stables
-        disks.now.items }
+    requires { AreDisksOf K.Keep D.Disk world.now.whole.members world.now.stables disks.now.items }
     ensures stand { D.tells → (volume : Volume) (W : ModelWorld) → WorldStandsFor volume W world.now.whole
         → DisksStand K.kept D.seen volume W disks.now.items }
     // Whatever a crash leaves of them does too.

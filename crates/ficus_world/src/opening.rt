@@ -18,9 +18,9 @@ ghost use Rattle.ficus_stable.specs.Stable.{IsReady};
 ghost use Rattle.ficus_runs.specs.Numbered.{IsNumbered};
 ghost use Rattle.ficus_runs.specs.Start.{restarts, start};
 ghost use Rattle.ficus_runs.specs.Fuses.{FuseState};
-ghost use Rattle.ficus_world.specs.Disks.{AreDisksOf, are_fused};
+ghost use Rattle.ficus_world.specs.Disks.{AreDisksOf, IsBacked, are_fused};
 ghost use Rattle.ficus_world.specs.Fuses.{AreAtRest, AreRegular, AreUnarmed, FusesStand};
-ghost use Rattle.ficus_world.specs.Opening.{AreEmpty, AreMade, AreMadeInPart, AreOpened, AreRead, AreSynced, IsAtFault, IsBad, IsFirstBad, IsFirstOccupied, IsFoundFault, IsOneMore, IsStoreFault, IsSynced, IsUnfailed, Opens, PairUnfailing, SeenSame, StandsOn, Steady, Unfailing, fuses_in, opened_member};
+ghost use Rattle.ficus_world.specs.Opening.{AreEmpty, AreMade, AreMadeInPart, AreOpened, AreRead, AreSynced, DisksAsked, DisksLooked, IsAtFault, IsBad, IsFirstBad, IsFirstOccupied, IsFoundFault, IsOneMore, IsStoreFault, IsSynced, IsUnfailed, Opens, PairAsked, PairLooked, SeenSame, StandsOn, Steady, Unfailing, fuses_in, opened_member};
 ghost use Rattle.ficus_world.specs.World.{WorldStandsFor};
 ghost use Rattle.ficus_world.specs.declared.member.Member.{Member as MemberValue};
 ghost use Rattle.ficus_world.specs.declared.opening.WorldFault.{WorldFault as WorldFaultValue};
@@ -151,8 +151,7 @@ impl<K: Keep + Drop, L: Link + Drop> World<K, L> {
             → Opens K.kept D.seen disks.old.items first first 1 → length world.whole.members ≡ first.members) }
         ensures events { IfOk result (λ world. world.whole.events ≡ restarts (length world.whole.members)) }
         ensures faults { IfOk result (λ world. world.whole.post.faults ≡ L.faults link) }
-        ensures disks { IfOk result (λ world. AreDisksOf D.tells K.kept K.fits D.seen D.may_leave D.armings
-            world.whole.members world.stables disks.new.items) }
+        ensures backed { IfOk result (λ world. IsBacked K.Keep D.Disk world disks.new.items) }
         ensures opened { D.tells → IfOk result (λ world. AreRead K.kept D.seen disks.old.items world.whole.members) }
         // Whatever lawful history the disks stood for, the world stands for it with the restarts.
         ensures stands { D.tells → (volume : Volume) (H : List EventValue)
@@ -209,20 +208,12 @@ fn look_for_empty<D: Disk>(disks: &mut Vec<Pair<D>>, members: Members) -> Result
     ensures empty { D.tells → OnOk result (AreEmpty D.seen disks.old.items members) }
     ensures occupied { D.tells → (r : ℕ) → IsErrOf result (WorldFault.Occupied r)
         → IsFirstOccupied D.seen disks.old.items r × (r ≤ members) }
-    ensures spared { (fault : WorldFaultValue) → IsUnfailed fault → IsErrOf result fault
-        → Steady D.faults disks.old.items disks.new.items }
-    ensures failed { (r : ℕ) → IsErrOf result (WorldFault.Store r) → IsAtFault D.faults disks.old.items
-        disks.new.items r }
     ensures member { (r : ℕ) → IsErrOf result (WorldFault.Store r) → r ≤ members }
     ensures refused { IfErr result IsFoundFault }
-    ensures same { D.tells → SeenSame D.seen disks.old.items disks.new.items }
-    ensures rests { AllRest D.Disk disks.old.items disks.new.items }
     ensures others { OthersStay members disks.old.items disks.new.items }
     ensures synced { D.tells → AreSynced D.seen D.may_leave disks.old.items members
         → OnOk result (AreSynced D.seen D.may_leave disks.new.items members) }
-    ensures steady { OnOk result (Steady D.faults disks.old.items disks.new.items) }
-    ensures armings { Steady D.armings disks.old.items disks.new.items }
-    ensures unfailing { D.tells_fuse → Unfailing D.fuse result disks.old.items disks.new.items }
+    ensures looked { DisksLooked D.Disk result disks.old.items disks.new.items }
 {
     let mut occupied = None;
     for before in 0..members.count() {
@@ -251,14 +242,9 @@ fn or_occupied(occupied: Option<u8>, is_empty: bool, number: u8) -> Option<u8>
 /// Whether both disks of this member hold nothing.
 pub(crate) fn look_at<D: Disk>(pair: &mut Pair<D>, number: u8) -> Result<bool, WorldFault>
     ensures empty { D.tells → IfOk result (λ is. IsTrue is ↔ IsEmptyPair D.seen pair.old) }
-    ensures same { D.tells → PairSame D.seen pair.old pair.new }
     ensures synced { D.tells → IsSynced D.seen D.may_leave pair.old → IsSynced D.seen D.may_leave pair.new }
-    ensures rests { PairRests D.Disk pair.old pair.new }
     ensures failed { IfErr result (λ fault. fault ≡ WorldFault.Store number) }
-    ensures risen { OnErr result (PairRose D.faults 1 pair.old pair.new) }
-    ensures steady { OnOk result (PairSame D.faults pair.old pair.new) }
-    ensures armings { PairSame D.armings pair.old pair.new }
-    ensures unfailing { D.tells_fuse → PairUnfailing D.fuse result pair.old pair.new }
+    ensures looked { PairLooked D.Disk number result pair.old pair.new }
 {
     match is_empty(pair) {
         Ok(is_empty) => Ok(is_empty),
@@ -298,8 +284,6 @@ fn make_all<K: Keep + Drop, D: Disk>(
     requires empty { D.tells → AreEmpty D.seen disks.old.items members }
     ensures made { D.tells → OnOk result (AreMade K.kept D.seen
         (record { members = members; ids = ids; bytes = bytes }) disks.new.items) }
-    ensures failed { (r : ℕ) → IsErrOf result (WorldFault.Store r) → IsAtFault D.faults disks.old.items
-        disks.new.items r }
     ensures member { (r : ℕ) → IsErrOf result (WorldFault.Store r) → r ≤ members }
     ensures refused { IfErr result IsStoreFault }
     ensures partly { D.tells → AreSynced D.seen D.may_leave disks.old.items members
@@ -308,12 +292,8 @@ fn make_all<K: Keep + Drop, D: Disk>(
     ensures others { OthersStay members disks.old.items disks.new.items }
     ensures synced { D.tells → AreSynced D.seen D.may_leave disks.old.items members
         → OnOk result (AreSynced D.seen D.may_leave disks.new.items members) }
-    ensures spared { (fault : WorldFaultValue) → IsUnfailed fault → IsErrOf result fault
-        → Steady D.faults disks.old.items disks.new.items }
-    ensures steady { OnOk result (Steady D.faults disks.old.items disks.new.items) }
-    ensures armings { Steady D.armings disks.old.items disks.new.items }
-    ensures unfailing { D.tells_fuse → Unfailing D.fuse result disks.old.items disks.new.items }
     ensures regular { D.tells → OnOk result (AreRegular K.Regular D.seen disks.new.items members) }
+    ensures asked { DisksAsked D.Disk result disks.old.items disks.new.items }
 {
     for before in 0..members.count() {
         let pair = &mut disks[usize::from(before)];
@@ -338,19 +318,13 @@ fn make_one<K: Keep + Drop, D: Disk>(
     requires empty { D.tells → IsEmptyPair D.seen pair.old }
     ensures made { D.tells → OnOk result (Holds (found_in K.kept D.seen pair.new)
         (fresh_saved (record { members = members; ids = ids; bytes = bytes }) me)) }
-    ensures failed { (r : ℕ) → IsErrOf result (WorldFault.Store r)
-        → (r ≡ me) × PairRose D.faults 1 pair.old pair.new }
     ensures refused { IfErr result IsStoreFault }
     ensures partly { D.tells → IsSynced D.seen D.may_leave pair.old → HoldsOneOf K.kept D.may_leave pair.new None
         (Some (fresh_saved (record { members = members; ids = ids; bytes = bytes }) me)) }
     ensures synced { D.tells → IsSynced D.seen D.may_leave pair.old
         → OnOk result (IsSynced D.seen D.may_leave pair.new) }
-    ensures spared { (fault : WorldFaultValue) → IsUnfailed fault → IsErrOf result fault
-        → PairSame D.faults pair.old pair.new }
-    ensures steady { OnOk result (PairSame D.faults pair.old pair.new) }
-    ensures armings { PairSame D.armings pair.old pair.new }
-    ensures unfailing { D.tells_fuse → PairUnfailing D.fuse result pair.old pair.new }
     ensures regular { D.tells → OnOk result (IsRegularIn K.Regular D.seen pair.new) }
+    ensures asked { PairAsked D.Disk me result pair.old pair.new }
 {
     let fresh = Replica::fresh(alloc, me, members, ids, bytes);
     match Stable::<K>::make(alloc, pair, &fresh.saved) {
@@ -371,26 +345,18 @@ fn open_all<K: Keep + Drop, D: Disk>(
         → first.replica.saved.members ≡ length opened.members.items) }
     ensures count { IfOk result (λ opened. IsCount (length opened.members.items)) }
     ensures stables { IfOk result (λ opened. length opened.stables.items ≡ length opened.members.items) }
-    ensures disks { IfOk result (λ opened. AreDisksOf D.tells K.kept K.fits D.seen D.may_leave D.armings
+    ensures disks { IfOk result (λ opened. AreDisksOf K.Keep D.Disk
         opened.members.items opened.stables.items disks.new.items) }
     ensures image { D.tells → (r : ℕ) → IsErrOf result (WorldFault.Image r)
         → IsFirstBad K.kept D.seen disks.old.items r }
-    ensures failed { (r : ℕ) → IsErrOf result (WorldFault.Store r) → IsAtFault D.faults disks.old.items
-        disks.new.items r }
     ensures never { (r : ℕ) → IsErrOf result (WorldFault.Occupied r) → ⊥ }
-    ensures same { D.tells → SeenSame D.seen disks.old.items disks.new.items }
-    ensures spared { (fault : WorldFaultValue) → IsUnfailed fault → IsErrOf result fault
-        → Steady D.faults disks.old.items disks.new.items }
-    ensures rests { AllRest D.Disk disks.old.items disks.new.items }
     ensures others { IfOk result (λ opened. OthersStay (length opened.members.items) disks.old.items
         disks.new.items) }
     ensures member { D.tells → (r : ℕ) → IsErrOf result (WorldFault.Store r) → (first : SavedValue)
         → Opens K.kept D.seen disks.old.items first first 1 → r ≤ first.members }
     ensures earlier { D.tells → (q r : ℕ) → IsErrOf result (WorldFault.Store q)
         → IsFirstBad K.kept D.seen disks.old.items r → q ≤ r }
-    ensures steady { OnOk result (Steady D.faults disks.old.items disks.new.items) }
-    ensures armings { Steady D.armings disks.old.items disks.new.items }
-    ensures unfailing { D.tells_fuse → Unfailing D.fuse result disks.old.items disks.new.items }
+    ensures looked { DisksLooked D.Disk result disks.old.items disks.new.items }
 {
     one_saved();
     let mut opened = none_opened(alloc)?;
@@ -424,27 +390,19 @@ fn open_next<K: Keep + Drop, D: Disk>(
     requires pair { IsMember (length disks.old.items) number }
     requires stables { length opened.old.stables.items ≡ length opened.old.members.items }
     requires opened { AreOpened opened.old.members.items }
-    requires disks { AreDisksOf D.tells K.kept K.fits D.seen D.may_leave D.armings opened.old.members.items
+    requires disks { AreDisksOf K.Keep D.Disk opened.old.members.items
         opened.old.stables.items disks.old.items }
     ensures opened { OnOk result (AreOpened opened.new.members.items) }
     ensures members { OnOk result (IsOneMore opened.old.members.items opened.new.members.items) }
     ensures stables { OnOk result (length opened.new.stables.items ≡ number) }
-    ensures disks { OnOk result (AreDisksOf D.tells K.kept K.fits D.seen D.may_leave D.armings
+    ensures disks { OnOk result (AreDisksOf K.Keep D.Disk
         opened.new.members.items opened.new.stables.items disks.new.items) }
     ensures image { D.tells → (r : ℕ) → IsErrOf result (WorldFault.Image r)
         → (r ≡ number) × IsBad K.kept D.seen disks.old.items r }
-    ensures failed { (r : ℕ) → IsErrOf result (WorldFault.Store r) → IsAtFault D.faults disks.old.items
-        disks.new.items r }
     ensures never { (r : ℕ) → IsErrOf result (WorldFault.Occupied r) → ⊥ }
-    ensures same { D.tells → SeenSame D.seen disks.old.items disks.new.items }
-    ensures spared { (fault : WorldFaultValue) → IsUnfailed fault → IsErrOf result fault
-        → Steady D.faults disks.old.items disks.new.items }
-    ensures rests { AllRest D.Disk disks.old.items disks.new.items }
     ensures others { OthersStay number disks.old.items disks.new.items }
     ensures named { (r : ℕ) → IsErrOf result (WorldFault.Store r) → r ≡ number }
-    ensures steady { OnOk result (Steady D.faults disks.old.items disks.new.items) }
-    ensures armings { Steady D.armings disks.old.items disks.new.items }
-    ensures unfailing { D.tells_fuse → Unfailing D.fuse result disks.old.items disks.new.items }
+    ensures looked { DisksLooked D.Disk result disks.old.items disks.new.items }
 {
     let index = usize::from(number) - 1;
     let Recovered { stable, saved } = open_one(alloc, &mut disks[index], number)?;
@@ -481,16 +439,8 @@ pub(crate) fn open_one<K: Keep + Drop, D: Disk>(
         IsReady K.kept K.fits D.seen D.may_leave found.stable pair.new found.saved) }
     ensures image { D.tells → (r : ℕ) → IsErrOf result (WorldFault.Image r)
         → (r ≡ number) × HoldsNoneOf K.kept D.seen number pair.old }
-    ensures failed { (r : ℕ) → IsErrOf result (WorldFault.Store r)
-        → (r ≡ number) × PairRose D.faults 1 pair.old pair.new }
     ensures never { (r : ℕ) → IsErrOf result (WorldFault.Occupied r) → ⊥ }
-    ensures same { D.tells → PairSame D.seen pair.old pair.new }
-    ensures spared { (fault : WorldFaultValue) → IsUnfailed fault → IsErrOf result fault
-        → PairSame D.faults pair.old pair.new }
-    ensures rests { PairRests D.Disk pair.old pair.new }
-    ensures steady { OnOk result (PairSame D.faults pair.old pair.new) }
-    ensures armings { PairSame D.armings pair.old pair.new }
-    ensures unfailing { D.tells_fuse → PairUnfailing D.fuse result pair.old pair.new }
+    ensures looked { PairLooked D.Disk number result pair.old pair.new }
 {
     match open_own(alloc, pair, number) {
         Ok(found) => Ok(found),

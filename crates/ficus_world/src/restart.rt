@@ -1,14 +1,14 @@
-ghost use Rattle.std.specs.Prelude.{◌≡◌, ◌+◌, ◌-◌, ◌<◌, ◌≤◌, ◌++◌, List, length, slice_set, IsErrOf};
+ghost use Rattle.std.specs.Prelude.{◌≡◌, ◌+◌, ◌-◌, ◌<◌, ◌≤◌, ◌++◌, List, length, slice_set};
 ghost use Rattle.ficus_ids.specs.Members.{IsMember};
 ghost use Rattle.ficus_model.specs.declared.event.Event.{Event as EventValue};
 ghost use Rattle.ficus_runs.specs.Numbered.{IsNumbered};
 ghost use Rattle.ficus_world.specs.declared.member.Member.{Member as MemberValue};
-ghost use Rattle.ficus_ids.specs.declared.refusal.Refusal.TheVariants.{Memory as OutOfMemory};
 ghost use Rattle.ficus_script.specs.declared.command.Command.TheVariants.{Restart as Restarts};
-ghost use Rattle.ficus_world.specs.Disks.{AreDisksOf, ComesBack, StaysOn};
+ghost use Rattle.ficus_world.specs.Disks.{ComesBack, IsBacked};
+ghost use Rattle.ficus_world.specs.Acts.{Acts};
 ghost use Rattle.ficus_world.specs.Stepped.{ComesTo};
 ghost use Rattle.ficus_world.specs.World.{event_limit};
-ghost use Rattle.ficus_world.specs.Kills.{AreLeft, Touches};
+ghost use Rattle.ficus_world.specs.Kills.{AreLeft};
 
 use crate::World;
 use crate::member::{Member, Rising, keep_down, rise};
@@ -32,19 +32,11 @@ impl<K: Keep + Drop, L: Link + Drop> World<K, L> {
         by: u8,
     ) -> Result<Answer, Refusal>
         requires room { length self.old.whole.events < event_limit }
-        requires pairs { length self.old.whole.members ≤ length disks.old.items }
-        requires disks { AreDisksOf D.tells K.kept K.fits D.seen D.may_leave D.armings self.old.whole.members
-            self.old.stables disks.old.items }
+        requires backed { IsBacked K.Keep D.Disk self.old disks.old.items }
         ensures moves { ComesTo L.tells K.Keep D.Disk self.old.whole (Restarts by) result self.new.whole disks.old.items
             disks.new.items }
-        ensures grows { length self.new.whole.events ≤ length self.old.whole.events + 2 }
-        ensures members { length self.new.whole.members ≡ length self.old.whole.members }
-        ensures memory { IsErrOf result OutOfMemory → StaysOn D.faults D.armings self.old.whole self.new.whole
-            disks.old.items disks.new.items }
-        ensures touches { Touches K.Keep D.Disk self.old.whole self.new.whole disks.old.items disks.new.items }
+        ensures acts { Acts K.Keep D.Disk 2 result self.old self.new disks.old.items disks.new.items }
         ensures left { D.tells → AreLeft D.seen D.may_leave disks.old.items disks.new.items }
-        ensures disks { AreDisksOf D.tells K.kept K.fits D.seen D.may_leave D.armings self.new.whole.members
-            self.new.stables disks.new.items }
     {
         if !self.group.has(by) {
             return Err(Refusal::Member);

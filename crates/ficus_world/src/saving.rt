@@ -1,18 +1,18 @@
 // One member's disks, of those of all.
-ghost use Rattle.std.specs.Prelude.{◌≡◌, ℕ, ◌<◌, ◌≤◌, ◌-◌, [], ◌∷◌, List, length, slice_set, IfOk, IsErrOf, OnErr, OnOk};
+ghost use Rattle.std.specs.Prelude.{◌≡◌, ℕ, ◌<◌, ◌-◌, [], ◌∷◌, List, length, slice_set, IfOk, IsErrOf, OnOk};
 ghost use Rattle.ficus_disk.specs.declared.pair.Pair.{Pair as PairValue};
 ghost use Rattle.ficus_ids.specs.Members.{IsMember};
-ghost use Rattle.ficus_keep.specs.declared.fault.StoreFault.TheVariants.{Failed as StoreFailed, Memory as StoreMemory};
+ghost use Rattle.ficus_keep.specs.declared.fault.StoreFault.TheVariants.{Failed as StoreFailed};
 ghost use Rattle.ficus_saved.specs.Saved.{FitsImage};
 ghost use Rattle.ficus_stable.specs.Stable.{MayFollow};
 ghost use Rattle.ficus_stable.specs.declared.stable.Stable.{Stable as StableValue};
 ghost use Rattle.ficus_runs.specs.Numbered.{IsNumbered};
 ghost use Rattle.ficus_runs.specs.Fuses.{FuseState, with_fuses};
-ghost use Rattle.ficus_runs.specs.Outcome.{IsArmed, IsOpened, IsSaved, OpeningFails, SaveFails};
-ghost use Rattle.ficus_world.specs.Disks.{AreDisksOf, DisksComeTo, DisksFollow, IsPreparedAt, IsReadAt, ReopensAt, SavesAt, save_outcome};
-ghost use Rattle.ficus_world.specs.Fuses.{FusesFollow, FusesStand, IsReadBy, at_rest};
+ghost use Rattle.ficus_runs.specs.Outcome.{IsArmed, IsOpened, OpeningFails};
+ghost use Rattle.ficus_world.specs.Disks.{DisksComeTo, DisksFollow, DisksReopen, DisksSave, DisksStay, IsHeldBy, IsPreparedAt, IsReadAt, save_outcome};
+ghost use Rattle.ficus_world.specs.Acts.{StaysAt};
+ghost use Rattle.ficus_world.specs.Fuses.{FusesStand, IsReadBy, at_rest};
 ghost use Rattle.ficus_world.specs.Moves.{restarted};
-ghost use Rattle.ficus_world.specs.World.{IsSoundMember};
 ghost use Rattle.ficus_world.specs.declared.member.Member.{Member as MemberValue};
 ghost use Rattle.ficus_world.specs.declared.member.MemberState.TheVariants.{Up as IsUp};
 ghost use Rattle.ficus_world.specs.Kills.{AreLeft, RestsAt, SavesOn};
@@ -39,13 +39,7 @@ pub(crate) fn prepare_at<K: Keep + Drop, D: Disk>(
     requires fits { FitsImage next.now }
     ensures prepared { OnOk result (IsPreparedAt K.wants_image K.Takes K.size_of D.room stables.new.items
         disks.new.items by next.now noted.now) }
-    ensures disks { (members : List MemberValue)
-        → AreDisksOf D.tells K.kept K.fits D.seen D.may_leave D.armings members stables.old.items disks.old.items
-        → AreDisksOf D.tells K.kept K.fits D.seen D.may_leave D.armings members stables.new.items disks.new.items }
-    ensures follows { (members : List MemberValue) → DisksComeTo K.Keep D.Disk [] members members disks.old.items
-        disks.new.items }
-    ensures rests { RestsAt D.Disk by disks.old.items disks.new.items }
-    ensures count { length stables.new.items ≡ length stables.old.items }
+    ensures stays { StaysAt K.Keep D.Disk by stables.old.items stables.new.items disks.old.items disks.new.items }
 {
     let index = by as usize - 1;
     stables[index].prepare(&mut disks[index], next, noted)
@@ -64,14 +58,9 @@ pub(crate) fn commit_at<K: Keep + Drop, D: Disk>(
         × IsPreparedAt K.wants_image K.Takes K.size_of D.room stables.old.items disks.old.items by next.now body
         × (D.tells → (stable : StableValue K) (pair : PairValue D) → IsNumbered stables.old.items by stable
         → IsNumbered disks.old.items by pair → MayFollow K.kept K.fits D.seen D.may_leave stable pair next.now body) }
-    ensures disks { (old new : List MemberValue) → SavesAt by next.now result old new
-        → AreDisksOf D.tells K.kept K.fits D.seen D.may_leave D.armings old stables.old.items disks.old.items
-        → AreDisksOf D.tells K.kept K.fits D.seen D.may_leave D.armings new stables.new.items disks.new.items }
-    ensures saved { OnOk result (DisksFollow D.faults D.armings (IsSaved by ∷ []) disks.old.items disks.new.items) }
-    ensures failed { OnErr result (DisksFollow D.faults D.armings (SaveFails by ∷ []) disks.old.items disks.new.items) }
-    ensures fuses { (old new : List MemberValue) → SavesAt by next.now result old new
-        → AreDisksOf D.tells K.kept K.fits D.seen D.may_leave D.armings old stables.old.items disks.old.items
-        → FusesFollow K.Keep D.Disk (save_outcome by result ∷ []) old new disks.old.items disks.new.items }
+    ensures disks { DisksSave K.Keep D.Disk by next.now result stables.old.items stables.new.items disks.old.items
+        disks.new.items }
+    ensures follows { DisksFollow D.faults D.armings (save_outcome by result ∷ []) disks.old.items disks.new.items }
     ensures saves { SavesOn K.Keep D.Disk by next.now disks.old.items disks.new.items }
     ensures count { length stables.new.items ≡ length stables.old.items }
 {
@@ -90,18 +79,15 @@ pub(crate) fn reopen_at<K: Keep + Drop, D: Disk>(
     requires pair { IsMember (length disks.old.items) by }
     ensures fits { IfOk result (λ read. FitsImage read) }
     ensures read { D.tells → (count events : ℕ) (members : List MemberValue) (was : MemberValue)
-        → IsNumbered members by was → IsSoundMember count events by was
-        → AreDisksOf D.tells K.kept K.fits D.seen D.may_leave D.armings members stables.old.items disks.old.items
-        → IsReadAt was result }
+        → IsHeldBy K.Keep D.Disk count events by members was stables.old.items disks.old.items → IsReadAt was result }
     // The world is as it was, or the member has risen with what was read, or it is down.
-    ensures disks { (old new : List MemberValue) → ReopensAt by result old new
-        → AreDisksOf D.tells K.kept K.fits D.seen D.may_leave D.armings old stables.old.items disks.old.items
-        → AreDisksOf D.tells K.kept K.fits D.seen D.may_leave D.armings new stables.new.items disks.new.items }
+    ensures disks { DisksReopen K.Keep D.Disk by result stables.old.items stables.new.items disks.old.items
+        disks.new.items }
     // Where the disks tell their fuses, they are opened, and these decide which of the two is read.
     ensures never { D.tells_fuse → IsErrOf result StoreFailed → ⊥ }
     ensures by_fuse { D.tells_fuse → D.tells → (count events : ℕ) (members : List MemberValue) (was : MemberValue)
-        (F : ℕ → FuseState) → IsNumbered members by was → IsSoundMember count events by was
-        → AreDisksOf D.tells K.kept K.fits D.seen D.may_leave D.armings members stables.old.items disks.old.items
+        (F : ℕ → FuseState)
+        → IsHeldBy K.Keep D.Disk count events by members was stables.old.items disks.old.items
         → FusesStand K.Keep D.Disk F members disks.old.items
         → IfOk result (λ read. IsReadBy (F by).will_find was read × FusesStand K.Keep D.Disk
         (with_fuses F by (at_rest read.generation)) (slice_set members (by - 1) (restarted was read)) disks.new.items) }
@@ -137,9 +123,8 @@ pub(crate) fn arm_at<K: Keep + Drop, D: Disk>(
         → ((was : MemberValue) → IsNumbered members by was → was.state ≡ IsUp)
         → DisksComeTo K.Keep D.Disk (IsArmed by calls pick ∷ []) members members disks.old.items disks.new.items }
     ensures rests { RestsAt D.Disk by disks.old.items disks.new.items }
-    ensures disks { (members : List MemberValue) (stables : List (StableValue K))
-        → AreDisksOf D.tells K.kept K.fits D.seen D.may_leave D.armings members stables disks.old.items
-        → AreDisksOf D.tells K.kept K.fits D.seen D.may_leave D.armings members stables disks.new.items }
+    ensures disks { (stables : List (StableValue K))
+        → DisksStay K.Keep D.Disk stables stables disks.old.items disks.new.items }
 {
     let pair = &mut disks[by as usize - 1];
     pair.a.arm(calls, pick);

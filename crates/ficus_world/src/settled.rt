@@ -10,8 +10,7 @@ impl<K: Keep + Drop, L: Link + Drop> World<K, L> {
     /// The law that whatever a crash leaves of a world's disks holds what each member has saved, or what is pending. It
     /// does nothing when it runs.
     pub fn settled<D: Disk>(&self, disks: &Vec<Pair<D>>)
-        requires { AreDisksOf D.tells K.kept K.fits D.seen D.may_leave D.armings self.now.whole.members
-            self.now.stables disks.now.items }
+        requires { AreDisksOf K.Keep D.Disk self.now.whole.members self.now.stables disks.now.items }
         ensures { IsSettled K.Keep D.Disk self.now.whole disks.now.items }
     {
         // Reading its fields tells what holds of every world.

@@ -1,9 +1,10 @@
 ghost use Rattle.std.specs.Prelude.{◌≡◌, ◌≢◌, ◌+◌, ◌<◌, ◌≤◌, Err, ℕ, length, IfOk, OnErr, IsErrOf};
 ghost use Rattle.ficus_ids.specs.declared.refusal.Refusal.TheVariants.{Memory as OutOfMemory};
 ghost use Rattle.ficus_runs.specs.Answers.{answer_as, answer_to};
-ghost use Rattle.ficus_world.specs.Disks.{AreDisksOf, DisksFollow, StaysOn};
+ghost use Rattle.ficus_world.specs.Acts.{Acts, ActsOn};
+ghost use Rattle.ficus_world.specs.Disks.{IsBacked};
 ghost use Rattle.ficus_world.specs.World.{event_limit, foreseen, most_unforeseen};
-ghost use Rattle.ficus_world.specs.Kills.{AreLeft, IsSettled, OthersStay, Passes, Touches};
+ghost use Rattle.ficus_world.specs.Kills.{AreLeft, OthersStay, Passes};
 
 use crate::World;
 use crate::mails::{Mails, mails_in};
@@ -44,9 +45,7 @@ impl<K: Keep + Drop, L: Link + Drop> World<K, L> {
         requires command { IsCommand command.now }
         requires step { IsStep command.now }
         requires room { length self.old.whole.events < event_limit }
-        requires pairs { length self.old.whole.members ≤ length disks.old.items }
-        requires disks { AreDisksOf D.tells K.kept K.fits D.seen D.may_leave D.armings self.old.whole.members
-            self.old.stables disks.old.items }
+        requires backed { IsBacked K.Keep D.Disk self.old disks.old.items }
         ensures moves { IfOk result (λ answer. Stepped L.tells K.Keep D.Disk self.old.whole command.now answer
             self.new.whole disks.old.items disks.new.items) }
         // It stores two events at most, and one for each message that it posts.
@@ -59,8 +58,7 @@ impl<K: Keep + Drop, L: Link + Drop> World<K, L> {
         ensures unsaved { OnlyLooks command.now → (self.new ≡ self.old) × (disks.new ≡ disks.old) }
         // The disks are still those of the world: they hold what each member that is up has saved, and of one that is
         // down that, or what is pending.
-        ensures disks { AreDisksOf D.tells K.kept K.fits D.seen D.may_leave D.armings self.new.whole.members
-            self.new.stables disks.new.items }
+        ensures backed { IsBacked K.Keep D.Disk self.new disks.new.items }
         // At each moment of it the disks are as before, or one member saves: link by link, a link for each message of a
         // pull.
         ensures passes { Passes L.tells K.Keep D.Disk self.old.whole self.new.whole disks.old.items disks.new.items }
@@ -101,23 +99,15 @@ impl<K: Keep + Drop, L: Link + Drop> World<K, L> {
         requires command { IsCommand command.now }
         requires step { IsStep command.now }
         requires room { length self.old.whole.events < event_limit }
-        requires pairs { length self.old.whole.members ≤ length disks.old.items }
-        requires disks { AreDisksOf D.tells K.kept K.fits D.seen D.may_leave D.armings self.old.whole.members
-            self.old.stables disks.old.items }
+        requires backed { IsBacked K.Keep D.Disk self.old disks.old.items }
         ensures moves { ComesTo L.tells K.Keep D.Disk self.old.whole command.now result self.new.whole disks.old.items
             disks.new.items }
-        ensures members { length self.new.whole.members ≡ length self.old.whole.members }
         ensures memory { IsErrOf result OutOfMemory → CutOn L.tells K.Keep D.Disk command.now self.old.whole
             self.new.whole disks.old.items disks.new.items }
         ensures unsaved { OnlyLooks command.now → (self.new ≡ self.old) × (disks.new ≡ disks.old) }
-        ensures passes { IsSettled K.Keep D.Disk self.old.whole disks.old.items
-            → IsSettled K.Keep D.Disk self.new.whole disks.new.items
-            → Passes L.tells K.Keep D.Disk self.old.whole self.new.whole disks.old.items disks.new.items }
         ensures left { D.tells → (by : ℕ) → command.now ≡ Restarts by
             → AreLeft D.seen D.may_leave disks.old.items disks.new.items }
-        ensures others { OthersStay (length self.old.whole.members) disks.old.items disks.new.items }
-        ensures disks { AreDisksOf D.tells K.kept K.fits D.seen D.may_leave D.armings self.new.whole.members
-            self.new.stables disks.new.items }
+        ensures acts { ActsOn L.tells K.Keep D.Disk self.old self.new disks.old.items disks.new.items }
     {
         match command {
             Command::Change { by, change } => self.change(alloc, disks, *by, change),
@@ -143,18 +133,10 @@ impl<K: Keep + Drop, L: Link + Drop> World<K, L> {
     ) -> Result<Answer, Refusal>
         requires new { HasFitPaths change.now }
         requires room { length self.old.whole.events < event_limit }
-        requires pairs { length self.old.whole.members ≤ length disks.old.items }
-        requires disks { AreDisksOf D.tells K.kept K.fits D.seen D.may_leave D.armings self.old.whole.members
-            self.old.stables disks.old.items }
+        requires backed { IsBacked K.Keep D.Disk self.old disks.old.items }
         ensures moves { ComesTo L.tells K.Keep D.Disk self.old.whole (Changes by change.now) result self.new.whole
             disks.old.items disks.new.items }
-        ensures grows { length self.new.whole.events ≤ length self.old.whole.events + 1 }
-        ensures members { length self.new.whole.members ≡ length self.old.whole.members }
-        ensures memory { IsErrOf result OutOfMemory → StaysOn D.faults D.armings self.old.whole self.new.whole
-            disks.old.items disks.new.items }
-        ensures touches { Touches K.Keep D.Disk self.old.whole self.new.whole disks.old.items disks.new.items }
-        ensures disks { AreDisksOf D.tells K.kept K.fits D.seen D.may_leave D.armings self.new.whole.members
-            self.new.stables disks.new.items }
+        ensures acts { Acts K.Keep D.Disk 1 result self.old self.new disks.old.items disks.new.items }
     {
         let replica = &self.group.up(by)?.replica;
         let number = replica.next_id();
@@ -183,18 +165,10 @@ impl<K: Keep + Drop, L: Link + Drop> World<K, L> {
         by: u8,
     ) -> Result<Answer, Refusal>
         requires room { length self.old.whole.events < event_limit }
-        requires pairs { length self.old.whole.members ≤ length disks.old.items }
-        requires disks { AreDisksOf D.tells K.kept K.fits D.seen D.may_leave D.armings self.old.whole.members
-            self.old.stables disks.old.items }
+        requires backed { IsBacked K.Keep D.Disk self.old disks.old.items }
         ensures moves { ComesTo L.tells K.Keep D.Disk self.old.whole (Collects by) result self.new.whole disks.old.items
             disks.new.items }
-        ensures grows { length self.new.whole.events ≤ length self.old.whole.events + 1 }
-        ensures members { length self.new.whole.members ≡ length self.old.whole.members }
-        ensures memory { IsErrOf result OutOfMemory → StaysOn D.faults D.armings self.old.whole self.new.whole
-            disks.old.items disks.new.items }
-        ensures touches { Touches K.Keep D.Disk self.old.whole self.new.whole disks.old.items disks.new.items }
-        ensures disks { AreDisksOf D.tells K.kept K.fits D.seen D.may_leave D.armings self.new.whole.members
-            self.new.stables disks.new.items }
+        ensures acts { Acts K.Keep D.Disk 1 result self.old self.new disks.old.items disks.new.items }
     {
         let collected = self.group.up(by)?.replica.collect(alloc)?;
         let answer = Answer::Collected {
@@ -219,20 +193,12 @@ impl<K: Keep + Drop, L: Link + Drop> World<K, L> {
         to: u8,
     ) -> Result<Answer, Refusal>
         requires room { length self.old.whole.events < event_limit }
-        requires pairs { length self.old.whole.members ≤ length disks.old.items }
-        requires disks { AreDisksOf D.tells K.kept K.fits D.seen D.may_leave D.armings self.old.whole.members
-            self.old.stables disks.old.items }
+        requires backed { IsBacked K.Keep D.Disk self.old disks.old.items }
         ensures moves { ComesTo L.tells K.Keep D.Disk self.old.whole (Pulls by to) result self.new.whole disks.old.items
             disks.new.items }
-        ensures members { length self.new.whole.members ≡ length self.old.whole.members }
         ensures memory { IsErrOf result OutOfMemory → CutOn L.tells K.Keep D.Disk (Pulls by to) self.old.whole
             self.new.whole disks.old.items disks.new.items }
-        ensures passes { IsSettled K.Keep D.Disk self.old.whole disks.old.items
-            → IsSettled K.Keep D.Disk self.new.whole disks.new.items
-            → Passes L.tells K.Keep D.Disk self.old.whole self.new.whole disks.old.items disks.new.items }
-        ensures others { OthersStay (length self.old.whole.members) disks.old.items disks.new.items }
-        ensures disks { AreDisksOf D.tells K.kept K.fits D.seen D.may_leave D.armings self.new.whole.members
-            self.new.stables disks.new.items }
+        ensures acts { ActsOn L.tells K.Keep D.Disk self.old self.new disks.old.items disks.new.items }
     {
         self.group.up_peers(by, to)?;
         let asked = self.ask(alloc, disks, by, to)?;
@@ -261,16 +227,10 @@ impl<K: Keep + Drop, L: Link + Drop> World<K, L> {
         pick: u8,
     ) -> Result<Answer, Refusal>
         requires pick { pick < 4 }
-        requires pairs { length self.old.whole.members ≤ length disks.old.items }
-        requires disks { AreDisksOf D.tells K.kept K.fits D.seen D.may_leave D.armings self.old.whole.members
-            self.old.stables disks.old.items }
+        requires backed { IsBacked K.Keep D.Disk self.old disks.old.items }
         ensures moves { ComesTo L.tells K.Keep D.Disk self.old.whole (StopsDisks by calls pick) result self.new.whole
             disks.old.items disks.new.items }
-        ensures never { result ≢ Err OutOfMemory }
-        ensures same { self.new ≡ self.old }
-        ensures touches { Touches K.Keep D.Disk self.old.whole self.new.whole disks.old.items disks.new.items }
-        ensures disks { AreDisksOf D.tells K.kept K.fits D.seen D.may_leave D.armings self.new.whole.members
-            self.new.stables disks.new.items }
+        ensures acts { Acts K.Keep D.Disk 0 result self.old self.new disks.old.items disks.new.items }
     {
         if !self.group.up(by)?.fused {
             return Err(Refusal::NoFuse);

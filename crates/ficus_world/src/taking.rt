@@ -1,4 +1,4 @@
-ghost use Rattle.std.specs.Prelude.{◌≡◌, ◌≢◌, ◌⊎◌, ◌+◌, ◌<◌, ◌≤◌, ℕ, Ok, Err, None, Some, List, IfErr, IfOk, IsErrOf, OnErr, OnOk, length};
+ghost use Rattle.std.specs.Prelude.{◌≡◌, ◌≢◌, ◌⊎◌, ◌+◌, ◌<◌, ℕ, Ok, Err, None, Some, List, IfErr, IfOk, IsErrOf, OnErr, OnOk, length};
 ghost use Rattle.std.specs.Option.{option_map};
 ghost use Rattle.ficus_ids.specs.Members.{IsMember};
 ghost use Rattle.ficus_ids.specs.declared.refusal.Refusal.TheVariants.{BadMessage as IsBad, Memory as OutOfMemory, Mixed as IsMixed};
@@ -8,11 +8,11 @@ ghost use Rattle.ficus_saved.specs.Tables.{FitsTables};
 ghost use Rattle.ficus_entry.specs.declared.entry.Entry.{Entry as EntryValue};
 ghost use Rattle.ficus_file.specs.declared.file.FileReplica.{FileReplica as FileValue};
 ghost use Rattle.ficus_runs.specs.Sequence.{unchanged};
-ghost use Rattle.ficus_world.specs.Disks.{AreDisksOf, CarriedOn, StaysOn};
+ghost use Rattle.ficus_world.specs.Disks.{CarriedOn, IsBacked};
+ghost use Rattle.ficus_world.specs.Acts.{Acts};
 ghost use Rattle.ficus_runs.specs.Numbered.{IsNumbered};
 ghost use Rattle.ficus_world.specs.Moves.{FindsTaker, IsPlaced, TakesPiece, TakesSpelled, TakesTables, collected, parts_held};
 ghost use Rattle.ficus_world.specs.World.{IsUpIn, event_limit, most_events};
-ghost use Rattle.ficus_world.specs.Kills.{Touches};
 ghost use Rattle.ficus_wire.specs.Message.{FitsMessage, piece_of};
 ghost use Rattle.ficus_wire.specs.Parts.{HasPart, HeldParts, joined as joined_parts, no_parts, with_part};
 ghost use Rattle.ficus_world.specs.declared.member.Member.{Member as MemberValue};
@@ -59,21 +59,13 @@ impl<K: Keep + Drop, L: Link + Drop> World<K, L> {
         bytes: &[u8],
     ) -> Result<Answer, Refusal>
         requires room { length self.old.whole.events < event_limit + most_events }
-        requires pairs { length self.old.whole.members ≤ length disks.old.items }
-        requires disks { AreDisksOf D.tells K.kept K.fits D.seen D.may_leave D.armings self.old.whole.members
-            self.old.stables disks.old.items }
+        requires backed { IsBacked K.Keep D.Disk self.old disks.old.items }
         requires mail { IsMember (length self.old.whole.post.behind) came.number }
         requires fits { FitsMessage (length self.old.whole.members) (piece_of head bytes.now) }
         requires to { came.to ≡ head.route.to }
         ensures takes { CarriedOn K.Keep D.Disk (TakesPiece came head bytes.now) result self.old.whole
             self.new.whole disks.old.items disks.new.items }
-        ensures grows { length self.new.whole.events ≤ length self.old.whole.events + 1 }
-        ensures members { length self.new.whole.members ≡ length self.old.whole.members }
-        ensures memory { IsErrOf result OutOfMemory → StaysOn D.faults D.armings self.old.whole self.new.whole
-            disks.old.items disks.new.items }
-        ensures touches { Touches K.Keep D.Disk self.old.whole self.new.whole disks.old.items disks.new.items }
-        ensures disks { AreDisksOf D.tells K.kept K.fits D.seen D.may_leave D.armings self.new.whole.members
-            self.new.stables disks.new.items }
+        ensures acts { Acts K.Keep D.Disk 1 result self.old self.new disks.old.items disks.new.items }
     {
         match self.group.fitting(came, head)? {
             Fitting::Again { have } => Ok(Answer::Part {
@@ -101,9 +93,7 @@ impl<K: Keep + Drop, L: Link + Drop> World<K, L> {
         bytes: &[u8],
     ) -> Result<Answer, Refusal>
         requires room { length self.old.whole.events < event_limit + most_events }
-        requires pairs { length self.old.whole.members ≤ length disks.old.items }
-        requires disks { AreDisksOf D.tells K.kept K.fits D.seen D.may_leave D.armings self.old.whole.members
-            self.old.stables disks.old.items }
+        requires backed { IsBacked K.Keep D.Disk self.old disks.old.items }
         requires mail { IsMember (length self.old.whole.post.behind) came.number }
         requires up { IsUpIn self.old.whole came.to }
         requires index { head.index < head.pieces }
@@ -113,13 +103,7 @@ impl<K: Keep + Drop, L: Link + Drop> World<K, L> {
             → CarriedOn K.Keep D.Disk (TakesSpelled came head.index
             (joined_parts (with_part (parts_held was.parts head) head.index bytes.now))) result self.old.whole
             self.new.whole disks.old.items disks.new.items }
-        ensures grows { length self.new.whole.events ≤ length self.old.whole.events + 1 }
-        ensures members { length self.new.whole.members ≡ length self.old.whole.members }
-        ensures memory { IsErrOf result OutOfMemory → StaysOn D.faults D.armings self.old.whole self.new.whole
-            disks.old.items disks.new.items }
-        ensures touches { Touches K.Keep D.Disk self.old.whole self.new.whole disks.old.items disks.new.items }
-        ensures disks { AreDisksOf D.tells K.kept K.fits D.seen D.may_leave D.armings self.new.whole.members
-            self.new.stables disks.new.items }
+        ensures acts { Acts K.Keep D.Disk 1 result self.old self.new disks.old.items disks.new.items }
     {
         match self.group.joined(came.to, head.index, bytes)? {
             Some(joined) => self.take_tables(alloc, disks, came, head.index, &joined),
@@ -137,20 +121,12 @@ impl<K: Keep + Drop, L: Link + Drop> World<K, L> {
         tables: &[u8],
     ) -> Result<Answer, Refusal>
         requires room { length self.old.whole.events < event_limit + most_events }
-        requires pairs { length self.old.whole.members ≤ length disks.old.items }
-        requires disks { AreDisksOf D.tells K.kept K.fits D.seen D.may_leave D.armings self.old.whole.members
-            self.old.stables disks.old.items }
+        requires backed { IsBacked K.Keep D.Disk self.old disks.old.items }
         requires mail { IsMember (length self.old.whole.post.behind) came.number }
         requires up { IsUpIn self.old.whole came.to }
         ensures takes { CarriedOn K.Keep D.Disk (TakesSpelled came index tables.now) result self.old.whole
             self.new.whole disks.old.items disks.new.items }
-        ensures grows { length self.new.whole.events ≤ length self.old.whole.events + 1 }
-        ensures members { length self.new.whole.members ≡ length self.old.whole.members }
-        ensures memory { IsErrOf result OutOfMemory → StaysOn D.faults D.armings self.old.whole self.new.whole
-            disks.old.items disks.new.items }
-        ensures touches { Touches K.Keep D.Disk self.old.whole self.new.whole disks.old.items disks.new.items }
-        ensures disks { AreDisksOf D.tells K.kept K.fits D.seen D.may_leave D.armings self.new.whole.members
-            self.new.stables disks.new.items }
+        ensures acts { Acts K.Keep D.Disk 1 result self.old self.new disks.old.items disks.new.items }
     {
         let known = self.group.known_to(came.to)?;
         let (entries, files) = rows(alloc, tables, self.members(), &known)?;
@@ -178,22 +154,14 @@ impl<K: Keep + Drop, L: Link + Drop> World<K, L> {
         tables: &[u8],
     ) -> Result<Answer, Refusal>
         requires room { length self.old.whole.events < event_limit + most_events }
-        requires pairs { length self.old.whole.members ≤ length disks.old.items }
-        requires disks { AreDisksOf D.tells K.kept K.fits D.seen D.may_leave D.armings self.old.whole.members
-            self.old.stables disks.old.items }
+        requires backed { IsBacked K.Keep D.Disk self.old disks.old.items }
         requires mail { IsMember (length self.old.whole.post.behind) came.number }
         requires up { IsUpIn self.old.whole came.to }
         requires tables { FitsTables (length self.old.whole.members) entries.now files.now }
         requires spelled { tables.now ≡ tables_bytes (length self.old.whole.members) entries.now files.now }
         ensures takes { CarriedOn K.Keep D.Disk (TakesTables came index entries.now files.now) result self.old.whole
             self.new.whole disks.old.items disks.new.items }
-        ensures grows { length self.new.whole.events ≤ length self.old.whole.events + 1 }
-        ensures members { length self.new.whole.members ≡ length self.old.whole.members }
-        ensures memory { IsErrOf result OutOfMemory → StaysOn D.faults D.armings self.old.whole self.new.whole
-            disks.old.items disks.new.items }
-        ensures touches { Touches K.Keep D.Disk self.old.whole self.new.whole disks.old.items disks.new.items }
-        ensures disks { AreDisksOf D.tells K.kept K.fits D.seen D.may_leave D.armings self.new.whole.members
-            self.new.stables disks.new.items }
+        ensures acts { Acts K.Keep D.Disk 1 result self.old self.new disks.old.items disks.new.items }
     {
         let serve = self.group.post.behind(came.number).position;
         let replica = &self.group.member(came.to).replica;

@@ -1,8 +1,8 @@
 // The program's loop over a link that fails at each call in turn, over one that is nearly full, and over such that give
 // other bytes than were posted.
-ghost use Rattle.std.specs.Prelude.{◌≡◌, ◌≤◌, [], length};
+ghost use Rattle.std.specs.Prelude.{◌≡◌, []};
 ghost use Rattle.ficus_ids.specs.Members.{IsCount};
-ghost use Rattle.ficus_world.specs.Disks.{AreDisksOf};
+ghost use Rattle.ficus_world.specs.Disks.{IsBacked};
 
 use crate::tests::changed_link::{Change, ChangedLink};
 use crate::tests::disks::pairs;
@@ -25,9 +25,7 @@ fn serves_so<P: Keep + Drop, L: Link + Drop, D: Disk>(
     script: &str,
     answers: &str,
 ) -> Result<bool, Fail>
-    requires pairs { length world.old.whole.members ≤ length disks.old.items }
-    requires disks { AreDisksOf D.tells P.kept P.fits D.seen D.may_leave D.armings
-        world.old.whole.members world.old.stables disks.old.items }
+    requires backed { IsBacked P.Keep D.Disk world.old disks.old.items }
 {
     let commands = read_script(alloc, script.as_bytes())?;
     let mut output = MemSink::new(alloc, Vec::new(alloc))?;

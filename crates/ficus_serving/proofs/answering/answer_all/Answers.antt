@@ -13,7 +13,7 @@ use Rattle.ficus_serving.proofs.answering.answer_all.Goals as goal
 pub loop-command-init : goal.loop-command-init
 loop-command-init g c = record {
   served = λ told tell volume W stands. world_none W _ _ _ stands;
-  disks = c.requires.disks;
+  backed = c.requires.backed;
   members = refl;
   others = others_none (length c.args.world.now.whole.members) c.args.disks.now.items;
   pairs = refl;
@@ -29,7 +29,7 @@ loop-command-preserved g c = record {
       (c.loop-command.invariant.served told tell volume W stands)
       (c.in_ok-answer_one.ensures.answer told
       (command_at (TellsFor g.D.Disk.tells) _ _ _ c.loop-command-test.true c.command-item.is tell) volume);
-  disks = c.answer_one.ensures.disks;
+  backed = c.answer_one.ensures.backed;
   members = c.answer_one.ensures.members ∙ c.loop-command.invariant.members;
   others =
       others_then (length c.args.world.now.whole.members) c.args.disks.now.items c.loop-command.disks.items

@@ -4,7 +4,7 @@ use Rattle.ficus_model.specs.Lawful.{Volume}
 use Rattle.ficus_runs.specs.ModelWorld.{ModelWorld}
 use Rattle.ficus_serving.specs.Serving.{ServesWorld}
 use Rattle.ficus_sweep.specs.Follows.{most_swept}
-use Rattle.ficus_world.specs.Disks.{AreDisksOf}
+use Rattle.ficus_world.specs.Disks.{IsBacked}
 use Rattle.ficus_world.specs.Follows.{TellsFor}
 use Rattle.ficus_world.specs.Kills.{OthersStay}
 use Rattle.ficus_world.specs.World.{WorldStandsFor, foreseen}
@@ -19,8 +19,7 @@ invariant-loop-command g l = record {
       → ServesWorld g.K.Sink.tells g.P.Keep g.D.Disk volume W l.fn.world.whole
       (take l.command-index l.commands) l.world.whole (g.K.Sink.written l.fn.output) (g.K.Sink.written l.output)
       l.fn.disks.items l.disks.items;
-  disks : AreDisksOf g.D.Disk.tells g.P.Keep.kept g.P.Keep.fits g.D.Disk.seen g.D.Disk.may_leave g.D.Disk.armings
-      l.world.whole.members l.world.stables l.disks.items;
+  backed : IsBacked g.P.Keep g.D.Disk l.world l.disks.items;
   members : length l.world.whole.members ≡ length l.fn.world.whole.members;
   others : OthersStay (length l.fn.world.whole.members) l.fn.disks.items l.disks.items;
   pairs : length l.disks.items ≡ length l.fn.disks.items;

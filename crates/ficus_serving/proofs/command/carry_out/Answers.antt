@@ -31,3 +31,6 @@ returns-in-Why-clause-stays g c = λ tells volume W stands.
 
 pub returns-in-Why-clause-passes : goal.returns-in-Why-clause-passes
 returns-in-Why-clause-passes g c = Idles c.settled.ensures TouchesNone
+
+pub settled-requires : goal.settled-requires
+settled-requires g c = c.requires.backed.disks

@@ -11,7 +11,7 @@ pub loop-command-init : goal.loop-command-init
 loop-command-init g c = record {
   counted = λ told tell volume W stands. tallies_none W _ _ _ stands;
   few = refl;
-  disks = c.requires.disks;
+  backed = c.requires.backed;
   members = refl;
   pairs = refl;
   grows = omega arith;
@@ -26,7 +26,7 @@ loop-command-preserved g c = record {
       (c.in_ok-count_one.ensures.answer told
       (command_at (TellsFor g.D.Disk.tells) _ _ _ c.loop-command-test.true c.command-item.is tell) volume);
   few = omega (arith, c.in_ok-count_one.ensures.more, c.loop-command.invariant.few);
-  disks = c.count_one.ensures.disks;
+  backed = c.count_one.ensures.backed;
   members = c.count_one.ensures.members ∙ c.loop-command.invariant.members;
   pairs = c.count_one.ensures.pairs ∙ c.loop-command.invariant.pairs;
   grows = omega arith;

@@ -4,7 +4,7 @@ use Rattle.ficus_model.specs.Lawful.{Volume}
 use Rattle.ficus_runs.specs.ModelWorld.{ModelWorld}
 use Rattle.ficus_serving.specs.Tally.{Tallies}
 use Rattle.ficus_sweep.specs.Follows.{most_swept}
-use Rattle.ficus_world.specs.Disks.{AreDisksOf}
+use Rattle.ficus_world.specs.Disks.{IsBacked}
 use Rattle.ficus_world.specs.Follows.{TellsFor}
 use Rattle.ficus_world.specs.World.{WorldStandsFor, foreseen}
 use Rattle.ficus_serving.proofs.tally.count_all.Given as goal
@@ -17,8 +17,7 @@ invariant-loop-command g l = record {
       → Tallies g.P.Keep g.D.Disk volume W l.fn.world.whole (take l.command-index l.commands) l.world.whole
       (record { ok = 0; no = 0 }) l.tally l.fn.disks.items l.disks.items;
   few : l.tally.ok + l.tally.no ≡ l.command-index;
-  disks : AreDisksOf g.D.Disk.tells g.P.Keep.kept g.P.Keep.fits g.D.Disk.seen g.D.Disk.may_leave g.D.Disk.armings
-      l.world.whole.members l.world.stables l.disks.items;
+  backed : IsBacked g.P.Keep g.D.Disk l.world l.disks.items;
   members : length l.world.whole.members ≡ length l.fn.world.whole.members;
   pairs : length l.disks.items ≡ length l.fn.disks.items;
   grows : foreseen l.world.whole ≤ foreseen l.fn.world.whole + most_swept * l.command-index;

@@ -53,3 +53,6 @@ returns-clause-swept g c = λ told volume W stands.
 pub returns-in_err-steps-clause-others : goal.returns-in_err-steps-clause-others
 returns-in_err-steps-clause-others g c =
     others_none (length c.args.world.now.whole.members) c.args.disks.now.items
+
+pub settled-requires : goal.settled-requires
+settled-requires g c = c.requires.backed.disks

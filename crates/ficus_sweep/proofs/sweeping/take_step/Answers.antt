@@ -35,3 +35,6 @@ pub report_of-requires-clause-gives : goal.report_of-requires-clause-gives
 report_of-requires-clause-gives g c =
     steps_give_few g.L.Link.tells g.K.Keep g.D.Disk c.args.step.now c.in_ok-answer.answer c.requires.step
     c.settled.ensures.sound c.in_ok-answer.ensures.moves
+
+pub settled-requires : goal.settled-requires
+settled-requires g c = c.requires.backed.disks

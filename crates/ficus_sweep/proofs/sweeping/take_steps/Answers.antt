@@ -13,7 +13,7 @@ pub loop-step-init : goal.loop-step-init
 loop-step-init g c = record {
   done = λ told some same volume W stands. no_steps W _ _ stands;
   passes = Idles c.settled.ensures TouchesNone;
-  disks = c.requires.disks;
+  backed = c.requires.backed;
   members = refl;
   others = others_none (length c.args.world.now.whole.members) c.args.disks.now.items;
   pairs = refl;
@@ -38,7 +38,7 @@ loop-step-preserved g c = record {
       (c.in_ok-report.ensures.follows told (get_or some c.loop-step.step-index (Collecting 0)) is volume
       first.follows.after first.follows.stands) c.in_ok-report.report refl;
   passes = Joins c.loop-step.invariant.passes c.take_step.ensures.passes;
-  disks = c.take_step.ensures.disks;
+  backed = c.take_step.ensures.backed;
   members = c.take_step.ensures.members ∙ c.loop-step.invariant.members;
   others =
       others_then (length c.args.world.now.whole.members) c.args.disks.now.items c.loop-step.disks.items
@@ -84,3 +84,6 @@ returns-in_err-report-clause-others g c =
 
 pub returns-clause-others : goal.returns-clause-others
 returns-clause-others g c = c.loop-step.invariant.others
+
+pub settled-requires : goal.settled-requires
+settled-requires g c = c.requires.backed.disks

@@ -3,7 +3,7 @@ use Rattle.ficus_model.specs.Lawful.{Volume}
 use Rattle.ficus_runs.specs.ModelWorld.{ModelWorld}
 use Rattle.ficus_runs.specs.Sweep.{SweepStep, Sweeps, command_of, none_swept}
 use Rattle.ficus_sweep.specs.Follows.{CountsFew, FollowsAction, swept_of}
-use Rattle.ficus_world.specs.Disks.{AreDisksOf}
+use Rattle.ficus_world.specs.Disks.{IsBacked}
 use Rattle.ficus_world.specs.Kills.{OthersStay, Passes}
 use Rattle.ficus_world.specs.World.{WorldStandsFor, foreseen, most_unforeseen}
 use Rattle.ficus_sweep.proofs.sweeping.take_steps.Given as goal
@@ -18,8 +18,7 @@ invariant-loop-step g l = record {
       (Sweeps volume (take l.step-index some) none_swept) (Ok (swept_of l.report)) l.world.whole l.fn.disks.items
       l.disks.items;
   passes : Passes g.L.Link.tells g.K.Keep g.D.Disk l.fn.world.whole l.world.whole l.fn.disks.items l.disks.items;
-  disks : AreDisksOf g.D.Disk.tells g.K.Keep.kept g.K.Keep.fits g.D.Disk.seen g.D.Disk.may_leave g.D.Disk.armings
-      l.world.whole.members l.world.stables l.disks.items;
+  backed : IsBacked g.K.Keep g.D.Disk l.world l.disks.items;
   members : length l.world.whole.members ≡ length l.fn.world.whole.members;
   others : OthersStay (length l.fn.world.whole.members) l.fn.disks.items l.disks.items;
   pairs : length l.disks.items ≡ length l.fn.disks.items;

@@ -18,10 +18,7 @@ returns-clause-fresh c = λ are.
     rw (c.in_ok-push.ensures.items, c.in_ok-push-2.ensures.items)
     (fresh_more volume c.args.fresh.now.worlds.items c.args.fresh.now.disks.items c.in_ok-world.world
     c.fresh_world.new.disks
-    (record {
-      enough = omega (arith, stands.members, c.in_ok-world.ensures.pairs, c.requires.members.at_most);
-      disks = c.in_ok-world.ensures.disks;
-    })
+    c.in_ok-world.ensures.backed
     (record {
       stands = stands;
       few = few_events volume c.in_ok-world.world.whole c.requires.members stands;

@@ -15,8 +15,7 @@ commit_at-requires-clause-prepared g c =
           let of = c.requires.disks.each c.args.by was.0 stable pair was.1 is_stable is_pair in
           record {
             saved = was.0.replica.saved;
-            ready = up_ready g.D.Disk.tells g.K.Keep.kept g.K.Keep.fits g.D.Disk.seen g.D.Disk.may_leave
-                g.D.Disk.armings was.0 stable pair (c.requires.up was.0 was.1) (of.holds told);
+            ready = up_ready g.K.Keep g.D.Disk was.0 stable pair (c.requires.up was.0 was.1) (of.holds told);
             leads = c.requires.prepared.2 was.0 was.1;
           },
     )
@@ -24,37 +23,37 @@ commit_at-requires-clause-prepared g c =
 pub returns-in-Ok-clause-disks : goal.returns-in-Ok-clause-disks
 returns-in-Ok-clause-disks g c =
     let was = number_exists c.args.members.now.items c.args.by c.requires.member in
-    c.in-Ok.ensures.disks c.args.members.now.items c.hold.new.members.items
+    (c.in-Ok.ensures.disks c.args.members.now.items c.hold.new.members.items
     (saves_held c.args.by c.args.next was.0 was.1 (c.requires.up was.0 was.1) _ tt (c.hold.ensures was.0 was.1))
-    c.requires.disks
+    c.requires.disks).0
 
 pub returns-in-Err-clause-disks : goal.returns-in-Err-clause-disks
 returns-in-Err-clause-disks g c =
     let was = number_exists c.args.members.now.items c.args.by c.requires.member in
-    c.in-Err.ensures.disks c.args.members.now.items c.put_down.new.members.items
+    (c.in-Err.ensures.disks c.args.members.now.items c.put_down.new.members.items
     (saves_pending c.args.by c.args.next was.0 was.1 (c.requires.up was.0 was.1) _ (c.put_down.ensures was.0 was.1))
-    c.requires.disks
+    c.requires.disks).0
 
 pub returns-in-Ok-clause-followed : goal.returns-in-Ok-clause-followed
 returns-in-Ok-clause-followed g c =
     let was = number_exists c.args.members.now.items c.args.by c.requires.member in
     record {
-      disks = c.in-Ok.ensures.saved;
+      disks = c.in-Ok.ensures.follows;
       fuses =
-          c.in-Ok.ensures.fuses c.args.members.now.items c.hold.new.members.items
+          (c.in-Ok.ensures.disks c.args.members.now.items c.hold.new.members.items
           (saves_held c.args.by c.args.next was.0 was.1 (c.requires.up was.0 was.1) _ tt (c.hold.ensures was.0 was.1))
-          c.requires.disks;
+          c.requires.disks).1;
     }
 
 pub returns-in-Err-clause-counted : goal.returns-in-Err-clause-counted
 returns-in-Err-clause-counted g c =
     let was = number_exists c.args.members.now.items c.args.by c.requires.member in
     record {
-      disks = c.in-Err.ensures.failed;
+      disks = c.in-Err.ensures.follows;
       fuses =
-          c.in-Err.ensures.fuses c.args.members.now.items c.put_down.new.members.items
+          (c.in-Err.ensures.disks c.args.members.now.items c.put_down.new.members.items
           (saves_pending c.args.by c.args.next was.0 was.1 (c.requires.up was.0 was.1) _ (c.put_down.ensures was.0 was.1))
-          c.requires.disks;
+          c.requires.disks).1;
     }
 
 pub returns-in-Ok-clause-writes : goal.returns-in-Ok-clause-writes

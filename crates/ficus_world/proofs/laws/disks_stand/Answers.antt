@@ -9,12 +9,10 @@ returns-clause-outlasts g c = λ told volume W stands.
     rw (← c.world.view_is) (rw (← c.world-inside.view_is) c.world-inside.invariant) in
     let count : length c.args.world.now.stables ≡ length c.args.world.now.whole.members =
     rw (← c.world.view_is) c.world.invariant in
-    disks_outlast_for g.K.Keep.kept g.K.Keep.fits g.D.Disk.seen g.D.Disk.may_leave volume g.D.Disk.tells told
-    g.D.Disk.armings W c.args.world.now.whole c.args.world.now.stables c.args.disks.now.items sound count stands
-    c.requires
+    disks_outlast_for g.K.Keep g.D.Disk volume told W c.args.world.now c.args.disks.now.items sound count stands c.requires
 
 pub returns-clause-stand : goal.returns-clause-stand
 returns-clause-stand g c = λ told volume W stands.
-    outlast_stand g.K.Keep.kept g.K.Keep.fits g.D.Disk.seen g.D.Disk.may_leave volume
+    outlast_stand g.K.Keep g.D.Disk volume
     (λ disk. g.met.D.Disk.seen_may_be_left told disk) W c.args.disks.now.items
     (returns-clause-outlasts g c told volume W stands)

@@ -1,12 +1,13 @@
-use Rattle.std.proofs.Common.{◌≡◌, ◌+◌, subst, arith}
+use Rattle.std.proofs.Common.{◌+◌, Err, subst, sym, arith}
 use Rattle.std.proofs.lemmas.Result.{err_from_is_err_and}
-use Rattle.ficus_world.specs.Opening.{IsAtFault}
 use Rattle.ficus_world.proofs.Faults.{handed_on}
 use Rattle.ficus_world.proofs.Making.{made_all, made_in_part, made_more, made_none}
 use Rattle.ficus_world.proofs.Others.{others_none, others_set}
-use Rattle.ficus_world.proofs.Steadies.{fault_set, number_at, steady_none, steady_set, synced_set}
-use Rattle.ficus_world.proofs.Unarmed.{regular_more, regular_none, unarmed_set, unfailing_none, unfailing_set}
+use Rattle.ficus_world.proofs.Steadies.{number_at, steady_none, steady_set, synced_set}
+use Rattle.ficus_world.proofs.Unarmed.{regular_more, regular_none, unarmed_set}
 use Rattle.ficus_world.specs.declared.opening.WorldFault.TheVariants.{Store}
+use Rattle.ficus_world.proofs.Asking.{asked_err, disks_set, disks_steady}
+use Rattle.ficus_world.specs.Opening.{PairAsked}
 use Rattle.ficus_world.proofs.opening.make_all.Goals as goal
 
 pub loop-before-init : goal.loop-before-init
@@ -39,45 +40,6 @@ make_one-requires-clause-empty g c = λ tells.
     empty.each (c.from.result + 1) c.index_mut-pair.result.now was
     (omega (arith, c.from.ensures, c.loop-before-test.true, c.count-before-end.ensures.value))
 
-pub returns-in_err-make_one-clause-failed : goal.returns-in_err-make_one-clause-failed
-returns-in_err-make_one-clause-failed g c = λ r is.
-    let given = err_from_is_err_and c.from_residual.result c.from_residual.ensures.1 in
-    let at = number_at c.loop-before.disks.items c.from.result c.index_mut-pair.result.now
-    (omega (
-      arith,
-      c.from.ensures,
-      c.loop-before.invariant.faults.count,
-      c.requires.pairs,
-      c.loop-before-test.true,
-      c.count-before-end.ensures.value,
-      c.count-before-end.ensures.valid.at_most,
-    ))
-    c.index_mut-pair.ensures.value in
-    let failed = c.make_one.ensures.failed r
-    (handed_on c.make_one.result c.from_residual.result given.0 c.in_err-make_one.field-0.0 (Store r) c.in_err-make_one.was
-    given.1 given.2 is) in
-    let same = failed.0 in
-    let number : c.from.result + 1 ≡ r = omega (arith, same, c.from.ensures) in
-    subst (IsAtFault g.D.Disk.faults c.args.disks.now.items _) number
-    (fault_set g.D.Disk.faults c.args.disks.now.items c.loop-before.disks.items c.from.result
-    c.index_mut-pair.result.now c.make_one.new.pair c.loop-before.invariant.faults at failed.1)
-
-pub returns-in_err-make_one-clause-armings : goal.returns-in_err-make_one-clause-armings
-returns-in_err-make_one-clause-armings g c =
-    let at = number_at c.loop-before.disks.items c.from.result c.index_mut-pair.result.now
-    (omega (
-      arith,
-      c.from.ensures,
-      c.loop-before.invariant.faults.count,
-      c.requires.pairs,
-      c.loop-before-test.true,
-      c.count-before-end.ensures.value,
-      c.count-before-end.ensures.valid.at_most,
-    ))
-    c.index_mut-pair.ensures.value in
-    steady_set g.D.Disk.armings c.args.disks.now.items c.loop-before.disks.items c.from.result
-    c.index_mut-pair.result.now c.make_one.new.pair c.loop-before.invariant.armings at c.make_one.ensures.armings
-
 pub loop-before-preserved : goal.loop-before-preserved
 loop-before-preserved g c =
     let at = number_at c.loop-before.disks.items c.from.result c.index_mut-pair.result.now
@@ -99,10 +61,10 @@ loop-before-preserved g c =
           (c.in_ok-make_one.ensures.made tells));
       faults = steady_set g.D.Disk.faults c.args.disks.now.items c.loop-before.disks.items c.from.result
           c.index_mut-pair.result.now c.make_one.new.pair c.loop-before.invariant.faults at
-          c.in_ok-make_one.ensures.steady;
+          c.in_ok-make_one.ensures.asked.steady;
       armings = steady_set g.D.Disk.armings c.args.disks.now.items c.loop-before.disks.items c.from.result
           c.index_mut-pair.result.now c.make_one.new.pair c.loop-before.invariant.armings at
-          c.make_one.ensures.armings;
+          c.make_one.ensures.asked.armings;
       others =
           others_set c.args.members c.args.disks.now.items c.loop-before.disks.items c.from.result
           c.make_one.new.pair c.loop-before.invariant.others
@@ -115,7 +77,7 @@ loop-before-preserved g c =
       unarmed = λ fused none.
           let before = c.loop-before.invariant.unarmed fused none in
           unarmed_set g.D.Disk.fuse c.loop-before.disks.items c.from.result c.make_one.new.pair before
-          ((c.make_one.ensures.unfailing fused).unarmed
+          ((c.make_one.ensures.asked.unfailing fused).unarmed
           (before.each (c.from.result + 1) c.index_mut-pair.result.now at));
       regular = λ tells.
           rw c.from.ensures
@@ -129,37 +91,6 @@ returns-clause-made g c = λ tells.
     (c.loop-before.invariant.made tells)
     (omega (arith, c.loop-before-test.false, c.count-before-end.ensures.value))
 
-pub returns-clause-steady : goal.returns-clause-steady
-returns-clause-steady g c = c.loop-before.invariant.faults
-
-pub returns-clause-armings : goal.returns-clause-armings
-returns-clause-armings g c = c.loop-before.invariant.armings
-
-pub returns-in_err-make_one-clause-unfailing : goal.returns-in_err-make_one-clause-unfailing
-returns-in_err-make_one-clause-unfailing g c = λ fused.
-    let given = err_from_is_err_and c.from_residual.result c.from_residual.ensures.1 in
-    let at = number_at c.loop-before.disks.items c.from.result c.index_mut-pair.result.now
-    (omega (
-      arith,
-      c.from.ensures,
-      c.loop-before.invariant.faults.count,
-      c.requires.pairs,
-      c.loop-before-test.true,
-      c.count-before-end.ensures.value,
-      c.count-before-end.ensures.valid.at_most,
-    ))
-    c.index_mut-pair.ensures.value in
-    unfailing_set g.D.Disk.fuse c.make_one.result c.from_residual.result c.args.disks.now.items
-    c.loop-before.disks.items c.from.result c.index_mut-pair.result.now c.make_one.new.pair
-    (c.loop-before.invariant.unarmed fused) at (c.make_one.ensures.unfailing fused)
-    (λ r is. handed_on c.make_one.result c.from_residual.result given.0 c.in_err-make_one.field-0.0 (Store r)
-    c.in_err-make_one.was given.1 given.2 is)
-
-pub returns-clause-unfailing : goal.returns-clause-unfailing
-returns-clause-unfailing g c = λ fused.
-    unfailing_none g.D.Disk.fuse _ c.args.disks.now.items c.loop-before.disks.items
-    (c.loop-before.invariant.unarmed fused) (λ r is. absurd (cc))
-
 pub returns-clause-regular : goal.returns-clause-regular
 returns-clause-regular g c = λ tells. record {
   each = λ r pair at most.
@@ -170,7 +101,7 @@ returns-clause-regular g c = λ tells. record {
 pub returns-in_err-make_one-clause-member : goal.returns-in_err-make_one-clause-member
 returns-in_err-make_one-clause-member g c = λ r is.
     let given = err_from_is_err_and c.from_residual.result c.from_residual.ensures.1 in
-    let failed = c.make_one.ensures.failed r
+    let failed = c.make_one.ensures.asked.failed r
     (handed_on c.make_one.result c.from_residual.result given.0 c.in_err-make_one.field-0.0 (Store r) c.in_err-make_one.was
     given.1 given.2 is) in
     let same = failed.0 in
@@ -178,26 +109,6 @@ returns-in_err-make_one-clause-member g c = λ r is.
 
 pub returns-clause-synced : goal.returns-clause-synced
 returns-clause-synced g c = c.loop-before.invariant.synced
-
-pub returns-in_err-make_one-clause-spared : goal.returns-in_err-make_one-clause-spared
-returns-in_err-make_one-clause-spared g c = λ fault unfailed is.
-    let given = err_from_is_err_and c.from_residual.result c.from_residual.ensures.1 in
-    let at = number_at c.loop-before.disks.items c.from.result c.index_mut-pair.result.now
-    (omega (
-      arith,
-      c.from.ensures,
-      c.loop-before.invariant.faults.count,
-      c.requires.pairs,
-      c.loop-before-test.true,
-      c.count-before-end.ensures.value,
-      c.count-before-end.ensures.valid.at_most,
-    ))
-    c.index_mut-pair.ensures.value in
-    steady_set g.D.Disk.faults c.args.disks.now.items c.loop-before.disks.items c.from.result
-    c.index_mut-pair.result.now c.make_one.new.pair c.loop-before.invariant.faults at
-    (c.make_one.ensures.spared fault unfailed
-    (handed_on c.make_one.result c.from_residual.result given.0 c.in_err-make_one.field-0.0 fault c.in_err-make_one.was
-    given.1 given.2 is))
 
 pub returns-in_err-make_one-clause-others : goal.returns-in_err-make_one-clause-others
 returns-in_err-make_one-clause-others g c =
@@ -229,3 +140,30 @@ returns-in_err-make_one-clause-partly g c = λ tells at_first.
     (made_in_part g.K.Keep.kept g.D.Disk.seen _ c.args.disks.now.items g.D.Disk.may_leave c.loop-before.disks.items
     c.loop-before.before c.make_one.new.pair (c.loop-before.invariant.made tells) (c.requires.empty tells) at_first
     all (c.make_one.ensures.partly tells only))
+
+pub returns-in_err-make_one-clause-asked : goal.returns-in_err-make_one-clause-asked
+returns-in_err-make_one-clause-asked g c =
+    let given = err_from_is_err_and c.from_residual.result c.from_residual.ensures.1 in
+    let at = number_at c.loop-before.disks.items c.from.result c.index_mut-pair.result.now
+    (omega (
+      arith,
+      c.from.ensures,
+      c.loop-before.invariant.faults.count,
+      c.requires.pairs,
+      c.loop-before-test.true,
+      c.count-before-end.ensures.value,
+      c.count-before-end.ensures.valid.at_most,
+    ))
+    c.index_mut-pair.ensures.value in
+    let fault = c.in_err-make_one.field-0.0 in
+    rw (given.1, given.2)
+    (disks_set c.args.disks.now.items c.loop-before.disks.items c.loop-before.invariant.faults
+    c.loop-before.invariant.armings c.loop-before.invariant.unarmed c.from.result c.index_mut-pair.result.now
+    c.make_one.new.pair at
+    (subst (λ n. PairAsked g.D.Disk (n + 1) (Err fault) c.index_mut-pair.result.now c.make_one.new.pair)
+    (sym c.from.ensures) (asked_err fault c.in_err-make_one.ensures.asked)))
+
+pub returns-clause-asked : goal.returns-clause-asked
+returns-clause-asked g c =
+    disks_steady _ c.args.disks.now.items c.loop-before.disks.items c.loop-before.invariant.faults
+    c.loop-before.invariant.armings c.loop-before.invariant.unarmed (λ r is. absurd (cc))

@@ -4,14 +4,14 @@ use Rattle.std.specs.Prelude.{List}
 use Rattle.ficus_ids.specs.Members.{IsCount}
 use Rattle.ficus_world.specs.Opening.{IsBad, IsFirstBad}
 use Rattle.ficus_world.specs.declared.member.Member.{Member as MemberValue}
-use Rattle.ficus_world.specs.declared.opening.WorldFault.TheVariants.{Image, Store}
+use Rattle.ficus_world.specs.declared.opening.WorldFault.TheVariants.{Image, Memory, Store}
 use Rattle.ficus_world.proofs.Faults.{handed_on}
 use Rattle.ficus_run_laws.proofs.Numbers.{number_exists, number_once}
 use Rattle.ficus_world.proofs.Openings.{first_bad_more, first_bad_one, held_of, next_earlier, next_named, one_named}
 use Rattle.ficus_world.proofs.Others.{others_then, others_within}
-use Rattle.ficus_world.proofs.Steadies.{fault_behind, number_at, steady_none, steady_trans}
-use Rattle.ficus_world.proofs.Unarmed.{unfailing_behind, unfailing_none}
+use Rattle.ficus_world.proofs.Steadies.{number_at, steady_none, steady_trans}
 use Rattle.ficus_world.proofs.Kills.{all_rest_none, all_rest_then}
+use Rattle.ficus_world.proofs.Asking.{disks_behind, disks_err, disks_none, disks_steady, looks_err, never_store}
 use Rattle.ficus_world.proofs.opening.open_all.Goals as goal
 
 pub returns-in_err-open_next-clause-image : goal.returns-in_err-open_next-clause-image
@@ -40,11 +40,11 @@ loop-before-init g c = record {
       number_at c.open_next.new.opened.members.items 0 c.index.result.now (omega (arith, counted)) c.index.ensures in
       ap (λ (m : MemberValue). m.replica.saved.members) (number_once one here) ∙ sym c.count-count.ensures.value;
   disks = c.in_ok-open_next.ensures.disks;
-  same = c.open_next.ensures.same;
-  faults = c.in_ok-open_next.ensures.steady;
-  armings = c.open_next.ensures.armings;
-  unarmed = λ fused. (c.open_next.ensures.unfailing fused).unarmed;
-  rests = c.open_next.ensures.rests;
+  same = c.open_next.ensures.looked.same;
+  faults = c.in_ok-open_next.ensures.looked.asked.steady;
+  armings = c.open_next.ensures.looked.asked.armings;
+  unarmed = λ fused. (c.open_next.ensures.looked.asked.unfailing fused).unarmed;
+  rests = c.open_next.ensures.looked.rests;
   others = c.open_next.ensures.others;
 }
 
@@ -74,7 +74,7 @@ returns-in_err-open_next-2-clause-image g c = λ tells r is.
     (handed_on c.open_next-in-loop-before.result c.from_residual-in_err-open_next-2.result given.0
     c.in_err-open_next-2.field-0.0 (Image r) c.in_err-open_next-2.was given.1 given.2 is) in
     let held =
-    held_of g.D.Disk.tells g.K.Keep.kept g.K.Keep.fits g.D.Disk.seen g.D.Disk.may_leave g.D.Disk.armings
+    held_of g.K.Keep g.D.Disk
     c.loop-before.opened.members.items c.loop-before.opened.stables.items c.loop-before.disks.items
     (c.loop-before.invariant.stables ∙ sym c.loop-before.invariant.counted) c.loop-before.invariant.opened
     c.loop-before.invariant.disks tells in
@@ -93,28 +93,6 @@ returns-in_err-open_next-2-clause-image g c = λ tells r is.
     ))
     c.loop-before.invariant.says
     (subst (IsBad g.K.Keep.kept g.D.Disk.seen c.loop-before.disks.items) bad.0 bad.1))
-
-pub returns-in_err-open_next-2-clause-failed : goal.returns-in_err-open_next-2-clause-failed
-returns-in_err-open_next-2-clause-failed g c = λ r is.
-    let given =
-    err_from_is_err_and c.from_residual-in_err-open_next-2.result c.from_residual-in_err-open_next-2.ensures.1 in
-    fault_behind g.D.Disk.faults c.args.disks.now.items c.loop-before.disks.items
-    c.open_next-in-loop-before.new.disks.items r c.loop-before.invariant.faults
-    (c.open_next-in-loop-before.ensures.failed r
-    (handed_on c.open_next-in-loop-before.result c.from_residual-in_err-open_next-2.result given.0
-    c.in_err-open_next-2.field-0.0 (Store r) c.in_err-open_next-2.was given.1 given.2 is))
-
-pub returns-in_err-open_next-2-clause-same : goal.returns-in_err-open_next-2-clause-same
-returns-in_err-open_next-2-clause-same g c = λ tells.
-    steady_trans g.D.Disk.seen c.args.disks.now.items c.loop-before.disks.items
-    c.open_next-in-loop-before.new.disks.items (c.loop-before.invariant.same tells)
-    (c.open_next-in-loop-before.ensures.same tells)
-
-pub returns-in_err-open_next-2-clause-armings : goal.returns-in_err-open_next-2-clause-armings
-returns-in_err-open_next-2-clause-armings g c =
-    steady_trans g.D.Disk.armings c.args.disks.now.items c.loop-before.disks.items
-    c.open_next-in-loop-before.new.disks.items c.loop-before.invariant.armings
-    c.open_next-in-loop-before.ensures.armings
 
 pub loop-before-preserved : goal.loop-before-preserved
 loop-before-preserved g c = record {
@@ -135,21 +113,21 @@ loop-before-preserved g c = record {
   same = λ tells.
       steady_trans g.D.Disk.seen c.args.disks.now.items c.loop-before.disks.items
       c.open_next-in-loop-before.new.disks.items (c.loop-before.invariant.same tells)
-      (c.open_next-in-loop-before.ensures.same tells);
+      (c.open_next-in-loop-before.ensures.looked.same tells);
   faults =
       steady_trans g.D.Disk.faults c.args.disks.now.items c.loop-before.disks.items
       c.open_next-in-loop-before.new.disks.items c.loop-before.invariant.faults
-      c.in_ok-open_next-2.ensures.steady;
+      c.in_ok-open_next-2.ensures.looked.asked.steady;
   armings =
       steady_trans g.D.Disk.armings c.args.disks.now.items c.loop-before.disks.items
       c.open_next-in-loop-before.new.disks.items c.loop-before.invariant.armings
-      c.open_next-in-loop-before.ensures.armings;
+      c.open_next-in-loop-before.ensures.looked.asked.armings;
   unarmed = λ fused none.
-      (c.open_next-in-loop-before.ensures.unfailing fused).unarmed (c.loop-before.invariant.unarmed fused none);
+      (c.open_next-in-loop-before.ensures.looked.asked.unfailing fused).unarmed (c.loop-before.invariant.unarmed fused none);
   rests =
       all_rest_then g.D.Disk g.met.D.Disk.left_earlier c.args.disks.now.items c.loop-before.disks.items
       c.open_next-in-loop-before.new.disks.items c.loop-before.invariant.rests
-      c.open_next-in-loop-before.ensures.rests;
+      c.open_next-in-loop-before.ensures.looked.rests;
   others =
       others_then (c.loop-before.before + 1) c.args.disks.now.items c.loop-before.disks.items
       c.open_next-in-loop-before.new.disks.items
@@ -193,71 +171,6 @@ returns-clause-stables g c = c.loop-before.invariant.stables ∙ sym c.loop-befo
 pub returns-clause-disks : goal.returns-clause-disks
 returns-clause-disks g c = c.loop-before.invariant.disks
 
-pub returns-clause-same : goal.returns-clause-same
-returns-clause-same g c = c.loop-before.invariant.same
-
-pub returns-clause-steady : goal.returns-clause-steady
-returns-clause-steady g c = c.loop-before.invariant.faults
-
-pub returns-clause-armings : goal.returns-clause-armings
-returns-clause-armings g c = c.loop-before.invariant.armings
-
-pub returns-in_err-open_next-clause-unfailing : goal.returns-in_err-open_next-clause-unfailing
-returns-in_err-open_next-clause-unfailing g c = λ fused.
-    let given =
-    err_from_is_err_and c.from_residual-in_err-open_next.result c.from_residual-in_err-open_next.ensures.1 in
-    unfailing_behind g.D.Disk.fuse c.open_next.result c.from_residual-in_err-open_next.result c.args.disks.now.items
-    c.args.disks.now.items c.open_next.new.disks.items (λ none. none) (c.open_next.ensures.unfailing fused)
-    (λ r is. handed_on c.open_next.result c.from_residual-in_err-open_next.result given.0
-    c.in_err-open_next.field-0.0 (Store r) c.in_err-open_next.was given.1 given.2 is)
-
-pub returns-in_err-open_next-2-clause-unfailing : goal.returns-in_err-open_next-2-clause-unfailing
-returns-in_err-open_next-2-clause-unfailing g c = λ fused.
-    let given =
-    err_from_is_err_and c.from_residual-in_err-open_next-2.result c.from_residual-in_err-open_next-2.ensures.1 in
-    unfailing_behind g.D.Disk.fuse c.open_next-in-loop-before.result c.from_residual-in_err-open_next-2.result
-    c.args.disks.now.items c.loop-before.disks.items c.open_next-in-loop-before.new.disks.items
-    (c.loop-before.invariant.unarmed fused) (c.open_next-in-loop-before.ensures.unfailing fused)
-    (λ r is. handed_on c.open_next-in-loop-before.result c.from_residual-in_err-open_next-2.result given.0
-    c.in_err-open_next-2.field-0.0 (Store r) c.in_err-open_next-2.was given.1 given.2 is)
-
-pub returns-clause-unfailing : goal.returns-clause-unfailing
-returns-clause-unfailing g c = λ fused.
-    unfailing_none g.D.Disk.fuse _ c.args.disks.now.items c.loop-before.disks.items
-    (c.loop-before.invariant.unarmed fused) (λ r is. absurd (cc))
-
-pub returns-in_err-opened-clause-spared : goal.returns-in_err-opened-clause-spared
-returns-in_err-opened-clause-spared g c = λ fault unfailed is. steady_none g.D.Disk.faults c.args.disks.now.items
-
-pub returns-in_err-open_next-clause-spared : goal.returns-in_err-open_next-clause-spared
-returns-in_err-open_next-clause-spared g c = λ fault unfailed is.
-    let given =
-    err_from_is_err_and c.from_residual-in_err-open_next.result c.from_residual-in_err-open_next.ensures.1 in
-    c.open_next.ensures.spared fault unfailed
-    (handed_on c.open_next.result c.from_residual-in_err-open_next.result given.0 c.in_err-open_next.field-0.0 fault
-    c.in_err-open_next.was given.1 given.2 is)
-
-pub returns-in_err-open_next-2-clause-spared : goal.returns-in_err-open_next-2-clause-spared
-returns-in_err-open_next-2-clause-spared g c = λ fault unfailed is.
-    let given =
-    err_from_is_err_and c.from_residual-in_err-open_next-2.result c.from_residual-in_err-open_next-2.ensures.1 in
-    steady_trans g.D.Disk.faults c.args.disks.now.items c.loop-before.disks.items
-    c.open_next-in-loop-before.new.disks.items c.loop-before.invariant.faults
-    (c.open_next-in-loop-before.ensures.spared fault unfailed
-    (handed_on c.open_next-in-loop-before.result c.from_residual-in_err-open_next-2.result given.0
-    c.in_err-open_next-2.field-0.0 fault c.in_err-open_next-2.was given.1 given.2 is))
-
-pub returns-in_err-opened-clause-rests : goal.returns-in_err-opened-clause-rests
-returns-in_err-opened-clause-rests g c = all_rest_none g.D.Disk c.args.disks.now.items
-
-pub returns-in_err-open_next-2-clause-rests : goal.returns-in_err-open_next-2-clause-rests
-returns-in_err-open_next-2-clause-rests g c =
-    all_rest_then g.D.Disk g.met.D.Disk.left_earlier c.args.disks.now.items c.loop-before.disks.items
-    c.open_next-in-loop-before.new.disks.items c.loop-before.invariant.rests c.open_next-in-loop-before.ensures.rests
-
-pub returns-clause-rests : goal.returns-clause-rests
-returns-clause-rests g c = c.loop-before.invariant.rests
-
 pub returns-clause-others : goal.returns-clause-others
 returns-clause-others g c =
     others_within c.loop-before.before (length c.loop-before.opened.members.items) c.args.disks.now.items
@@ -292,7 +205,7 @@ returns-in_err-open_next-2-clause-member g c = λ tells r is first opens.
     (handed_on c.open_next-in-loop-before.result c.from_residual-in_err-open_next-2.result given.0
     c.in_err-open_next-2.field-0.0 (Store r) c.in_err-open_next-2.was given.1 given.2 is) in
     let held =
-    held_of g.D.Disk.tells g.K.Keep.kept g.K.Keep.fits g.D.Disk.seen g.D.Disk.may_leave g.D.Disk.armings
+    held_of g.K.Keep g.D.Disk
     c.loop-before.opened.members.items c.loop-before.opened.stables.items c.loop-before.disks.items
     (c.loop-before.invariant.stables ∙ sym c.loop-before.invariant.counted) c.loop-before.invariant.opened
     c.loop-before.invariant.disks tells in
@@ -321,7 +234,7 @@ returns-in_err-open_next-2-clause-earlier g c = λ tells q r is bad.
     (handed_on c.open_next-in-loop-before.result c.from_residual-in_err-open_next-2.result given.0
     c.in_err-open_next-2.field-0.0 (Store q) c.in_err-open_next-2.was given.1 given.2 is) in
     let held =
-    held_of g.D.Disk.tells g.K.Keep.kept g.K.Keep.fits g.D.Disk.seen g.D.Disk.may_leave g.D.Disk.armings
+    held_of g.K.Keep g.D.Disk
     c.loop-before.opened.members.items c.loop-before.opened.stables.items c.loop-before.disks.items
     (c.loop-before.invariant.stables ∙ sym c.loop-before.invariant.counted) c.loop-before.invariant.opened
     c.loop-before.invariant.disks tells in
@@ -340,3 +253,47 @@ returns-in_err-open_next-2-clause-earlier g c = λ tells q r is bad.
     ))
     c.loop-before.invariant.says r bad in
     omega (arith, named, behind)
+
+pub returns-in_err-opened-clause-looked : goal.returns-in_err-opened-clause-looked
+returns-in_err-opened-clause-looked g c =
+    let given = err_from_is_err_and c.from_residual.result c.from_residual.ensures.1 in
+    rw (given.1, given.2)
+    (record {
+      asked = disks_none _ c.args.disks.now.items (never_store Memory tt);
+      same = λ told. steady_none g.D.Disk.seen c.args.disks.now.items;
+      rests = all_rest_none g.D.Disk c.args.disks.now.items;
+    })
+
+pub returns-in_err-open_next-clause-looked : goal.returns-in_err-open_next-clause-looked
+returns-in_err-open_next-clause-looked g c =
+    let given =
+    err_from_is_err_and c.from_residual-in_err-open_next.result c.from_residual-in_err-open_next.ensures.1 in
+    rw (given.1, given.2) (looks_err c.in_err-open_next.field-0.0 c.in_err-open_next.ensures.looked)
+
+pub returns-in_err-open_next-2-clause-looked : goal.returns-in_err-open_next-2-clause-looked
+returns-in_err-open_next-2-clause-looked g c =
+    let given =
+    err_from_is_err_and c.from_residual-in_err-open_next-2.result c.from_residual-in_err-open_next-2.ensures.1 in
+    let was = c.loop-before.invariant in
+    let then = c.in_err-open_next-2.ensures.looked in
+    rw (given.1, given.2)
+    (record {
+      asked = disks_behind c.args.disks.now.items c.loop-before.disks.items was.faults was.armings was.unarmed
+          (disks_err c.in_err-open_next-2.field-0.0 then.asked);
+      same = λ tells.
+          steady_trans g.D.Disk.seen c.args.disks.now.items c.loop-before.disks.items
+          c.open_next-in-loop-before.new.disks.items (was.same tells) (then.same tells);
+      rests =
+          all_rest_then g.D.Disk g.met.D.Disk.left_earlier c.args.disks.now.items c.loop-before.disks.items
+          c.open_next-in-loop-before.new.disks.items was.rests then.rests;
+    })
+
+pub returns-clause-looked : goal.returns-clause-looked
+returns-clause-looked g c =
+    let was = c.loop-before.invariant in
+    record {
+      asked = disks_steady _ c.args.disks.now.items c.loop-before.disks.items was.faults was.armings was.unarmed
+          (λ r is. absurd (cc));
+      same = was.same;
+      rests = was.rests;
+    }

@@ -13,7 +13,7 @@ invariant-loop-before g l = record {
   counted : length l.opened.members.items ≡ l.before;
   stables : length l.opened.stables.items ≡ l.before;
   says : (first : MemberValue) → IsNumbered l.opened.members.items 1 first → first.replica.saved.members ≡ l.count;
-  disks : AreDisksOf g.D.Disk.tells g.K.Keep.kept g.K.Keep.fits g.D.Disk.seen g.D.Disk.may_leave g.D.Disk.armings
+  disks : AreDisksOf g.K.Keep g.D.Disk
       l.opened.members.items l.opened.stables.items l.disks.items;
   same : g.D.Disk.tells → Steady g.D.Disk.seen l.fn.disks.items l.disks.items;
   faults : Steady g.D.Disk.faults l.fn.disks.items l.disks.items;

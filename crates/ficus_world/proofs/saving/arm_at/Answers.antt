@@ -8,13 +8,13 @@ use Rattle.ficus_world.proofs.Kills.{rests_calls}
 use Rattle.ficus_world.proofs.saving.arm_at.Goals as goal
 
 pub returns-clause-disks : goal.returns-clause-disks
-returns-clause-disks g c members stables are =
+returns-clause-disks g c stables members are =
     let is_pair = number_read c.args.disks.now.items c.args.by c.index_mut-pair.result.now _ c.requires.pair
     (sym c.index_mut-pair.ensures.value) in
-    disks_armed g.D.Disk.tells g.K.Keep.kept g.K.Keep.fits g.D.Disk.seen g.D.Disk.may_leave g.D.Disk.armings c.args.by
+    disks_armed g.K.Keep g.D.Disk c.args.by
     c.index_mut-pair.result.now _ is_pair c.arm.ensures.arms c.arm-2.ensures.arms
-    (λ told. record { a = c.arm.ensures.seen told; b = c.arm-2.ensures.seen told })
-    (record { a = c.arm.ensures.crash; b = c.arm-2.ensures.crash }) are
+    (λ told. record { a = c.arm.ensures.keeps.seen told; b = c.arm-2.ensures.keeps.seen told })
+    (record { a = c.arm.ensures.keeps.crash; b = c.arm-2.ensures.keeps.crash }) members are
 
 pub returns-clause-follows : goal.returns-clause-follows
 returns-clause-follows g c members up =
@@ -27,8 +27,8 @@ returns-clause-follows g c members up =
       }));
       fuses =
           fuses_armed g.K.Keep g.D.Disk c.args.by c.args.calls c.args.pick members c.args.disks.now.items
-          c.index_mut-pair.result.now _ is_pair up (record { a = c.arm.ensures.crash; b = c.arm-2.ensures.crash })
-          c.arm.ensures.fuse c.arm-2.ensures.fuse;
+          c.index_mut-pair.result.now _ is_pair up (record { a = c.arm.ensures.keeps.crash; b = c.arm-2.ensures.keeps.crash })
+          (λ fused. (c.arm.ensures.by_fuse fused).fuse) (λ fused. (c.arm-2.ensures.by_fuse fused).fuse);
     }
 
 pub returns-clause-rests : goal.returns-clause-rests
@@ -41,6 +41,6 @@ returns-clause-rests g c =
       now = record { a = c.arm.new.self; b = c.arm-2.new.self };
       set = refl;
       rests = rests_calls g.D.Disk g.met.D.Disk.left_now c.index_mut-pair.result.now
-          (record { a = c.arm.new.self; b = c.arm-2.new.self }) c.arm.ensures.crash c.arm-2.ensures.crash
-          c.arm.ensures.moments c.arm-2.ensures.moments;
+          (record { a = c.arm.new.self; b = c.arm-2.new.self }) c.arm.ensures.keeps.crash c.arm-2.ensures.keeps.crash
+          c.arm.ensures.keeps.moments c.arm-2.ensures.keeps.moments;
     }

@@ -1,42 +1,37 @@
-use Rattle.std.proofs.Common.{sym, ◌∙◌, refl}
+use Rattle.std.proofs.Common.{◌-◌, sym, ◌∙◌, refl}
+use Rattle.std.proofs.lemmas.List.{length-set}
 use Rattle.ficus_world.proofs.Disks.{disks_set, follows_at, fused_same, holds_still, pair_follows_none}
 use Rattle.ficus_run_laws.proofs.Numbers.{number_read}
 use Rattle.ficus_world.proofs.Fuses.{fuses_prepared}
 use Rattle.ficus_world.proofs.Kills.{rests_pair}
 use Rattle.ficus_world.proofs.saving.prepare_at.Goals as goal
 
-pub returns-clause-disks : goal.returns-clause-disks
-returns-clause-disks g c members are =
+pub returns-clause-stays : goal.returns-clause-stays
+returns-clause-stays g c =
     let is_stable = number_read c.args.stables.now.items c.args.by c.index_mut.result.now _ c.requires.member
     (sym c.index_mut.ensures.value) in
     let is_pair = number_read c.args.disks.now.items c.args.by c.index_mut-2.result.now _ c.requires.pair
     (sym c.index_mut-2.ensures.value) in
-    disks_set c.args.by (λ r x differs is. is) are c.prepare.new.self c.prepare.new.disks c.requires.member.at_least
-    (λ member is.
-    let was = are.each c.args.by member _ _ is is_stable is_pair in
     record {
-      fused = was.fused ∙ sym (fused_same g.D.Disk.armings c.prepare.ensures.armings);
-      holds = λ told. holds_still g.K.Keep.kept g.K.Keep.fits g.D.Disk.seen g.D.Disk.may_leave member.state
-          member.replica.saved _ _ _ _ c.prepare.ensures.crash (c.prepare.ensures.ready told member.replica.saved)
-          (was.holds told);
-    })
-
-pub returns-clause-follows : goal.returns-clause-follows
-returns-clause-follows g c members =
-    let is_pair = number_read c.args.disks.now.items c.args.by c.index_mut-2.result.now _ c.requires.pair
-    (sym c.index_mut-2.ensures.value) in
-    record {
-      disks =
-          follows_at c.args.by is_pair (pair_follows_none c.prepare.ensures.steady c.prepare.ensures.armings)
-          (λ r differs. refl) (λ r differs. refl);
-      fuses =
-          fuses_prepared g.K.Keep g.D.Disk c.args.by members c.args.disks.now.items c.index_mut-2.result.now
-          c.prepare.new.disks is_pair c.prepare.ensures.crash c.prepare.ensures.fuses;
+      disks = λ members are.
+          disks_set c.args.by (λ r x differs is. is) are c.prepare.new.self c.prepare.new.disks c.requires.member.at_least
+          (λ member is.
+          let was = are.each c.args.by member _ _ is is_stable is_pair in
+          record {
+            fused = was.fused ∙ sym (fused_same g.D.Disk.armings c.prepare.ensures.armings);
+            holds = λ told. holds_still g.K.Keep g.D.Disk member.state
+                member.replica.saved _ _ _ _ c.prepare.ensures.crash (c.prepare.ensures.ready told member.replica.saved)
+                (was.holds told);
+          });
+      follows = λ members. record {
+        disks =
+            follows_at c.args.by is_pair (pair_follows_none c.prepare.ensures.steady c.prepare.ensures.armings)
+            (λ r differs. refl) (λ r differs. refl);
+        fuses =
+            fuses_prepared g.K.Keep g.D.Disk c.args.by members c.args.disks.now.items c.index_mut-2.result.now
+            c.prepare.new.disks is_pair c.prepare.ensures.crash c.prepare.ensures.fuses;
+      };
+      rests = rests_pair g.D.Disk c.args.by c.args.disks.now.items c.index_mut-2.result.now c.prepare.new.disks is_pair
+          c.prepare.ensures.crash c.prepare.ensures.moments c.prepare.ensures.spans;
+      count = length-set c.args.stables.now.items (c.args.by - 1) c.prepare.new.self;
     }
-
-pub returns-clause-rests : goal.returns-clause-rests
-returns-clause-rests g c =
-    let is_pair = number_read c.args.disks.now.items c.args.by c.index_mut-2.result.now _ c.requires.pair
-    (sym c.index_mut-2.ensures.value) in
-    rests_pair g.D.Disk c.args.by c.args.disks.now.items c.index_mut-2.result.now c.prepare.new.disks is_pair
-    c.prepare.ensures.crash c.prepare.ensures.moments c.prepare.ensures.spans

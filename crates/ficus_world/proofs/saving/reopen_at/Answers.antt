@@ -10,13 +10,13 @@ use Rattle.ficus_world.proofs.Kills.{rests_pair}
 use Rattle.ficus_world.proofs.saving.reopen_at.Goals as goal
 
 pub returns-in-Ok-clause-read : goal.returns-in-Ok-clause-read
-returns-in-Ok-clause-read g c told count events members was is sound are =
+returns-in-Ok-clause-read g c told count events members was held =
     let stable = number_exists c.args.stables.now.items c.args.by c.requires.member in
     let is_pair = number_read c.args.disks.now.items c.args.by c.index_mut.result.now _ c.requires.pair
     (sym c.index_mut.ensures.value) in
-    let of = are.each c.args.by was stable.0 c.index_mut.result.now is stable.1 is_pair in
-    read_is g.D.Disk.tells g.K.Keep.kept g.K.Keep.fits g.D.Disk.seen g.D.Disk.may_leave g.D.Disk.armings
-    c.one_saved.ensures count events c.args.by was sound stable.0 c.index_mut.result.now c.reopen.new.disks
+    let of = held.disks.each c.args.by was stable.0 c.index_mut.result.now held.is stable.1 is_pair in
+    read_is g.K.Keep g.D.Disk
+    c.one_saved.ensures count events c.args.by was held.sound stable.0 c.index_mut.result.now c.reopen.new.disks
     (c.reopen.ensures.left told) (of.holds told) c.in-Ok.found.saved
     (let ready = c.in-Ok.ensures.ready told in ready.holds)
 
@@ -25,9 +25,8 @@ returns-in-Ok-clause-disks g c old new reopens are =
     let stable = number_exists c.args.stables.now.items c.args.by c.requires.member in
     let is_pair = number_read c.args.disks.now.items c.args.by c.index_mut.result.now _ c.requires.pair
     (sym c.index_mut.ensures.value) in
-    disks_read g.D.Disk.tells g.K.Keep.kept g.K.Keep.fits g.D.Disk.seen g.D.Disk.may_leave g.D.Disk.armings
-    c.args.by c.in-Ok.found.saved stable.0 c.in-Ok.found.stable c.index_mut.result.now c.reopen.new.disks stable.1
-    is_pair c.reopen.ensures.armings c.reopen.ensures.crash c.in-Ok.ensures.ready reopens are
+    disks_read g.K.Keep g.D.Disk c.args.by c.in-Ok.found.saved stable.0 c.in-Ok.found.stable c.index_mut.result.now c.reopen.new.disks stable.1
+    is_pair c.reopen.ensures.armings c.reopen.ensures.crash c.in-Ok.ensures.ready old new reopens are
 
 pub returns-in-Ok-clause-follows : goal.returns-in-Ok-clause-follows
 returns-in-Ok-clause-follows g c =
@@ -38,22 +37,22 @@ returns-in-Ok-clause-follows g c =
     (λ r differs. refl)
 
 pub returns-in-Err-clause-read : goal.returns-in-Err-clause-read
-returns-in-Err-clause-read g c told count events members was is sound are =
+returns-in-Err-clause-read g c told count events members was held =
     let stable = number_exists c.args.stables.now.items c.args.by c.requires.member in
     let is_pair = number_read c.args.disks.now.items c.args.by c.index_mut.result.now _ c.requires.pair
     (sym c.index_mut.ensures.value) in
-    let of = are.each c.args.by was stable.0 c.index_mut.result.now is stable.1 is_pair in
-    some_image g.D.Disk.tells g.K.Keep.kept g.K.Keep.fits g.D.Disk.seen g.D.Disk.may_leave g.D.Disk.armings
-    c.one_saved.ensures count events c.args.by was sound stable.0 c.index_mut.result.now c.reopen.new.disks
+    let of = held.disks.each c.args.by was stable.0 c.index_mut.result.now held.is stable.1 is_pair in
+    some_image g.K.Keep g.D.Disk
+    c.one_saved.ensures count events c.args.by was held.sound stable.0 c.index_mut.result.now c.reopen.new.disks
     (c.reopen.ensures.left told) (of.holds told) c.in-Err.fault (λ same. c.in-Err.ensures.none told (ap Err same))
 
 pub returns-in-Err-clause-disks : goal.returns-in-Err-clause-disks
 returns-in-Err-clause-disks g c old new reopens are =
     let is_pair = number_read c.args.disks.now.items c.args.by c.index_mut.result.now _ c.requires.pair
     (sym c.index_mut.ensures.value) in
-    disks_not_read g.D.Disk.tells g.K.Keep.kept g.K.Keep.fits g.D.Disk.seen g.D.Disk.may_leave g.D.Disk.armings
+    disks_not_read g.K.Keep g.D.Disk
     c.args.by c.in-Err.fault c.index_mut.result.now c.reopen.new.disks is_pair c.reopen.ensures.armings
-    c.reopen.ensures.crash c.reopen.ensures.left reopens are
+    c.reopen.ensures.crash c.reopen.ensures.left old new reopens are
 
 pub returns-in-Err-clause-opened : goal.returns-in-Err-clause-opened
 returns-in-Err-clause-opened g c failed =
@@ -71,17 +70,17 @@ returns-in-Err-clause-follows g c =
     (λ r differs. refl)
 
 pub returns-in-Ok-clause-by_fuse : goal.returns-in-Ok-clause-by_fuse
-returns-in-Ok-clause-by_fuse g c fused told count events members was F is sound are stand =
+returns-in-Ok-clause-by_fuse g c fused told count events members was F held stand =
     let stable = number_exists c.args.stables.now.items c.args.by c.requires.member in
     let is_pair = number_read c.args.disks.now.items c.args.by c.index_mut.result.now _ c.requires.pair
     (sym c.index_mut.ensures.value) in
-    let of = are.each c.args.by was stable.0 c.index_mut.result.now is stable.1 is_pair in
-    let held = (c.in-Ok.ensures.ready told).holds in
+    let of = held.disks.each c.args.by was stable.0 c.index_mut.result.now held.is stable.1 is_pair in
+    let found = (c.in-Ok.ensures.ready told).holds in
     fuses_read g.K.Keep g.D.Disk c.one_saved.ensures c.args.by members c.args.disks.now.items was
-    c.index_mut.result.now c.reopen.new.disks c.in-Ok.found.saved F is is_pair held
-    (read_is g.D.Disk.tells g.K.Keep.kept g.K.Keep.fits g.D.Disk.seen g.D.Disk.may_leave g.D.Disk.armings
-    c.one_saved.ensures count events c.args.by was sound stable.0 c.index_mut.result.now c.reopen.new.disks
-    (c.reopen.ensures.left told) (of.holds told) c.in-Ok.found.saved held)
+    c.index_mut.result.now c.reopen.new.disks c.in-Ok.found.saved F held.is is_pair found
+    (read_is g.K.Keep g.D.Disk
+    c.one_saved.ensures count events c.args.by was held.sound stable.0 c.index_mut.result.now c.reopen.new.disks
+    (c.reopen.ensures.left told) (of.holds told) c.in-Ok.found.saved found)
     c.reopen.ensures.crash (c.reopen.ensures.by_fuse fused told) stand
 
 pub returns-in-Ok-clause-rests : goal.returns-in-Ok-clause-rests

@@ -1,18 +1,18 @@
-use Rattle.std.proofs.Common.{arith, sym, ◌∙◌, subst}
+use Rattle.std.proofs.Common.{sym, ◌∙◌, subst}
 use Rattle.ficus_ids.specs.Members.{IsMember}
 use Rattle.ficus_run_laws.proofs.Numbers.{number_read}
 use Rattle.ficus_graft.proofs.Places.{cut_at, held_at, room_at, same_at, same_disks_at, sends_at}
 use Rattle.ficus_graft.proofs.volumes.Volumes.send.Goals as goal
 
-pub step-requires-clause-disks : goal.step-requires-clause-disks
-step-requires-clause-disks g c =
+pub step-requires-clause-backed : goal.step-requires-clause-backed
+step-requires-clause-backed g c =
     let member = rw (← c.self.view_is) at c.requires.volume in
     let held = rw (← c.self.view_is) at c.requires.held in
     let is = number_read c.self.inside.worlds.items c.args.volume c.index_mut.result.now c.index_mut.result.now member
     (sym c.index_mut.ensures.value) in
     let of = number_read c.args.disks.now.items c.args.volume c.index_mut-2.result.now c.index_mut-2.result.now
     (subst (λ n. IsMember n c.args.volume) (sym held.count) member) (sym c.index_mut-2.ensures.value) in
-    (held.each c.args.volume _ _ is of).disks
+    held.each c.args.volume _ _ is of
 
 pub returns-clause-sends : goal.returns-clause-sends
 returns-clause-sends g c =
@@ -62,10 +62,8 @@ returns-clause-held g c =
     (sym c.index_mut.ensures.value) in
     let of = number_read c.args.disks.now.items c.args.volume c.index_mut-2.result.now c.index_mut-2.result.now
     (subst (λ n. IsMember n c.args.volume) (sym held.count) member) (sym c.index_mut-2.ensures.value) in
-    let was = held.each c.args.volume _ _ is of in
     held_at g.K.Keep g.D.Disk c.self.inside.worlds.items c.args.disks.now.items c.args.volume c.index_mut.result.now
-    c.step.new.self c.index_mut-2.result.now c.step.new.disks is of held
-    (record { enough = omega (arith, was.enough, c.step.ensures.members, c.step.ensures.pairs); disks = c.step.ensures.disks })
+    c.step.new.self c.index_mut-2.result.now c.step.new.disks is of held c.step.ensures.backed
 
 pub returns-clause-grows : goal.returns-clause-grows
 returns-clause-grows g c = λ limit room.

@@ -1,9 +1,7 @@
-use Rattle.std.proofs.Common.{◌≡◌, subst, ◌+◌}
+use Rattle.std.proofs.Common.{true, false}
 use Rattle.ficus_disk.specs.Fuse.{pick_of}
-use Rattle.ficus_keep.specs.Kept.{image_alone}
 use Rattle.ficus_keep.proofs.Results.{both_ok, in_ok}
-use Rattle.ficus_store.specs.Slots.{StandsOn}
-use Rattle.ficus_store.proofs.Commits.{kept_after_a, kept_after_b, kept_before_a, kept_before_b, next_of, regular_on_a, regular_on_b, stands_after_a, stands_after_b}
+use Rattle.ficus_store.proofs.Commits.{given, kept_after_a, kept_after_b, regular_on_a, regular_on_b, stands_after_a, stands_after_b}
 use Rattle.ficus_store.proofs.Fused.{fused_on_a, fused_on_b}
 use Rattle.ficus_store.proofs.two_slot.TwoSlotKeep.commit.Goals as goal
 
@@ -14,11 +12,9 @@ returns-then-self-clause-kept g c told =
     let a = g.D.Disk.seen old.a in
     let b = g.D.Disk.seen old.b in
     let settled = c.requires.settled told in
-    let stands = subst (λ v. StandsOn v k.generation k.shut a b) c.if-self.true settled.holds in
-    let next : c.args.generation ≡ k.generation + 1 = next_of k.generation c.args.generation
-    (c.requires.next told (image_alone k.generation stands.body) (kept_before_b k.generation k.shut a b stands)) in
-    in_ok c.save_slot.result (λ new. kept_after_b k.generation c.args.generation k.shut a b c.args.bytes.now next
-    stands (g.D.Disk.seen c.save_slot.new.disk) new.is)
+    let now = given k.on_a true k.generation c.args.generation k.shut a b c.if-self.true settled.holds (c.requires.next told) in
+    in_ok c.save_slot.result (λ new. kept_after_b k.generation c.args.generation k.shut a b c.args.bytes.now now.next
+    now.stands (g.D.Disk.seen c.save_slot.new.disk) new.is)
     (c.save_slot.ensures.saved told)
 
 pub returns-then-self-clause-settled : goal.returns-then-self-clause-settled
@@ -28,12 +24,10 @@ returns-then-self-clause-settled g c told =
     let a = g.D.Disk.seen old.a in
     let b = g.D.Disk.seen old.b in
     let settled = c.requires.settled told in
-    let stands = subst (λ v. StandsOn v k.generation k.shut a b) c.if-self.true settled.holds in
-    let next : c.args.generation ≡ k.generation + 1 = next_of k.generation c.args.generation
-    (c.requires.next told (image_alone k.generation stands.body) (kept_before_b k.generation k.shut a b stands)) in
+    let now = given k.on_a true k.generation c.args.generation k.shut a b c.if-self.true settled.holds (c.requires.next told) in
     both_ok c.save_slot.result
     (λ saved durable. record {
-      holds = stands_after_b k.generation c.args.generation k.shut a b c.args.bytes.now next stands _ saved.is;
+      holds = stands_after_b k.generation c.args.generation k.shut a b c.args.bytes.now now.next now.stands _ saved.is;
       synced_a = settled.synced_a;
       synced_b = durable;
     })
@@ -46,12 +40,10 @@ returns-then-self-clause-regular g c told regular =
     let a = g.D.Disk.seen old.a in
     let b = g.D.Disk.seen old.b in
     let settled = c.requires.settled told in
-    let stands = subst (λ v. StandsOn v k.generation k.shut a b) c.if-self.true settled.holds in
-    let next : c.args.generation ≡ k.generation + 1 = next_of k.generation c.args.generation
-    (c.requires.next told (image_alone k.generation stands.body) (kept_before_b k.generation k.shut a b stands)) in
-    let now = regular.each _ _ (g.met.D.Disk.seen_may_be_left told old.a) (g.met.D.Disk.seen_may_be_left told old.b) in
+    let now = given k.on_a true k.generation c.args.generation k.shut a b c.if-self.true settled.holds (c.requires.next told) in
+    let both = regular.each _ _ (g.met.D.Disk.seen_may_be_left told old.a) (g.met.D.Disk.seen_may_be_left told old.b) in
     record {
-      each = λ x y may_x may_y. regular_on_b k.generation c.args.generation k.shut a b c.args.bytes.now next stands now x y
+      each = λ x y may_x may_y. regular_on_b k.generation c.args.generation k.shut a b c.args.bytes.now now.next now.stands both x y
           (settled.synced_a x may_x) (c.save_slot.ensures.crash told settled.synced_b y may_y);
     }
 
@@ -62,11 +54,9 @@ returns-then-self-clause-by_fuse g c fused told regular =
     let a = g.D.Disk.seen old.a in
     let b = g.D.Disk.seen old.b in
     let settled = c.requires.settled told in
-    let stands = subst (λ v. StandsOn v k.generation k.shut a b) c.if-self.true settled.holds in
-    let next : c.args.generation ≡ k.generation + 1 = next_of k.generation c.args.generation
-    (c.requires.next told (image_alone k.generation stands.body) (kept_before_b k.generation k.shut a b stands)) in
+    let now = given k.on_a true k.generation c.args.generation k.shut a b c.if-self.true settled.holds (c.requires.next told) in
     fused_on_b g.D.Disk.seen g.D.Disk.image g.D.Disk.fuse k.generation c.args.generation k.shut c.args.bytes.now old
-    c.save_slot.new.disk c.save_slot.result next regular stands
+    c.save_slot.new.disk c.save_slot.result now.next regular now.stands
     (settled.synced_a _ (g.met.D.Disk.image_may_be_left fused old.a (pick_of (g.D.Disk.fuse old.a))))
     (c.save_slot.ensures.by_fuse fused) (c.save_slot.ensures.falls fused) (c.save_slot.ensures.pick fused)
     (c.save_slot.ensures.found fused told settled.synced_b)
@@ -78,11 +68,9 @@ returns-else-self-clause-kept g c told =
     let a = g.D.Disk.seen old.a in
     let b = g.D.Disk.seen old.b in
     let settled = c.requires.settled told in
-    let stands = subst (λ v. StandsOn v k.generation k.shut a b) c.if-self.false settled.holds in
-    let next : c.args.generation ≡ k.generation + 1 = next_of k.generation c.args.generation
-    (c.requires.next told (image_alone k.generation stands.body) (kept_before_a k.generation k.shut a b stands)) in
+    let now = given k.on_a false k.generation c.args.generation k.shut a b c.if-self.false settled.holds (c.requires.next told) in
     in_ok c.save_slot-else-self.result (λ new. kept_after_a k.generation c.args.generation k.shut a b
-    c.args.bytes.now next stands (g.D.Disk.seen c.save_slot-else-self.new.disk) new.is)
+    c.args.bytes.now now.next now.stands (g.D.Disk.seen c.save_slot-else-self.new.disk) new.is)
     (c.save_slot-else-self.ensures.saved told)
 
 pub returns-else-self-clause-settled : goal.returns-else-self-clause-settled
@@ -92,12 +80,10 @@ returns-else-self-clause-settled g c told =
     let a = g.D.Disk.seen old.a in
     let b = g.D.Disk.seen old.b in
     let settled = c.requires.settled told in
-    let stands = subst (λ v. StandsOn v k.generation k.shut a b) c.if-self.false settled.holds in
-    let next : c.args.generation ≡ k.generation + 1 = next_of k.generation c.args.generation
-    (c.requires.next told (image_alone k.generation stands.body) (kept_before_a k.generation k.shut a b stands)) in
+    let now = given k.on_a false k.generation c.args.generation k.shut a b c.if-self.false settled.holds (c.requires.next told) in
     both_ok c.save_slot-else-self.result
     (λ saved durable. record {
-      holds = stands_after_a k.generation c.args.generation k.shut a b c.args.bytes.now next stands _ saved.is;
+      holds = stands_after_a k.generation c.args.generation k.shut a b c.args.bytes.now now.next now.stands _ saved.is;
       synced_b = settled.synced_b;
       synced_a = durable;
     })
@@ -110,12 +96,10 @@ returns-else-self-clause-regular g c told regular =
     let a = g.D.Disk.seen old.a in
     let b = g.D.Disk.seen old.b in
     let settled = c.requires.settled told in
-    let stands = subst (λ v. StandsOn v k.generation k.shut a b) c.if-self.false settled.holds in
-    let next : c.args.generation ≡ k.generation + 1 = next_of k.generation c.args.generation
-    (c.requires.next told (image_alone k.generation stands.body) (kept_before_a k.generation k.shut a b stands)) in
-    let now = regular.each _ _ (g.met.D.Disk.seen_may_be_left told old.a) (g.met.D.Disk.seen_may_be_left told old.b) in
+    let now = given k.on_a false k.generation c.args.generation k.shut a b c.if-self.false settled.holds (c.requires.next told) in
+    let both = regular.each _ _ (g.met.D.Disk.seen_may_be_left told old.a) (g.met.D.Disk.seen_may_be_left told old.b) in
     record {
-      each = λ x y may_x may_y. regular_on_a k.generation c.args.generation k.shut a b c.args.bytes.now next stands now x y
+      each = λ x y may_x may_y. regular_on_a k.generation c.args.generation k.shut a b c.args.bytes.now now.next now.stands both x y
           (settled.synced_b y may_y) (c.save_slot-else-self.ensures.crash told settled.synced_a x may_x);
     }
 
@@ -126,11 +110,9 @@ returns-else-self-clause-by_fuse g c fused told regular =
     let a = g.D.Disk.seen old.a in
     let b = g.D.Disk.seen old.b in
     let settled = c.requires.settled told in
-    let stands = subst (λ v. StandsOn v k.generation k.shut a b) c.if-self.false settled.holds in
-    let next : c.args.generation ≡ k.generation + 1 = next_of k.generation c.args.generation
-    (c.requires.next told (image_alone k.generation stands.body) (kept_before_a k.generation k.shut a b stands)) in
+    let now = given k.on_a false k.generation c.args.generation k.shut a b c.if-self.false settled.holds (c.requires.next told) in
     fused_on_a g.D.Disk.seen g.D.Disk.image g.D.Disk.fuse k.generation c.args.generation k.shut c.args.bytes.now old
-    c.save_slot-else-self.new.disk c.save_slot-else-self.result next regular stands
+    c.save_slot-else-self.new.disk c.save_slot-else-self.result now.next regular now.stands
     (settled.synced_b _ (g.met.D.Disk.image_may_be_left fused old.b (pick_of (g.D.Disk.fuse old.b))))
     (c.save_slot-else-self.ensures.by_fuse fused) (c.save_slot-else-self.ensures.falls fused) (c.save_slot-else-self.ensures.pick fused)
     (c.save_slot-else-self.ensures.found fused told settled.synced_a)

@@ -1,17 +1,17 @@
-use Rattle.std.proofs.Common.{refl, ◌∙◌, arith}
-use Rattle.std.proofs.lemmas.Result.{on_ok_weaker}
+use Rattle.std.proofs.Common.{refl, sym, ap, ◌∙◌, arith}
+use Rattle.std.proofs.lemmas.Result.{err_from_is_err_and, on_err_weaker, on_ok_weaker}
 use Rattle.ficus_runs.specs.Numbered.{IsNumbered}
-use Rattle.ficus_world.specs.World.{Whole, whole_of}
+use Rattle.ficus_world.specs.World.{Whole, backed_by, whole_of}
 use Rattle.ficus_world.proofs.Fuses.{comes_then}
 use Rattle.ficus_world.proofs.Sending.{as_reserved}
-use Rattle.ficus_world.proofs.Keeps.{kept_advanced, kept_count, kept_downed, kept_world}
+use Rattle.ficus_world.proofs.Keeps.{kept_advanced, kept_count, kept_downed, kept_grows, kept_world, refused_not, saves_next}
 use Rattle.std.proofs.Common.{List, length, subst}
 use Rattle.ficus_model.specs.declared.event.Event.{Event}
 use Rattle.ficus_world.specs.Kills.{WritesAt}
 use Rattle.ficus_ids.specs.Members.{IsMember}
-use Rattle.ficus_world.specs.Kills.Touches.{TouchesOne, WritesOne}
 use Rattle.ficus_world.proofs.Kills.{rests_then_writes}
-use Rattle.ficus_world.specs.Kills.Touches.{TouchesNone}
+use Rattle.ficus_world.specs.Acts.{Acts}
+use Rattle.ficus_world.proofs.Acting.{acts_none, ready_acts, saved_acts}
 use Rattle.ficus_world.proofs.group.Group.save.Goals as goal
 
 pub prepare_at-requires-clause-fits : goal.prepare_at-requires-clause-fits
@@ -27,73 +27,11 @@ invariant_of-self-2 g c =
     kept_world old c.args.by c.args.next c.keep.new.members.items c.keep.new.history.events c.keep.result
     c.requires.up.member is c.requires.up.up sound c.self.invariant c.keep.ensures.held stored c.keep.ensures.pending kept
 
-pub returns-clause-saved : goal.returns-clause-saved
-returns-clause-saved g c =
-    let old = whole_of c.self.inside.members.items c.self.inside.history.events c.self.inside.post.now in
-    let stored = rw c.reserve.ensures.events at c.keep.ensures.stored in
-    rw (← c.self.view_is)
-    (kept_advanced old c.args.by c.args.next c.keep.new.members.items c.keep.new.history.events c.keep.result
-    c.keep.ensures.held stored)
-
-pub returns-clause-followed : goal.returns-clause-followed
-returns-clause-followed g c =
-    rw (← c.self.view_is)
-    (on_ok_weaker c.keep.result (comes_then (c.prepare_at.ensures.follows c.self.inside.members.items))
-    c.keep.ensures.followed)
-
-pub returns-clause-failed : goal.returns-clause-failed
-returns-clause-failed g c failed =
-    let old = whole_of c.self.inside.members.items c.self.inside.history.events c.self.inside.post.now in
-    let kept = rw c.reserve.ensures.events at c.keep.ensures.kept in
-    rw (← c.self.view_is)
-    (rw failed at (kept_downed old c.args.by c.args.next c.keep.new.members.items c.keep.new.history.events
-    c.keep.result c.keep.ensures.pending kept))
-
-pub returns-clause-counted : goal.returns-clause-counted
-returns-clause-counted g c failed =
-    let counted = rw failed at c.keep.ensures.counted in
-    rw (← c.self.view_is) (comes_then (c.prepare_at.ensures.follows c.self.inside.members.items) counted)
-
-pub returns-clause-members : goal.returns-clause-members
-returns-clause-members g c =
-    let old = whole_of c.self.inside.members.items c.self.inside.history.events c.self.inside.post.now in
-    let is = rw (← c.self.view_is) at c.requires.up.is in
-    rw (← c.self.view_is)
-    (kept_count old c.args.by c.args.next c.keep.new.members.items c.keep.new.history.events c.keep.result
-    c.requires.up.member is c.keep.ensures.held c.keep.ensures.pending)
-
-pub returns-in_err-prepare_at-clause-memory : goal.returns-in_err-prepare_at-clause-memory
-returns-in_err-prepare_at-clause-memory g c = λ is. record {
-  same = as_reserved c.self.inside.members.items c.reserve.ensures.events refl ∙ c.self.view_is;
-  disks = (c.prepare_at.ensures.follows c.self.inside.members.items).disks;
-}
-
 pub keep-requires-clause-pair : goal.keep-requires-clause-pair
 keep-requires-clause-pair g c =
     let member = c.requires.up.is.member in
-    let count = (c.prepare_at.ensures.follows c.self.inside.members.items).disks.count in
-    record { at_least = member.at_least; at_most = omega (arith, member.at_most, c.requires.pairs, count) }
-
-pub returns-in_err-prepare_at-clause-touches : goal.returns-in_err-prepare_at-clause-touches
-returns-in_err-prepare_at-clause-touches g c = TouchesOne c.requires.up.is.member c.prepare_at.ensures.rests
-
-pub returns-clause-touches : goal.returns-clause-touches
-returns-clause-touches g c =
-    let old = c.requires.up.is.member in
-    let stable : IsMember (length c.args.stables.now.items) c.args.by =
-    record { at_least = old.at_least; at_most = omega (arith, old.at_most, c.requires.stables) } in
-    let before = rw (← c.self.view_is) at c.requires.disks in
-    let writes = subst (λ (events : List Event). WritesAt g.K.Keep g.D.Disk c.args.by
-    (whole_of c.self.inside.members.items events c.self.inside.post.now)
-    (whole_of c.keep.new.members.items c.keep.new.history.events c.self.inside.post.now) c.prepare_at.new.disks.items
-    c.keep.new.disks.items) c.reserve.ensures.events
-    (c.keep.ensures.writes c.self.inside.post.now c.self.inside.post.now) in
-    rw (← c.self.view_is)
-    (WritesOne (rests_then_writes g.K.Keep g.D.Disk c.args.by g.met.D.Disk.only_now g.met.D.Disk.seen_may_be_left
-    g.met.D.Disk.left_now g.met.D.Disk.left_earlier before stable c.prepare_at.ensures.rests writes))
-
-pub returns-in_err-reserve-clause-touches : goal.returns-in_err-reserve-clause-touches
-returns-in_err-reserve-clause-touches g c = TouchesNone
+    let count = (c.prepare_at.ensures.stays.follows c.self.inside.members.items).disks.count in
+    record { at_least = member.at_least; at_most = omega (arith, member.at_most, c.requires.backed.pairs, count) }
 
 pub keep-requires-clause-prepared : goal.keep-requires-clause-prepared
 keep-requires-clause-prepared g c = (
@@ -101,3 +39,94 @@ keep-requires-clause-prepared g c = (
   c.in_ok-prepare_at.ensures.prepared,
   λ was is. (c.requires.next was (subst (λ (w : Whole). IsNumbered w.members c.args.by was) c.self.view_is is)).leads,
 )
+
+pub returns-clause-saves : goal.returns-clause-saves
+returns-clause-saves g c =
+    let old = whole_of c.self.inside.members.items c.self.inside.history.events c.self.inside.post.now in
+    let stored = rw c.reserve.ensures.events at c.keep.ensures.stored in
+    let kept = rw c.reserve.ensures.events at c.keep.ensures.kept in
+    let before = c.prepare_at.ensures.stays.follows c.self.inside.members.items in
+    rw (← c.self.view_is)
+    (saves_next g.K.Keep g.D.Disk old
+    (whole_of c.keep.new.members.items c.keep.new.history.events c.self.inside.post.now) c.args.by c.args.next
+    c.args.disks.now.items c.keep.new.disks.items c.keep.result
+    (kept_advanced old c.args.by c.args.next c.keep.new.members.items c.keep.new.history.events c.keep.result
+    c.keep.ensures.held stored)
+    (on_ok_weaker c.keep.result (comes_then before) c.keep.ensures.followed)
+    (kept_downed old c.args.by c.args.next c.keep.new.members.items c.keep.new.history.events c.keep.result
+    c.keep.ensures.pending kept)
+    (on_err_weaker c.keep.result (comes_then before) c.keep.ensures.counted) c.keep.ensures.refused)
+
+pub returns-in_err-prepare_at-clause-saves : goal.returns-in_err-prepare_at-clause-saves
+returns-in_err-prepare_at-clause-saves g c =
+    let wanted = err_from_is_err_and c.from_residual-in_err-prepare_at.result c.from_residual-in_err-prepare_at.ensures.1 in
+    rw (wanted.1, wanted.2) tt
+
+pub returns-in_err-reserve-clause-saves : goal.returns-in_err-reserve-clause-saves
+returns-in_err-reserve-clause-saves g c =
+    let wanted = err_from_is_err_and c.from_residual.result c.from_residual.ensures.1 in
+    rw (wanted.1, wanted.2) tt
+
+pub returns-in_err-reserve-clause-acts : goal.returns-in_err-reserve-clause-acts
+returns-in_err-reserve-clause-acts g c =
+    let same = ap (λ (events : List Event). whole_of c.self.inside.members.items events c.self.inside.post.now)
+    c.in_err-reserve.ensures.events ∙ c.self.view_is in
+    subst (λ (w : Whole). Acts g.K.Keep g.D.Disk 1 c.from_residual.result
+    (backed_by c.args.self.now c.args.stables.now.items) (backed_by w c.args.stables.now.items) c.args.disks.now.items
+    c.args.disks.now.items) (sym same) (acts_none c.requires.backed)
+
+pub returns-in_err-prepare_at-clause-acts : goal.returns-in_err-prepare_at-clause-acts
+returns-in_err-prepare_at-clause-acts g c =
+    let same = as_reserved c.self.inside.members.items c.reserve.ensures.events refl ∙ c.self.view_is in
+    subst (λ (w : Whole). Acts g.K.Keep g.D.Disk 1 c.from_residual-in_err-prepare_at.result
+    (backed_by c.args.self.now c.args.stables.now.items) (backed_by w c.prepare_at.new.stables.items)
+    c.args.disks.now.items c.prepare_at.new.disks.items) (sym same)
+    (ready_acts c.requires.up.is.member c.prepare_at.ensures.stays c.requires.backed)
+
+pub returns-clause-acts : goal.returns-clause-acts
+returns-clause-acts g c =
+    let old = whole_of c.self.inside.members.items c.self.inside.history.events c.self.inside.post.now in
+    let new = whole_of c.keep.new.members.items c.keep.new.history.events c.self.inside.post.now in
+    let is = rw (← c.self.view_is) at c.requires.up.is in
+    let backed = rw (← c.self.view_is) at c.requires.backed in
+    let stored = rw c.reserve.ensures.events at c.keep.ensures.stored in
+    let kept = rw c.reserve.ensures.events at c.keep.ensures.kept in
+    let stays = c.prepare_at.ensures.stays in
+    let writes = subst (λ (events : List Event). WritesAt g.K.Keep g.D.Disk c.args.by
+    (whole_of c.self.inside.members.items events c.self.inside.post.now) new c.prepare_at.new.disks.items
+    c.keep.new.disks.items) c.reserve.ensures.events
+    (c.keep.ensures.writes c.self.inside.post.now c.self.inside.post.now) in
+    let stable : IsMember (length c.args.stables.now.items) c.args.by =
+    record { at_least = is.member.at_least; at_most = omega (arith, c.requires.up.is.member.at_most, c.requires.stables) }
+    in
+    rw (← c.self.view_is)
+    (saved_acts old new
+    (kept_grows old c.args.by c.args.next c.keep.new.members.items c.keep.new.history.events c.keep.result stored kept)
+    (kept_count old c.args.by c.args.next c.keep.new.members.items c.keep.new.history.events c.keep.result
+    c.requires.up.member is c.keep.ensures.held c.keep.ensures.pending) (c.keep.ensures.count ∙ stays.count)
+    (refused_not c.keep.result c.keep.ensures.refused (λ e. cc))
+    (rests_then_writes g.K.Keep g.D.Disk c.args.by g.met.D.Disk.only_now g.met.D.Disk.seen_may_be_left
+    g.met.D.Disk.left_now g.met.D.Disk.left_earlier backed.disks stable stays.rests writes) c.keep.ensures.disks backed)
+
+pub keep-requires-clause-disks : goal.keep-requires-clause-disks
+keep-requires-clause-disks g c =
+    let backed = rw (← c.self.view_is) at c.requires.backed in
+    c.prepare_at.ensures.stays.disks c.self.inside.members.items backed.disks
+
+pub keep-requires-clause-stable : goal.keep-requires-clause-stable
+keep-requires-clause-stable g c =
+    let member = c.requires.up.is.member in
+    record {
+      at_least = member.at_least;
+      at_most = omega (arith, member.at_most, c.requires.stables, c.prepare_at.ensures.stays.count);
+    }
+
+pub prepare_at-requires-clause-member : goal.prepare_at-requires-clause-member
+prepare_at-requires-clause-member g c =
+    let member = c.requires.up.is.member in
+    record { at_least = member.at_least; at_most = omega (arith, member.at_most, c.requires.stables) }
+
+pub prepare_at-requires-clause-pair : goal.prepare_at-requires-clause-pair
+prepare_at-requires-clause-pair g c =
+    let member = c.requires.up.is.member in
+    record { at_least = member.at_least; at_most = omega (arith, member.at_most, c.requires.backed.pairs) }

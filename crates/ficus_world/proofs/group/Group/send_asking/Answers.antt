@@ -8,15 +8,19 @@ use Rattle.ficus_run_laws.proofs.Numbers.{number_once}
 use Rattle.ficus_world.specs.declared.member.Member.{Member}
 use Rattle.ficus_world.specs.Disks.{CarriedOn}
 use Rattle.ficus_world.specs.Moves.{HasRoomFor, IsAsking, KeepsAsk, advanced, ask_of, downed, parts_after, pending_of, with_post}
-use Rattle.ficus_world.specs.World.{Whole, IsSoundNext, IsWorld, smallest_message, whole_of}
+use Rattle.ficus_world.specs.World.{Whole, IsSoundNext, IsWorld, backed_by, smallest_message, whole_of}
 use Rattle.ficus_world.proofs.Fuses.{comes_then}
 use Rattle.ficus_world.proofs.Sending.{as_reserved, ask_sent, ask_size, some_bytes, unready, unsaved}
 use Rattle.ficus_world.proofs.SoundWorlds.{held_sound, put_down_sound, sent_counts, world_after, world_posted}
 use Rattle.ficus_ids.specs.Members.{IsMember}
 use Rattle.ficus_model.specs.declared.event.Event.{Event}
 use Rattle.ficus_world.specs.Kills.{WritesAt}
-use Rattle.ficus_world.specs.Kills.Touches.{TouchesOne, WritesOne}
 use Rattle.ficus_world.proofs.Kills.{rests_then_writes}
+use Rattle.ficus_world.specs.Acts.{Acts}
+use Rattle.ficus_world.proofs.Acting.{ready_acts, saved_acts}
+use Rattle.ficus_world.proofs.Keeps.{refused_not}
+use Rattle.ficus_world.proofs.Moved.{same_refusal}
+use Rattle.ficus_ids.specs.declared.refusal.Refusal.TheVariants.{Memory}
 use Rattle.ficus_world.proofs.group.Group.send_asking.Goals as goal
 
 pub make_ready-requires-clause-stable : goal.make_ready-requires-clause-stable
@@ -27,7 +31,7 @@ make_ready-requires-clause-stable g c =
 pub make_ready-requires-clause-pair : goal.make_ready-requires-clause-pair
 make_ready-requires-clause-pair g c =
     let member = c.requires.asking.1.is.member in
-    record { at_least = member.at_least; at_most = omega (arith, member.at_most, c.requires.pairs) }
+    record { at_least = member.at_least; at_most = omega (arith, member.at_most, c.requires.backed.pairs) }
 
 pub make_ready-requires-clause-fits : goal.make_ready-requires-clause-fits
 make_ready-requires-clause-fits g c = c.requires.asking.2.sound.fits
@@ -47,33 +51,12 @@ returns-in_err-make_ready-clause-asks g c =
     c.requires.asking in
     let message = c.requires.message in
     let moves = unready tells old by to asking.0 c.args.asking.replica asking.1 x y
-    (c.in_err-make_ready.ensures.follows old.members)
+    (c.in_err-make_ready.ensures.stays.follows old.members)
     (length c.args.asking.message.items) (ap (λ (bytes : List ℕ). length bytes) message) r
     c.in_err-make_ready.ensures.full in
     rw (refused.1, refused.2, c.in_err-make_ready.ensures.events, c.in_err-make_ready.ensures.post)
     (subst (λ (w : Whole). CarriedOn g.K.Keep g.D.Disk (KeepsAsk tells by to) (Err r) w old x y)
     c.self.view_is moves)
-
-pub returns-in_err-make_ready-clause-memory : goal.returns-in_err-make_ready-clause-memory
-returns-in_err-make_ready-clause-memory g c = λ is. record {
-  same = as_reserved c.self.inside.members.items c.in_err-make_ready.ensures.events c.in_err-make_ready.ensures.post
-      ∙ c.self.view_is;
-  disks = (c.in_err-make_ready.ensures.follows c.self.inside.members.items).disks;
-}
-
-pub returns-in_err-keep-clause-members : goal.returns-in_err-keep-clause-members
-returns-in_err-keep-clause-members g c =
-    let is = subst (λ (w : Whole). IsNumbered w.members c.args.by c.requires.asking.0) (sym c.self.view_is)
-    c.requires.asking.1.is in
-    ap (λ (list : List Member). length list) (c.in_err-keep.ensures.pending c.requires.asking.0 is)
-    ∙ length-set c.self.inside.members.items (c.args.by - 1) _ ∙ ap (λ (w : Whole). length w.members) c.self.view_is
-
-pub returns-clause-members : goal.returns-clause-members
-returns-clause-members g c =
-    let is = subst (λ (w : Whole). IsNumbered w.members c.args.by c.requires.asking.0) (sym c.self.view_is)
-    c.requires.asking.1.is in
-    ap (λ (list : List Member). length list) (c.in_ok-keep.ensures.held c.requires.asking.0 is)
-    ∙ length-set c.self.inside.members.items (c.args.by - 1) _ ∙ ap (λ (w : Whole). length w.members) c.self.view_is
 
 pub invariant_of-self-in_err-keep : goal.invariant_of-self-in_err-keep
 invariant_of-self-in_err-keep g c =
@@ -108,7 +91,7 @@ returns-in_err-keep-clause-asks g c =
     let room : HasRoomFor old (ask_size by to c.args.asking.replica) =
     omega (arith, c.in_ok-make_ready.ensures.small, ap (λ (bytes : List ℕ). length bytes) message) in
     let moves = unsaved tells old by to was c.args.asking.replica asking.1 x c.make_ready.new.disks.items
-    (c.in_ok-make_ready.ensures.follows old.members) room z r c.in_err-keep.ensures.refused
+    (c.in_ok-make_ready.ensures.stays.follows old.members) room z r c.in_err-keep.ensures.refused
     (rw (c.in_err-keep.ensures.pending was asking.1.is) at c.in_err-keep.ensures.counted) in
     rw (
       refused.1,
@@ -165,7 +148,7 @@ returns-clause-asks g c =
     at c.send.ensures.sent in
     let failed = rw c.in_ok-make_ready.ensures.post at c.send.ensures.failed in
     let moves = ask_sent tells old by to was asked asking.1 room c.send.new.self.now x z
-    (comes_then (c.in_ok-make_ready.ensures.follows old.members)
+    (comes_then (c.in_ok-make_ready.ensures.stays.follows old.members)
     (rw (c.in_ok-keep.ensures.held was asking.1.is) at c.in_ok-keep.ensures.followed)) c.send.result sent failed
     c.send.ensures.refused in
     rw (c.in_ok-keep.ensures.held was asking.1.is, c.in_ok-keep.ensures.stored, c.in_ok-make_ready.ensures.events)
@@ -175,41 +158,8 @@ returns-clause-asks g c =
 pub keep-requires-clause-pair : goal.keep-requires-clause-pair
 keep-requires-clause-pair g c =
     let member = c.requires.asking.1.is.member in
-    let count = (c.make_ready.ensures.follows c.self.inside.members.items).disks.count in
-    record { at_least = member.at_least; at_most = omega (arith, member.at_most, c.requires.pairs, count) }
-
-pub returns-in_err-make_ready-clause-touches : goal.returns-in_err-make_ready-clause-touches
-returns-in_err-make_ready-clause-touches g c = TouchesOne c.requires.asking.1.is.member c.make_ready.ensures.rests
-
-pub returns-in_err-keep-clause-touches : goal.returns-in_err-keep-clause-touches
-returns-in_err-keep-clause-touches g c =
-    let member = c.requires.asking.1.is.member in
-    let stable : IsMember (length c.args.stables.now.items) c.args.by =
-    record { at_least = member.at_least; at_most = omega (arith, member.at_most, c.requires.stables) } in
-    let before = rw (← c.self.view_is) at c.requires.disks in
-    let writes = subst (λ (events : List Event). WritesAt g.K.Keep g.D.Disk c.args.by
-    (whole_of c.self.inside.members.items events c.self.inside.post.now)
-    (whole_of c.keep.new.members.items c.keep.new.history.events c.make_ready.new.post.now)
-    c.make_ready.new.disks.items c.keep.new.disks.items) c.in_ok-make_ready.ensures.events
-    (c.keep.ensures.writes c.self.inside.post.now c.make_ready.new.post.now) in
-    rw (← c.self.view_is)
-    (WritesOne (rests_then_writes g.K.Keep g.D.Disk c.args.by g.met.D.Disk.only_now g.met.D.Disk.seen_may_be_left
-    g.met.D.Disk.left_now g.met.D.Disk.left_earlier before stable c.make_ready.ensures.rests writes))
-
-pub returns-clause-touches : goal.returns-clause-touches
-returns-clause-touches g c =
-    let member = c.requires.asking.1.is.member in
-    let stable : IsMember (length c.args.stables.now.items) c.args.by =
-    record { at_least = member.at_least; at_most = omega (arith, member.at_most, c.requires.stables) } in
-    let before = rw (← c.self.view_is) at c.requires.disks in
-    let writes = subst (λ (events : List Event). WritesAt g.K.Keep g.D.Disk c.args.by
-    (whole_of c.self.inside.members.items events c.self.inside.post.now)
-    (whole_of c.keep.new.members.items c.keep.new.history.events c.send.new.self.now)
-    c.make_ready.new.disks.items c.keep.new.disks.items) c.in_ok-make_ready.ensures.events
-    (c.keep.ensures.writes c.self.inside.post.now c.send.new.self.now) in
-    rw (← c.self.view_is)
-    (WritesOne (rests_then_writes g.K.Keep g.D.Disk c.args.by g.met.D.Disk.only_now g.met.D.Disk.seen_may_be_left
-    g.met.D.Disk.left_now g.met.D.Disk.left_earlier before stable c.make_ready.ensures.rests writes))
+    let count = (c.make_ready.ensures.stays.follows c.self.inside.members.items).disks.count in
+    record { at_least = member.at_least; at_most = omega (arith, member.at_most, c.requires.backed.pairs, count) }
 
 pub keep-requires-clause-prepared : goal.keep-requires-clause-prepared
 keep-requires-clause-prepared g c =
@@ -221,3 +171,75 @@ keep-requires-clause-prepared g c =
       λ was is. subst (λ (m : Member). Leads c.args.asking.noted.items m.replica.saved c.args.asking.replica.saved)
           (number_once asking.1.is is) asking.2.leads,
     )
+
+pub returns-in_err-make_ready-clause-acts : goal.returns-in_err-make_ready-clause-acts
+returns-in_err-make_ready-clause-acts g c =
+    let same = as_reserved c.self.inside.members.items c.in_err-make_ready.ensures.events
+    c.in_err-make_ready.ensures.post ∙ c.self.view_is in
+    subst (λ (w : Whole). Acts g.K.Keep g.D.Disk 1 c.from_residual.result
+    (backed_by c.args.self.now c.args.stables.now.items) (backed_by w c.make_ready.new.stables.items)
+    c.args.disks.now.items c.make_ready.new.disks.items) (sym same)
+    (ready_acts c.requires.asking.1.is.member c.make_ready.ensures.stays c.requires.backed)
+
+pub returns-in_err-keep-clause-acts : goal.returns-in_err-keep-clause-acts
+returns-in_err-keep-clause-acts g c =
+    let refused = err_from_is_err_and c.from_residual-in_err-keep.result c.from_residual-in_err-keep.ensures.1 in
+    let old = whole_of c.self.inside.members.items c.self.inside.history.events c.self.inside.post.now in
+    let new = whole_of c.keep.new.members.items c.keep.new.history.events c.make_ready.new.post.now in
+    let member = c.requires.asking.1.is.member in
+    let is = subst (λ (w : Whole). IsNumbered w.members c.args.by c.requires.asking.0) (sym c.self.view_is)
+    c.requires.asking.1.is in
+    let backed = rw (← c.self.view_is) at c.requires.backed in
+    let stays = c.make_ready.ensures.stays in
+    let stable : IsMember (length c.args.stables.now.items) c.args.by =
+    record { at_least = member.at_least; at_most = omega (arith, member.at_most, c.requires.stables) } in
+    let writes = subst (λ (events : List Event). WritesAt g.K.Keep g.D.Disk c.args.by
+    (whole_of c.self.inside.members.items events c.self.inside.post.now) new c.make_ready.new.disks.items
+    c.keep.new.disks.items) c.in_ok-make_ready.ensures.events
+    (c.keep.ensures.writes c.self.inside.post.now c.make_ready.new.post.now) in
+    let members = ap (λ (list : List Member). length list) (c.in_err-keep.ensures.pending c.requires.asking.0 is)
+    ∙ length-set c.self.inside.members.items (c.args.by - 1) _ in
+    let grown = ap (λ (list : List Event). length list) (c.in_err-keep.ensures.kept ∙ c.in_ok-make_ready.ensures.events) in
+    rw (refused.1, refused.2, ← c.self.view_is)
+    (saved_acts old new (omega (arith, grown)) members (c.keep.ensures.count ∙ stays.count)
+    (λ is. refused_not (Err c.in_err-keep.field-0.0) c.in_err-keep.ensures.refused (λ e. cc)
+    (same_refusal c.in_err-keep.field-0.0 Memory is))
+    (rests_then_writes g.K.Keep g.D.Disk c.args.by g.met.D.Disk.only_now g.met.D.Disk.seen_may_be_left
+    g.met.D.Disk.left_now g.met.D.Disk.left_earlier backed.disks stable stays.rests writes) c.keep.ensures.disks backed)
+
+pub returns-clause-acts : goal.returns-clause-acts
+returns-clause-acts g c =
+    let old = whole_of c.self.inside.members.items c.self.inside.history.events c.self.inside.post.now in
+    let new = whole_of c.keep.new.members.items c.keep.new.history.events c.send.new.self.now in
+    let member = c.requires.asking.1.is.member in
+    let is = subst (λ (w : Whole). IsNumbered w.members c.args.by c.requires.asking.0) (sym c.self.view_is)
+    c.requires.asking.1.is in
+    let backed = rw (← c.self.view_is) at c.requires.backed in
+    let stays = c.make_ready.ensures.stays in
+    let stable : IsMember (length c.args.stables.now.items) c.args.by =
+    record { at_least = member.at_least; at_most = omega (arith, member.at_most, c.requires.stables) } in
+    let writes = subst (λ (events : List Event). WritesAt g.K.Keep g.D.Disk c.args.by
+    (whole_of c.self.inside.members.items events c.self.inside.post.now) new c.make_ready.new.disks.items
+    c.keep.new.disks.items) c.in_ok-make_ready.ensures.events
+    (c.keep.ensures.writes c.self.inside.post.now c.send.new.self.now) in
+    let members = ap (λ (list : List Member). length list) (c.in_ok-keep.ensures.held c.requires.asking.0 is)
+    ∙ length-set c.self.inside.members.items (c.args.by - 1) _ in
+    let grown = ap (λ (list : List Event). length list) (rw c.in_ok-make_ready.ensures.events at c.in_ok-keep.ensures.stored)
+    ∙ length_push c.self.inside.history.events (Ask c.args.by c.args.to) in
+    rw (← c.self.view_is)
+    (saved_acts old new (omega (arith, grown)) members (c.keep.ensures.count ∙ stays.count) (refused_not c.send.result c.send.ensures.refused (λ e. cc))
+    (rests_then_writes g.K.Keep g.D.Disk c.args.by g.met.D.Disk.only_now g.met.D.Disk.seen_may_be_left
+    g.met.D.Disk.left_now g.met.D.Disk.left_earlier backed.disks stable stays.rests writes) c.keep.ensures.disks backed)
+
+pub keep-requires-clause-disks : goal.keep-requires-clause-disks
+keep-requires-clause-disks g c =
+    let backed = rw (← c.self.view_is) at c.requires.backed in
+    c.make_ready.ensures.stays.disks c.self.inside.members.items backed.disks
+
+pub keep-requires-clause-stable : goal.keep-requires-clause-stable
+keep-requires-clause-stable g c =
+    let member = c.requires.asking.1.is.member in
+    record {
+      at_least = member.at_least;
+      at_most = omega (arith, member.at_most, c.requires.stables, c.make_ready.ensures.stays.count);
+    }

@@ -5,7 +5,7 @@ use Rattle.ficus_runs.specs.Sequence.{unchanged}
 use Rattle.ficus_world.specs.Moves.{KeepsAsk}
 use Rattle.ficus_world.specs.World.{Whole}
 use Rattle.ficus_world.proofs.Carrying.{carried_none, or_refused, whole_is}
-use Rattle.ficus_world.specs.Kills.Touches.{TouchesNone}
+use Rattle.ficus_world.proofs.Acting.{acts_none}
 use Rattle.ficus_world.proofs.world.World.ask.Goals as goal
 
 pub returns-in_err-asking-clause-asks : goal.returns-in_err-asking-clause-asks
@@ -19,5 +19,11 @@ returns-in_err-asking-clause-asks g c =
     (carried_none (KeepsAsk g.L.Link.tells c.args.by c.args.to) (Err r) old c.args.disks.now.items
     (or_refused (λ given. KeepsAsk g.L.Link.tells c.args.by c.args.to old given (unchanged old)) r refused))
 
-pub returns-in_err-asking-clause-touches : goal.returns-in_err-asking-clause-touches
-returns-in_err-asking-clause-touches g c = TouchesNone
+pub returns-in_err-asking-clause-acts : goal.returns-in_err-asking-clause-acts
+returns-in_err-asking-clause-acts g c = acts_none c.requires.backed
+
+pub send_asking-requires-clause-backed : goal.send_asking-requires-clause-backed
+send_asking-requires-clause-backed g c = rw (← c.self.view_is) at c.requires.backed
+
+pub returns-clause-acts : goal.returns-clause-acts
+returns-clause-acts g c = rw (← c.self.view_is) c.send_asking.ensures.acts

@@ -1,14 +1,12 @@
-use Rattle.std.proofs.Common.{Err, length, ap, refl}
+use Rattle.std.proofs.Common.{Err, ap, refl}
 use Rattle.std.proofs.lemmas.Result.{err_from_is_err_and}
 use Rattle.ficus_ids.specs.declared.refusal.Refusal.TheVariants.{Memory}
 use Rattle.ficus_script.specs.declared.command.Command.TheVariants as command
 use Rattle.ficus_world.proofs.Carrying.{comes_to}
 use Rattle.ficus_world.proofs.Moved.{comes_to_none, same_refusal}
 use Rattle.ficus_world.proofs.Pulling.{ask_carried, ask_uncarried, cut_none, stays}
-use Rattle.ficus_world.specs.Kills.Passes.{Idles}
-use Rattle.ficus_world.specs.Kills.Touches.{TouchesNone}
 use Rattle.ficus_world.proofs.Passing.{asked, comes, given, unasked}
-use Rattle.ficus_world.proofs.Others.{others_none, touches_others}
+use Rattle.ficus_world.proofs.Acting.{acts_idle, acts_once}
 use Rattle.ficus_world.proofs.world.World.carry_out.Goals as goal
 
 pub returns-in-Change-clause-moves : goal.returns-in-Change-clause-moves
@@ -69,7 +67,7 @@ pub returns-in-Change-clause-memory : goal.returns-in-Change-clause-memory
 returns-in-Change-clause-memory g c = λ is.
     rw c.in-Change.is
     (cut_none g.L.Link.tells g.K.Keep g.D.Disk (command.Change c.in-Change.by c.in-Change.change) _ _ (λ left done. done)
-    (c.change.ensures.memory is))
+    (c.change.ensures.acts.memory is))
 
 pub returns-in-Look-clause-memory : goal.returns-in-Look-clause-memory
 returns-in-Look-clause-memory g c = λ is.
@@ -87,7 +85,7 @@ pub returns-in-Collect-clause-memory : goal.returns-in-Collect-clause-memory
 returns-in-Collect-clause-memory g c = λ is.
     rw c.in-Collect.is
     (cut_none g.L.Link.tells g.K.Keep g.D.Disk (command.Collect c.in-Collect.by) _ _ (λ left done. done)
-    (c.collect.ensures.memory is))
+    (c.collect.ensures.acts.memory is))
 
 pub returns-in_err-ask-in-Ask-clause-memory : goal.returns-in_err-ask-in-Ask-clause-memory
 returns-in_err-ask-in-Ask-clause-memory g c =
@@ -95,13 +93,13 @@ returns-in_err-ask-in-Ask-clause-memory g c =
     let r = c.in_err-ask-in-Ask.field-0.0 in
     rw (c.in-Ask.is, refused.1, refused.2)
     (λ is. cut_none g.L.Link.tells g.K.Keep g.D.Disk (command.Ask c.in-Ask.by c.in-Ask.to) _ _ (λ left done. done)
-    (c.in_err-ask-in-Ask.ensures.memory (same_refusal r Memory is)))
+    (c.in_err-ask-in-Ask.ensures.acts.memory (same_refusal r Memory is)))
 
 pub returns-in-Give-clause-memory : goal.returns-in-Give-clause-memory
 returns-in-Give-clause-memory g c = λ is.
     rw c.in-Give.is
     (cut_none g.L.Link.tells g.K.Keep g.D.Disk (command.Give c.in-Give.mail) _ _ (λ left done. done)
-    (c.give.ensures.memory is))
+    (c.give.ensures.acts.memory is))
 
 pub returns-in-Pull-clause-memory : goal.returns-in-Pull-clause-memory
 returns-in-Pull-clause-memory g c = rw c.in-Pull.is c.pull.ensures.memory
@@ -110,81 +108,64 @@ pub returns-in-Restart-clause-memory : goal.returns-in-Restart-clause-memory
 returns-in-Restart-clause-memory g c = λ is.
     rw c.in-Restart.is
     (cut_none g.L.Link.tells g.K.Keep g.D.Disk (command.Restart c.in-Restart.by) _ _ (λ left done. done)
-    (c.restart.ensures.memory is))
+    (c.restart.ensures.acts.memory is))
 
 pub returns-in-Stop-clause-memory : goal.returns-in-Stop-clause-memory
-returns-in-Stop-clause-memory g c = λ is. absurd (c.stop.ensures.never is)
-
-pub returns-in-Change-clause-passes : goal.returns-in-Change-clause-passes
-returns-in-Change-clause-passes g c = λ before after.
-    comes before after c.change.ensures.touches (command.Change c.in-Change.by c.in-Change.change) c.change.result c.change.ensures.moves
-    c.change.ensures.memory
-
-pub returns-in-Collect-clause-passes : goal.returns-in-Collect-clause-passes
-returns-in-Collect-clause-passes g c = λ before after.
-    comes before after c.collect.ensures.touches (command.Collect c.in-Collect.by) c.collect.result c.collect.ensures.moves c.collect.ensures.memory
-
-pub returns-in-Restart-clause-passes : goal.returns-in-Restart-clause-passes
-returns-in-Restart-clause-passes g c = λ before after.
-    comes before after c.restart.ensures.touches (command.Restart c.in-Restart.by) c.restart.result c.restart.ensures.moves c.restart.ensures.memory
-
-pub returns-in-Stop-clause-passes : goal.returns-in-Stop-clause-passes
-returns-in-Stop-clause-passes g c = λ before after.
-    comes before after c.stop.ensures.touches (command.Stop c.in-Stop.by c.in-Stop.calls c.in-Stop.pick) c.stop.result
-    c.stop.ensures.moves (λ is. absurd (c.stop.ensures.never is))
-
-pub returns-in-Look-clause-passes : goal.returns-in-Look-clause-passes
-returns-in-Look-clause-passes g c = λ before after. Idles before TouchesNone
-
-pub returns-in-Alike-clause-passes : goal.returns-in-Alike-clause-passes
-returns-in-Alike-clause-passes g c = λ before after. Idles before TouchesNone
-
-pub returns-in_err-ask-in-Ask-clause-passes : goal.returns-in_err-ask-in-Ask-clause-passes
-returns-in_err-ask-in-Ask-clause-passes g c = λ before after.
-    unasked before after c.ask.ensures.touches c.in-Ask.by c.in-Ask.to c.in_err-ask-in-Ask.field-0.0
-    c.in_err-ask-in-Ask.ensures.asks (λ e. c.in_err-ask-in-Ask.ensures.memory (ap Err e))
-
-pub returns-in_ok-ask-in-Ask-clause-passes : goal.returns-in_ok-ask-in-Ask-clause-passes
-returns-in_ok-ask-in-Ask-clause-passes g c = λ before after.
-    asked before after c.ask.ensures.touches c.in-Ask.by c.in-Ask.to c.in_ok-ask-in-Ask.field-0
-    c.in_ok-ask-in-Ask.ensures.asks
-
-pub returns-in-Give-clause-passes : goal.returns-in-Give-clause-passes
-returns-in-Give-clause-passes g c = λ before after.
-    given before after c.give.ensures.touches c.in-Give.mail c.give.result c.give.ensures.gives c.give.ensures.memory
-
-pub returns-in-Pull-clause-passes : goal.returns-in-Pull-clause-passes
-returns-in-Pull-clause-passes g c = c.pull.ensures.passes
-
-pub returns-in-Change-clause-others : goal.returns-in-Change-clause-others
-returns-in-Change-clause-others g c = touches_others c.change.ensures.touches
-
-pub returns-in-Collect-clause-others : goal.returns-in-Collect-clause-others
-returns-in-Collect-clause-others g c = touches_others c.collect.ensures.touches
-
-pub returns-in-Restart-clause-others : goal.returns-in-Restart-clause-others
-returns-in-Restart-clause-others g c = touches_others c.restart.ensures.touches
-
-pub returns-in-Stop-clause-others : goal.returns-in-Stop-clause-others
-returns-in-Stop-clause-others g c = touches_others c.stop.ensures.touches
-
-pub returns-in_err-ask-in-Ask-clause-others : goal.returns-in_err-ask-in-Ask-clause-others
-returns-in_err-ask-in-Ask-clause-others g c = touches_others c.ask.ensures.touches
-
-pub returns-in_ok-ask-in-Ask-clause-others : goal.returns-in_ok-ask-in-Ask-clause-others
-returns-in_ok-ask-in-Ask-clause-others g c = touches_others c.ask.ensures.touches
-
-pub returns-in-Give-clause-others : goal.returns-in-Give-clause-others
-returns-in-Give-clause-others g c = touches_others c.give.ensures.touches
-
-pub returns-in-Look-clause-others : goal.returns-in-Look-clause-others
-returns-in-Look-clause-others g c = others_none (length c.args.self.now.whole.members) c.args.disks.now.items
-
-pub returns-in-Alike-clause-others : goal.returns-in-Alike-clause-others
-returns-in-Alike-clause-others g c = others_none (length c.args.self.now.whole.members) c.args.disks.now.items
-
-pub returns-in-Pull-clause-others : goal.returns-in-Pull-clause-others
-returns-in-Pull-clause-others g c = c.pull.ensures.others
+returns-in-Stop-clause-memory g c = λ is.
+    rw c.in-Stop.is
+    (cut_none g.L.Link.tells g.K.Keep g.D.Disk (command.Stop c.in-Stop.by c.in-Stop.calls c.in-Stop.pick) _ _
+    (λ left done. done) (c.stop.ensures.acts.memory is))
 
 pub returns-in-Restart-clause-left : goal.returns-in-Restart-clause-left
 returns-in-Restart-clause-left g c = λ told by is. c.restart.ensures.left told
+
+pub returns-in-Change-clause-acts : goal.returns-in-Change-clause-acts
+returns-in-Change-clause-acts g c =
+    acts_once c.change.ensures.acts (λ before after.
+    comes before after c.change.ensures.acts.touches (command.Change c.in-Change.by c.in-Change.change) c.change.result
+    c.change.ensures.moves c.change.ensures.acts.memory)
+
+pub returns-in-Collect-clause-acts : goal.returns-in-Collect-clause-acts
+returns-in-Collect-clause-acts g c =
+    acts_once c.collect.ensures.acts (λ before after.
+    comes before after c.collect.ensures.acts.touches (command.Collect c.in-Collect.by) c.collect.result
+    c.collect.ensures.moves c.collect.ensures.acts.memory)
+
+pub returns-in-Restart-clause-acts : goal.returns-in-Restart-clause-acts
+returns-in-Restart-clause-acts g c =
+    acts_once c.restart.ensures.acts (λ before after.
+    comes before after c.restart.ensures.acts.touches (command.Restart c.in-Restart.by) c.restart.result
+    c.restart.ensures.moves c.restart.ensures.acts.memory)
+
+pub returns-in-Stop-clause-acts : goal.returns-in-Stop-clause-acts
+returns-in-Stop-clause-acts g c =
+    acts_once c.stop.ensures.acts (λ before after.
+    comes before after c.stop.ensures.acts.touches (command.Stop c.in-Stop.by c.in-Stop.calls c.in-Stop.pick) c.stop.result
+    c.stop.ensures.moves c.stop.ensures.acts.memory)
+
+pub returns-in-Look-clause-acts : goal.returns-in-Look-clause-acts
+returns-in-Look-clause-acts g c = acts_idle c.requires.backed
+
+pub returns-in-Alike-clause-acts : goal.returns-in-Alike-clause-acts
+returns-in-Alike-clause-acts g c = acts_idle c.requires.backed
+
+pub returns-in_err-ask-in-Ask-clause-acts : goal.returns-in_err-ask-in-Ask-clause-acts
+returns-in_err-ask-in-Ask-clause-acts g c =
+    acts_once c.ask.ensures.acts (λ before after.
+    unasked before after c.ask.ensures.acts.touches c.in-Ask.by c.in-Ask.to c.in_err-ask-in-Ask.field-0.0
+    c.in_err-ask-in-Ask.ensures.asks (λ e. c.in_err-ask-in-Ask.ensures.acts.memory (ap Err e)))
+
+pub returns-in_ok-ask-in-Ask-clause-acts : goal.returns-in_ok-ask-in-Ask-clause-acts
+returns-in_ok-ask-in-Ask-clause-acts g c =
+    acts_once c.ask.ensures.acts (λ before after.
+    asked before after c.ask.ensures.acts.touches c.in-Ask.by c.in-Ask.to c.in_ok-ask-in-Ask.field-0
+    c.in_ok-ask-in-Ask.ensures.asks)
+
+pub returns-in-Give-clause-acts : goal.returns-in-Give-clause-acts
+returns-in-Give-clause-acts g c =
+    acts_once c.give.ensures.acts (λ before after.
+    given before after c.give.ensures.acts.touches c.in-Give.mail c.give.result c.give.ensures.gives
+    c.give.ensures.acts.memory)
+
+pub returns-in-Pull-clause-acts : goal.returns-in-Pull-clause-acts
+returns-in-Pull-clause-acts g c = c.pull.ensures.acts

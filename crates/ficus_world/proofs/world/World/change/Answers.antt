@@ -11,9 +11,9 @@ use Rattle.ficus_world.specs.World.{IsSoundMember, IsSoundNext, Whole}
 use Rattle.ficus_world.specs.declared.member.Member.{Member}
 use Rattle.ficus_run_laws.proofs.Numbers.{number_once}
 use Rattle.ficus_world.proofs.SoundWorlds.{noted_sound}
-use Rattle.ficus_world.proofs.Carrying.{advanced_events, advanced_members, comes_to, refused_events, refused_members, save_refused, saved_done, whole_is}
+use Rattle.ficus_world.proofs.Carrying.{comes_to, save_refused, saved_done, whole_is}
 use Rattle.ficus_world.proofs.Moved.{change_moves, change_pends, change_refused, comes_to_none, up_ends}
-use Rattle.ficus_world.specs.Kills.Touches.{TouchesNone}
+use Rattle.ficus_world.proofs.Acting.{acts_done, acts_none, acts_refused}
 use Rattle.ficus_world.proofs.world.World.change.Goals as goal
 
 pub returns-in_err-replica-clause-moves : goal.returns-in_err-replica-clause-moves
@@ -60,30 +60,10 @@ returns-in_err-save-clause-moves g c =
     rw (refused.1, refused.2)
     (comes_to old change _ new x z
     (save_refused (CarriesOut g.L.Link.tells g.D.Disk.tells change) old new c.args.by was
-    (pending_of next.replica (Update c.args.by next.op)) x z c.in_err-save.field-0.0 c.in_err-save.ensures.refused
-    (λ e. c.in_err-save.ensures.failed e was is) c.in_err-save.ensures.counted c.in_err-save.ensures.memory
+    (pending_of next.replica (Update c.args.by next.op)) x z c.in_err-save.field-0.0 is
+    c.in_err-save.ensures.saves c.in_err-save.ensures.acts.memory
     (change_pends g.L.Link.tells g.D.Disk.tells old c.args.by was is up c.args.change.now next
     c.in_ok-next.ensures.gives)) (λ e. may))
-
-pub returns-in_err-save-clause-grows : goal.returns-in_err-save-clause-grows
-returns-in_err-save-clause-grows g c =
-    let was = c.in_ok-replica.field-0.now in
-    let is = subst (λ (w : Whole). IsNumbered w.members c.args.by was) (whole_is c.self.view_is) c.in_ok-replica.ensures.is in
-    let next = c.in_ok-next.next in
-    refused_events c.args.self.now.whole c.save.new.self.whole c.args.by was
-    (pending_of next.replica (Update c.args.by next.op)) c.args.disks.now.items c.save.new.disks.items
-    c.in_err-save.field-0.0 c.in_err-save.ensures.refused
-    (λ e. c.in_err-save.ensures.failed e was is) c.in_err-save.ensures.memory
-
-pub returns-in_err-save-clause-members : goal.returns-in_err-save-clause-members
-returns-in_err-save-clause-members g c =
-    let was = c.in_ok-replica.field-0.now in
-    let is = subst (λ (w : Whole). IsNumbered w.members c.args.by was) (whole_is c.self.view_is) c.in_ok-replica.ensures.is in
-    let next = c.in_ok-next.next in
-    refused_members c.args.self.now.whole c.save.new.self.whole c.args.by was
-    (pending_of next.replica (Update c.args.by next.op)) c.args.disks.now.items c.save.new.disks.items
-    c.in_err-save.field-0.0 c.in_err-save.ensures.refused
-    (λ e. c.in_err-save.ensures.failed e was is) c.in_err-save.ensures.memory
 
 pub returns-clause-moves : goal.returns-clause-moves
 returns-clause-moves g c =
@@ -94,35 +74,9 @@ returns-clause-moves g c =
     let next = c.in_ok-next.next in
     rw (c.answer-answer.ensures, c.next_id-number.ensures)
     (saved_done old c.save.new.self.whole change c.args.by was next.replica (Update c.args.by next.op) _
-    c.args.disks.now.items c.save.new.disks.items (c.in_ok-save.ensures.saved was is) c.in_ok-save.ensures.followed
+    c.args.disks.now.items c.save.new.disks.items (c.in_ok-save.ensures.saves.0 was is) c.in_ok-save.ensures.saves.1
     (change_moves g.L.Link.tells g.D.Disk.tells old c.args.by was is c.in_ok-replica.ensures.up c.args.change.now next
     c.in_ok-next.ensures.gives))
-
-pub returns-clause-grows : goal.returns-clause-grows
-returns-clause-grows g c =
-    let was = c.in_ok-replica.field-0.now in
-    let is = subst (λ (w : Whole). IsNumbered w.members c.args.by was) (whole_is c.self.view_is) c.in_ok-replica.ensures.is in
-    advanced_events c.args.self.now.whole c.save.new.self.whole c.args.by was c.in_ok-next.next.replica
-    (Update c.args.by c.in_ok-next.next.op) (c.in_ok-save.ensures.saved was is)
-
-pub returns-clause-members : goal.returns-clause-members
-returns-clause-members g c =
-    let was = c.in_ok-replica.field-0.now in
-    let is = subst (λ (w : Whole). IsNumbered w.members c.args.by was) (whole_is c.self.view_is) c.in_ok-replica.ensures.is in
-    advanced_members c.args.self.now.whole c.save.new.self.whole c.args.by was c.in_ok-next.next.replica
-    (Update c.args.by c.in_ok-next.next.op) (c.in_ok-save.ensures.saved was is)
-
-pub returns-in_err-replica-clause-touches : goal.returns-in_err-replica-clause-touches
-returns-in_err-replica-clause-touches g c = TouchesNone
-
-pub returns-in_err-next-clause-touches : goal.returns-in_err-next-clause-touches
-returns-in_err-next-clause-touches g c = TouchesNone
-
-pub returns-in_err-save-clause-touches : goal.returns-in_err-save-clause-touches
-returns-in_err-save-clause-touches g c = c.save.ensures.touches
-
-pub returns-clause-touches : goal.returns-clause-touches
-returns-clause-touches g c = c.save.ensures.touches
 
 pub returns-in_err-noted-clause-moves : goal.returns-in_err-noted-clause-moves
 returns-in_err-noted-clause-moves g c =
@@ -142,9 +96,6 @@ returns-in_err-noted-clause-moves g c =
     (comes_to_none g.L.Link.tells g.K.Keep g.D.Disk old (Changes c.args.by c.args.change.now) _ c.args.disks.now.items
     may)
 
-pub returns-in_err-noted-clause-touches : goal.returns-in_err-noted-clause-touches
-returns-in_err-noted-clause-touches g c = TouchesNone
-
 pub save-requires-clause-next : goal.save-requires-clause-next
 save-requires-clause-next g c = λ was is.
     let old = c.args.self.now.whole in
@@ -161,3 +112,20 @@ save-requires-clause-next g c = λ was is.
       is = c.deref.ensures.value ∙ c.in_ok-noted.ensures found.replica.saved.members;
       step = c.in_ok-next.ensures.noted;
     }))
+
+pub returns-in_err-replica-clause-acts : goal.returns-in_err-replica-clause-acts
+returns-in_err-replica-clause-acts g c = acts_none c.requires.backed
+
+pub returns-in_err-next-clause-acts : goal.returns-in_err-next-clause-acts
+returns-in_err-next-clause-acts g c = acts_none c.requires.backed
+
+pub returns-in_err-noted-clause-acts : goal.returns-in_err-noted-clause-acts
+returns-in_err-noted-clause-acts g c = acts_none c.requires.backed
+
+pub returns-in_err-save-clause-acts : goal.returns-in_err-save-clause-acts
+returns-in_err-save-clause-acts g c =
+    let refused = err_from_is_err_and c.from_residual-in_err-save.result c.from_residual-in_err-save.ensures.1 in
+    rw (refused.1, refused.2) (acts_refused c.in_err-save.field-0.0 c.in_err-save.ensures.acts)
+
+pub returns-clause-acts : goal.returns-clause-acts
+returns-clause-acts g c = acts_done c.in_ok-save.ensures.acts

@@ -10,9 +10,9 @@ use Rattle.ficus_world.specs.World.{IsSoundMember, IsSoundNext, Whole}
 use Rattle.ficus_world.specs.declared.member.Member.{Member}
 use Rattle.ficus_run_laws.proofs.Numbers.{number_once}
 use Rattle.ficus_world.proofs.SoundWorlds.{noted_sound}
-use Rattle.ficus_world.proofs.Carrying.{advanced_events, advanced_members, comes_to, refused_events, refused_members, save_refused, saved_done, whole_is}
+use Rattle.ficus_world.proofs.Carrying.{comes_to, save_refused, saved_done, whole_is}
 use Rattle.ficus_world.proofs.Moved.{collect_moves, collect_pends, comes_to_none, up_ends}
-use Rattle.ficus_world.specs.Kills.Touches.{TouchesNone}
+use Rattle.ficus_world.proofs.Acting.{acts_done, acts_none, acts_refused}
 use Rattle.ficus_world.proofs.world.World.collect.Goals as goal
 
 pub returns-in_err-up-clause-moves : goal.returns-in_err-up-clause-moves
@@ -51,30 +51,10 @@ returns-in_err-save-clause-moves g c =
     rw (refused.1, refused.2)
     (comes_to old change _ new x z
     (save_refused (CarriesOut g.L.Link.tells g.D.Disk.tells change) old new c.args.by was
-    (pending_of next.replica (Gathers c.args.by)) x z c.in_err-save.field-0.0 c.in_err-save.ensures.refused
-    (λ e. c.in_err-save.ensures.failed e was is) c.in_err-save.ensures.counted c.in_err-save.ensures.memory
+    (pending_of next.replica (Gathers c.args.by)) x z c.in_err-save.field-0.0 is
+    c.in_err-save.ensures.saves c.in_err-save.ensures.acts.memory
     (collect_pends g.L.Link.tells g.D.Disk.tells old c.args.by was is up next
     c.in_ok-collected.ensures.gives)) (λ e. may))
-
-pub returns-in_err-save-clause-grows : goal.returns-in_err-save-clause-grows
-returns-in_err-save-clause-grows g c =
-    let was = c.in_ok-up.field-0.now in
-    let is = subst (λ (w : Whole). IsNumbered w.members c.args.by was) (whole_is c.self.view_is) c.in_ok-up.ensures.is in
-    let next = c.in_ok-collected.collected in
-    refused_events c.args.self.now.whole c.save.new.self.whole c.args.by was
-    (pending_of next.replica (Gathers c.args.by)) c.args.disks.now.items c.save.new.disks.items
-    c.in_err-save.field-0.0 c.in_err-save.ensures.refused
-    (λ e. c.in_err-save.ensures.failed e was is) c.in_err-save.ensures.memory
-
-pub returns-in_err-save-clause-members : goal.returns-in_err-save-clause-members
-returns-in_err-save-clause-members g c =
-    let was = c.in_ok-up.field-0.now in
-    let is = subst (λ (w : Whole). IsNumbered w.members c.args.by was) (whole_is c.self.view_is) c.in_ok-up.ensures.is in
-    let next = c.in_ok-collected.collected in
-    refused_members c.args.self.now.whole c.save.new.self.whole c.args.by was
-    (pending_of next.replica (Gathers c.args.by)) c.args.disks.now.items c.save.new.disks.items
-    c.in_err-save.field-0.0 c.in_err-save.ensures.refused
-    (λ e. c.in_err-save.ensures.failed e was is) c.in_err-save.ensures.memory
 
 pub returns-clause-moves : goal.returns-clause-moves
 returns-clause-moves g c =
@@ -84,35 +64,9 @@ returns-clause-moves g c =
     let is = subst (λ (w : Whole). IsNumbered w.members c.args.by was) (whole_is c.self.view_is) c.in_ok-up.ensures.is in
     let next = c.in_ok-collected.collected in
     saved_done old c.save.new.self.whole change c.args.by was next.replica (Gathers c.args.by) _
-    c.args.disks.now.items c.save.new.disks.items (c.in_ok-save.ensures.saved was is) c.in_ok-save.ensures.followed
+    c.args.disks.now.items c.save.new.disks.items (c.in_ok-save.ensures.saves.0 was is) c.in_ok-save.ensures.saves.1
     (collect_moves g.L.Link.tells g.D.Disk.tells old c.args.by was is c.in_ok-up.ensures.up next
     c.in_ok-collected.ensures.gives)
-
-pub returns-clause-grows : goal.returns-clause-grows
-returns-clause-grows g c =
-    let was = c.in_ok-up.field-0.now in
-    let is = subst (λ (w : Whole). IsNumbered w.members c.args.by was) (whole_is c.self.view_is) c.in_ok-up.ensures.is in
-    advanced_events c.args.self.now.whole c.save.new.self.whole c.args.by was c.in_ok-collected.collected.replica
-    (Gathers c.args.by) (c.in_ok-save.ensures.saved was is)
-
-pub returns-clause-members : goal.returns-clause-members
-returns-clause-members g c =
-    let was = c.in_ok-up.field-0.now in
-    let is = subst (λ (w : Whole). IsNumbered w.members c.args.by was) (whole_is c.self.view_is) c.in_ok-up.ensures.is in
-    advanced_members c.args.self.now.whole c.save.new.self.whole c.args.by was c.in_ok-collected.collected.replica
-    (Gathers c.args.by) (c.in_ok-save.ensures.saved was is)
-
-pub returns-in_err-up-clause-touches : goal.returns-in_err-up-clause-touches
-returns-in_err-up-clause-touches g c = TouchesNone
-
-pub returns-in_err-collected-clause-touches : goal.returns-in_err-collected-clause-touches
-returns-in_err-collected-clause-touches g c = TouchesNone
-
-pub returns-in_err-save-clause-touches : goal.returns-in_err-save-clause-touches
-returns-in_err-save-clause-touches g c = c.save.ensures.touches
-
-pub returns-clause-touches : goal.returns-clause-touches
-returns-clause-touches g c = c.save.ensures.touches
 
 pub returns-in_err-noted-clause-moves : goal.returns-in_err-noted-clause-moves
 returns-in_err-noted-clause-moves g c =
@@ -123,9 +77,6 @@ returns-in_err-noted-clause-moves g c =
     let may : TablesMayWantMemory old (Collects c.args.by) = record { member = was; is = is; up = c.in_ok-up.ensures.up } in
     rw (wanted.1, wanted.2)
     (comes_to_none g.L.Link.tells g.K.Keep g.D.Disk old (Collects c.args.by) _ c.args.disks.now.items may)
-
-pub returns-in_err-noted-clause-touches : goal.returns-in_err-noted-clause-touches
-returns-in_err-noted-clause-touches g c = TouchesNone
 
 pub save-requires-clause-next : goal.save-requires-clause-next
 save-requires-clause-next g c = λ was is.
@@ -143,3 +94,20 @@ save-requires-clause-next g c = λ was is.
       is = c.deref.ensures.value ∙ c.in_ok-noted.ensures;
       step = c.in_ok-collected.ensures.noted;
     }))
+
+pub returns-in_err-up-clause-acts : goal.returns-in_err-up-clause-acts
+returns-in_err-up-clause-acts g c = acts_none c.requires.backed
+
+pub returns-in_err-collected-clause-acts : goal.returns-in_err-collected-clause-acts
+returns-in_err-collected-clause-acts g c = acts_none c.requires.backed
+
+pub returns-in_err-noted-clause-acts : goal.returns-in_err-noted-clause-acts
+returns-in_err-noted-clause-acts g c = acts_none c.requires.backed
+
+pub returns-in_err-save-clause-acts : goal.returns-in_err-save-clause-acts
+returns-in_err-save-clause-acts g c =
+    let refused = err_from_is_err_and c.from_residual-in_err-save.result c.from_residual-in_err-save.ensures.1 in
+    rw (refused.1, refused.2) (acts_refused c.in_err-save.field-0.0 c.in_err-save.ensures.acts)
+
+pub returns-clause-acts : goal.returns-clause-acts
+returns-clause-acts g c = acts_done c.in_ok-save.ensures.acts

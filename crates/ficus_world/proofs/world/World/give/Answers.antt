@@ -1,18 +1,19 @@
-use Rattle.std.proofs.Common.{◌≡◌, Err, List, Ok, ℕ, length, subst}
+use Rattle.std.proofs.Common.{◌≡◌, Err, List, Ok, ℕ, length, ap, subst, ◌∙◌, arith}
 use Rattle.std.proofs.lemmas.Result.{err_from_is_err_and}
 use Rattle.ficus_ids.specs.Members.{IsMember}
 use Rattle.ficus_ids.specs.declared.refusal.Refusal.TheVariants.{Memory}
+use Rattle.ficus_model.specs.declared.event.Event.{Event}
 use Rattle.ficus_runs.specs.Message.{Reads}
 use Rattle.ficus_wire.specs.Message.{message_of}
 use Rattle.ficus_wire.specs.declared.message.Letter.{Letter}
 use Rattle.ficus_world.specs.Disks.{Carried}
 use Rattle.ficus_world.specs.Moves.{FetchesBytes}
-use Rattle.ficus_world.specs.World.{Whole}
+use Rattle.ficus_world.specs.World.{Backed, Whole, backed_by}
 use Rattle.ficus_world.proofs.Carrying.{whole_is}
 use Rattle.ficus_world.proofs.Moved.{same_refusal}
 use Rattle.ficus_world.proofs.Sending.{fetched_some, give_handled, give_unfetched, give_unread, serves_carried, taken_tells_none}
-use Rattle.ficus_world.specs.Kills.Touches.{TouchesNone}
-use Rattle.ficus_world.specs.Kills.{Touches}
+use Rattle.ficus_world.proofs.Acting.{acts_none, quiet_acts}
+use Rattle.ficus_world.specs.Acts.{Acts}
 use Rattle.ficus_world.proofs.world.World.give.Goals as goal
 
 pub returns-in_err-bytes-clause-gives : goal.returns-in_err-bytes-clause-gives
@@ -91,21 +92,37 @@ returns-clause-wants g c = λ is.
     subst (λ (w : Whole). IsMember (length w.post.posts) c.args.mail) (whole_is c.self.view_is)
     (fetched_some c.in_ok-bytes.ensures.fetches)
 
-pub returns-in_err-bytes-clause-touches : goal.returns-in_err-bytes-clause-touches
-returns-in_err-bytes-clause-touches g c = TouchesNone
-
-pub returns-in_err-from-clause-touches : goal.returns-in_err-from-clause-touches
-returns-in_err-from-clause-touches g c = TouchesNone
-
-pub returns-in-Ask-clause-touches : goal.returns-in-Ask-clause-touches
-returns-in-Ask-clause-touches g c = TouchesNone
-
-pub returns-clause-touches : goal.returns-clause-touches
-returns-clause-touches g c =
-    let same : c.fetch.new.self ≡ c.args.self.now.whole =
-    subst (λ (w : Whole). c.fetch.new.self ≡ w) (whole_is c.self.view_is) c.in_ok-bytes.ensures.same in
-    subst (λ (w : Whole). Touches g.K.Keep g.D.Disk w c.take_piece.new.self.whole c.args.disks.now.items
-    c.take_piece.new.disks.items) same c.take_piece.ensures.touches
-
 pub returns-clause-few : goal.returns-clause-few
 returns-clause-few g c = taken_tells_none c.take_piece.result c.take_piece.ensures.takes
+
+pub returns-in_err-bytes-clause-acts : goal.returns-in_err-bytes-clause-acts
+returns-in_err-bytes-clause-acts g c =
+    let refused = err_from_is_err_and c.from_residual.result c.from_residual.ensures.1 in
+    let stored = ap (λ (list : List Event). length list) c.fetch.ensures.stored in
+    rw (refused.1, refused.2, ← c.self.view_is)
+    (quiet_acts (omega (arith, stored)) c.fetch.ensures.members
+    (λ is. c.in_err-bytes.ensures.memory (same_refusal c.in_err-bytes.field-0.0 Memory is))
+    (rw (← c.self.view_is) at c.requires.backed))
+
+pub returns-in_err-from-clause-acts : goal.returns-in_err-from-clause-acts
+returns-in_err-from-clause-acts g c =
+    let refused = err_from_is_err_and c.from_residual-in_err-from.result c.from_residual-in_err-from.ensures.1 in
+    rw (refused.1, refused.2, c.in_ok-bytes.ensures.same, c.self.view_is) (acts_none c.requires.backed)
+
+pub returns-in-Ask-clause-acts : goal.returns-in-Ask-clause-acts
+returns-in-Ask-clause-acts g c =
+    let grows = rw c.in_ok-bytes.ensures.same at c.serve.ensures.grows in
+    let members = rw c.in_ok-bytes.ensures.same at c.serve.ensures.members in
+    rw (← c.self.view_is)
+    (quiet_acts grows members (λ is. c.serve.ensures.memory is ∙ c.in_ok-bytes.ensures.same)
+    (rw (← c.self.view_is) at c.requires.backed))
+
+pub returns-clause-acts : goal.returns-clause-acts
+returns-clause-acts g c =
+    let same : backed_by c.fetch.new.self c.self.inside.stables.items ≡ c.args.self.now =
+    ap (λ (w : Whole). backed_by w c.self.inside.stables.items) c.in_ok-bytes.ensures.same ∙ c.self.view_is in
+    subst (λ (b : Backed _). Acts g.K.Keep g.D.Disk 1 c.take_piece.result b c.take_piece.new.self c.args.disks.now.items
+    c.take_piece.new.disks.items) same c.take_piece.ensures.acts
+
+pub take_piece-requires-clause-backed : goal.take_piece-requires-clause-backed
+take_piece-requires-clause-backed g c = rw (c.in_ok-bytes.ensures.same, c.self.view_is) c.requires.backed

@@ -1,6 +1,6 @@
-use Rattle.std.proofs.Common.{◌≡◌, ◌+◌, ◌≤◌, length}
-use Rattle.ficus_world.specs.Disks.{AreDisksOf}
-use Rattle.ficus_world.specs.Kills.{IsSettled, OthersStay, Passes}
+use Rattle.std.proofs.Common.{◌+◌, ◌≤◌, length}
+use Rattle.ficus_world.specs.Acts.{ActsOn}
+use Rattle.ficus_world.specs.Kills.{IsSettled}
 use Rattle.ficus_world.proofs.Pulling.{HasGiven}
 use Rattle.ficus_world.proofs.world.World.give_each.Given as goal
 
@@ -10,10 +10,6 @@ invariant-loop-index g l = record {
   given : HasGiven g.L.Link.tells g.K.Keep g.D.Disk l.first l.count l.index l.fn.self.whole l.self.whole
       l.fn.disks.items l.disks.items;
   settled : IsSettled g.K.Keep g.D.Disk l.self.whole l.disks.items;
-  passes : Passes g.L.Link.tells g.K.Keep g.D.Disk l.fn.self.whole l.self.whole l.fn.disks.items l.disks.items;
-  disks : AreDisksOf g.D.Disk.tells g.K.Keep.kept g.K.Keep.fits g.D.Disk.seen g.D.Disk.may_leave g.D.Disk.armings
-      l.self.whole.members l.self.stables l.disks.items;
-  members : length l.self.whole.members ≡ length l.fn.self.whole.members;
-  others : OthersStay (length l.fn.self.whole.members) l.fn.disks.items l.disks.items;
+  acts : ActsOn g.L.Link.tells g.K.Keep g.D.Disk l.fn.self l.self l.fn.disks.items l.disks.items;
   grows : length l.self.whole.events ≤ length l.fn.self.whole.events + l.index;
 }

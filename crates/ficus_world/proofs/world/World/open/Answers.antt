@@ -1,12 +1,13 @@
-use Rattle.std.proofs.Common.{◌≡◌, ◌⊎◌, subst, sym, ap, ◌∙◌, arith}
+use Rattle.std.proofs.Common.{◌≡◌, ◌⊎◌, Err, subst, sym, ap, ◌∙◌, arith}
 use Rattle.std.specs.Prelude.{IsErrAnd}
 use Rattle.std.proofs.lemmas.Result.{err_from_is_err_and}
 use Rattle.ficus_ids.specs.Members.{IsMember}
 use Rattle.ficus_runs.specs.Start.{restarts}
 use Rattle.ficus_world.specs.World.{whole_of}
 use Rattle.ficus_world.specs.Post.{Outbox}
-use Rattle.ficus_world.specs.declared.opening.WorldFault.TheVariants.{Image, Store}
+use Rattle.ficus_world.specs.declared.opening.WorldFault.TheVariants.{Image, Memory, Store}
 use Rattle.ficus_world.specs.Opening.{IsStoreFault}
+use Rattle.ficus_world.specs.declared.opening.WorldFault.{WorldFault}
 use Rattle.ficus_world.proofs.Bad.{image_comes, none_bad_where_read}
 use Rattle.ficus_world.proofs.Faults.{handed_on}
 use Rattle.ficus_run_laws.proofs.Numbers.{number_exists}
@@ -15,6 +16,7 @@ use Rattle.ficus_saved.specs.declared.saved.Saved.{Saved}
 use Rattle.ficus_world.proofs.Openings.{first_is, held_of, opens_same}
 use Rattle.ficus_world.proofs.Steadies.{number_at}
 use Rattle.ficus_world.proofs.Unarmed.{fuses_at_rest, unfailing_behind, unfailing_none}
+use Rattle.ficus_world.proofs.Asking.{disks_err, never_store}
 use Rattle.ficus_world.proofs.world.World.open.Goals as goal
 
 pub returns-in_err-members-clause-never_image : goal.returns-in_err-members-clause-never_image
@@ -43,9 +45,9 @@ pub returns-clause-opened : goal.returns-clause-opened
 returns-clause-opened g c = λ tells.
     opened_read c.in_ok-members.field-0.members.items c.in_ok-members.ensures.opened c.in_ok-members.ensures.count
     c.in_ok-members.ensures.counted g.K.Keep.kept g.D.Disk.seen c.args.disks.now.items c.open_all.new.disks.items
-    (c.open_all.ensures.same tells)
-    (omega (arith, c.in_ok-members.ensures.count.at_most, c.in_ok-members.ensures.steady.count, c.requires.pairs))
-    (held_of g.D.Disk.tells g.K.Keep.kept g.K.Keep.fits g.D.Disk.seen g.D.Disk.may_leave g.D.Disk.armings
+    (c.open_all.ensures.looked.same tells)
+    (omega (arith, c.in_ok-members.ensures.count.at_most, c.in_ok-members.ensures.looked.asked.steady.count, c.requires.pairs))
+    (held_of g.K.Keep g.D.Disk
     c.in_ok-members.field-0.members.items c.in_ok-members.field-0.stables.items c.open_all.new.disks.items
     c.in_ok-members.ensures.stables c.in_ok-members.ensures.opened c.in_ok-members.ensures.disks tells)
 
@@ -54,9 +56,9 @@ returns-clause-stands g c = λ tells volume H on.
     opened_stands g.D.Disk.tells g.K.Keep.kept g.K.Keep.fits g.D.Disk.seen g.D.Disk.may_leave g.D.Disk.armings
     (whole_of c.in_ok-members.field-0.members.items c.in_ok-restart_all.field-0.events c.new.result.now)
     c.one_saved.ensures volume H c.args.disks.now.items c.open_all.new.disks.items (g.L.Link.total c.args.link) tells on c.requires.pairs
-    (c.open_all.ensures.same tells) c.open_all.ensures.armings c.in_ok-members.ensures.opened
+    (c.open_all.ensures.looked.same tells) c.open_all.ensures.looked.asked.armings c.in_ok-members.ensures.opened
     c.in_ok-members.ensures.count c.in_ok-members.ensures.counted
-    (held_of g.D.Disk.tells g.K.Keep.kept g.K.Keep.fits g.D.Disk.seen g.D.Disk.may_leave g.D.Disk.armings
+    (held_of g.K.Keep g.D.Disk
     c.in_ok-members.field-0.members.items c.in_ok-members.field-0.stables.items c.open_all.new.disks.items
     c.in_ok-members.ensures.stables c.in_ok-members.ensures.opened c.in_ok-members.ensures.disks tells)
     (λ r member pair at at_pair.
@@ -73,32 +75,32 @@ returns-clause-stands g c = λ tells volume H on.
     (ap (λ (p : Outbox). p.total) c.new.ensures)
 
 pub returns-in_err-members-clause-pairs : goal.returns-in_err-members-clause-pairs
-returns-in_err-members-clause-pairs g c = c.open_all.ensures.armings.count
+returns-in_err-members-clause-pairs g c = c.open_all.ensures.looked.asked.armings.count
 
 pub returns-in_err-restart_all-clause-pairs : goal.returns-in_err-restart_all-clause-pairs
-returns-in_err-restart_all-clause-pairs g c = c.open_all.ensures.armings.count
+returns-in_err-restart_all-clause-pairs g c = c.open_all.ensures.looked.asked.armings.count
 
 pub returns-clause-pairs : goal.returns-clause-pairs
-returns-clause-pairs g c = c.open_all.ensures.armings.count
+returns-clause-pairs g c = c.open_all.ensures.looked.asked.armings.count
 
 pub returns-in_err-members-clause-unfailing : goal.returns-in_err-members-clause-unfailing
 returns-in_err-members-clause-unfailing g c = λ fused.
     let given = err_from_is_err_and c.from_residual.result c.from_residual.ensures.1 in
     unfailing_behind g.D.Disk.fuse c.open_all.result c.from_residual.result c.args.disks.now.items
-    c.args.disks.now.items c.open_all.new.disks.items (λ none. none) (c.open_all.ensures.unfailing fused)
+    c.args.disks.now.items c.open_all.new.disks.items (λ none. none) (c.open_all.ensures.looked.asked.unfailing fused)
     (λ r is. handed_on c.open_all.result c.from_residual.result given.0 c.in_err-members.field-0.0 (Store r)
     c.in_err-members.was given.1 given.2 is)
 
 pub returns-clause-unfailing : goal.returns-clause-unfailing
 returns-clause-unfailing g c = λ fused.
     unfailing_none g.D.Disk.fuse _ c.args.disks.now.items c.open_all.new.disks.items
-    (c.open_all.ensures.unfailing fused).unarmed (λ r is. absurd (cc))
+    (c.open_all.ensures.looked.asked.unfailing fused).unarmed (λ r is. absurd (cc))
 
 pub returns-clause-fuses : goal.returns-clause-fuses
 returns-clause-fuses g c = λ fused told none regular F rest.
     fuses_at_rest g.K.Keep g.D.Disk told c.in_ok-members.field-0.members.items c.in_ok-members.field-0.stables.items
     c.args.disks.now.items c.open_all.new.disks.items c.in_ok-members.ensures.stables c.in_ok-members.ensures.opened
-    c.in_ok-members.ensures.disks (c.open_all.ensures.same told) ((c.open_all.ensures.unfailing fused).unarmed none)
+    c.in_ok-members.ensures.disks (c.open_all.ensures.looked.same told) ((c.open_all.ensures.looked.asked.unfailing fused).unarmed none)
     regular F rest
 
 pub returns-in_err-members-clause-image_comes : goal.returns-in_err-members-clause-image_comes
@@ -119,21 +121,21 @@ returns-clause-image_comes g c = λ tells r bad.
 pub returns-in_err-members-clause-spared : goal.returns-in_err-members-clause-spared
 returns-in_err-members-clause-spared g c = λ fault unfailed is.
     let given = err_from_is_err_and c.from_residual.result c.from_residual.ensures.1 in
-    c.open_all.ensures.spared fault unfailed
+    c.open_all.ensures.looked.asked.spared fault unfailed
     (handed_on c.open_all.result c.from_residual.result given.0 c.in_err-members.field-0.0 fault
     c.in_err-members.was given.1 given.2 is)
 
 pub returns-in_err-restart_all-clause-spared : goal.returns-in_err-restart_all-clause-spared
-returns-in_err-restart_all-clause-spared g c = λ fault unfailed is. c.in_ok-members.ensures.steady
+returns-in_err-restart_all-clause-spared g c = λ fault unfailed is. c.in_ok-members.ensures.looked.asked.steady
 
 pub returns-in_err-members-clause-rests : goal.returns-in_err-members-clause-rests
-returns-in_err-members-clause-rests g c = c.open_all.ensures.rests
+returns-in_err-members-clause-rests g c = c.open_all.ensures.looked.rests
 
 pub returns-in_err-restart_all-clause-rests : goal.returns-in_err-restart_all-clause-rests
-returns-in_err-restart_all-clause-rests g c = c.open_all.ensures.rests
+returns-in_err-restart_all-clause-rests g c = c.open_all.ensures.looked.rests
 
 pub returns-clause-rests : goal.returns-clause-rests
-returns-clause-rests g c = c.open_all.ensures.rests
+returns-clause-rests g c = c.open_all.ensures.looked.rests
 
 pub returns-clause-others : goal.returns-clause-others
 returns-clause-others g c = c.in_ok-members.ensures.others
@@ -159,12 +161,55 @@ returns-clause-counted g c = λ tells first opens.
     number_exists members 1
     (record { at_least = omega arith; at_most = omega (arith, c.in_ok-members.ensures.count.at_least) }) in
     let held =
-    held_of g.D.Disk.tells g.K.Keep.kept g.K.Keep.fits g.D.Disk.seen g.D.Disk.may_leave g.D.Disk.armings members
+    held_of g.K.Keep g.D.Disk members
     c.in_ok-members.field-0.stables.items c.open_all.new.disks.items c.in_ok-members.ensures.stables
     c.in_ok-members.ensures.opened c.in_ok-members.ensures.disks tells in
     let is =
     first_is g.K.Keep.kept g.D.Disk.seen members c.open_all.new.disks.items c.in_ok-members.ensures.opened held
     c.one_saved.ensures first one.0 one.1
     (opens_same g.K.Keep.kept g.D.Disk.seen c.args.disks.now.items c.open_all.new.disks.items first first 1
-    (c.open_all.ensures.same tells) opens) in
+    (c.open_all.ensures.looked.same tells) opens) in
     sym (c.in_ok-members.ensures.counted one.0 one.1) ∙ ap (λ (s : Saved). s.members) (sym is)
+
+pub returns-clause-backed : goal.returns-clause-backed
+returns-clause-backed g c =
+    let count = c.in_ok-members.ensures.count in
+    let pairs = c.open_all.ensures.looked.asked.armings.count in
+    record {
+      pairs = omega (arith, count.at_most, pairs, c.requires.pairs);
+      disks = c.in_ok-members.ensures.disks;
+    }
+
+pub returns-in_err-members-clause-failed : goal.returns-in_err-members-clause-failed
+returns-in_err-members-clause-failed g c =
+    let given = err_from_is_err_and c.from_residual.result c.from_residual.ensures.1 in
+    rw (given.1, given.2)
+    (disks_err c.in_err-members.field-0.0 c.in_err-members.ensures.looked.asked).failed
+
+pub returns-in_err-members-clause-same : goal.returns-in_err-members-clause-same
+returns-in_err-members-clause-same g c = c.open_all.ensures.looked.same
+
+pub returns-in_err-members-clause-armings : goal.returns-in_err-members-clause-armings
+returns-in_err-members-clause-armings g c = c.open_all.ensures.looked.asked.armings
+
+pub returns-in_err-restart_all-clause-same : goal.returns-in_err-restart_all-clause-same
+returns-in_err-restart_all-clause-same g c = c.open_all.ensures.looked.same
+
+pub returns-in_err-restart_all-clause-armings : goal.returns-in_err-restart_all-clause-armings
+returns-in_err-restart_all-clause-armings g c = c.open_all.ensures.looked.asked.armings
+
+pub returns-clause-same : goal.returns-clause-same
+returns-clause-same g c = c.open_all.ensures.looked.same
+
+pub returns-clause-armings : goal.returns-clause-armings
+returns-clause-armings g c = c.open_all.ensures.looked.asked.armings
+
+pub returns-clause-steady : goal.returns-clause-steady
+returns-clause-steady g c = c.in_ok-members.ensures.looked.asked.steady
+
+pub returns-in_err-restart_all-clause-unfailing : goal.returns-in_err-restart_all-clause-unfailing
+returns-in_err-restart_all-clause-unfailing g c = λ fused.
+    unfailing_none g.D.Disk.fuse _ c.args.disks.now.items c.open_all.new.disks.items
+    (c.open_all.ensures.looked.asked.unfailing fused).unarmed
+    (let given = err_from_is_err_and c.from_residual-in_err-restart_all.result c.from_residual-in_err-restart_all.ensures.1 in
+    λ r is. never_store Memory tt r (rw (given.1, given.2) at is))

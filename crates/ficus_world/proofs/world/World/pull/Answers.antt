@@ -1,5 +1,4 @@
-use Rattle.std.proofs.Common.{Err, Ok, length, ap, subst, ◌∙◌}
-use Rattle.ficus_world.specs.Kills.{OthersStay}
+use Rattle.std.proofs.Common.{Err, Ok, arith, ap, subst}
 use Rattle.std.proofs.lemmas.Result.{err_from_is_err_and}
 use Rattle.ficus_ids.specs.declared.refusal.Refusal.TheVariants.{Memory}
 use Rattle.ficus_script.specs.declared.command.Command.TheVariants.{Pull as Pulls}
@@ -9,10 +8,8 @@ use Rattle.ficus_world.specs.World.{Whole}
 use Rattle.ficus_world.proofs.Carrying.{comes_to, whole_is}
 use Rattle.ficus_world.proofs.Moved.{comes_to_none, peers_end, same_refusal}
 use Rattle.ficus_world.proofs.Pulling.{cut_given, cut_unasked, cut_ungiven, pull_given, pull_unasked, pull_ungiven}
-use Rattle.ficus_world.specs.Kills.Passes.{Idles, Joins}
-use Rattle.ficus_world.specs.Kills.Touches.{TouchesNone}
 use Rattle.ficus_world.proofs.Passing.{asked, given, unasked}
-use Rattle.ficus_world.proofs.Others.{others_none, others_then, touches_others}
+use Rattle.ficus_world.proofs.Acting.{acts_idle, acts_once, acts_then}
 use Rattle.ficus_world.proofs.world.World.pull.Goals as goal
 
 pub returns-in_err-up_peers-clause-moves : goal.returns-in_err-up_peers-clause-moves
@@ -43,7 +40,7 @@ returns-in_err-asked-clause-memory g c =
     (λ is. cut_unasked g.L.Link.tells g.K.Keep g.D.Disk c.args.by c.args.to c.args.self.now.whole
     (subst (λ (w : Whole). ArePeersUp w c.args.by c.args.to) (whole_is c.self.view_is) c.in_ok-up_peers.ensures.peers)
     c.args.disks.now.items c.ask.new.self.whole c.ask.new.disks.items
-    (c.in_err-asked.ensures.memory (same_refusal c.in_err-asked.field-0.0 Memory is)))
+    (c.in_err-asked.ensures.acts.memory (same_refusal c.in_err-asked.field-0.0 Memory is)))
 
 pub returns-in_err-given-clause-moves : goal.returns-in_err-given-clause-moves
 returns-in_err-given-clause-moves g c =
@@ -65,7 +62,7 @@ returns-in_err-given-clause-memory g c =
     (subst (λ (w : Whole). ArePeersUp w c.args.by c.args.to) (whole_is c.self.view_is) c.in_ok-up_peers.ensures.peers)
     c.args.disks.now.items c.in_ok-asked.asked c.ask.new.self.whole
     c.ask.new.disks.items c.in_ok-asked.ensures.asks c.give.new.self.whole c.give.new.disks.items
-    (c.in_err-given.ensures.memory (same_refusal c.in_err-given.field-0.0 Memory is)))
+    (c.in_err-given.ensures.acts.memory (same_refusal c.in_err-given.field-0.0 Memory is)))
 
 pub returns-clause-moves : goal.returns-clause-moves
 returns-clause-moves g c =
@@ -89,53 +86,49 @@ returns-clause-memory g c = λ is.
     c.in_ok-given.ensures.gives c.give_each.new.self.whole c.give_each.new.disks.items
     (rw c.mails_in-first.ensures.are at c.give_each.ensures.memory is)
 
-pub returns-in_err-up_peers-clause-passes : goal.returns-in_err-up_peers-clause-passes
-returns-in_err-up_peers-clause-passes g c = λ before after. Idles before TouchesNone
+pub returns-in_err-up_peers-clause-acts : goal.returns-in_err-up_peers-clause-acts
+returns-in_err-up_peers-clause-acts g c = acts_idle c.requires.backed
 
-pub returns-in_err-asked-clause-passes : goal.returns-in_err-asked-clause-passes
-returns-in_err-asked-clause-passes g c = λ before after.
-    unasked before after c.ask.ensures.touches c.args.by c.args.to c.in_err-asked.field-0.0 c.in_err-asked.ensures.asks
-    (λ e. c.in_err-asked.ensures.memory (ap Err e))
+pub returns-in_err-asked-clause-acts : goal.returns-in_err-asked-clause-acts
+returns-in_err-asked-clause-acts g c =
+    acts_once c.ask.ensures.acts (λ before after.
+    unasked before after c.ask.ensures.acts.touches c.args.by c.args.to c.in_err-asked.field-0.0
+    c.in_err-asked.ensures.asks (λ e. c.in_err-asked.ensures.acts.memory (ap Err e)))
 
-pub returns-in_err-given-clause-passes : goal.returns-in_err-given-clause-passes
-returns-in_err-given-clause-passes g c = λ before after.
-    Joins
-    (asked before c.settled.ensures c.ask.ensures.touches c.args.by c.args.to c.in_ok-asked.asked
-    c.in_ok-asked.ensures.asks)
-    (given c.settled.ensures after c.give.ensures.touches c.in_ok-asked.asked (Err c.in_err-given.field-0.0)
-    c.in_err-given.ensures.gives c.in_err-given.ensures.memory)
+pub returns-in_err-given-clause-acts : goal.returns-in_err-given-clause-acts
+returns-in_err-given-clause-acts g c =
+    acts_then
+    (acts_once c.ask.ensures.acts (λ before after.
+    asked before after c.ask.ensures.acts.touches c.args.by c.args.to c.in_ok-asked.asked c.in_ok-asked.ensures.asks)) c.settled.ensures
+    (acts_once c.give.ensures.acts (λ before after.
+    given before after c.give.ensures.acts.touches c.in_ok-asked.asked (Err c.in_err-given.field-0.0)
+    c.in_err-given.ensures.gives c.in_err-given.ensures.acts.memory))
 
-pub returns-clause-passes : goal.returns-clause-passes
-returns-clause-passes g c = λ before after.
-    Joins
-    (asked before c.settled.ensures c.ask.ensures.touches c.args.by c.args.to c.in_ok-asked.asked
-    c.in_ok-asked.ensures.asks)
-    (Joins
-    (given c.settled.ensures c.settled-2.ensures c.give.ensures.touches c.in_ok-asked.asked (Ok c.in_ok-given.given)
-    c.in_ok-given.ensures.gives c.in_ok-given.ensures.memory)
-    (c.give_each.ensures.passes c.settled-2.ensures after))
+pub returns-clause-acts : goal.returns-clause-acts
+returns-clause-acts g c =
+    acts_then
+    (acts_once c.ask.ensures.acts (λ before after.
+    asked before after c.ask.ensures.acts.touches c.args.by c.args.to c.in_ok-asked.asked c.in_ok-asked.ensures.asks)) c.settled.ensures
+    (acts_then
+    (acts_once c.give.ensures.acts (λ before after.
+    given before after c.give.ensures.acts.touches c.in_ok-asked.asked (Ok c.in_ok-given.given)
+    c.in_ok-given.ensures.gives c.in_ok-given.ensures.acts.memory)) c.settled-2.ensures c.give_each.ensures.acts)
 
-pub returns-in_err-up_peers-clause-others : goal.returns-in_err-up_peers-clause-others
-returns-in_err-up_peers-clause-others g c = others_none (length c.args.self.now.whole.members) c.args.disks.now.items
+pub settled-requires : goal.settled-requires
+settled-requires g c = c.ask.ensures.acts.backed.disks
 
-pub returns-in_err-asked-clause-others : goal.returns-in_err-asked-clause-others
-returns-in_err-asked-clause-others g c = touches_others c.ask.ensures.touches
+pub settled-requires-2 : goal.settled-requires-2
+settled-requires-2 g c = c.give.ensures.acts.backed.disks
 
-pub returns-in_err-given-clause-others : goal.returns-in_err-given-clause-others
-returns-in_err-given-clause-others g c =
-    let count = length c.args.self.now.whole.members in
-    others_then count c.args.disks.now.items c.ask.new.disks.items c.give.new.disks.items
-    (touches_others c.ask.ensures.touches)
-    (subst (λ n. OthersStay n c.ask.new.disks.items c.give.new.disks.items) c.ask.ensures.members
-    (touches_others c.give.ensures.touches))
+pub give-requires-clause-backed : goal.give-requires-clause-backed
+give-requires-clause-backed g c = c.ask.ensures.acts.backed
 
-pub returns-clause-others : goal.returns-clause-others
-returns-clause-others g c =
-    let count = length c.args.self.now.whole.members in
-    others_then count c.args.disks.now.items c.give.new.disks.items c.give_each.new.disks.items
-    (others_then count c.args.disks.now.items c.ask.new.disks.items c.give.new.disks.items
-    (touches_others c.ask.ensures.touches)
-    (subst (λ n. OthersStay n c.ask.new.disks.items c.give.new.disks.items) c.ask.ensures.members
-    (touches_others c.give.ensures.touches)))
-    (subst (λ n. OthersStay n c.give.new.disks.items c.give_each.new.disks.items)
-    (c.give.ensures.members ∙ c.ask.ensures.members) c.give_each.ensures.others)
+pub give_each-requires-clause-backed : goal.give_each-requires-clause-backed
+give_each-requires-clause-backed g c = c.give.ensures.acts.backed
+
+pub give-requires-clause-room : goal.give-requires-clause-room
+give-requires-clause-room g c = omega (arith, c.ask.ensures.acts.grows, c.requires.room)
+
+pub give_each-requires-clause-room : goal.give_each-requires-clause-room
+give_each-requires-clause-room g c =
+    omega (arith, c.ask.ensures.acts.grows, c.give.ensures.acts.grows, c.requires.room, c.mails_in-first.ensures.few)

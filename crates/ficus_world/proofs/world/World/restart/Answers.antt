@@ -1,4 +1,4 @@
-use Rattle.std.proofs.Common.{◌≡◌, ◌≤◌, ◌+◌, ◌-◌, ◌++◌, Err, List, length, refl, sym, ap, ap₂, subst, ◌∙◌, arith}
+use Rattle.std.proofs.Common.{◌≡◌, ◌+◌, ◌-◌, ◌++◌, Err, List, length, refl, sym, ap, ap₂, subst, ◌∙◌, arith}
 use Rattle.std.specs.Prelude.{slice_set}
 use Rattle.std.proofs.lemmas.List.{append-nil, length-append, length-set}
 use Rattle.std.proofs.lemmas.Result.{err_from_is_err_and}
@@ -7,20 +7,24 @@ use Rattle.ficus_ids.specs.declared.refusal.Refusal.TheVariants as refusal
 use Rattle.ficus_model.specs.declared.event.Event.{Event}
 use Rattle.ficus_script.specs.declared.command.Command.TheVariants.{Restart as Restarts}
 use Rattle.ficus_runs.specs.Sequence.First.{Ends}
+use Rattle.ficus_script.specs.declared.answer.Answer.{Answer}
 use Rattle.ficus_world.specs.declared.member.Member.{Member}
-use Rattle.ficus_world.specs.Disks.{AreDisksOf, CarriedOn}
+use Rattle.ficus_world.specs.Disks.{CarriedOn, IsBacked}
 use Rattle.ficus_world.specs.Moves.{CarriesOut}
 use Rattle.ficus_world.specs.Moves.FindsMember.{FindsNone}
 use Rattle.ficus_world.specs.Stepped.{ComesTo}
-use Rattle.ficus_world.specs.World.{Backed, IsSoundMember, IsWorld, Whole, whole_of}
+use Rattle.ficus_world.specs.World.{Backed, backed_by, IsSoundMember, IsWorld, Whole, whole_of}
 use Rattle.ficus_world.proofs.Carrying.{comes_to, whole_is}
 use Rattle.ficus_world.proofs.Disks.{follows_alike}
 use Rattle.ficus_world.proofs.Moved.{comes_to_none, not_so}
 use Rattle.ficus_run_laws.proofs.Numbers.{number_exists}
 use Rattle.ficus_world.proofs.Restarting.{back_after, back_same, back_sound, back_stores, restart_carried, set_own}
 use Rattle.ficus_world.proofs.SoundWorlds.{world_after}
-use Rattle.ficus_world.specs.Kills.Touches.{TouchesNone, TouchesOne}
+use Rattle.ficus_world.specs.Kills.Touches.{TouchesOne}
 use Rattle.ficus_world.proofs.Others.{left_none}
+use Rattle.ficus_world.specs.Acts.{Acts}
+use Rattle.ficus_world.proofs.Kills.{rests_count}
+use Rattle.ficus_world.proofs.Acting.{acts_none}
 use Rattle.ficus_world.proofs.world.World.restart.Goals as goal
 
 pub returns-then-not-has-clause-moves : goal.returns-then-not-has-clause-moves
@@ -92,19 +96,16 @@ returns-clause-moves g c =
     let back = c.come_back.ensures found.0 found.1 in
     let world : IsWorld old = c.self-inside.invariant in
     let sound = world.sound by found.0 found.1 in
-    let before = subst (λ (b : Backed _). AreDisksOf g.D.Disk.tells g.K.Keep.kept g.K.Keep.fits g.D.Disk.seen
-    g.D.Disk.may_leave g.D.Disk.armings b.whole.members b.stables x) (sym c.self.view_is) c.requires.disks in
-    let disks = subst (λ i. AreDisksOf g.D.Disk.tells g.K.Keep.kept g.K.Keep.fits g.D.Disk.seen g.D.Disk.may_leave
-    g.D.Disk.armings i.group.members i.stables.items x) (sym c.self-inside.view_is) before in
-    let pairs = subst (λ (w : Whole). length w.members ≤ length x) (sym (sym same ∙ whole_is c.self.view_is))
-    c.requires.pairs in
+    let backed = subst (λ i. IsBacked g.K.Keep g.D.Disk (backed_by i.group i.stables.items) x)
+    (sym c.self-inside.view_is) (rw (← c.self.view_is) at c.requires.backed) in
     let within : IsMember (length x) by =
-    record { at_least = member.at_least; at_most = omega (arith, member.at_most, pairs) } in
+    record { at_least = member.at_least; at_most = omega (arith, member.at_most, backed.pairs) } in
     let moves = restart_carried tells g.K.Keep g.D.Disk old by found.0 found.1 sound x y within
     c.reopen_at-read.ensures.follows c.reopen_at-read.result c.come_back.result back.0 back.1 c.reopen_at-read.ensures.fits
-    (λ told. c.reopen_at-read.ensures.read told _ _ old.members found.0 found.1 sound disks)
-    (λ fused told F stand. c.reopen_at-read.ensures.by_fuse fused told _ _ old.members found.0 F found.1 sound disks
-    stand) c.reopen_at-read.ensures.never
+    (λ told. c.reopen_at-read.ensures.read told _ _ old.members found.0
+    (record { is = found.1; sound = sound; disks = backed.disks }))
+    (λ fused told F stand. c.reopen_at-read.ensures.by_fuse fused told _ _ old.members found.0 F
+    (record { is = found.1; sound = sound; disks = backed.disks }) stand) c.reopen_at-read.ensures.never
     c.reopen_at-read.ensures.opened back.2 in
     let is : old ≡ c.args.self.now.whole = sym same ∙ whole_is c.self.view_is in
     rw (back.3, back.4, c.in_ok-reserve.ensures.events)
@@ -112,88 +113,6 @@ returns-clause-moves g c =
     (subst (λ (w : Whole). CarriedOn g.K.Keep g.D.Disk (CarriesOut tells g.D.Disk.tells (Restarts by))
     c.come_back.result w (whole_of (slice_set old.members (by - 1) back.0) (old.events ++ back.1) old.post) x y) is moves)
     (λ e. subst (λ (w : Whole). IsMember (length w.members) by) is member))
-
-pub returns-clause-grows : goal.returns-clause-grows
-returns-clause-grows g c =
-    let by = c.args.by in
-    let inside = c.self-inside.inside.0.0 in
-    let old = whole_of inside.members.items inside.history.events inside.post.now in
-    let same : c.self.inside.group ≡ old = subst (λ i. i.group ≡ old) c.self-inside.view_is refl in
-    let member = subst (λ (w : Whole). IsMember (length w.members) by) same (c.has.ensures.0 c.if-not-has.false) in
-    let found = number_exists old.members by member in
-    let back = c.come_back.ensures found.0 found.1 in
-    let is : old ≡ c.args.self.now.whole = sym same ∙ whole_is c.self.view_is in
-    let events = ap (λ (list : List Event). length list) back.4 ∙ length-append c.reserve.new.self.events back.1
-    ∙ ap (λ (list : List Event). length list + length back.1) c.in_ok-reserve.ensures.events in
-    let before = ap (λ (w : Whole). length w.events) is in
-    omega (arith, events, before, back_stores c.args.by found.0 c.reopen_at-read.result c.come_back.result back.0 back.1 back.2)
-
-pub returns-clause-members : goal.returns-clause-members
-returns-clause-members g c =
-    let by = c.args.by in
-    let inside = c.self-inside.inside.0.0 in
-    let old = whole_of inside.members.items inside.history.events inside.post.now in
-    let same : c.self.inside.group ≡ old = subst (λ i. i.group ≡ old) c.self-inside.view_is refl in
-    let member = subst (λ (w : Whole). IsMember (length w.members) by) same (c.has.ensures.0 c.if-not-has.false) in
-    let found = number_exists old.members by member in
-    let back = c.come_back.ensures found.0 found.1 in
-    ap (λ (list : List Member). length list) back.3 ∙ length-set old.members (by - 1) back.0
-    ∙ ap (λ (w : Whole). length w.members) (sym same ∙ whole_is c.self.view_is)
-
-pub returns-clause-memory : goal.returns-clause-memory
-returns-clause-memory g c = λ e.
-    let by = c.args.by in
-    let inside = c.self-inside.inside.0.0 in
-    let old = whole_of inside.members.items inside.history.events inside.post.now in
-    let same : c.self.inside.group ≡ old = subst (λ i. i.group ≡ old) c.self-inside.view_is refl in
-    let member = subst (λ (w : Whole). IsMember (length w.members) by) same (c.has.ensures.0 c.if-not-has.false) in
-    let found = number_exists old.members by member in
-    let back = c.come_back.ensures found.0 found.1 in
-    let stays = back_same c.args.by found.0 c.reopen_at-read.result c.come_back.result back.0 back.1 back.2 e in
-    let members = back.3 ∙ ap (λ (m : Member). slice_set old.members (by - 1) m) stays.0
-    ∙ set_own old.members by found.0 found.1 in
-    let events = back.4 ∙ ap₂ (λ (before stored : List Event). before ++ stored) c.in_ok-reserve.ensures.events stays.1
-    ∙ append-nil old.events in
-    record {
-      same = ap₂ (λ (members : List Member) (events : List Event). whole_of members events old.post) members events
-          ∙ (sym same ∙ whole_is c.self.view_is);
-      disks = follows_alike (λ r. refl) (λ r. refl) c.reopen_at-read.ensures.follows;
-    }
-
-pub returns-clause-disks : goal.returns-clause-disks
-returns-clause-disks g c =
-    let by = c.args.by in
-    let x = c.args.disks.now.items in
-    let inside = c.self-inside.inside.0.0 in
-    let old = whole_of inside.members.items inside.history.events inside.post.now in
-    let same : c.self.inside.group ≡ old = subst (λ i. i.group ≡ old) c.self-inside.view_is refl in
-    let member = subst (λ (w : Whole). IsMember (length w.members) by) same (c.has.ensures.0 c.if-not-has.false) in
-    let found = number_exists old.members by member in
-    let back = c.come_back.ensures found.0 found.1 in
-    let before = subst (λ (b : Backed _). AreDisksOf g.D.Disk.tells g.K.Keep.kept g.K.Keep.fits g.D.Disk.seen
-    g.D.Disk.may_leave g.D.Disk.armings b.whole.members b.stables x) (sym c.self.view_is) c.requires.disks in
-    let disks = subst (λ i. AreDisksOf g.D.Disk.tells g.K.Keep.kept g.K.Keep.fits g.D.Disk.seen g.D.Disk.may_leave
-    g.D.Disk.armings i.group.members i.stables.items x) (sym c.self-inside.view_is) before in
-    c.reopen_at-read.ensures.disks old.members c.come_back.new.members.items
-    (record {
-      was = found.0;
-      is = found.1;
-      now = back.0;
-      after = back_after c.args.by found.0 c.reopen_at-read.result c.come_back.result back.0 back.1 back.2;
-      set = back.3;
-    }) disks
-
-pub returns-then-not-has-clause-touches : goal.returns-then-not-has-clause-touches
-returns-then-not-has-clause-touches g c = TouchesNone
-
-pub returns-in_err-reserve-clause-touches : goal.returns-in_err-reserve-clause-touches
-returns-in_err-reserve-clause-touches g c = TouchesNone
-
-pub returns-clause-touches : goal.returns-clause-touches
-returns-clause-touches g c =
-    let member = subst (λ (w : Whole). IsMember (length w.members) c.args.by) (whole_is c.self.view_is)
-    (c.has.ensures.0 c.if-not-has.false) in
-    TouchesOne member c.reopen_at-read.ensures.rests
 
 pub returns-then-not-has-clause-left : goal.returns-then-not-has-clause-left
 returns-then-not-has-clause-left g c told =
@@ -205,3 +124,83 @@ returns-in_err-reserve-clause-left g c told =
 
 pub returns-clause-left : goal.returns-clause-left
 returns-clause-left g c = c.reopen_at-read.ensures.left
+
+pub returns-then-not-has-clause-acts : goal.returns-then-not-has-clause-acts
+returns-then-not-has-clause-acts g c = acts_none c.requires.backed
+
+pub returns-in_err-reserve-clause-acts : goal.returns-in_err-reserve-clause-acts
+returns-in_err-reserve-clause-acts g c =
+    let wanted = err_from_is_err_and c.from_residual.result c.from_residual.ensures.1 in
+    let x = c.args.disks.now.items in
+    rw (wanted.1, wanted.2, c.in_err-reserve.ensures.events)
+    (subst (λ i. Acts {A = Answer} g.K.Keep g.D.Disk 2 (Err refusal.Memory) c.args.self.now (backed_by i.group i.stables.items) x x)
+    (sym c.self-inside.view_is)
+    (subst (λ (b : Backed _). Acts {A = Answer} g.K.Keep g.D.Disk 2 (Err refusal.Memory) c.args.self.now b x x) (sym c.self.view_is)
+    (acts_none c.requires.backed)))
+
+pub returns-clause-acts : goal.returns-clause-acts
+returns-clause-acts g c =
+    let by = c.args.by in
+    let x = c.args.disks.now.items in
+    let inside = c.self-inside.inside.0.0 in
+    let old = whole_of inside.members.items inside.history.events inside.post.now in
+    let same : c.self.inside.group ≡ old = subst (λ i. i.group ≡ old) c.self-inside.view_is refl in
+    let is : old ≡ c.args.self.now.whole = sym same ∙ whole_is c.self.view_is in
+    let member = subst (λ (w : Whole). IsMember (length w.members) by) same (c.has.ensures.0 c.if-not-has.false) in
+    let found = number_exists old.members by member in
+    let back = c.come_back.ensures found.0 found.1 in
+    let backed = subst (λ i. IsBacked g.K.Keep g.D.Disk (backed_by i.group i.stables.items) x)
+    (sym c.self-inside.view_is) (rw (← c.self.view_is) at c.requires.backed) in
+    let counted = ap (λ (list : List Member). length list) back.3 ∙ length-set old.members (by - 1) back.0 in
+    let members = counted ∙ ap (λ (w : Whole). length w.members) is in
+    let stored = ap (λ (list : List Event). length list) back.4 ∙ length-append c.reserve.new.self.events back.1
+    ∙ ap (λ (list : List Event). length list + length back.1) c.in_ok-reserve.ensures.events in
+    let before = ap (λ (w : Whole). length w.events) is in
+    let pairs = rests_count c.reopen_at-read.ensures.rests in
+    record {
+      grows = omega (
+        arith,
+        stored,
+        before,
+        back_stores c.args.by found.0 c.reopen_at-read.result c.come_back.result back.0 back.1 back.2,
+      );
+      members = members;
+      stables = c.reopen_at-read.ensures.count ∙ ap (λ i. length i.stables.items) c.self-inside.view_is
+          ∙ ap (λ (b : Backed _). length b.stables) c.self.view_is;
+      memory = λ e.
+          let stays = back_same c.args.by found.0 c.reopen_at-read.result c.come_back.result back.0 back.1 back.2 e in
+          let list = back.3 ∙ ap (λ (m : Member). slice_set old.members (by - 1) m) stays.0
+          ∙ set_own old.members by found.0 found.1 in
+          let events = back.4
+          ∙ ap₂ (λ (before stored : List Event). before ++ stored) c.in_ok-reserve.ensures.events stays.1
+          ∙ append-nil old.events in
+          record {
+            same =
+                ap₂ (λ (members : List Member) (events : List Event). whole_of members events old.post) list events ∙ is;
+            disks = follows_alike (λ r. refl) (λ r. refl) c.reopen_at-read.ensures.follows;
+          };
+      touches = TouchesOne (subst (λ (w : Whole). IsMember (length w.members) by) is member)
+          c.reopen_at-read.ensures.rests;
+      backed = record {
+        pairs = omega (arith, counted, backed.pairs, pairs);
+        disks = c.reopen_at-read.ensures.disks old.members c.come_back.new.members.items
+            (record {
+              was = found.0;
+              is = found.1;
+              now = back.0;
+              after = back_after c.args.by found.0 c.reopen_at-read.result c.come_back.result back.0 back.1 back.2;
+              set = back.3;
+            }) backed.disks;
+      };
+    }
+
+pub reopen_at-read-requires-clause-pair : goal.reopen_at-read-requires-clause-pair
+reopen_at-read-requires-clause-pair g c =
+    let x = c.args.disks.now.items in
+    let inside = c.self-inside.inside.0.0 in
+    let old = whole_of inside.members.items inside.history.events inside.post.now in
+    let same : c.self.inside.group ≡ old = subst (λ i. i.group ≡ old) c.self-inside.view_is refl in
+    let member = subst (λ (w : Whole). IsMember (length w.members) c.args.by) same (c.has.ensures.0 c.if-not-has.false) in
+    let backed = subst (λ i. IsBacked g.K.Keep g.D.Disk (backed_by i.group i.stables.items) x)
+    (sym c.self-inside.view_is) (rw (← c.self.view_is) at c.requires.backed) in
+    record { at_least = member.at_least; at_most = omega (arith, member.at_most, backed.pairs) }

@@ -70,10 +70,25 @@ returns-clause-wants g c = λ volume W stands.
     (follow_wanted volume W old stands command) c.carry_out-came_to.ensures.moves c.answered.ensures.memory
 
 pub returns-clause-passes : goal.returns-clause-passes
-returns-clause-passes g c = c.carry_out-came_to.ensures.passes c.settled.ensures c.settled-2.ensures
+returns-clause-passes g c = c.carry_out-came_to.ensures.acts.passes c.settled.ensures c.settled-2.ensures
 
 pub returns-clause-grows : goal.returns-clause-grows
 returns-clause-grows g c =
     comes_foreseen g.L.Link.tells g.K.Keep g.D.Disk c.args.self.now.whole c.carry_out-came_to.new.self.whole
     c.args.command.now c.args.disks.now.items c.carry_out-came_to.new.disks.items c.carry_out-came_to.result
     c.carry_out-came_to.ensures.moves c.carry_out-came_to.ensures.memory c.settled-2.ensures.sound
+
+pub returns-clause-members : goal.returns-clause-members
+returns-clause-members g c = c.carry_out-came_to.ensures.acts.members
+
+pub returns-clause-others : goal.returns-clause-others
+returns-clause-others g c = c.carry_out-came_to.ensures.acts.others
+
+pub returns-clause-backed : goal.returns-clause-backed
+returns-clause-backed g c = c.carry_out-came_to.ensures.acts.backed
+
+pub settled-requires-2 : goal.settled-requires-2
+settled-requires-2 g c = c.carry_out-came_to.ensures.acts.backed.disks
+
+pub settled-requires : goal.settled-requires
+settled-requires g c = c.requires.backed.disks

@@ -1,4 +1,4 @@
-use Rattle.std.proofs.Common.{◌≡◌, ◌∷◌, [], Err, subst}
+use Rattle.std.proofs.Common.{◌≡◌, ◌∷◌, [], Err, refl, subst, arith}
 use Rattle.std.proofs.lemmas.Result.{err_from_is_err_and}
 use Rattle.ficus_script.specs.declared.command.Command.TheVariants.{Stop as Stops}
 use Rattle.ficus_runs.specs.Numbered.{IsNumbered}
@@ -14,7 +14,9 @@ use Rattle.ficus_world.specs.World.{Whole}
 use Rattle.ficus_run_laws.proofs.Numbers.{number_once}
 use Rattle.ficus_world.proofs.Carrying.{whole_is}
 use Rattle.ficus_world.proofs.Moved.{comes_to_none, up_ends}
-use Rattle.ficus_world.specs.Kills.Touches.{TouchesNone, TouchesOne}
+use Rattle.ficus_world.specs.Kills.Touches.{TouchesOne}
+use Rattle.ficus_world.proofs.Acting.{acts_none}
+use Rattle.ficus_world.proofs.Kills.{rests_count}
 use Rattle.ficus_world.proofs.world.World.stop.Goals as goal
 
 pub returns-in_err-up-clause-moves : goal.returns-in_err-up-clause-moves
@@ -48,14 +50,30 @@ returns-clause-moves g c =
       fuses = armed.fuses;
     }
 
-pub returns-in_err-up-clause-touches : goal.returns-in_err-up-clause-touches
-returns-in_err-up-clause-touches g c = TouchesNone
+pub returns-in_err-up-clause-acts : goal.returns-in_err-up-clause-acts
+returns-in_err-up-clause-acts g c = acts_none c.requires.backed
 
-pub returns-then-not-branch-clause-touches : goal.returns-then-not-branch-clause-touches
-returns-then-not-branch-clause-touches g c = TouchesNone
+pub returns-then-not-branch-clause-acts : goal.returns-then-not-branch-clause-acts
+returns-then-not-branch-clause-acts g c = acts_none c.requires.backed
 
-pub returns-clause-touches : goal.returns-clause-touches
-returns-clause-touches g c =
+pub returns-clause-acts : goal.returns-clause-acts
+returns-clause-acts g c =
     let was = c.in_ok-up.field-0.now in
     let is = subst (λ (w : Whole). IsNumbered w.members c.args.by was) (whole_is c.self.view_is) c.in_ok-up.ensures.is in
-    TouchesOne is.member c.arm_at.ensures.rests
+    record {
+      grows = omega arith;
+      members = refl;
+      stables = refl;
+      memory = λ is. absurd (cc);
+      touches = TouchesOne is.member c.arm_at.ensures.rests;
+      backed = record {
+        pairs = omega (arith, c.requires.backed.pairs, rests_count c.arm_at.ensures.rests);
+        disks = c.arm_at.ensures.disks c.args.self.now.stables c.args.self.now.whole.members c.requires.backed.disks;
+      };
+    }
+
+pub arm_at-requires-clause-pair : goal.arm_at-requires-clause-pair
+arm_at-requires-clause-pair g c =
+    let was = c.in_ok-up.field-0.now in
+    let is = subst (λ (w : Whole). IsNumbered w.members c.args.by was) (whole_is c.self.view_is) c.in_ok-up.ensures.is in
+    record { at_least = is.member.at_least; at_most = omega (arith, is.member.at_most, c.requires.backed.pairs) }

@@ -13,9 +13,9 @@ use Rattle.ficus_world.specs.declared.member.Member.{Member}
 use Rattle.ficus_world.specs.declared.member.MemberState.TheVariants.{Up}
 use Rattle.ficus_run_laws.proofs.Numbers.{number_once}
 use Rattle.ficus_world.proofs.SoundWorlds.{noted_sound}
-use Rattle.ficus_world.proofs.Carrying.{advanced_events, advanced_members, carried_none, carried_saved, refused_events, refused_members, save_refused, whole_is}
+use Rattle.ficus_world.proofs.Carrying.{carried_none, carried_saved, save_refused, whole_is}
 use Rattle.ficus_world.proofs.Collected.{tables_refused}
-use Rattle.ficus_world.specs.Kills.Touches.{TouchesNone}
+use Rattle.ficus_world.proofs.Acting.{acts_done, acts_none, acts_refused}
 use Rattle.ficus_world.proofs.world.World.take.Goals as goal
 
 -- the member is up that is
@@ -51,28 +51,8 @@ returns-in_err-save-clause-takes g c =
     rw (refused.1, refused.2)
     (save_refused (TakesTables c.args.came c.args.index c.args.entries.now c.args.files.now) old c.save.new.self.whole to was
     (pending_of c.in_ok-taken.taken (Accept to c.behind-serve.result.position c.args.index)) c.args.disks.now.items c.save.new.disks.items r
-    c.in_err-save.ensures.refused (λ e. c.in_err-save.ensures.failed e was is) c.in_err-save.ensures.counted
-    c.in_err-save.ensures.memory (TakesNot is (is_up c.requires.up is) place c.in_ok-taken.ensures.gives))
-
-pub returns-in_err-save-clause-grows : goal.returns-in_err-save-clause-grows
-returns-in_err-save-clause-grows g c =
-    let to = c.args.came.to in
-    let was = c.member.result.now in
-    let is = subst (λ (w : Whole). IsNumbered w.members to was) (whole_is c.self.view_is) c.member.ensures.is in
-    refused_events c.args.self.now.whole c.save.new.self.whole to was
-    (pending_of c.in_ok-taken.taken (Accept to c.behind-serve.result.position c.args.index)) c.args.disks.now.items c.save.new.disks.items
-    c.in_err-save.field-0.0 c.in_err-save.ensures.refused
-    (λ e. c.in_err-save.ensures.failed e was is) c.in_err-save.ensures.memory
-
-pub returns-in_err-save-clause-members : goal.returns-in_err-save-clause-members
-returns-in_err-save-clause-members g c =
-    let to = c.args.came.to in
-    let was = c.member.result.now in
-    let is = subst (λ (w : Whole). IsNumbered w.members to was) (whole_is c.self.view_is) c.member.ensures.is in
-    refused_members c.args.self.now.whole c.save.new.self.whole to was
-    (pending_of c.in_ok-taken.taken (Accept to c.behind-serve.result.position c.args.index)) c.args.disks.now.items c.save.new.disks.items
-    c.in_err-save.field-0.0 c.in_err-save.ensures.refused
-    (λ e. c.in_err-save.ensures.failed e was is) c.in_err-save.ensures.memory
+    is
+    c.in_err-save.ensures.saves c.in_err-save.ensures.acts.memory (TakesNot is (is_up c.requires.up is) place c.in_ok-taken.ensures.gives))
 
 pub returns-clause-takes : goal.returns-clause-takes
 returns-clause-takes g c =
@@ -89,32 +69,7 @@ returns-clause-takes g c =
     Takes is (is_up c.requires.up is) place c.in_ok-taken.ensures.gives in
     carried_saved (TakesTables c.args.came c.args.index c.args.entries.now c.args.files.now) Done old c.save.new.self.whole to was
     c.in_ok-taken.taken (Accept to c.behind-serve.result.position c.args.index) c.args.disks.now.items c.save.new.disks.items
-    (c.in_ok-save.ensures.saved was is) c.in_ok-save.ensures.followed takes
-
-pub returns-clause-grows : goal.returns-clause-grows
-returns-clause-grows g c =
-    let to = c.args.came.to in
-    let was = c.member.result.now in
-    let is = subst (λ (w : Whole). IsNumbered w.members to was) (whole_is c.self.view_is) c.member.ensures.is in
-    advanced_events c.args.self.now.whole c.save.new.self.whole to was c.in_ok-taken.taken
-    (Accept to c.behind-serve.result.position c.args.index) (c.in_ok-save.ensures.saved was is)
-
-pub returns-clause-members : goal.returns-clause-members
-returns-clause-members g c =
-    let to = c.args.came.to in
-    let was = c.member.result.now in
-    let is = subst (λ (w : Whole). IsNumbered w.members to was) (whole_is c.self.view_is) c.member.ensures.is in
-    advanced_members c.args.self.now.whole c.save.new.self.whole to was c.in_ok-taken.taken
-    (Accept to c.behind-serve.result.position c.args.index) (c.in_ok-save.ensures.saved was is)
-
-pub returns-in_err-taken-clause-touches : goal.returns-in_err-taken-clause-touches
-returns-in_err-taken-clause-touches g c = TouchesNone
-
-pub returns-in_err-save-clause-touches : goal.returns-in_err-save-clause-touches
-returns-in_err-save-clause-touches g c = c.save.ensures.touches
-
-pub returns-clause-touches : goal.returns-clause-touches
-returns-clause-touches g c = c.save.ensures.touches
+    (c.in_ok-save.ensures.saves.0 was is) c.in_ok-save.ensures.saves.1 takes
 
 pub returns-in_err-noted-clause-takes : goal.returns-in_err-noted-clause-takes
 returns-in_err-noted-clause-takes g c =
@@ -122,9 +77,6 @@ returns-in_err-noted-clause-takes g c =
     rw (wanted.1, wanted.2)
     (carried_none (TakesTables c.args.came c.args.index c.args.entries.now c.args.files.now) (Err Memory) c.args.self.now.whole
     c.args.disks.now.items tt)
-
-pub returns-in_err-noted-clause-touches : goal.returns-in_err-noted-clause-touches
-returns-in_err-noted-clause-touches g c = TouchesNone
 
 pub save-requires-clause-next : goal.save-requires-clause-next
 save-requires-clause-next g c = λ was is.
@@ -145,3 +97,17 @@ save-requires-clause-next g c = λ was is.
           counted;
       step = c.in_ok-taken.ensures.noted;
     }))
+
+pub returns-in_err-taken-clause-acts : goal.returns-in_err-taken-clause-acts
+returns-in_err-taken-clause-acts g c = acts_none c.requires.backed
+
+pub returns-in_err-noted-clause-acts : goal.returns-in_err-noted-clause-acts
+returns-in_err-noted-clause-acts g c = acts_none c.requires.backed
+
+pub returns-in_err-save-clause-acts : goal.returns-in_err-save-clause-acts
+returns-in_err-save-clause-acts g c =
+    let refused = err_from_is_err_and c.from_residual-in_err-save.result c.from_residual-in_err-save.ensures.1 in
+    rw (refused.1, refused.2) (acts_refused c.in_err-save.field-0.0 c.in_err-save.ensures.acts)
+
+pub returns-clause-acts : goal.returns-clause-acts
+returns-clause-acts g c = acts_done c.in_ok-save.ensures.acts

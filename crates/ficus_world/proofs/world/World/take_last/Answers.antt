@@ -4,11 +4,11 @@ use Rattle.ficus_ids.specs.declared.refusal.Refusal.TheVariants.{Memory}
 use Rattle.ficus_runs.specs.Numbered.{IsNumbered}
 use Rattle.ficus_wire.specs.Parts.{joined, with_part}
 use Rattle.ficus_world.specs.Disks.{CarriedOn}
-use Rattle.ficus_world.specs.Kills.Touches.{TouchesNone}
 use Rattle.ficus_world.specs.Moves.{TakesSpelled, parts_held}
 use Rattle.ficus_world.specs.World.{Whole}
 use Rattle.ficus_world.proofs.Carrying.{carried_none, whole_is}
 use Rattle.ficus_world.proofs.Collected.{joined_none, joined_some}
+use Rattle.ficus_world.proofs.Acting.{acts_none}
 use Rattle.ficus_world.proofs.world.World.take_last.Goals as goal
 
 pub returns-in_err-joined-clause-takes : goal.returns-in_err-joined-clause-takes
@@ -18,9 +18,6 @@ returns-in_err-joined-clause-takes g c = λ was is.
     rw (wanted.1, wanted.2)
     (carried_none (TakesSpelled c.args.came c.args.head.index bytes) (Err Memory) c.args.self.now.whole
     c.args.disks.now.items tt)
-
-pub returns-in_err-joined-clause-touches : goal.returns-in_err-joined-clause-touches
-returns-in_err-joined-clause-touches g c = TouchesNone
 
 pub returns-in-Some-clause-takes : goal.returns-in-Some-clause-takes
 returns-in-Some-clause-takes g c = λ was is.
@@ -43,3 +40,6 @@ returns-in-None-clause-takes g c = λ was is.
     subst (λ (bytes : List ℕ). CarriedOn g.K.Keep g.D.Disk (TakesSpelled c.args.came head.index bytes)
     c.take_tables-in-None.result c.args.self.now.whole c.take_tables-in-None.new.self.whole c.args.disks.now.items
     c.take_tables-in-None.new.disks.items) same c.take_tables-in-None.ensures.takes
+
+pub returns-in_err-joined-clause-acts : goal.returns-in_err-joined-clause-acts
+returns-in_err-joined-clause-acts g c = acts_none c.requires.backed

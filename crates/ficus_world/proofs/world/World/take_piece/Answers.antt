@@ -1,19 +1,20 @@
-use Rattle.std.proofs.Common.{Err, Ok, Some, length, subst, sym, ◌+◌, ◌∙◌, ◌≡◌, ◌≤◌}
+use Rattle.std.proofs.Common.{Err, Ok, length, subst, sym, ◌∙◌}
 use Rattle.std.proofs.lemmas.Result.{err_from_is_err_and}
 use Rattle.ficus_ids.specs.Members.{IsMember}
 use Rattle.ficus_model.specs.declared.event.Event.TheVariants.{Take}
 use Rattle.ficus_runs.specs.Sequence.{unchanged}
 use Rattle.ficus_script.specs.declared.answer.Answer.TheVariants.{Part}
 use Rattle.ficus_wire.specs.Parts.{with_part}
-use Rattle.ficus_world.specs.Disks.{AreDisksOf, CarriedOn}
-use Rattle.ficus_world.specs.Kills.Touches.{TouchesNone}
+use Rattle.ficus_world.specs.Disks.{CarriedOn}
 use Rattle.ficus_world.specs.Moves.{FindsTaker, TakesPiece, parts_held}
-use Rattle.ficus_world.specs.World.{IsUpIn, Whole}
+use Rattle.ficus_world.specs.World.{Backed, IsUpIn, Whole, backed_by}
 use Rattle.ficus_world.specs.declared.taking.Fitting.{Fitting}
 use Rattle.ficus_world.specs.declared.taking.Fitting.TheVariants.{OneMore, TheLast}
 use Rattle.ficus_world.proofs.Carrying.{carried_memory, whole_is}
-use Rattle.ficus_world.proofs.Collected.{FitsAt, collected_events, collected_members, fits_index, fits_placed, holding_disks, holds_more, piece_again, piece_last, piece_more, piece_refused, taker_is, taker_up}
+use Rattle.ficus_world.proofs.Collected.{FitsAt, collected_members, fits_index, fits_placed, holds_more, piece_acts, piece_again, piece_last, piece_more, piece_refused, taker_is, taker_up}
 use Rattle.ficus_world.proofs.Disks.{follows_none}
+use Rattle.ficus_world.specs.Acts.{Acts}
+use Rattle.ficus_world.proofs.Acting.{acts_none}
 use Rattle.ficus_world.proofs.world.World.take_piece.Goals as goal
 
 pub returns-in_err-have-clause-takes : goal.returns-in_err-have-clause-takes
@@ -26,9 +27,6 @@ returns-in_err-have-clause-takes g c =
     (piece_refused g.K.Keep g.D.Disk c.args.came c.args.head c.args.bytes.now c.args.self.now.whole
     c.args.disks.now.items r finds)
 
-pub returns-in_err-have-clause-touches : goal.returns-in_err-have-clause-touches
-returns-in_err-have-clause-touches g c = TouchesNone
-
 pub returns-in-Again-clause-takes : goal.returns-in-Again-clause-takes
 returns-in-Again-clause-takes g c =
     let came = c.args.came in
@@ -37,9 +35,6 @@ returns-in-Again-clause-takes g c =
     let fits = subst (λ (f : Fitting). FitsAt came head old f) c.in-Again.is
     (subst (λ (w : Whole). FitsAt came head w c.in_ok-have.field-0) (whole_is c.self.view_is) c.in_ok-have.ensures.fits) in
     piece_again g.K.Keep g.D.Disk came head c.args.bytes.now old c.args.disks.now.items fits.0 fits.1 c.in-Again.have fits.2
-
-pub returns-in-Again-clause-touches : goal.returns-in-Again-clause-touches
-returns-in-Again-clause-touches g c = TouchesNone
 
 pub collect-requires-clause-missing : goal.collect-requires-clause-missing
 collect-requires-clause-missing g c = λ was is.
@@ -61,9 +56,6 @@ returns-in_err-collect-in-OneMore-clause-takes g c =
     let x = c.args.disks.now.items in
     rw (wanted.1, wanted.2)
     (carried_memory (TakesPiece c.args.came c.args.head c.args.bytes.now) c.args.self.now.whole _ x x follows_none)
-
-pub returns-in_err-collect-in-OneMore-clause-touches : goal.returns-in_err-collect-in-OneMore-clause-touches
-returns-in_err-collect-in-OneMore-clause-touches g c = TouchesNone
 
 pub invariant_of-self-in-OneMore : goal.invariant_of-self-in-OneMore
 invariant_of-self-in-OneMore g c =
@@ -97,58 +89,6 @@ returns-in_ok-collect-in-OneMore-clause-takes g c =
     (piece_more g.K.Keep g.D.Disk came head bytes inside x more.was more.finds have new more.place more.placed more.lies
     more.same)
 
-pub returns-in_ok-collect-in-OneMore-clause-grows : goal.returns-in_ok-collect-in-OneMore-clause-grows
-returns-in_ok-collect-in-OneMore-clause-grows g c =
-    let came = c.args.came in
-    let head = c.args.head in
-    let inside = c.self.inside.group in
-    let new = c.collect.new.self in
-    let mail = subst (λ (w : Whole). IsMember (length w.post.behind) came.number) (sym (whole_is c.self.view_is))
-    c.requires.mail in
-    let more = holds_more came head c.args.bytes.now c.in-OneMore.have inside new c.in_ok-have.field-0
-    c.in_ok-have.ensures.fits c.in-OneMore.is mail c.in_ok-collect-in-OneMore.ensures.collects in
-    subst (λ (w : Whole). length new.events ≤ length w.events + 1) (whole_is c.self.view_is)
-    (collected_events inside new came.to more.was
-    (with_part (parts_held more.was.parts head) head.index c.args.bytes.now)
-    (Take came.to more.place.position head.index) more.same)
-
-pub returns-in_ok-collect-in-OneMore-clause-members : goal.returns-in_ok-collect-in-OneMore-clause-members
-returns-in_ok-collect-in-OneMore-clause-members g c =
-    let came = c.args.came in
-    let head = c.args.head in
-    let inside = c.self.inside.group in
-    let new = c.collect.new.self in
-    let mail = subst (λ (w : Whole). IsMember (length w.post.behind) came.number) (sym (whole_is c.self.view_is))
-    c.requires.mail in
-    let more = holds_more came head c.args.bytes.now c.in-OneMore.have inside new c.in_ok-have.field-0
-    c.in_ok-have.ensures.fits c.in-OneMore.is mail c.in_ok-collect-in-OneMore.ensures.collects in
-    subst (λ (w : Whole). length new.members ≡ length w.members) (whole_is c.self.view_is)
-    (collected_members inside new came.to more.was
-    (with_part (parts_held more.was.parts head) head.index c.args.bytes.now)
-    (Take came.to more.place.position head.index) more.same)
-
-pub returns-in_ok-collect-in-OneMore-clause-touches : goal.returns-in_ok-collect-in-OneMore-clause-touches
-returns-in_ok-collect-in-OneMore-clause-touches g c = TouchesNone
-
-pub returns-in_ok-collect-in-OneMore-clause-disks : goal.returns-in_ok-collect-in-OneMore-clause-disks
-returns-in_ok-collect-in-OneMore-clause-disks g c =
-    let came = c.args.came in
-    let head = c.args.head in
-    let inside = c.self.inside.group in
-    let new = c.collect.new.self in
-    let stables = c.self.inside.stables.items in
-    let x = c.args.disks.now.items in
-    let mail = subst (λ (w : Whole). IsMember (length w.post.behind) came.number) (sym (whole_is c.self.view_is))
-    c.requires.mail in
-    let more = holds_more came head c.args.bytes.now c.in-OneMore.have inside new c.in_ok-have.field-0
-    c.in_ok-have.ensures.fits c.in-OneMore.is mail c.in_ok-collect-in-OneMore.ensures.collects in
-    let are = rw (← c.self.view_is) at c.requires.disks in
-    subst (λ (w : Whole). AreDisksOf g.D.Disk.tells g.K.Keep.kept g.K.Keep.fits g.D.Disk.seen g.D.Disk.may_leave
-    g.D.Disk.armings w.members stables x) (sym more.same)
-    (holding_disks inside.members came.to more.was (taker_is came head inside more.was more.finds)
-    (Some (with_part (parts_held more.was.parts head) head.index c.args.bytes.now)) g.D.Disk.tells g.K.Keep.kept
-    g.K.Keep.fits g.D.Disk.seen g.D.Disk.may_leave g.D.Disk.armings stables x are)
-
 pub take_last-requires-clause-up : goal.take_last-requires-clause-up
 take_last-requires-clause-up g c =
     let fits = c.in_ok-have.ensures.fits in
@@ -174,3 +114,32 @@ returns-in-TheLast-clause-takes g c =
     piece_last g.K.Keep g.D.Disk came head c.args.bytes.now old c.args.disks.now.items fits.0 fits.1 c.take_last.result
     c.take_last.new.self.whole c.take_last.new.disks.items fits.2
     (c.take_last.ensures.takes fits.0 (taker_is came head old fits.0 fits.1))
+
+pub returns-in_err-have-clause-acts : goal.returns-in_err-have-clause-acts
+returns-in_err-have-clause-acts g c = acts_none c.requires.backed
+
+pub returns-in-Again-clause-acts : goal.returns-in-Again-clause-acts
+returns-in-Again-clause-acts g c = acts_none c.requires.backed
+
+pub returns-in_err-collect-in-OneMore-clause-acts : goal.returns-in_err-collect-in-OneMore-clause-acts
+returns-in_err-collect-in-OneMore-clause-acts g c =
+    let residual = c.from_residual-in_err-collect-in-OneMore in
+    let wanted = err_from_is_err_and residual.result residual.ensures.1 in
+    rw (wanted.1, wanted.2, c.in_err-collect-in-OneMore.ensures.memory, c.self.view_is) (acts_none c.requires.backed)
+
+pub returns-in_ok-collect-in-OneMore-clause-acts : goal.returns-in_ok-collect-in-OneMore-clause-acts
+returns-in_ok-collect-in-OneMore-clause-acts g c =
+    let came = c.args.came in
+    let head = c.args.head in
+    let inside = c.self.inside.group in
+    let stables = c.self.inside.stables.items in
+    let new = c.collect.new.self in
+    let mail = subst (λ (w : Whole). IsMember (length w.post.behind) came.number) (sym (whole_is c.self.view_is))
+    c.requires.mail in
+    let more = holds_more came head c.args.bytes.now c.in-OneMore.have inside new c.in_ok-have.field-0
+    c.in_ok-have.ensures.fits c.in-OneMore.is mail c.in_ok-collect-in-OneMore.ensures.collects in
+    subst (λ (b : Backed _). Acts g.K.Keep g.D.Disk 1 (Ok (Part c.in-OneMore.have head.pieces)) b (backed_by new stables)
+    c.args.disks.now.items c.args.disks.now.items) c.self.view_is
+    (piece_acts came.to (with_part (parts_held more.was.parts head) head.index c.args.bytes.now)
+    (Take came.to more.place.position head.index) (taker_is came head inside more.was more.finds) more.same
+    (rw (← c.self.view_is) at c.requires.backed))

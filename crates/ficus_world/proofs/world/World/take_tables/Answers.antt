@@ -5,10 +5,10 @@ use Rattle.ficus_entry.specs.declared.entry.Entry.{Entry}
 use Rattle.ficus_file.specs.declared.file.FileReplica.{FileReplica}
 use Rattle.ficus_ids.specs.declared.refusal.Refusal.TheVariants.{BadMessage, Memory}
 use Rattle.ficus_saved.specs.Tables.{FitsTables}
-use Rattle.ficus_world.specs.Kills.Touches.{TouchesNone}
 use Rattle.ficus_world.specs.Moves.{TakesSpelled}
 use Rattle.ficus_world.proofs.Carrying.{carried_none}
 use Rattle.ficus_world.proofs.Collected.{at_rows, spelled_refused, spelled_takes}
+use Rattle.ficus_world.proofs.Acting.{acts_none}
 use Rattle.ficus_world.proofs.world.World.take_tables.Goals as goal
 
 pub returns-in_err-known-clause-takes : goal.returns-in_err-known-clause-takes
@@ -17,9 +17,6 @@ returns-in_err-known-clause-takes g c =
     rw (wanted.1, wanted.2)
     (carried_none (TakesSpelled c.args.came c.args.index c.args.tables.now) (Err Memory) c.args.self.now.whole
     c.args.disks.now.items tt)
-
-pub returns-in_err-known-clause-touches : goal.returns-in_err-known-clause-touches
-returns-in_err-known-clause-touches g c = TouchesNone
 
 pub returns-in_err-entries-clause-takes : goal.returns-in_err-entries-clause-takes
 returns-in_err-entries-clause-takes g c =
@@ -31,9 +28,6 @@ returns-in_err-entries-clause-takes g c =
     rw (refused.1, refused.2)
     (spelled_refused g.K.Keep g.D.Disk c.args.came c.args.index c.args.tables.now c.args.self.now.whole
     c.args.disks.now.items r unspelled)
-
-pub returns-in_err-entries-clause-touches : goal.returns-in_err-entries-clause-touches
-returns-in_err-entries-clause-touches g c = TouchesNone
 
 pub take-requires-clause-spelled : goal.take-requires-clause-spelled
 take-requires-clause-spelled g c =
@@ -48,3 +42,9 @@ returns-clause-takes g c =
     (at_rows (λ n entries files. c.args.tables.now ≡ tables_bytes n entries files) c.members.ensures c.items.ensures
     c.items-2.ensures c.in_ok-entries.ensures.spelled) c.take.result c.take.new.self.whole c.take.new.disks.items
     c.take.ensures.takes
+
+pub returns-in_err-known-clause-acts : goal.returns-in_err-known-clause-acts
+returns-in_err-known-clause-acts g c = acts_none c.requires.backed
+
+pub returns-in_err-entries-clause-acts : goal.returns-in_err-entries-clause-acts
+returns-in_err-entries-clause-acts g c = acts_none c.requires.backed

@@ -1,0 +1,90 @@
+ghost use Rattle.std.specs.Prelude.{◌≡◌, ◌+◌, ◌-◌, ◌≤◌, ◌++◌, [], length, take, OnOk};
+ghost use Rattle.ficus_formats.specs.Format.{Keeps};
+
+use ficus_ids::Memory;
+use std::marker::Model;
+
+// How many bytes a window holds at the most: so few at a time are moved by the processor's vectors.
+const WINDOW: usize = 2048;
+
+/// The last bytes of what is spelled, before they stand behind the others: bytes that are put into it take no memory,
+/// and cost no look at the room of a buffer. Contracts see it as its bytes.
+#[derive(Drop)]
+pub struct Window {
+    bytes: [u8; WINDOW],
+    count: usize,
+}
+
+impl Model for Window {
+    ghost use Rattle.std.specs.Prelude.{List, ℕ, take, ◌≤◌};
+
+    ghost Value = { List ℕ };
+
+    ghost view = { λ w. take w.count w.bytes };
+
+    ghost invariant = { λ w. w.count ≤ 2048 };
+}
+
+impl Window {
+    /// No bytes.
+    pub fn new() -> Window
+        ensures { result ≡ [] }
+    {
+        Window {
+            bytes: [0; WINDOW],
+            count: 0,
+        }
+    }
+
+    /// How many bytes there is still room for.
+    pub fn room(&self) -> usize
+        ensures { length self.now + result ≡ 2048 }
+    {
+        WINDOW - self.count
+    }
+
+    /// Puts bytes behind the others.
+    pub fn put(&mut self, bytes: &[u8])
+        requires { length self.old + length bytes.now ≤ 2048 }
+        ensures { self.new ≡ self.old ++ bytes.now }
+    {
+        let end = self.count + bytes.len();
+        self.bytes[self.count..end].copy_from_slice(bytes);
+        self.count = end;
+    }
+
+    /// Puts the first bytes of an array behind the others. There is room for all of it.
+    pub fn put_front<const N: usize>(&mut self, array: &[u8; N], count: usize)
+        requires room { length self.old + length array.now ≤ 2048 }
+        requires front { count ≤ length array.now }
+        ensures { self.new ≡ self.old ++ take count array.now }
+    {
+        let from = self.count;
+        self.bytes[from..from + N].copy_from_slice(array);
+        self.count = from + count;
+    }
+
+    /// Has room for so many bytes: where there is less, those that it holds are appended to what was spelled before.
+    pub fn make_room(&mut self, out: &mut Vec<u8>, count: usize) -> Result<(), Memory>
+        requires { count ≤ 2048 }
+        ensures room { OnOk result (length self.new + count ≤ 2048) }
+        ensures same { OnOk result (out.new.items ++ self.new ≡ out.old.items ++ self.old) }
+        ensures kept { Keeps out.old.items out.new.items }
+    {
+        if self.room() < count {
+            return self.flush(out);
+        }
+        Ok(())
+    }
+
+    /// Appends the bytes to those that were spelled before, and is empty.
+    pub fn flush(&mut self, out: &mut Vec<u8>) -> Result<(), Memory>
+        ensures put { OnOk result (out.new.items ≡ out.old.items ++ self.old) }
+        ensures empty { OnOk result (self.new ≡ []) }
+        ensures kept { Keeps out.old.items out.new.items }
+    {
+        out.extend_from_slice(&self.bytes[..self.count])?;
+        self.count = 0;
+        Ok(())
+    }
+}
