@@ -10,7 +10,7 @@ use Rattle.ficus_ids.specs.RisingLaws.{same_items}
 use Rattle.ficus_ids.specs.declared.id.Id.{Id}
 use Rattle.ficus_ids.specs.declared.kind.Kind.{Kind}
 use Rattle.ficus_ids.specs.declared.kind.Kind.TheVariants.{Dir}
-use Rattle.ficus_vv.specs.VectorLaws.{same_vector}
+use Rattle.ficus_vectors.specs.VectorLaws.{same_vector}
 use Rattle.ficus_entry.specs.Entry.{IsRising}
 use Rattle.ficus_entry.specs.declared.entry.Entry.{Entry}
 use Rattle.ficus_entry.specs.declared.entry.State.{State}
@@ -22,8 +22,8 @@ use Rattle.ficus_model.specs.declared.event.Op.{Op}
 use Rattle.ficus_model.specs.declared.event.Op.TheVariants.{Make, Remove, Write, Settle, Resolve, Discard}
 use Rattle.ficus_model.specs.Live.{removed_by}
 use Rattle.ficus_model.specs.Versions.{bytes_of}
-use Rattle.ficus_saved.specs.Saved.{FitsImage, IsFileOfPast}
-use Rattle.ficus_saved.specs.declared.saved.Saved.{Saved}
+use Rattle.ficus_durable_state.specs.Saved.{FitsImage, IsFileOfPast}
+use Rattle.ficus_durable_state.specs.declared.saved.Saved.{Saved}
 use Rattle.ficus_version_laws.specs.Listed.{Item}
 use Rattle.ficus_version_laws.specs.Operations.{Writes, GivesUp}
 use Rattle.ficus_version_laws.specs.Operations.Writes.{ByMake, ByWrite, BySettle, ByResolve}

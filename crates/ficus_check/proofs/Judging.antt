@@ -2,11 +2,11 @@
 use Rattle.std.proofs.Common.{◌≡◌, ℕ, List, Option, Result, Ok, Err, ap, ap₂, sym, ◌∙◌, refl}
 use Rattle.std.specs.Prelude.{IfOk}
 use Rattle.ficus_disk.specs.declared.pair.Pair.{Pair}
-use Rattle.ficus_keep.specs.Kept.{Kept, found_in}
-use Rattle.ficus_keep.specs.Pairs.{PairSame}
+use Rattle.ficus_keeper.specs.Kept.{Kept, found_in}
+use Rattle.ficus_keeper.specs.Pairs.{PairSame}
 use Rattle.ficus_leads.proofs.Led.{held_at}
 use Rattle.ficus_leads.specs.Holds.{Holds, OneHeld}
-use Rattle.ficus_saved.specs.declared.saved.Saved.{Saved}
+use Rattle.ficus_durable_state.specs.declared.saved.Saved.{Saved}
 use Rattle.ficus_check.specs.Judged.{IsDamaged, IsEmptyPair, IsJudged, IsSound, soundness_of}
 use Rattle.ficus_check.proofs.Owning.{holds_same}
 use Rattle.ficus_check.specs.declared.checked.Checked.{Checked}

@@ -2,11 +2,11 @@
 use Rattle.std.proofs.Common.{◌≡◌, ℕ, Bool, false, List, Option, ap₂, subst, sym}
 use Rattle.std.specs.Prelude.{◌↔◌, IsTrue}
 use Rattle.ficus_disk.specs.declared.pair.Pair.{Pair}
-use Rattle.ficus_keep.specs.Kept.{Kept, found_in}
-use Rattle.ficus_keep.specs.Pairs.{PairSame}
+use Rattle.ficus_keeper.specs.Kept.{Kept, found_in}
+use Rattle.ficus_keeper.specs.Pairs.{PairSame}
 use Rattle.ficus_leads.proofs.Led.{held_at}
 use Rattle.ficus_leads.specs.Holds.{Holds, OneHeld}
-use Rattle.ficus_saved.specs.declared.saved.Saved.{Saved}
+use Rattle.ficus_durable_state.specs.declared.saved.Saved.{Saved}
 use Rattle.ficus_check.specs.Judged.{HoldsNoneOf, IsOwn}
 
 pub is_false : (b : Bool) (P : Type 0) → b ≡ false → (IsTrue b ↔ P) → P → ⊥

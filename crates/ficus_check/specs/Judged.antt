@@ -1,10 +1,10 @@
 -- What the disks of one replica are judged to be, by what they hold.
 use Rattle.std.specs.Prelude.{◌≡◌, ℕ, ◌^◌, ◌<◌, List, [], Option}
 use Rattle.ficus_disk.specs.declared.pair.Pair.{Pair}
-use Rattle.ficus_keep.specs.Kept.{Kept, found_in}
+use Rattle.ficus_keeper.specs.Kept.{Kept, found_in}
 use Rattle.ficus_leads.specs.Holds.{Holds}
-use Rattle.ficus_saved.specs.Saved.{FitsImage}
-use Rattle.ficus_saved.specs.declared.saved.Saved.{Saved}
+use Rattle.ficus_durable_state.specs.Saved.{FitsImage}
+use Rattle.ficus_durable_state.specs.declared.saved.Saved.{Saved}
 use Rattle.ficus_check.specs.Holding.{holding_of}
 use Rattle.ficus_check.specs.declared.checked.Checked.{Checked}
 use Rattle.ficus_check.specs.declared.checked.Checked.TheVariants.{Empty, Damaged, Sound}

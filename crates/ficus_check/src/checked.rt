@@ -1,10 +1,10 @@
 ghost use Rattle.std.specs.Prelude.{◌≡◌};
 ghost use Rattle.ficus_check.specs.Judged.{soundness_of};
-ghost use Rattle.ficus_saved.specs.Saved.{FitsImage};
+ghost use Rattle.ficus_durable_state.specs.Saved.{FitsImage};
 
 use crate::holding::{Holding, holding_of};
+use ficus_durable_state::{Saved, tables_are_countable};
 use ficus_ids::Members;
-use ficus_saved::{Saved, tables_are_countable};
 
 /// What the disks of one replica are judged to be.
 #[derive(Clone, Copy, PartialEq, Eq)]

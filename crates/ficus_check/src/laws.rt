@@ -4,8 +4,8 @@ ghost use Rattle.ficus_check.specs.declared.checked.Checked.{Checked};
 ghost use Rattle.ficus_disk.specs.declared.pair.Pair.{Pair as PairValue};
 
 use ficus_disk::Disk;
-use ficus_keep::Keep;
-use ficus_stable::one_saved;
+use ficus_keeper::Keep;
+use ficus_stable_storage::one_saved;
 
 /// The law that the disks of a replica are judged to be one thing at most. It does nothing when it runs.
 pub fn one_judgement<K: Keep, D: Disk>()

@@ -1,16 +1,16 @@
 ghost use Rattle.std.specs.Prelude.{◌≡◌, ◌↔◌, IfOk, IsErrOf, IsTrue, OnOk};
 ghost use Rattle.ficus_check.specs.Judged.{HoldsNoneOf, IsOfVolume, IsOwn};
 ghost use Rattle.ficus_disk.specs.Pair.{PairRose};
-ghost use Rattle.ficus_keep.specs.Fuses.{both_unarmed, fuses_of};
-ghost use Rattle.ficus_keep.specs.Moments.{PairLeavesOld, PairSpans};
-ghost use Rattle.ficus_keep.specs.Pairs.{PairSame, PairWithin};
-ghost use Rattle.ficus_saved.specs.Saved.{FitsImage};
-ghost use Rattle.ficus_stable.specs.Stable.{IsReady};
+ghost use Rattle.ficus_keeper.specs.Fuses.{both_unarmed, fuses_of};
+ghost use Rattle.ficus_keeper.specs.Moments.{PairLeavesOld, PairSpans};
+ghost use Rattle.ficus_keeper.specs.Pairs.{PairSame, PairWithin};
+ghost use Rattle.ficus_durable_state.specs.Saved.{FitsImage};
+ghost use Rattle.ficus_stable_storage.specs.Stable.{IsReady};
 
 use ficus_disk::{Disk, Pair};
-use ficus_keep::{Keep, StoreFault};
-use ficus_saved::Saved;
-use ficus_stable::{Recovered, Stable, one_saved};
+use ficus_durable_state::Saved;
+use ficus_keeper::{Keep, StoreFault};
+use ficus_stable_storage::{Recovered, Stable, one_saved};
 use std::alloc::Global;
 
 /// Reads what the disks of this replica hold, and writes nothing. `NoImage` comes exactly where they hold nothing of

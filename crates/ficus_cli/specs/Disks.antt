@@ -2,7 +2,7 @@
 use Rattle.std.specs.Prelude.{◌≡◌, All, List, length, map}
 use Rattle.ficus_file_disk.specs.Place.{all_places, places_of}
 use Rattle.ficus_words.specs.Grammar.{Text}
-use Rattle.ficus_summary.specs.Disks.{IsFreshPair}
+use Rattle.ficus_disk.specs.Fresh.{IsFreshPair}
 use Rattle.ficus_top.specs.Words.{NameRoot}
 use Rattle.ficus_cli.specs.declared.disks.Disks.{Disks}
 use Rattle.ficus_cli.specs.declared.disks.Disks.TheVariants.{InFolder, InMemory}

@@ -2,10 +2,9 @@ ghost use Rattle.std.specs.Prelude.{IfOk};
 ghost use Rattle.ficus_top.specs.Words.{texts};
 ghost use Rattle.ficus_cli.specs.Disks.{AreFor};
 
-use ficus_disk::{MemDisk, Pair};
+use ficus_disk::{MemDisk, Pair, fresh_disks};
 use ficus_file_disk::{FileDisk, disks_in};
 use ficus_ids::Memory;
-use ficus_summary::fresh_disks;
 use ficus_top::root_of;
 use std::alloc::Global;
 use std::rt::Files;

@@ -5,7 +5,7 @@ ghost use Rattle.ficus_top.specs.Program.{Does};
 ghost use Rattle.ficus_top.specs.Words.{texts};
 ghost use Rattle.ficus_words.specs.Mode.{AreNoWords, AreWords};
 ghost use Rattle.ficus_words.specs.declared.mode.Mode.{Mode as ModeValue};
-ghost use Rattle.ficus_world.specs.Opening.{IsAtFault, Steady};
+ghost use Rattle.ficus_opening.specs.Opening.{IsAtFault, Steady};
 
 use ficus_disk::{Disk, Pair};
 use ficus_outside::{Sink, Source, StdSink, StdSource};

@@ -5,9 +5,9 @@ use Rattle.std.specs.Int.{w32, to_be_bytes}
 use Rattle.std.proofs.Common.{◌∙◌, sym, arith, inl, inr, append_assoc}
 use Rattle.std.proofs.lemmas.List.{take-replicate}
 use Rattle.ficus_ids.specs.KindLaws.{kind_sort}
-use Rattle.ficus_vv.specs.Vector.{no_counts}
+use Rattle.ficus_vectors.specs.Vector.{no_counts}
 use Rattle.ficus_file.specs.declared.file.FileReplica.{FileReplica}
-use Rattle.ficus_saved.specs.Tables.{FitsFile}
+use Rattle.ficus_durable_state.specs.Tables.{FitsFile}
 use Rattle.ficus_codec.specs.Formats.{member_counts}
 use Rattle.ficus_codec.proofs.NoCounts.{zeros}
 

@@ -5,8 +5,8 @@ use Rattle.std.specs.Int.{w32, to_be_bytes}
 use Rattle.std.proofs.Common.{refl, sym, ap, ◌∙◌, append_assoc, arith}
 use Rattle.std.proofs.lemmas.List.{replicate-append-replicate}
 use Rattle.ficus_ids.specs.Members.{IsCount}
-use Rattle.ficus_vv.specs.Vector.{no_counts}
-use Rattle.ficus_vv.specs.VectorLaws.{count_of-none}
+use Rattle.ficus_vectors.specs.Vector.{no_counts}
+use Rattle.ficus_vectors.specs.VectorLaws.{count_of-none}
 use Rattle.ficus_formats.specs.Format.{Begins}
 use Rattle.ficus_codec.specs.Formats.{counts, member_counts}
 

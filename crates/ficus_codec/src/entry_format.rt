@@ -3,9 +3,9 @@ ghost use Rattle.ficus_ids.specs.Name.{IsName};
 ghost use Rattle.ficus_formats.specs.Format.{Begins, Keeps, Reads, byte, id as id_format};
 ghost use Rattle.ficus_codec.specs.Formats.{name, marks, dead, state, state_bytes, entry, entry_bytes, entry_fields};
 ghost use Rattle.ficus_codec.specs.FormatsUnique.{unique-entry};
-ghost use Rattle.ficus_saved.specs.Tables.{IsIssuable, MayHoldEntries, FitsState, FitsEntry};
+ghost use Rattle.ficus_durable_state.specs.Tables.{IsIssuable, MayHoldEntries, FitsState, FitsEntry};
 
-use crate::UPDATE_LIMIT;
+use ficus_durable_state::UPDATE_LIMIT;
 use ficus_entry::{Entry, State};
 use ficus_formats::{ReadFault, Reader, RowSpelling, Spelling, Window, WindowSpelling, put_bytes};
 use ficus_ids::{ATTIC, Id, Marks, Members, Memory, NAME_LIMIT, Name, NameFault, ROOT};

@@ -3,22 +3,22 @@ ghost use Rattle.ficus_file.specs.File.{HaveOneText};
 ghost use Rattle.ficus_file.specs.Version.{AreCurrent};
 ghost use Rattle.ficus_file.specs.declared.version.Version.{Version as VersionValue};
 ghost use Rattle.std.specs.Int.{w32, to_be_bytes};
-ghost use Rattle.ficus_vv.specs.Vector.{in_order, no_counts};
+ghost use Rattle.ficus_vectors.specs.Vector.{in_order, no_counts};
 ghost use Rattle.ficus_formats.specs.Format.{Begins, Keeps, Reads, byte, number32, number64, id as id_format, times};
 ghost use Rattle.ficus_codec.specs.Checks.{MayPrecede, IsBare, IsWhole};
 ghost use Rattle.ficus_codec.specs.Formats.{kind, kind as kind_format, kind_number, count, counts, content, version, version_fields, versions, file, file_fields};
 ghost use Rattle.ficus_codec.specs.FormatsUnique.{unique-version, unique-file};
-ghost use Rattle.ficus_saved.specs.Tables.{FitsCounts, FitsVersion, FitsFile};
+ghost use Rattle.ficus_durable_state.specs.Tables.{FitsCounts, FitsVersion, FitsFile};
 
 use crate::entry_format::{is_issuable, passes_id};
-use crate::{FILE_LIMIT, UPDATE_LIMIT};
+use ficus_durable_state::{FILE_LIMIT, UPDATE_LIMIT};
 use ficus_file::{FileReplica, Version, Versions};
 use ficus_formats::{
     ReadFault, Reader, RowSpelling, Spelling, Window, WindowSpelling, put_bytes, put_long_string,
     put_run, read_run,
 };
 use ficus_ids::{FIXED_LIMIT, Id, Kind, Listed, Members, Memory, Sort};
-use ficus_vv::{Standing, Vector};
+use ficus_vectors::{Standing, Vector};
 use std::alloc::Global;
 use std::cmp::Ordering;
 

@@ -1,5 +1,6 @@
 // What tests do with a disk.
-use ficus_disk::{Disk, Failed};
+use ficus_disk::Disk;
+use ficus_faults::Failed;
 use ficus_ids::Memory;
 
 /// A call that changes a disk. Writes begin at its start.

@@ -32,13 +32,14 @@ impl<'a> InOrder<'a> {
         Ok(InOrder { rows })
     }
 
-    /// Entries that stand in no list, for lists to share, whose identifiers rise strictly.
-    pub fn of_rows(alloc: Global, rows: &'a [SharedEntry]) -> Result<InOrder<'a>, Memory>
+    /// Entries that stand in no list, for lists to share, whose identifiers rise strictly. Takes no memory.
+    pub fn of_rows(rows: &'a [SharedEntry]) -> InOrder<'a>
         requires { IsRising rows.now }
-        ensures { IfOk result (λ in_order. in_order ≡ rows.now) }
+        ensures { result ≡ rows.now }
     {
-        let rows = ficus_table::InOrder::of_rows(alloc, rows)?;
-        Ok(InOrder { rows })
+        InOrder {
+            rows: ficus_table::InOrder::of_rows(rows),
+        }
     }
 
     /// How many entries there are.

@@ -1,8 +1,8 @@
 -- Joins of the vectors of versions.
 use Rattle.std.proofs.Common.{◌≡◌, ℕ, ◌+◌, ◌<◌, List, [], ◌∷◌, ◌++◌, length, get_or, take, refl, sym, ap, ◌∙◌, arith}
 use Rattle.std.proofs.lemmas.List.{take_more}
-use Rattle.ficus_vv.specs.Vector.{Counts, no_counts, join}
-use Rattle.ficus_vv.specs.VectorLaws.{join_comm, join_assoc, join_covered, none_joined, join_with_none, covers_itself}
+use Rattle.ficus_vectors.specs.Vector.{Counts, no_counts, join}
+use Rattle.ficus_vectors.specs.VectorLaws.{join_comm, join_assoc, join_covered, none_joined, join_with_none, covers_itself}
 use Rattle.ficus_file.specs.declared.version.Version.{Version}
 use Rattle.ficus_file.specs.declared.file.FileReplica.{FileReplica}
 use Rattle.ficus_file.specs.Version.{join_all}

@@ -6,7 +6,7 @@ use Rattle.ficus_ids.specs.declared.kind.Kind.{Kind}
 use Rattle.ficus_ids.specs.declared.kind.Kind.TheVariants.{Dir}
 use Rattle.ficus_ids.specs.declared.kind.Sort.{Sort}
 use Rattle.ficus_ids.specs.declared.kind.Sort.TheVariants.{Directory, Versioned, Fixed}
-use Rattle.ficus_vv.specs.Vector.{no_counts, count_of, join, bump, Covers}
+use Rattle.ficus_vectors.specs.Vector.{no_counts, count_of, join, bump, Covers}
 use Rattle.ficus_file.specs.declared.file.FileReplica.{FileReplica}
 use Rattle.ficus_file.specs.declared.version.Version.{Version}
 use Rattle.ficus_file.specs.Version.{join_all, AreCurrent}

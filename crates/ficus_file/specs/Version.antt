@@ -1,7 +1,7 @@
 -- Lists of versions.
 use Rattle.std.specs.Prelude.{◌≡◌, ◌≢◌, ◌≤◌, List, [], ◌∷◌, length, AllPairs, Contains}
 use Rattle.std.specs.declared.cmp.Ordering.TheVariants.{Less}
-use Rattle.ficus_vv.specs.Vector.{Counts, no_counts, join, vector_cmp, AreApart}
+use Rattle.ficus_vectors.specs.Vector.{Counts, no_counts, join, vector_cmp, AreApart}
 use Rattle.ficus_file.specs.declared.version.Version.{Version}
 
 -- for each replica the greatest count of the versions

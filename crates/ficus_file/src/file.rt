@@ -8,7 +8,7 @@ ghost use Rattle.ficus_file.specs.File.{over_all, made_file, advanced, covered_f
 use crate::versions::{are_same, joined};
 use crate::{Version, Versions};
 use ficus_ids::{Id, Kind, Listed, Memory, Sort};
-use ficus_vv::Vector;
+use ficus_vectors::Vector;
 use std::alloc::Global;
 
 /// A file or a directory as one replica has it.

@@ -1,7 +1,7 @@
 ghost use Rattle.std.specs.Prelude.{◌≡◌, ◌↔◌, IfOk, IsTrue};
 
 use ficus_ids::{Listed, Memory};
-use ficus_vv::Vector;
+use ficus_vectors::Vector;
 use std::alloc::Global;
 
 /// What a file held after one of its updates.

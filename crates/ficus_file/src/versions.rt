@@ -1,10 +1,10 @@
 ghost use Rattle.std.specs.Prelude.{◌≡◌, ◌↔◌, [], ◌∷◌, IfOk, IsTrue};
-ghost use Rattle.ficus_vv.specs.Vector.{join};
+ghost use Rattle.ficus_vectors.specs.Vector.{join};
 ghost use Rattle.ficus_file.specs.Version.{join_all};
 
 use crate::Version;
 use ficus_ids::Memory;
-use ficus_vv::Vector;
+use ficus_vectors::Vector;
 use std::alloc::Global;
 use std::marker::Model;
 use std::rc::Rc;

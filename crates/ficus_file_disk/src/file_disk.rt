@@ -7,8 +7,8 @@ ghost use Rattle.ficus_file_disk.specs.Told.{AreRefused, IsMeasured, IsMissing, 
 
 use crate::stored_file::StoredFile;
 use crate::system::{Runtime, System};
-use ficus_disk::{Disk, Failed};
-use ficus_faults::Faults;
+use ficus_disk::Disk;
+use ficus_faults::{Failed, Faults};
 use ficus_ids::Memory;
 use std::io;
 use std::marker::Model;

@@ -1,5 +1,6 @@
 // Calls of a disk with what each answers.
-use ficus_disk::{Disk, Failed};
+use ficus_disk::Disk;
+use ficus_faults::Failed;
 use ficus_file_disk::{System, SystemDisk};
 
 /// A call, and what it answers.

@@ -1,6 +1,7 @@
 // Disks over files of the system, below the folder that the tests run in.
 use crate::calls::Call;
-use ficus_disk::{Disk, Failed};
+use ficus_disk::Disk;
+use ficus_faults::Failed;
 use ficus_file_disk::FileDisk;
 use std::fs;
 use std::test::Fail;

@@ -1,8 +1,8 @@
 -- The counts of vectors that are bumped and joined.
 use Rattle.std.proofs.Common.{◌≡◌, ◌≢◌, ℕ, ◌+◌, ◌≤◌, ◌==◌, max, Bool, true, false, if◌then◌else◌, List, [], ◌∷◌, inl, inr, arith, ap, ◌∙◌, refl}
 use Rattle.std.proofs.lemmas.Bool.{cases_eq, eqb-true}
-use Rattle.ficus_vv.specs.Vector.{Counts, count_of, bump, join as join_counts}
-use Rattle.ficus_vv.specs.VectorLaws.{bump_other, count_of-bump, count_of-join, count_of-none}
+use Rattle.ficus_vectors.specs.Vector.{Counts, count_of, bump, join as join_counts}
+use Rattle.ficus_vectors.specs.VectorLaws.{bump_other, count_of-bump, count_of-join, count_of-none}
 use Rattle.ficus_file.specs.declared.version.Version.{Version}
 use Rattle.ficus_file.specs.File.{over_all, covered_file}
 use Rattle.ficus_file.specs.declared.file.FileReplica.{FileReplica}

@@ -8,8 +8,8 @@ use Rattle.ficus_ids.specs.declared.id.Id.{Id}
 use Rattle.ficus_ids.specs.declared.kind.Kind.{Kind}
 use Rattle.ficus_ids.specs.declared.kind.Kind.TheVariants.{Dir, Symlink}
 use Rattle.ficus_file.specs.File.{most_versions}
-use Rattle.ficus_vv.specs.Vector.{vector_cmp}
-use Rattle.ficus_vv.specs.VectorLaws.{not_before_itself}
+use Rattle.ficus_vectors.specs.Vector.{vector_cmp}
+use Rattle.ficus_vectors.specs.VectorLaws.{not_before_itself}
 use Rattle.ficus_file.specs.declared.version.Version.{Version}
 use Rattle.ficus_model.specs.declared.event.Event.{Event}
 use Rattle.ficus_model.specs.Events.{IsOf}

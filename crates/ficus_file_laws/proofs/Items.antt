@@ -3,7 +3,7 @@ use Rattle.std.proofs.Common.{◌≡◌, inl, inr, ℕ, List, [], ◌∷◌, Con
 use Rattle.std.proofs.Math.ListN.{get_or-map, length-map}
 use Rattle.ficus_ids.specs.ListLaws.{here, there, here_or_there, not_inside_none}
 use Rattle.ficus_ids.specs.declared.id.Id.{Id}
-use Rattle.ficus_vv.specs.VectorLaws.{same_vector}
+use Rattle.ficus_vectors.specs.VectorLaws.{same_vector}
 use Rattle.ficus_file.specs.declared.version.Version.{Version}
 use Rattle.ficus_model.specs.declared.event.Event.{Event}
 use Rattle.ficus_version_laws.specs.Listed.{Item, IsItemOf, IsShownItem}

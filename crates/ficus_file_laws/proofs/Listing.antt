@@ -3,8 +3,8 @@ use Rattle.std.proofs.Common.{◌≡◌, ◌↔◌, ℕ, List, Contains, sym, ap
 use Rattle.std.specs.declared.cmp.Ordering.TheVariants.{Less}
 use Rattle.ficus_ids.specs.ListLaws.{same_rising}
 use Rattle.ficus_ids.specs.declared.id.Id.{Id}
-use Rattle.ficus_vv.specs.Vector.{vector_cmp}
-use Rattle.ficus_vv.specs.VectorLaws.{vector_cmp_total, not_before_itself}
+use Rattle.ficus_vectors.specs.Vector.{vector_cmp}
+use Rattle.ficus_vectors.specs.VectorLaws.{vector_cmp_total, not_before_itself}
 use Rattle.ficus_file.specs.declared.version.Version.{Version}
 use Rattle.ficus_file.specs.Version.{HasTwoTexts}
 use Rattle.ficus_model.specs.declared.event.Event.{Event}

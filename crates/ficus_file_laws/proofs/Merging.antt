@@ -3,14 +3,14 @@ use Rattle.std.proofs.Common.{◌≡◌, inl, inr, ℕ, ◌+◌, ◌≤◌, List
 use Rattle.ficus_ids.specs.Members.{IsMember}
 use Rattle.ficus_ids.specs.MembersLaws.{is_member_or_not}
 use Rattle.ficus_ids.specs.declared.id.Id.{Id}
-use Rattle.ficus_vv.specs.Vector.{Counts, count_of, Covers, IsOver}
-use Rattle.ficus_vv.specs.VectorLaws.{equal_by_covers}
+use Rattle.ficus_vectors.specs.Vector.{Counts, count_of, Covers, IsOver}
+use Rattle.ficus_vectors.specs.VectorLaws.{equal_by_covers}
 use Rattle.ficus_file.specs.declared.version.Version.{Version}
 use Rattle.ficus_model.specs.declared.event.Event.{Event}
 use Rattle.ficus_model.specs.Lawful.{Volume, IsLawful}
 use Rattle.ficus_model.specs.Vectors.{IsVectorOf}
 use Rattle.ficus_laws.proofs.Lawful.{lawful_member}
-use Rattle.ficus_recon_file.specs.Versions.{HasOver, IsOfEither, IsKept, AreMerged}
+use Rattle.ficus_merge_files.specs.Versions.{HasOver, IsOfEither, IsKept, AreMerged}
 use Rattle.ficus_version_laws.specs.Compared.{IsAtMost, IsUnder}
 use Rattle.ficus_version_laws.specs.Listed as listed
 use Rattle.ficus_version_laws.specs.Listed.{Item}

@@ -1,7 +1,7 @@
 -- The vectors of two versions stand to each other as their pasts.
 use Rattle.std.proofs.Common.{◌≡◌, ◌↔◌, ℕ, List, arith, ap}
-use Rattle.ficus_vv.specs.Vector.{Counts, count_of, Covers, IsOver, AreApart}
-use Rattle.ficus_vv.specs.VectorLaws.{equal_by_covers}
+use Rattle.ficus_vectors.specs.Vector.{Counts, count_of, Covers, IsOver, AreApart}
+use Rattle.ficus_vectors.specs.VectorLaws.{equal_by_covers}
 use Rattle.ficus_ids.specs.declared.id.Id.{Id}
 use Rattle.ficus_model.specs.declared.event.Event.{Event}
 use Rattle.ficus_model.specs.Lawful.{Volume, IsLawful}

@@ -14,7 +14,7 @@ use Rattle.ficus_laws.proofs.Positions.{AgreeBelow, agree_before, agree_more}
 use Rattle.ficus_laws.proofs.Knowledge.{knows_within}
 use Rattle.ficus_laws.proofs.Past.{agree_bytes}
 use Rattle.ficus_laws.proofs.Updates.{update_end, update_within}
-use Rattle.ficus_recon_file.specs.Versions.{IsOfEither, AreMerged}
+use Rattle.ficus_merge_files.specs.Versions.{IsOfEither, AreMerged}
 use Rattle.ficus_version_laws.proofs.Advancing.{shown_is_end}
 use Rattle.ficus_version_laws.proofs.Latest.{are_shown_same, agree_are_shown}
 use Rattle.ficus_version_laws.proofs.Orphaned.{bytes_once}

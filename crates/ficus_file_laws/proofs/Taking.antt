@@ -3,7 +3,7 @@ use Rattle.std.proofs.Common.{ℕ, ◌+◌, ◌≤◌, List, [], ◌∷◌, ◌+
 use Rattle.ficus_ids.specs.Kind.{sort_of}
 use Rattle.ficus_ids.specs.declared.id.Id.{Id}
 use Rattle.ficus_ids.specs.declared.kind.Kind.{Kind}
-use Rattle.ficus_vv.specs.Vector.{count_of}
+use Rattle.ficus_vectors.specs.Vector.{count_of}
 use Rattle.ficus_file.specs.File.{most_versions}
 use Rattle.ficus_file.specs.declared.version.Version.{Version}
 use Rattle.ficus_model.specs.declared.event.Event.{Event}
@@ -15,8 +15,8 @@ use Rattle.ficus_model.specs.Live.{IsMade}
 use Rattle.ficus_model.specs.Versions.{HasBytes}
 use Rattle.ficus_laws.specs.Updates.{Joined}
 use Rattle.ficus_laws.proofs.Positions.{agree_before}
-use Rattle.ficus_recon_file.specs.Merge.{AgreeOnBytes}
-use Rattle.ficus_recon_file.specs.Versions.{AreMerged}
+use Rattle.ficus_merge_files.specs.Merge.{AgreeOnBytes}
+use Rattle.ficus_merge_files.specs.Versions.{AreMerged}
 use Rattle.ficus_version_laws.proofs.Comparing.{compare_as_pasts}
 use Rattle.ficus_version_laws.proofs.Latest.{agree_are_shown, are_shown_merged}
 use Rattle.ficus_version_laws.proofs.Orphaned.{bytes_once}

@@ -2,10 +2,10 @@
 use Rattle.std.specs.Prelude.{◌≡◌, ℕ, List, map, Contains}
 use Rattle.ficus_ids.specs.Members.{IsMember}
 use Rattle.ficus_ids.specs.declared.id.Id.{Id}
-use Rattle.ficus_vv.specs.Vector.{count_of}
+use Rattle.ficus_vectors.specs.Vector.{count_of}
 use Rattle.ficus_file.specs.declared.version.Version.{Version}
 use Rattle.ficus_model.specs.declared.event.Event.{Event}
-use Rattle.ficus_recon_file.specs.Versions.{AreOrdered}
+use Rattle.ficus_merge_files.specs.Versions.{AreOrdered}
 use Rattle.ficus_version_laws.specs.Listed.{Item, AreShown}
 
 -- the version, its vector as the counts of all replicas

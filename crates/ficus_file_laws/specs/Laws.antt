@@ -1,7 +1,7 @@
 -- The laws, as the law functions state them.
 use Rattle.std.specs.Prelude.{◌≡◌, ◌↔◌, ℕ, ◌≤◌, List, ◌∷◌, ◌++◌, [], length, Contains}
 use Rattle.ficus_ids.specs.declared.id.Id.{Id}
-use Rattle.ficus_vv.specs.Vector.{Counts, count_of, join as join_counts}
+use Rattle.ficus_vectors.specs.Vector.{Counts, count_of, join as join_counts}
 use Rattle.ficus_file.specs.declared.version.Version.{Version}
 use Rattle.ficus_file.specs.File.{over_all}
 use Rattle.ficus_file.specs.Version.{HasTwoTexts}
@@ -13,8 +13,8 @@ use Rattle.ficus_model.specs.Known.{Knows}
 use Rattle.ficus_model.specs.Lawful.{Volume, IsLawful}
 use Rattle.ficus_model.specs.Vectors.{IsVectorOf}
 use Rattle.ficus_model.specs.Versions.{IsVersion, IsInConflict}
-use Rattle.ficus_recon_file.specs.Merge.{AgreeOnBytes}
-use Rattle.ficus_recon_file.specs.Versions.{AreMerged}
+use Rattle.ficus_merge_files.specs.Merge.{AgreeOnBytes}
+use Rattle.ficus_merge_files.specs.Versions.{AreMerged}
 use Rattle.ficus_version_laws.specs.Compared.{join}
 use Rattle.ficus_version_laws.specs.Listed as listed
 use Rattle.ficus_file_laws.specs.Items.{items_of, AreVersionsOf, CountMembersOnly}

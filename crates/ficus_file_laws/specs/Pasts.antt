@@ -1,6 +1,6 @@
 -- How the vectors of two versions stand to each other.
 use Rattle.std.specs.Prelude.{◌≡◌, ◌↔◌, ℕ, List}
-use Rattle.ficus_vv.specs.Vector.{Counts, IsOver, AreApart}
+use Rattle.ficus_vectors.specs.Vector.{Counts, IsOver, AreApart}
 use Rattle.ficus_model.specs.declared.event.Event.{Event}
 use Rattle.ficus_model.specs.Known.{HasInPast}
 use Rattle.ficus_version_laws.specs.Compared.{AreConcurrent}

@@ -1,9 +1,11 @@
--- Scripts that grow by a line.
-use Rattle.std.proofs.Common.{◌≡◌, ◌∙◌, ◌≤◌, ℕ, zero, suc, ◌+◌, ◌-◌, ◌*◌, List, [], ◌∷◌, ◌++◌, map, ap, sym, arith}
+-- Scripts that grow by a line, and by a command.
+use Rattle.std.proofs.Common.{◌≡◌, ◌∙◌, ◌≤◌, ℕ, zero, suc, ◌+◌, ◌-◌, ◌*◌, List, [], ◌∷◌, ◌++◌, map, ap, sym, arith, append_assoc}
 use Rattle.std.specs.List.{range_with_len}
 use Rattle.std.proofs.lemmas.List.{flat_map_more}
 use Rattle.std.proofs.lemmas.List.Concat.{flat_map-append}
 use Rattle.std.proofs.lemmas.List.FromFn.{map-range_with_len_more}
+use Rattle.ficus_script.specs.declared.command.Command.{Command}
+use Rattle.ficus_generator.specs.Commands.{step_command, step_commands}
 use Rattle.ficus_generator.specs.Draws.{next_state, state_after}
 use Rattle.ficus_generator.specs.Script.{step_line, step_lines, text_of}
 use Rattle.ficus_generator.specs.Step.{step_from, step_of}
@@ -53,3 +55,26 @@ parts_written dirs pulls steps start first second third empty one two three =
     ∙ ap (λ (t : List ℕ). t ++ text_of pulls) (one ∙ ap (λ (t : List ℕ). t ++ text_of dirs) empty)
     ∙ sym (flat_map-append ended dirs pulls))
     ∙ sym (flat_map-append ended (dirs ++ pulls) steps)
+
+-- the commands of so many numbers, and that of the next one
+pub commands_more : (command_of : ℕ → Command) (old so_far next : List Command) (first count number later : ℕ) →
+    number ≡ first + count → later ≡ count + 1 → so_far ≡ old ++ map command_of (range_with_len first count) →
+    next ≡ so_far ++ command_of number ∷ [] → next ≡ old ++ map command_of (range_with_len first later)
+commands_more command_of old so_far next first count number later is one_more before added =
+    let last : map command_of (range_with_len first later)
+    ≡ map command_of (range_with_len first count) ++ command_of number ∷ [] =
+    ap (λ n. map command_of (range_with_len first n)) one_more ∙ map-range_with_len_more command_of first count number (sym is) in
+    added ∙ ap (λ (t : List Command). t ++ command_of number ∷ []) before
+    ∙ append_assoc old (map command_of (range_with_len first count)) (command_of number ∷ [])
+    ∙ ap (λ (t : List Command). old ++ t) (sym last)
+
+-- the commands of so many steps, and that of the next one
+pub step_commands_more : (seed members number later state : ℕ) (old so_far next : List Command) → 1 ≤ number →
+    later ≡ number → state ≡ state_after seed (3 * (number - 1)) →
+    so_far ≡ old ++ step_commands seed (number - 1) members →
+    next ≡ so_far ++ step_command members (step_from members state number) ∷ [] →
+    next ≡ old ++ step_commands seed later members
+step_commands_more seed members number later state old so_far next some is drawn before added =
+    commands_more (λ n. step_command members (step_of members seed n)) old so_far next 1 (number - 1) number later
+    (omega (arith, some)) (omega (arith, some, is)) before
+    (added ∙ ap (λ s. so_far ++ step_command members (step_from members s number) ∷ []) drawn)

@@ -1,4 +1,4 @@
--- Each line of a generated script spells a command.
+-- Each line of a generated script spells its command.
 use Rattle.std.proofs.Common.{◌≡◌, ◌≢◌, ◌∙◌, ◌<◌, ◌^◌, ◌+◌, ◌%◌, ◌≤◌, ℕ, true, false, List, [], ◌∷◌, ◌++◌, codes, get_or, refl, ap, sym, arith, append_assoc}
 use Rattle.std.specs.Prelude.{◌==◌}
 use Rattle.std.specs.List.{list_any, AllByRecursion}
@@ -14,14 +14,16 @@ use Rattle.ficus_commands.specs.declared.change.Change.{Change}
 use Rattle.ficus_commands.specs.declared.change.Change.TheVariants as change
 use Rattle.ficus_script.specs.Arguments.{IsReplicaNumber}
 use Rattle.ficus_script.specs.Command.{IsCommand, command_text}
-use Rattle.ficus_script.specs.Script.{IsCommandLine, is_kept}
+use Rattle.ficus_script.specs.Script.{SpellsCommand, is_kept}
 use Rattle.ficus_script.proofs.Numbers.{first_digit_of_replica}
+use Rattle.ficus_script.specs.declared.command.Command.{Command}
 use Rattle.ficus_script.specs.declared.command.Command.TheVariants as command
 use Rattle.ficus_generator.specs.declared.step.Action.{Action}
 use Rattle.ficus_generator.specs.declared.step.Action.TheVariants.{MkDir, Create, Write, Rm, Mv, Resolve, Collect, Pull}
+use Rattle.ficus_generator.specs.Commands.{action_command, dir_path, file_path, mkdir_command, written}
 use Rattle.ficus_generator.specs.Lines.{StopsNothing}
 use Rattle.ficus_generator.specs.Script.{action_line, dir_text, file_text, mkdir_line, pull_line, peer_of}
-use Rattle.ficus_generator.proofs.PathTexts.{dir_path, file_path, dir_spelled, file_spelled, is_dir_path, is_file_path, dir_is_new, file_is_new, file_is_entry, written, written_spelled}
+use Rattle.ficus_generator.proofs.PathTexts.{dir_spelled, file_spelled, is_dir_path, is_file_path, dir_is_new, file_is_new, file_is_entry, written_spelled}
 
 -- ---- lines without byte 10
 
@@ -74,13 +76,13 @@ kept_path by verb path number = kept_more (decimal by ++ verb) path (kept_verb b
 
 -- ---- lines that spell a command
 
--- a line of a script: a command that stops nothing, in one line, which isn't passed over
-abbrev pub IsLine : List ℕ → Type 0
-IsLine line = (spelled : IsCommandLine line) × IsFreeOf 10 line × (is_kept line ≡ true) × StopsNothing spelled.0
+-- a line of a script: the spelling of a command that stops nothing, in one line, which isn't passed over
+abbrev pub IsLineOf : Command → List ℕ → Type 0
+IsLineOf command line = SpellsCommand command line × IsFreeOf 10 line × (is_kept line ≡ true) × StopsNothing command
 
-abbrev change_line : (by : ℕ) (asked : Change) (line : List ℕ) → IsCommand (command.Change by asked) →
-    line ≡ command_text (command.Change by asked) → IsCommandLine line
-change_line by asked line is spelled = (command.Change by asked, is, spelled)
+change_line : (by : ℕ) (asked : Change) (line : List ℕ) → IsCommand (command.Change by asked) →
+    line ≡ command_text (command.Change by asked) → SpellsCommand (command.Change by asked) line
+change_line by asked line is spelled = (is, spelled)
 
 -- a verb with one path
 one_path : (by : ℕ) (verb text path : List ℕ) → text ≡ path → decimal by ++ verb ++ text ≡ decimal by ++ (verb ++ path)
@@ -95,7 +97,7 @@ one_path_and by verb text path behind same =
     ∙ append_assoc (decimal by) (verb ++ path) behind
     ∙ ap (λ (t : List ℕ). decimal by ++ t) (append_assoc verb path behind)
 
-pub mkdir_is : (by dir : ℕ) → IsReplicaNumber by → dir < 10 → IsLine (mkdir_line by dir)
+pub mkdir_is : (by dir : ℕ) → IsReplicaNumber by → dir < 10 → IsLineOf (mkdir_command by dir) (mkdir_line by dir)
 mkdir_is by dir number lt = (
   change_line by (change.MkDir (dir_path dir)) (mkdir_line by dir)
       (record { number = number; behind = is_dir_path dir lt; takes = dir_is_new dir })
@@ -103,13 +105,13 @@ mkdir_is by dir number lt = (
   free_both (decimal by ++ codes " mkdir ") (dir_text dir) (free_verb by (codes " mkdir ") (omega (arith, number.at_most)) refl)
       (free_dir dir (omega arith)),
   kept_path by (codes " mkdir ") (dir_text dir) number,
-  tt,
+  λ by calls pick e. cc,
 )
 
-pub pull_is : (by peer : ℕ) → IsReplicaNumber by → IsReplicaNumber peer → IsLine (pull_line by peer)
+pub pull_is : (by peer : ℕ) → IsReplicaNumber by → IsReplicaNumber peer →
+    IsLineOf (command.Pull by peer) (pull_line by peer)
 pull_is by peer number other = (
   (
-    command.Pull by peer,
     record { number = tt; behind = (number, other); takes = tt },
     ap (λ (t : List ℕ). codes "pull " ++ t) (append_assoc (decimal by) (32 ∷ []) (decimal peer)),
   ),
@@ -119,7 +121,7 @@ pull_is by peer number other = (
       (free_text (codes " ") refl))
       (free_number peer (omega (arith, other.at_most))),
   refl,
-  tt,
+  λ by calls pick e. cc,
 )
 
 -- a verb with the path of a file
@@ -130,7 +132,8 @@ free_verb_file by verb dir file number lt also none =
     (free_file dir file (omega arith) (omega arith))
 
 module _ (by dir file : ℕ) (number : IsReplicaNumber by) (lt : dir < 10) (also : file < 10) where
-  create_is : IsLine (decimal by ++ codes " create " ++ file_text dir file ++ codes " lines")
+  create_is : IsLineOf (command.Change by (change.Create (file_path dir file) Lines))
+      (decimal by ++ codes " create " ++ file_text dir file ++ codes " lines")
   create_is = (
     change_line by (change.Create (file_path dir file) Lines) _
         (record {
@@ -143,11 +146,12 @@ module _ (by dir file : ℕ) (number : IsReplicaNumber by) (lt : dir < 10) (also
         (free_verb_file by (codes " create ") dir file number lt also refl) (free_text (codes " lines") refl),
     kept_more (decimal by ++ codes " create " ++ file_text dir file) (codes " lines")
         (kept_path by (codes " create ") (file_text dir file) number),
-    tt,
+    λ by calls pick e. cc,
   )
 
   write_is : (step : ℕ) → step < 2 ^ 64 →
-      IsLine (decimal by ++ codes " write " ++ file_text dir file ++ codes " \"s" ++ decimal step ++ codes "\\n\"")
+      IsLineOf (command.Change by (change.Write (file_path dir file) (written step)))
+      (decimal by ++ codes " write " ++ file_text dir file ++ codes " \"s" ++ decimal step ++ codes "\\n\"")
   write_is step fits =
       let start = decimal by ++ codes " write " ++ file_text dir file in
       let text = decimal step ++ codes "\\n\"" in
@@ -171,31 +175,33 @@ module _ (by dir file : ℕ) (number : IsReplicaNumber by) (lt : dir < 10) (also
         kept_more (start ++ codes " \"s" ++ decimal step) (codes "\\n\"")
             (kept_more (start ++ codes " \"s") (decimal step)
             (kept_more start (codes " \"s") (kept_path by (codes " write ") (file_text dir file) number))),
-        tt,
+        λ by calls pick e. cc,
       )
 
-  rm_is : IsLine (decimal by ++ codes " rm " ++ file_text dir file)
+  rm_is : IsLineOf (command.Change by (change.Rm (file_path dir file))) (decimal by ++ codes " rm " ++ file_text dir file)
   rm_is = (
     change_line by (change.Rm (file_path dir file)) _
         (record { number = number; behind = is_file_path dir file lt also; takes = file_is_entry dir file })
         (one_path by (codes " rm ") (file_text dir file) _ (file_spelled dir file lt also)),
     free_verb_file by (codes " rm ") dir file number lt also refl,
     kept_path by (codes " rm ") (file_text dir file) number,
-    tt,
+    λ by calls pick e. cc,
   )
 
-  resolve_is : IsLine (decimal by ++ codes " resolve " ++ file_text dir file)
+  resolve_is : IsLineOf (command.Change by (change.Resolve (file_path dir file)))
+      (decimal by ++ codes " resolve " ++ file_text dir file)
   resolve_is = (
     change_line by (change.Resolve (file_path dir file)) _
         (record { number = number; behind = is_file_path dir file lt also; takes = tt })
         (one_path by (codes " resolve ") (file_text dir file) _ (file_spelled dir file lt also)),
     free_verb_file by (codes " resolve ") dir file number lt also refl,
     kept_path by (codes " resolve ") (file_text dir file) number,
-    tt,
+    λ by calls pick e. cc,
   )
 
   mv_is : (next : ℕ) → next < 10 →
-      IsLine (decimal by ++ codes " mv " ++ file_text dir file ++ codes " " ++ file_text next file)
+      IsLineOf (command.Change by (change.Mv (file_path dir file) (file_path next file)))
+      (decimal by ++ codes " mv " ++ file_text dir file ++ codes " " ++ file_text next file)
   mv_is next within =
       let start = decimal by ++ codes " mv " ++ file_text dir file in (
         change_line by (change.Mv (file_path dir file) (file_path next file)) _
@@ -212,21 +218,22 @@ module _ (by dir file : ℕ) (number : IsReplicaNumber by) (lt : dir < 10) (also
             (free_file next file (omega arith) (omega arith)),
         kept_more (start ++ codes " ") (file_text next file)
             (kept_more start (codes " ") (kept_path by (codes " mv ") (file_text dir file) number)),
-        tt,
+        λ by calls pick e. cc,
       )
 
-pub collect_is : (by : ℕ) → IsReplicaNumber by → IsLine (decimal by ++ codes " collect")
+pub collect_is : (by : ℕ) → IsReplicaNumber by →
+    IsLineOf (command.Collect by) (decimal by ++ codes " collect")
 collect_is by number = (
-  (command.Collect by, record { number = number; behind = tt; takes = tt }, refl),
+  (record { number = number; behind = tt; takes = tt }, refl),
   free_verb by (codes " collect") (omega (arith, number.at_most)) refl,
   kept_verb by (codes " collect") number,
-  tt,
+  λ by calls pick e. cc,
 )
 
 -- ---- the line of a step
 
 pub action_is : (members number by place : ℕ) → IsCount members → IsMember members by → place < 8 → number < 2 ^ 64 →
-    (action : Action) → IsLine (action_line members number by place action)
+    (action : Action) → IsLineOf (action_command members number by place action) (action_line members number by place action)
 action_is members number by place count member within fits = each
   where
     replica : IsReplicaNumber by
@@ -244,7 +251,7 @@ action_is members number by place count member within fits = each
     peer : IsReplicaNumber (peer_of members by place)
     peer = record { at_least = omega arith; at_most = omega (arith, count.at_least, count.at_most) }
 
-    each : (action : Action) → IsLine (action_line members number by place action)
+    each : (action : Action) → IsLineOf (action_command members number by place action) (action_line members number by place action)
     each MkDir = mkdir_is by (place % 4) replica dir
     each Create = create_is by (place % 4) place replica dir file
     each Write = write_is by (place % 4) place replica dir file number fits

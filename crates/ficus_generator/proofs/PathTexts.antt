@@ -1,5 +1,5 @@
 -- How the paths and the texts of generated lines are spelled: none of their bytes needs an escape.
-use Rattle.std.proofs.Common.{◌≡◌, ◌∙◌, ◌<◌, ◌≤◌, ◌^◌, ◌+◌, ◌-◌, ℕ, zero, suc, List, [], ◌∷◌, ◌++◌, codes, None, refl, ap, ap₂, sym, subst, arith, append-nil, append_assoc}
+use Rattle.std.proofs.Common.{◌≡◌, ◌∙◌, ◌<◌, ◌≤◌, ◌^◌, ◌+◌, ◌-◌, ℕ, zero, suc, List, [], ◌∷◌, ◌++◌, codes, refl, ap, ap₂, sym, subst, arith, append-nil, append_assoc}
 use Rattle.std.specs.List.{flat_map, AllByRecursion}
 use Rattle.std.specs.Fmt.{decimal}
 use Rattle.std.proofs.lemmas.Fmt.{decimal_digit}
@@ -7,13 +7,11 @@ use Rattle.std.proofs.lemmas.List.Concat.{flat_map-append}
 use Rattle.std.proofs.lemmas.List.Elements.{All-cons, All-nil, All-from_get_or, recursion_from_All}
 use Rattle.ficus_ids.proofs.NumberLaws.{decimal_at}
 use Rattle.ficus_ids.specs.Name.{IsName, IsNameByte}
-use Rattle.ficus_path.specs.declared.path.Base.TheVariants.{Root}
-use Rattle.ficus_path.specs.declared.path.Part.{Part}
-use Rattle.ficus_path.specs.declared.path.Path.{Path}
 use Rattle.ficus_path.specs.Path.{IsPart, IsPath, IsNew, IsEntry}
 use Rattle.ficus_path.specs.Spelling.{byte_text, name_text, path_text}
 use Rattle.ficus_path.specs.Text.{quoted_byte_text, quoted_text}
 use Rattle.ficus_path.proofs.TextLaws.{quoted_as_in_names}
+use Rattle.ficus_generator.specs.Commands.{dir_path, file_path, part_of, written}
 use Rattle.ficus_generator.specs.Script.{dir_text, file_text}
 
 -- ---- digits
@@ -59,7 +57,7 @@ name_as_itself : (letter digit : ℕ) → digit < 10 → byte_text letter ≡ le
     name_text (letter ∷ decimal digit) ≡ letter ∷ decimal digit
 name_as_itself letter digit lt is = rw (decimal_digit digit lt, is, digit_text digit lt) refl
 
-is_name : (letter digit : ℕ) → digit < 10 → 97 ≤ letter → IsName (letter ∷ decimal digit)
+pub is_name : (letter digit : ℕ) → digit < 10 → 97 ≤ letter → IsName (letter ∷ decimal digit)
 is_name letter digit lt small = subst (λ (t : List ℕ). IsName (letter ∷ t)) (sym (decimal_digit digit lt)) (record {
   not_empty = omega arith;
   within_limit = omega arith;
@@ -78,17 +76,6 @@ is_name letter digit lt small = subst (λ (t : List ℕ). IsName (letter ∷ t))
 })
 
 -- ---- paths
-
-abbrev part_of : ℕ → ℕ → Part
-part_of letter number = record { name = letter ∷ decimal number; target = None }
-
--- the directory of this number, at the root
-abbrev pub dir_path : ℕ → Path
-dir_path dir = record { base = Root; parts = part_of 100 dir ∷ [] }
-
--- the file of this number, in that directory
-abbrev pub file_path : ℕ → ℕ → Path
-file_path dir file = record { base = Root; parts = part_of 100 dir ∷ part_of 102 file ∷ [] }
 
 d_as_itself : byte_text 100 ≡ 100 ∷ []
 unfolding byte_text
@@ -140,10 +127,6 @@ pub file_is_entry : (dir file : ℕ) → IsEntry (file_path dir file)
 file_is_entry dir file = λ e. cc
 
 -- ---- what is written
-
--- the text of the step of this number: `s`, its number and byte 10
-abbrev pub written : ℕ → List ℕ
-written number = 115 ∷ (decimal number ++ 10 ∷ [])
 
 s_as_itself : quoted_byte_text 115 ≡ 115 ∷ []
 unfolding quoted_byte_text byte_text

@@ -1,3 +1,4 @@
+pub mod Commands
 pub mod Draws
 pub mod Lines
 pub mod Script

@@ -1,11 +1,16 @@
 ghost use Rattle.std.specs.Prelude.{◌≡◌, ◌<◌, [], ◌∷◌, ◌++◌, IfOk, string_bytes};
 ghost use Rattle.ficus_ids.specs.Members.{IsMember};
+ghost use Rattle.ficus_generator.specs.Commands.{mkdir_command, step_command};
 ghost use Rattle.ficus_generator.specs.Draws.{state_after};
 ghost use Rattle.ficus_generator.specs.Script.{peer_of, step_line};
 ghost use Rattle.ficus_generator.specs.Step.{action_of, step_from};
+ghost use Rattle.ficus_script.specs.declared.command.Command.TheVariants.{Change as Asked};
 
 use crate::draws::Draws;
-use ficus_ids::{Members, Memory};
+use crate::paths::{dir_path, file_path, text_of};
+use ficus_commands::Change;
+use ficus_ids::{Kind, Members, Memory};
+use ficus_script::Command;
 use std::alloc::Global;
 
 /// What a step does, by the verb of its line.
@@ -77,6 +82,73 @@ impl Step {
             Action::Pull => Ok(format!(in alloc; "pull {by} {peer}\n")?),
         }
     }
+
+    /// The command of the step.
+    pub(crate) fn command(self, alloc: Global, members: Members) -> Result<Command, Memory>
+        requires member { IsMember members self.by }
+        requires place { self.place < 8 }
+        ensures { IfOk result (λ command. command ≡ step_command members self) }
+    {
+        let Step {
+            number,
+            by,
+            action,
+            place,
+        } = self;
+        let dir = place % 4;
+        let next = (place + 1) % 4;
+        match action {
+            Action::MkDir => mkdir(alloc, by, dir),
+            Action::Collect => Ok(Command::Collect { by }),
+            Action::Pull => Ok(Command::Pull {
+                by,
+                to: peer_of(members, by, place),
+            }),
+            Action::Create => {
+                let path = file_path(alloc, dir, place)?;
+                Ok(changed(
+                    by,
+                    Change::Create {
+                        path,
+                        kind: Kind::Lines,
+                    },
+                ))
+            }
+            Action::Write => {
+                let path = file_path(alloc, dir, place)?;
+                let text = text_of(alloc, number)?;
+                Ok(changed(by, Change::Write { path, text }))
+            }
+            Action::Rm => {
+                let path = file_path(alloc, dir, place)?;
+                Ok(changed(by, Change::Rm { path }))
+            }
+            Action::Mv => {
+                let from = file_path(alloc, dir, place)?;
+                let path = file_path(alloc, next, place)?;
+                Ok(changed(by, Change::Mv { from, path }))
+            }
+            Action::Resolve => {
+                let path = file_path(alloc, dir, place)?;
+                Ok(changed(by, Change::Resolve { path }))
+            }
+        }
+    }
+}
+
+/// The command by which a member makes the directory of this number.
+pub(crate) fn mkdir(alloc: Global, by: u8, dir: u8) -> Result<Command, Memory>
+    requires { dir < 10 }
+    ensures { IfOk result (λ command. command ≡ mkdir_command by dir) }
+{
+    let path = dir_path(alloc, dir)?;
+    Ok(changed(by, Change::MkDir { path }))
+}
+
+fn changed(by: u8, change: Change) -> Command
+    ensures { result ≡ Asked by change }
+{
+    Command::Change { by, change }
 }
 
 // What the number below ten stands for.

@@ -9,7 +9,7 @@ use Rattle.ficus_disk.specs.declared.disk.Disk.{Ghosts as Disk}
 use Rattle.ficus_ids.specs.Members.{IsMember}
 use Rattle.ficus_ids.specs.declared.refusal.Refusal.{Refusal}
 use Rattle.ficus_ids.specs.declared.refusal.Refusal.TheVariants as refusal
-use Rattle.ficus_keep.specs.declared.keep.Keep.{Ghosts as Keep}
+use Rattle.ficus_keeper.specs.declared.keep.Keep.{Ghosts as Keep}
 use Rattle.ficus_path.specs.declared.path.Path.{Path}
 use Rattle.ficus_script.specs.declared.answer.Answer.{Answer}
 use Rattle.ficus_script.specs.declared.answer.Answer.TheVariants.{Refused}

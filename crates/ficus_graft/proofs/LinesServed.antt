@@ -2,12 +2,12 @@
 use Rattle.std.proofs.Common.{◌≡◌, ◌⊎◌, ℕ, ◌+◌, ◌-◌, ◌<◌, List, [], ◌∷◌, ◌++◌, length, get_or, take, refl, sym, ap, ◌∙◌, subst, inl, inr, arith}
 use Rattle.std.proofs.lemmas.List.{append-nil, append_assoc, take_more}
 use Rattle.ficus_disk.specs.declared.disk.Disk.{Ghosts as Disk}
-use Rattle.ficus_keep.specs.declared.keep.Keep.{Ghosts as Keep}
+use Rattle.ficus_keeper.specs.declared.keep.Keep.{Ghosts as Keep}
 use Rattle.ficus_script.specs.declared.answer.Answer.{Answer}
 use Rattle.ficus_script.specs.Answer.{answer_text_of}
-use Rattle.ficus_serving.specs.Puts.{PutsFront}
-use Rattle.ficus_serving.specs.Serving.{texts_of}
-use Rattle.ficus_serving.proofs.Serves.{texts_append}
+use Rattle.ficus_loop.specs.Puts.{PutsFront}
+use Rattle.ficus_loop.specs.Serving.{texts_of}
+use Rattle.ficus_loop.proofs.Serves.{texts_append}
 use Rattle.ficus_run_laws.proofs.Numbers.{number_read}
 use Rattle.ficus_runs.specs.Numbered.{IsNumbered}
 use Rattle.ficus_world.specs.World.{Backed}

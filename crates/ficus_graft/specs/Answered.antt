@@ -5,7 +5,7 @@ use Rattle.ficus_ids.specs.declared.refusal.Refusal.TheVariants as refusal
 use Rattle.ficus_script.specs.declared.answer.Answer.{Answer}
 use Rattle.ficus_script.specs.declared.answer.Answer.TheVariants.{Refused}
 use Rattle.ficus_script.specs.declared.command.Command.{Command}
-use Rattle.ficus_serving.specs.Tally.{is_refusal}
+use Rattle.ficus_loop.specs.Tally.{is_refusal}
 use Rattle.ficus_script.specs.declared.volume_line.VolumeLine.{VolumeLine}
 use Rattle.ficus_graft.specs.Route.{Sending, sending, Ending, Route}
 use Rattle.ficus_graft.specs.Route.Ending.{Apart, Arrives}

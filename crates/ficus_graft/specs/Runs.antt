@@ -4,7 +4,7 @@ use Rattle.std.specs.declared.alloc.Global.{Global}
 use Rattle.ficus_disk.specs.declared.disk.Disk.{Ghosts as Disk}
 use Rattle.ficus_disk.specs.declared.pair.Pair.{Pair}
 use Rattle.ficus_ids.specs.Members.{IsMember}
-use Rattle.ficus_keep.specs.declared.keep.Keep.{Ghosts as Keep}
+use Rattle.ficus_keeper.specs.declared.keep.Keep.{Ghosts as Keep}
 use Rattle.ficus_model.specs.Lawful.{Volume}
 use Rattle.ficus_script.specs.declared.command.Command.{Command}
 use Rattle.ficus_script.specs.declared.answer.Answer.{Answer}
@@ -23,8 +23,8 @@ use Rattle.ficus_graft.specs.Answered.{AreAnswered, IsAnswered, IsLastTo, IsUnre
 use Rattle.ficus_graft.specs.Route.{Route}
 use Rattle.ficus_graft.specs.Route.Ending.{Arrives}
 use Rattle.ficus_script.specs.Command.{IsCommand, IsStep}
-use Rattle.ficus_serving.specs.Puts.{PutsFront}
-use Rattle.ficus_serving.specs.Serving.{texts_of}
+use Rattle.ficus_loop.specs.Puts.{PutsFront}
+use Rattle.ficus_loop.specs.Serving.{texts_of}
 
 -- The commands have these answers in a volume, from the world of the model W on, and its world stands for what they
 -- lead to; as many events are stored as happened. The link counted each of its failures, and so did the disks; their

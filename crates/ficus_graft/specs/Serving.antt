@@ -1,10 +1,10 @@
 -- Lines that are answered one after the other.
 use Rattle.std.specs.Prelude.{◌≡◌, ◌⊎◌, ℕ, List, ◌++◌, All}
 use Rattle.ficus_disk.specs.declared.disk.Disk.{Ghosts as Disk}
-use Rattle.ficus_keep.specs.declared.keep.Keep.{Ghosts as Keep}
+use Rattle.ficus_keeper.specs.declared.keep.Keep.{Ghosts as Keep}
 use Rattle.ficus_script.specs.Answer.{answer_text_of}
 use Rattle.ficus_script.specs.declared.answer.Answer.{Answer}
-use Rattle.ficus_serving.specs.Puts.{PutsFront}
+use Rattle.ficus_loop.specs.Puts.{PutsFront}
 use Rattle.ficus_world.specs.Follows.{TellsFor}
 use Rattle.ficus_world.specs.World.{Backed}
 use Rattle.ficus_script.specs.declared.volume_line.VolumeLine.{VolumeLine}

@@ -2,16 +2,16 @@ ghost use Rattle.std.specs.Prelude.{◌≡◌, ◌<◌, ◌≤◌, ◌+◌, All,
 ghost use Rattle.ficus_faults.specs.Faults.{Rose};
 ghost use Rattle.ficus_graft.specs.Runs.{AnswersFront, AnswersLine, AnswersLines, AreHeld, ForeseeFew, HaveRoom, IsLineOf};
 ghost use Rattle.ficus_graft.specs.Serving.{Told, PutsLine, PutsLineFront};
-ghost use Rattle.ficus_serving.specs.Serving.{script_limit, serving_limit};
+ghost use Rattle.ficus_loop.specs.Serving.{script_limit, serving_limit};
 ghost use Rattle.ficus_world.specs.Follows.{TellsFor};
 ghost use Rattle.ficus_world.specs.World.{event_limit, most_unforeseen};
 
 use crate::volumes::Volumes;
 use ficus_disk::{Disk, Pair};
-use ficus_keep::Keep;
+use ficus_keeper::Keep;
+use ficus_loop::{AnsweringFault, put_answer};
 use ficus_outside::{Link, Sink};
 use ficus_script::VolumeLine;
-use ficus_serving::{AnsweringFault, put_answer};
 use std::alloc::Global;
 
 /// Answers each line and puts its answer, before the next one. `Sink` comes where the sink failed, and always where it

@@ -9,7 +9,7 @@ ghost use Rattle.ficus_graft.specs.Following.{Halts, IsRefusedBy, LineHalts, Pas
 ghost use Rattle.ficus_graft.specs.Paths.{ArePassed, along, names_entries, paths_of, rest_behind};
 ghost use Rattle.ficus_graft.specs.Route.{ls, sending};
 ghost use Rattle.ficus_graft.specs.Runs.{AnswersLine, AreHeld, ForeseeFew, HaveRoom, IsCutShort, MayBeCut, Sends, StopsLine};
-ghost use Rattle.ficus_serving.specs.Tally.{is_refusal};
+ghost use Rattle.ficus_loop.specs.Tally.{is_refusal};
 ghost use Rattle.ficus_world.specs.Follows.{TellsFor};
 ghost use Rattle.ficus_world.specs.World.{event_limit, most_unforeseen};
 
@@ -20,7 +20,7 @@ use crate::following::{End, Stop};
 use ficus_commands::Look;
 use ficus_disk::{Disk, Pair};
 use ficus_ids::{Memory, Refusal};
-use ficus_keep::Keep;
+use ficus_keeper::Keep;
 use ficus_outside::Link;
 use ficus_path::{Base, Part};
 use ficus_script::{Answer, Command, VolumeLine};

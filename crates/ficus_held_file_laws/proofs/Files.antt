@@ -6,8 +6,8 @@ use Rattle.ficus_ids.specs.Members.{IsMember}
 use Rattle.ficus_ids.specs.RisingLaws.{held_or_not, same_items}
 use Rattle.ficus_ids.specs.declared.id.Id.{Id}
 use Rattle.ficus_ids.specs.declared.kind.Kind.{Kind}
-use Rattle.ficus_vv.specs.Vector.{count_of}
-use Rattle.ficus_vv.specs.VectorLaws.{same_vector}
+use Rattle.ficus_vectors.specs.Vector.{count_of}
+use Rattle.ficus_vectors.specs.VectorLaws.{same_vector}
 use Rattle.ficus_file.specs.Files.{id_of, Holds, HoldsUnder}
 use Rattle.ficus_file.specs.declared.file.FileReplica.{FileReplica}
 use Rattle.ficus_file.specs.declared.version.Version.{Version}

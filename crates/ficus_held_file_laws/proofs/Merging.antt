@@ -5,7 +5,7 @@ use Rattle.std.specs.Prelude.{Contains}
 use Rattle.ficus_ids.specs.ListLaws.{into_map, from_map}
 use Rattle.ficus_ids.specs.RisingLaws.{held_or_not}
 use Rattle.ficus_ids.specs.declared.id.Id.{Id}
-use Rattle.ficus_vv.specs.Vector.{count_of}
+use Rattle.ficus_vectors.specs.Vector.{count_of}
 use Rattle.ficus_entry.specs.declared.entry.Entry.{Entry}
 use Rattle.ficus_file.specs.Files.{id_of, AreFiles, Holds, HoldsUnder}
 use Rattle.ficus_file.specs.declared.file.FileReplica.{FileReplica}
@@ -20,8 +20,8 @@ use Rattle.ficus_laws.proofs.Issued.{made_once}
 use Rattle.ficus_laws.proofs.Lawful.{lawful_before}
 use Rattle.ficus_laws.proofs.Positions.{agree_before, at_from_before}
 use Rattle.ficus_laws.proofs.Updates.{agree_update}
-use Rattle.ficus_recon_file.specs.Merge.{CanMerge, Fit, IsMergedFile, IsTaken, AreMergedFiles}
-use Rattle.ficus_recon_file.proofs.Current.{ordered_of}
+use Rattle.ficus_merge_files.specs.Merge.{CanMerge, Fit, IsMergedFile, IsTaken, AreMergedFiles}
+use Rattle.ficus_merge_files.proofs.Current.{ordered_of}
 use Rattle.ficus_removal_laws.specs.Laws.{IsAnswer}
 use Rattle.ficus_held_laws.specs.Objects.{KeptObject, HasObject, IsObjectMerged, IsOfBoth, IsOnlyOf, IsTaken as IsTakenObject, HasMerged, AreObjectsMerged}
 use Rattle.ficus_held_laws.proofs.Merging.{objects_merged}

@@ -8,7 +8,7 @@ use Rattle.ficus_ids.specs.declared.id.Id.{Id}
 use Rattle.ficus_ids.specs.declared.kind.Kind.{Kind}
 use Rattle.ficus_ids.specs.declared.kind.Kind.TheVariants.{Dir}
 use Rattle.ficus_ids.specs.Rising.{Adds}
-use Rattle.ficus_vv.specs.VectorLaws.{count_of-none}
+use Rattle.ficus_vectors.specs.VectorLaws.{count_of-none}
 use Rattle.ficus_file.specs.File.{made_file, first_versions, advanced, covered_file}
 use Rattle.ficus_file.specs.Files.{id_of, AreFiles, Holds, IsChanged}
 use Rattle.ficus_file.specs.declared.file.FileReplica.{FileReplica}

@@ -4,7 +4,7 @@ use Rattle.ficus_ids.specs.Members.{IsMember}
 use Rattle.ficus_ids.specs.declared.id.Id.{Id}
 use Rattle.ficus_ids.specs.declared.kind.Kind.{Kind}
 use Rattle.ficus_ids.specs.Rising.{Adds}
-use Rattle.ficus_vv.specs.Vector.{count_of}
+use Rattle.ficus_vectors.specs.Vector.{count_of}
 use Rattle.ficus_entry.specs.declared.entry.Entry.{Entry}
 use Rattle.ficus_entry.specs.declared.entry.State.TheVariants.{Live, Dead}
 use Rattle.ficus_file.specs.File.{HasUncovered, made_file, advanced, covered_file}
@@ -22,7 +22,7 @@ use Rattle.ficus_model.specs.Lawful.{Volume, IsLawful}
 use Rattle.ficus_model.specs.Live.{IsLive, IsMade, HasName}
 use Rattle.ficus_model.specs.View.{HasUnseen, IsOrphan}
 use Rattle.ficus_laws.specs.Updates.{IsIssued}
-use Rattle.ficus_recon_file.specs.Merge.{Fit, AreMergedFiles}
+use Rattle.ficus_merge_files.specs.Merge.{Fit, AreMergedFiles}
 use Rattle.ficus_version_laws.specs.Operations.{GivesUp}
 use Rattle.ficus_removal_laws.specs.Laws.{IsAnswer}
 use Rattle.ficus_removal_laws.specs.Marks.{IsMarked}

@@ -1,12 +1,12 @@
 -- What entries and files of tables are for a history.
 use Rattle.std.specs.Prelude.{ℕ, List, map, Contains}
-use Rattle.ficus_vv.specs.Vector.{count_of}
+use Rattle.ficus_vectors.specs.Vector.{count_of}
 use Rattle.ficus_entry.specs.Entry.{IsRising as AreRisingEntries}
 use Rattle.ficus_entry.specs.declared.entry.Entry.{Entry}
 use Rattle.ficus_file.specs.Files.{IsRising as AreRisingFiles}
 use Rattle.ficus_file.specs.declared.file.FileReplica.{FileReplica}
 use Rattle.ficus_model.specs.declared.event.Event.{Event}
-use Rattle.ficus_recon_file.specs.Versions.{AreOrdered}
+use Rattle.ficus_merge_files.specs.Versions.{AreOrdered}
 use Rattle.ficus_held_laws.specs.Entries.{AreKeptEntries}
 use Rattle.ficus_held_laws.specs.Objects.{KeptObject, AreKeptObjects}
 use Rattle.ficus_file_laws.specs.Items.{items_of}

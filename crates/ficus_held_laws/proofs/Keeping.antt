@@ -8,8 +8,8 @@ use Rattle.ficus_entry.specs.Entry.{HoldsUnder}
 use Rattle.ficus_entry.specs.declared.entry.Entry.{Entry as Kept}
 use Rattle.ficus_entry.specs.declared.entry.State.{State}
 use Rattle.ficus_entry.specs.declared.entry.State.TheVariants.{Live, Dead}
-use Rattle.ficus_recon_dir.specs.Merge.{MergesEntries}
-use Rattle.ficus_recon_dir.specs.Table.{state_of, KeepsPlace, MergesEntry}
+use Rattle.ficus_merge_entries.specs.Merge.{MergesEntries}
+use Rattle.ficus_merge_entries.specs.Table.{state_of, KeepsPlace, MergesEntry}
 use Rattle.ficus_model.specs.declared.event.Event.{Event}
 use Rattle.ficus_model.specs.declared.event.Event.TheVariants.{Accept, Collect}
 use Rattle.ficus_model.specs.Events.{IsOf, through}
@@ -28,7 +28,7 @@ use Rattle.ficus_removal_laws.proofs.Dropping.{dropped_cases, dropped_now, dropp
 use Rattle.ficus_removal_laws.proofs.Marking.{marks_kept}
 use Rattle.ficus_merge_laws.specs.States.{StandsAs}
 use Rattle.ficus_merge_laws.proofs.Rows.{merge_stands}
-use Rattle.ficus_gc.specs.Reclaim.{IsFullyKnown}
+use Rattle.ficus_collection.specs.Reclaim.{IsFullyKnown}
 use Rattle.ficus_held_laws.specs.Entries.{IsKeptEntry, AreKeptEntries, place_of}
 use Rattle.ficus_held_laws.proofs.Standing.{SameEntry, same_entry_back, same_from_updates, kept_same, kept_once}
 

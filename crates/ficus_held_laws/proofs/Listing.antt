@@ -27,7 +27,7 @@ use Rattle.ficus_laws.proofs.OneMore.{same_quiet}
 use Rattle.ficus_laws.proofs.Shown.{entered_within}
 use Rattle.ficus_removal_laws.specs.Marks.{IsEnteredAs, IsAbsent}
 use Rattle.ficus_removal_laws.proofs.Dropping.{dropped_more, dropped_now}
-use Rattle.ficus_gc.specs.Reclaim.{IsFullyKnown, AreUndropped}
+use Rattle.ficus_collection.specs.Reclaim.{IsFullyKnown, AreUndropped}
 use Rattle.ficus_held_laws.specs.Entries.{IsKeptEntry, AreKeptEntries, IsIdle, IsNewEntry, HasSteppedEntry, AreEntriesStepped}
 use Rattle.ficus_held_laws.proofs.Standing.{stands_same, kept_same, kept_of, others_same_entry}
 use Rattle.ficus_held_laws.proofs.Stepping.{stepped_kept}

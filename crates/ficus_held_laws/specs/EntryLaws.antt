@@ -2,7 +2,7 @@
 use Rattle.std.specs.Prelude.{◌≡◌, ◌≢◌, ◌⊎◌, ◌↔◌, ℕ, ◌≤◌, List, [], ◌∷◌, ◌++◌, Contains}
 use Rattle.ficus_ids.specs.Members.{IsMember}
 use Rattle.ficus_entry.specs.declared.entry.Entry.{Entry as Kept}
-use Rattle.ficus_recon_dir.specs.Merge.{MergesEntries}
+use Rattle.ficus_merge_entries.specs.Merge.{MergesEntries}
 use Rattle.ficus_model.specs.declared.event.Event.{Event}
 use Rattle.ficus_model.specs.declared.event.Event.TheVariants.{Update, Accept, Collect}
 use Rattle.ficus_model.specs.declared.event.Op.{Op}
@@ -11,7 +11,7 @@ use Rattle.ficus_model.specs.Held.{IsDropped}
 use Rattle.ficus_model.specs.Lawful.{Volume, IsLawful}
 use Rattle.ficus_laws.specs.Updates.{next_number}
 use Rattle.ficus_removal_laws.specs.Laws.{IsAnswer}
-use Rattle.ficus_gc.specs.Reclaim.{IsFullyKnown, AreUndropped}
+use Rattle.ficus_collection.specs.Reclaim.{IsFullyKnown, AreUndropped}
 use Rattle.ficus_held_laws.specs.Entries.{IsKeptEntry, AreKeptEntries, IsFromUpdate, AreEntriesStepped, IsIdle}
 
 -- what is kept isn't dropped

@@ -12,9 +12,9 @@ use Rattle.ficus_formats.specs.declared.fault.ReadFault.{ReadFault}
 use Rattle.ficus_formats.specs.declared.fault.ReadFault.TheVariants as read
 use Rattle.ficus_codec.specs.Formats.{tables, tables_bytes}
 use Rattle.ficus_codec.proofs.TableFormats.{unique-tables}
-use Rattle.ficus_saved.specs.Saved.{FitsImage}
-use Rattle.ficus_saved.specs.Tables.{FitsTables}
-use Rattle.ficus_saved.specs.declared.saved.Saved.{Saved}
+use Rattle.ficus_durable_state.specs.Saved.{FitsImage}
+use Rattle.ficus_durable_state.specs.Tables.{FitsTables}
+use Rattle.ficus_durable_state.specs.declared.saved.Saved.{Saved}
 use Rattle.ficus_image.specs.declared.decoding.Spelled.{Spelled}
 use Rattle.ficus_image.specs.declared.front.Front.{Front}
 use Rattle.ficus_image.specs.declared.image_fault.ImageFault.{ImageFault}

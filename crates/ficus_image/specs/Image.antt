@@ -1,13 +1,14 @@
--- Images: how what a replica saves is spelled. Which of it may stand in an image `FitsImage` of `ficus_saved` says.
+-- Images: how what a replica saves is spelled. Which of it may stand in an image says `FitsImage` of the crate
+-- `ficus_durable_state`.
 use Rattle.std.specs.Prelude.{◌≡◌, ◌≢◌, ℕ, List, ◌++◌, Contains, codes}
 use Rattle.ficus_ids.specs.Members.{IsCount}
 use Rattle.ficus_ids.specs.declared.kind.Kind.TheVariants.{Symlink}
 use Rattle.ficus_file.specs.declared.file.FileReplica.{FileReplica}
 use Rattle.ficus_formats.specs.Format.{Begins, Format, byte, number32, number64, ◌then◌, shaped, meeting}
 use Rattle.ficus_codec.specs.Formats.{tables_bytes}
-use Rattle.ficus_saved.specs.Saved.{FitsImage}
-use Rattle.ficus_saved.specs.Tables.{FitsTables}
-use Rattle.ficus_saved.specs.declared.saved.Saved.{Saved}
+use Rattle.ficus_durable_state.specs.Saved.{FitsImage}
+use Rattle.ficus_durable_state.specs.Tables.{FitsTables}
+use Rattle.ficus_durable_state.specs.declared.saved.Saved.{Saved}
 use Rattle.ficus_image.specs.declared.decoding.Spelled.{Spelled}
 use Rattle.ficus_image.specs.declared.front.Front.{Front}
 use Rattle.ficus_image.specs.declared.image_version.ImageVersion.{ImageVersion}

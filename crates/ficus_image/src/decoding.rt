@@ -4,17 +4,19 @@ ghost use Rattle.ficus_formats.specs.Format.{ReadsAll};
 ghost use Rattle.ficus_ids.specs.Members.{IsMember};
 ghost use Rattle.ficus_ids.specs.declared.kind.Kind.TheVariants.{Symlink};
 ghost use Rattle.ficus_file.specs.declared.file.FileReplica.{FileReplica as FileValue};
-ghost use Rattle.ficus_saved.specs.Saved.{FitsImage, HasOwnPast};
-ghost use Rattle.ficus_saved.specs.Tables.{FitsTables};
-ghost use Rattle.ficus_saved.specs.declared.saved.Saved.{Saved as SavedValue};
+ghost use Rattle.ficus_durable_state.specs.Saved.{FitsImage, HasOwnPast};
+ghost use Rattle.ficus_durable_state.specs.Tables.{FitsTables};
+ghost use Rattle.ficus_durable_state.specs.declared.saved.Saved.{Saved as SavedValue};
 ghost use Rattle.ficus_image.specs.Image.{BeginsFront, FitsSpelled, HasVersion, IsImageOf, image, image_parts, version_bytes};
 ghost use Rattle.ficus_image.specs.declared.image_version.ImageVersion.{ImageVersion as Version};
 
 use crate::front::read_front;
 use crate::{ImageFault, ImageVersion};
-use ficus_codec::{BYTE_LIMIT, ReadFault, Reader, Saved, UPDATE_LIMIT, read_tables};
+use ficus_codec::read_tables;
+use ficus_durable_state::{BYTE_LIMIT, Saved, UPDATE_LIMIT};
 use ficus_entry::Entries;
 use ficus_file::{Files, FilesInOrder};
+use ficus_formats::{ReadFault, Reader};
 use ficus_ids::{Kind, Members, Memory};
 use std::alloc::Global;
 

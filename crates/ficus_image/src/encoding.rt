@@ -1,10 +1,11 @@
 ghost use Rattle.std.specs.Prelude.{◌≡◌, ◌++◌, IfOk, OnErr, OnOk};
 ghost use Rattle.ficus_formats.specs.Format.{Keeps};
-ghost use Rattle.ficus_saved.specs.Saved.{FitsImage};
+ghost use Rattle.ficus_durable_state.specs.Saved.{FitsImage};
 ghost use Rattle.ficus_image.specs.Image.{image_bytes};
 
 use crate::front::put_front;
-use ficus_codec::{Saved, put_tables};
+use ficus_codec::put_tables;
+use ficus_durable_state::Saved;
 use ficus_ids::Memory;
 use std::alloc::Global;
 

@@ -5,7 +5,8 @@ ghost use Rattle.ficus_image.specs.declared.image_version.ImageVersion.{ImageVer
 ghost use Rattle.ficus_image.specs.declared.image_version.ImageVersion.TheVariants.{Second};
 
 use crate::ImageVersion;
-use ficus_codec::{ReadFault, Reader, Saved, put_bytes, put_u8, put_u32, put_u64};
+use ficus_durable_state::Saved;
+use ficus_formats::{ReadFault, Reader, put_bytes, put_u8, put_u32, put_u64};
 use ficus_ids::{Members, Memory};
 
 /// What stands in front of the tables.

@@ -1,21 +1,23 @@
 -- A commit on one of the disks, by the one in force and the other.
-use Rattle.std.proofs.Common.{◌≡◌, ◌⊎◌, inl, inr, ℕ, ◌+◌, ◌==◌, ◌<◌, ◌≤◌, ◌^◌, Bool, true, false, not, Option, Some, None, List, [], ◌∷◌, ◌++◌, length, take, refl, sym, ◌∙◌, ap, subst, arith, length-append, length-drop}
+use Rattle.std.proofs.Common.{◌≡◌, inl, inr, ℕ, ◌+◌, ◌==◌, ◌<◌, ◌≤◌, ◌^◌, Bool, true, false, not, Option, Some, None, List, [], ◌∷◌, ◌++◌, length, take, refl, sym, ◌∙◌, ap, subst, arith, length-append, length-drop}
 use Rattle.std.specs.Prelude.{◌||◌, if◌then◌else◌, nat_le}
 use Rattle.std.proofs.lemmas.List.{take_at, length-take-le, length_push}
 use Rattle.std.proofs.lemmas.Bool.Decides.{nat_tests}
-use Rattle.ficus_keep.specs.Kept.{Kept, after_commit, image_alone}
+use Rattle.ficus_keeper.specs.Kept.{Kept, after_commit, image_alone}
+use Rattle.ficus_keeper.proofs.Sides.{kept_at}
 use Rattle.ficus_slot.specs.Gate.{GateIs}
 use Rattle.ficus_slot.specs.Slot.{Saved, slot_in}
 use Rattle.ficus_slot.proofs.Written.{open_of, tail_of}
-use Rattle.ficus_slot.specs.Stays.{IsFound, IsNew, IsOld, Stays}
-use Rattle.ficus_log.specs.Appending.{Appends, HasRecord, IsAppended, IsShutAt, StaysShut}
+use Rattle.ficus_slot.specs.Stays.{IsFound, IsNew, IsOld}
+use Rattle.ficus_two_slots.specs.Slots.{bound}
+use Rattle.ficus_log.specs.Appending.{HasRecord, IsAppended, IsShutAt, StaysShut}
 use Rattle.ficus_log.specs.Log.{Log, is_open, log_of, record_range, tail_log}
 use Rattle.ficus_log.proofs.Walks.{closed, length-record_range, log_appended, log_shut}
 use Rattle.ficus_log.proofs.Fronts.{HasFront, front_of, slot_behind, tail_behind}
 use Rattle.ficus_journal.specs.Journal.{FitsSide, saves_image}
-use Rattle.ficus_journal.specs.Logs.{kept_on, log_kept}
+use Rattle.ficus_journal.specs.Logs.{kept_in, kept_on, log_kept}
 use Rattle.ficus_journal.specs.declared.journal.Journal.{Journal}
-use Rattle.ficus_journal.proofs.Choosing.{bound, force_kept, kept_at, kept_loses, kept_none, kept_slot, stands_kept}
+use Rattle.ficus_journal.proofs.Choosing.{force_kept, kept_loses, kept_none, kept_slot, stands_kept}
 
 abbrev pub saved_as : ℕ → List ℕ → Saved
 saved_as generation body = record { generation = generation; body = body }
@@ -149,12 +151,12 @@ module _ (on_a : Bool) (keeper : Journal) (force other : List ℕ)
   abbrev before : Kept
   before = log_kept (saved_as keeper.generation fits.stands.body) force
 
-  pub before_is : kept_at on_a force other ≡ Some (log_kept (saved_as keeper.generation fits.stands.body) force)
+  pub before_is : kept_at kept_in on_a force other ≡ Some (log_kept (saved_as keeper.generation fits.stands.body) force)
   before_is = stands_kept on_a keeper.generation keeper.shut force other fits.stands
 
   -- the generation behind the kept one
   pub next_of : (new : ℕ)
-      → ((k : Kept) → kept_at on_a force other ≡ Some k → new ≡ k.generation + length k.records + 1)
+      → ((k : Kept) → kept_at kept_in on_a force other ≡ Some k → new ≡ k.generation + length k.records + 1)
       → new ≡ keeper.generation + keeper.count + 1
   next_of new next = omega (arith, next before before_is, fits.records.counted)
 
@@ -168,7 +170,7 @@ module _ (on_a : Bool) (keeper : Journal) (force other : List ℕ)
   module _ (new : ℕ) (body : List ℕ) (next : new ≡ keeper.generation + keeper.count + 1) where
     -- an image on the other disk
     pub image_kept : (c : List ℕ) → IsNew (saved_as new body) c
-        → kept_at (not on_a) c force ≡ Some (image_alone new body)
+        → kept_at kept_in (not on_a) c force ≡ Some (image_alone new body)
     image_kept c is =
         force_kept (not on_a) c force (image_alone new body) (kept_log (saved_as new body) [] _ c (new_log (saved_as new body) c is))
         (kept_loses force (bound (not on_a) new) (λ s found.
@@ -210,28 +212,19 @@ module _ (on_a : Bool) (keeper : Journal) (force other : List ℕ)
         less_bound true m k less = omega arith
         less_bound false m k less = less
 
-    flipped : (b : Bool) (x y : List ℕ) → kept_at (not b) y x ≡ kept_at b x y
+    flipped : (b : Bool) (x y : List ℕ) → kept_at kept_in (not b) y x ≡ kept_at kept_in b x y
     flipped true x y = refl
     flipped false x y = refl
 
-    -- what a crash leaves of it
-    pub image_crash : (x y : List ℕ) → x ≡ force → Stays other (saved_as new body) y
-        → (kept_at on_a x y ≡ kept_at on_a force other) ⊎ (kept_at on_a x y ≡ Some (image_alone new body))
-    image_crash x y same (inl old) =
-        inl (ap (λ (l : List ℕ). kept_at on_a l y) same
+    -- what is kept by whether it is found
+    pub image_found : (is_found : Bool) (y : List ℕ) → IsFound is_found other (saved_as new body) y
+        → kept_at kept_in (not on_a) y force
+        ≡ (if is_found then Some (image_alone new body) else kept_at kept_in (not on_a) other force)
+    image_found true y is = image_kept y is
+    image_found false y old =
+        flipped on_a force y
         ∙ force_kept on_a force y before (kept_slot force saved fits.stands.in_force) (other_loses y old)
-        ∙ sym before_is)
-    image_crash x y same (inr is) =
-        inr (ap (λ (l : List ℕ). kept_at on_a l y) same ∙ sym (flipped on_a force y) ∙ image_kept y is)
-
-    pub image_found : (found : Bool) (x y : List ℕ) → x ≡ force → IsFound found other (saved_as new body) y
-        → kept_at on_a x y ≡ (if found then Some (image_alone new body) else kept_at on_a force other)
-    image_found true x y same is =
-        ap (λ (l : List ℕ). kept_at on_a l y) same ∙ sym (flipped on_a force y) ∙ image_kept y is
-    image_found false x y same old =
-        ap (λ (l : List ℕ). kept_at on_a l y) same
-        ∙ force_kept on_a force y before (kept_slot force saved fits.stands.in_force) (other_loses y old)
-        ∙ sym before_is
+        ∙ sym before_is ∙ sym (flipped on_a force other)
 
   -- a record behind those in force
   module _ (new : ℕ) (body : List ℕ) (by : MayAppend keeper new body) where
@@ -275,36 +268,29 @@ module _ (on_a : Bool) (keeper : Journal) (force other : List ℕ)
 
     -- what is kept with it
     abbrev pub with_record : Option Kept
-    with_record = after_commit false new body (kept_at on_a force other)
+    with_record = after_commit false new body (kept_at kept_in on_a force other)
 
-    after_is : after_commit false new body (kept_at on_a force other) ≡ Some after_record
+    after_is : after_commit false new body (kept_at kept_in on_a force other) ≡ Some after_record
     after_is = ap (after_commit false new body) before_is
 
-    pub record_kept : (c : List ℕ) → HasRecord keeper.end new body force c → kept_at on_a c other ≡ with_record
+    pub record_kept : (c : List ℕ) → HasRecord keeper.end new body force c → kept_at kept_in on_a c other ≡ with_record
     record_kept c more =
         force_kept on_a c other after_record
         (kept_log saved ((tail_log saved force).bodies ++ body ∷ []) (0 ∷ more.more) c (grown c more))
         (kept_loses other (bound on_a keeper.generation) fits.stands.loses)
         ∙ sym after_is
 
-    still_kept : (c : List ℕ) → StaysShut keeper.end force c → kept_at on_a c other ≡ kept_at on_a force other
+    still_kept : (c : List ℕ) → StaysShut keeper.end force c → kept_at kept_in on_a c other ≡ kept_at kept_in on_a force other
     still_kept c stays =
         force_kept on_a c other before
         (kept_log saved (tail_log saved force).bodies (stays.gate ∷ stays.rest) c (still c stays))
         (kept_loses other (bound on_a keeper.generation) fits.stands.loses)
         ∙ sym before_is
 
-    pub record_crash : (x y : List ℕ) → y ≡ other → Appends keeper.end new body force x
-        → (kept_at on_a x y ≡ kept_at on_a force other) ⊎ (kept_at on_a x y ≡ with_record)
-    record_crash x y same (inl stays) =
-        inl (ap (λ (l : List ℕ). kept_at on_a x l) same ∙ still_kept x stays)
-    record_crash x y same (inr more) =
-        inr (ap (λ (l : List ℕ). kept_at on_a x l) same ∙ record_kept x more)
-
-    pub record_found : (found : Bool) (x y : List ℕ) → y ≡ other → IsAppended found keeper.end new body force x
-        → kept_at on_a x y ≡ (if found then with_record else kept_at on_a force other)
-    record_found true x y same more = ap (λ (l : List ℕ). kept_at on_a x l) same ∙ record_kept x more
-    record_found false x y same stays = ap (λ (l : List ℕ). kept_at on_a x l) same ∙ still_kept x stays
+    pub record_found : (is_found : Bool) (x : List ℕ) → IsAppended is_found keeper.end new body force x
+        → kept_at kept_in on_a x other ≡ (if is_found then with_record else kept_at kept_in on_a force other)
+    record_found true x more = record_kept x more
+    record_found false x stays = still_kept x stays
 
     pub record_fits : (c : List ℕ) → HasRecord keeper.end new body force c → (after : Journal)
         → after.generation ≡ keeper.generation → after.shut ≡ keeper.shut

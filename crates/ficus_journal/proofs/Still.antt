@@ -3,9 +3,9 @@ use Rattle.std.proofs.Common.{◌≡◌, ℕ, ◌+◌, ◌-◌, ◌≤◌, Bool,
 use Rattle.std.specs.Prelude.{if◌then◌else◌}
 use Rattle.ficus_disk.specs.Crash.{Within}
 use Rattle.ficus_disk.specs.declared.pair.Pair.{Pair}
-use Rattle.ficus_keep.specs.Kept.{Settled}
+use Rattle.ficus_keeper.specs.Kept.{Settled}
 use Rattle.ficus_slot.specs.Slot.{Saved, slot_in}
-use Rattle.ficus_store.specs.Slots.{Stands, StandsOn}
+use Rattle.ficus_two_slots.specs.Slots.{Stands, StandsOn}
 use Rattle.ficus_log.specs.Log.{Log, is_open, tail_log}
 use Rattle.ficus_journal.specs.Journal.{Fits, FitsOn, FitsSide, HoldsRecords}
 use Rattle.ficus_journal.specs.declared.journal.Journal.{Journal}

@@ -1,6 +1,6 @@
 -- What a slot with records behind it keeps, on each of two disks, and what is known of both.
 use Rattle.std.specs.Prelude.{◌≡◌, ◌==◌, ℕ, ◌%◌, ◌/◌, ◌≤◌, nat_le, Bool, false, if◌then◌else◌, List, length, Option, Some, None}
-use Rattle.ficus_keep.specs.Kept.{Kept}
+use Rattle.ficus_keeper.specs.Kept.{Kept}
 use Rattle.ficus_slot.specs.Slot.{Saved, slot_in}
 use Rattle.ficus_log.specs.Log.{is_open, tail_log}
 

@@ -4,9 +4,9 @@ use crate::opening::opened;
 use ficus_disk::{Disk, Pair};
 use ficus_faults::Failed;
 use ficus_ids::Memory;
-use ficus_keep::{Keep, MakeFault, Opened, StoreFault, Wants};
+use ficus_keeper::{Keep, MakeFault, Opened, StoreFault, Wants};
 use ficus_slot::{read_all, reserve_range, save_slot};
-use ficus_store::choose;
+use ficus_two_slots::choose;
 use std::alloc::Global;
 
 /// How many records stand behind an image at most.

@@ -1,17 +1,17 @@
 ghost use Rattle.std.specs.Prelude.{◌≡◌, ◌≤◌, Some, length, IfOk, if◌then◌else◌};
-ghost use Rattle.ficus_keep.specs.Kept.{kept_of};
+ghost use Rattle.ficus_keeper.specs.Kept.{kept_of};
 ghost use Rattle.ficus_slot.specs.Slot.{slot_in};
-ghost use Rattle.ficus_store.specs.Slots.{StandsOn};
+ghost use Rattle.ficus_two_slots.specs.Slots.{StandsOn};
 ghost use Rattle.ficus_log.specs.Log.{is_open, tail_log};
 ghost use Rattle.ficus_journal.specs.Journal.{Fits};
 ghost use Rattle.ficus_journal.specs.Logs.{kept_on};
 
 use crate::Journal;
 use ficus_ids::{Listed, Memory};
-use ficus_keep::Opened;
+use ficus_keeper::Opened;
 use ficus_log::{Records, read_records};
 use ficus_slot::Slot;
-use ficus_store::Choice;
+use ficus_two_slots::Choice;
 use std::alloc::Global;
 
 // Whether there is a gate, and it is open.

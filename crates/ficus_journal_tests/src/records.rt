@@ -1,9 +1,9 @@
 use crate::saves::{Kept, Stop, empty, ends_with, kept_on, saves};
 use ficus_disk::{Disk, MemDisk, Pair};
 use ficus_journal::Journal;
-use ficus_keep::{Keep, StoreFault, Wants};
+use ficus_keeper::{Keep, StoreFault, Wants};
 use ficus_slot::read_all;
-use ficus_store::TwoSlot;
+use ficus_two_slots::TwoSlot;
 use std::alloc::Global;
 use std::test::Fail;
 

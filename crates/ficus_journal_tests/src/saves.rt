@@ -2,7 +2,7 @@
 ghost use Rattle.std.specs.Prelude.{◌≡◌, ◌<◌, [], IfSome};
 
 use ficus_disk::{Disk, MemDisk, Pair};
-use ficus_keep::{Keep, StoreFault, Wants, reopen};
+use ficus_keeper::{Keep, StoreFault, Wants, reopen};
 use std::alloc::Global;
 
 /// How many calls of the disks pass, and the pick of what they then are.

@@ -3,26 +3,26 @@ use Rattle.std.proofs.Common.{◌≡◌, ℕ, ◌+◌, Bool, true, false, List, 
 use Rattle.ficus_entry.specs.Entry.{IsRising}
 use Rattle.ficus_entry.specs.declared.entry.Entry.{Entry}
 use Rattle.ficus_file.specs.declared.file.FileReplica.{FileReplica}
-use Rattle.ficus_gc.specs.declared.reclaiming.Reclaimed.{Reclaimed}
+use Rattle.ficus_collection.specs.declared.reclaiming.Reclaimed.{Reclaimed}
 use Rattle.ficus_image.specs.Image.{IsImageOf, image_bytes}
 use Rattle.ficus_image.specs.declared.image_version.ImageVersion.TheVariants.{Second}
 use Rattle.ficus_image.proofs.Images.{one_imaged}
-use Rattle.ficus_keep.specs.Kept.{Kept, after_commit, generation_of, image_alone}
+use Rattle.ficus_keeper.specs.Kept.{Kept, after_commit, generation_of, image_alone}
 use Rattle.ficus_leads.specs.Chain.{LeadAll}
 use Rattle.ficus_leads.specs.Holds.{Holds, Leads}
 use Rattle.ficus_model.specs.declared.event.Op.{Op}
-use Rattle.ficus_recon_dir.specs.Merge.{MergesEntries}
-use Rattle.ficus_recon_file.specs.Merge.{AreMergedFiles}
-use Rattle.ficus_recon_file.proofs.Determined.{same_merge}
+use Rattle.ficus_merge_entries.specs.Merge.{MergesEntries}
+use Rattle.ficus_merge_files.specs.Merge.{AreMergedFiles}
+use Rattle.ficus_merge_files.proofs.Determined.{same_merge}
 use Rattle.ficus_record.specs.declared.record.Record.{Record}
 use Rattle.ficus_record.specs.declared.record.Record.TheVariants.{Change, Ask, Accept, Collect}
 use Rattle.ficus_record.proofs.Unique.{unique-record}
 use Rattle.ficus_replica.specs.Effect.{Applied}
 use Rattle.ficus_replica.specs.Makes.{Makes}
 use Rattle.ficus_replica.proofs.Leaving.{reclaimed_once}
-use Rattle.ficus_saved.specs.Saved.{FitsImage}
-use Rattle.ficus_saved.specs.declared.saved.Saved.{Saved}
-use Rattle.ficus_touched.specs.Touched.{touched_by}
+use Rattle.ficus_durable_state.specs.Saved.{FitsImage}
+use Rattle.ficus_durable_state.specs.declared.saved.Saved.{Saved}
+use Rattle.ficus_mentions.specs.Touched.{touched_by}
 
 -- the laws that stand below as the contracts of functions
 abbrev pub OneMerge : Type 0

@@ -10,8 +10,8 @@ use Rattle.ficus_record.specs.declared.fault.RecordFault.{RecordFault}
 use Rattle.ficus_record.specs.declared.record.Record.{Record}
 use Rattle.ficus_record.proofs.Unique.{unique-record}
 use Rattle.ficus_replica.specs.Makes.{IsFit}
-use Rattle.ficus_saved.specs.Saved.{FitsImage}
-use Rattle.ficus_saved.specs.declared.saved.Saved.{Saved}
+use Rattle.ficus_durable_state.specs.Saved.{FitsImage}
+use Rattle.ficus_durable_state.specs.declared.saved.Saved.{Saved}
 
 -- the records but for those that are left lead to this
 pub record IsLedTo (records : List (List ℕ)) (base now : Saved) (left : List (List ℕ)) : Type 0 where

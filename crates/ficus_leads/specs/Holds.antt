@@ -1,12 +1,12 @@
 -- What a pair of disks holds of what a replica saves: an image, and records behind it.
 use Rattle.std.specs.Prelude.{◌≡◌, ℕ, List, Option, Some}
 use Rattle.ficus_image.specs.Image.{IsImageOf}
-use Rattle.ficus_keep.specs.Kept.{Kept}
+use Rattle.ficus_keeper.specs.Kept.{Kept}
 use Rattle.ficus_leads.specs.Chain.{LeadAll}
 use Rattle.ficus_record.specs.Record.{record_bytes}
 use Rattle.ficus_record.specs.declared.record.Record.{Record}
 use Rattle.ficus_replica.specs.Makes.{IsNoted}
-use Rattle.ficus_saved.specs.declared.saved.Saved.{Saved}
+use Rattle.ficus_durable_state.specs.declared.saved.Saved.{Saved}
 
 -- the bytes spell a record that fits what was saved, and this is what it makes of it
 pub record Leads (bytes : List ℕ) (old new : Saved) : Type 0 where

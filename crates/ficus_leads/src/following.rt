@@ -1,14 +1,14 @@
 ghost use Rattle.std.specs.Prelude.{IfOk, IsErrOf};
 ghost use Rattle.ficus_leads.specs.Chain.{LeadAll};
 ghost use Rattle.ficus_leads.specs.Holds.{Leads};
-ghost use Rattle.ficus_saved.specs.Saved.{FitsImage};
-ghost use Rattle.ficus_saved.specs.declared.saved.Saved.{Saved as SavedValue};
+ghost use Rattle.ficus_durable_state.specs.Saved.{FitsImage};
+ghost use Rattle.ficus_durable_state.specs.declared.saved.Saved.{Saved as SavedValue};
 
 use crate::one_led;
+use ficus_durable_state::Saved;
 use ficus_ids::Listed;
 use ficus_record::{RecordFault, decode_record};
 use ficus_replica::Replica;
-use ficus_saved::Saved;
 use std::alloc::Global;
 
 /// What is saved once the records are applied, from the first to the last, to what was saved before. An error besides

@@ -1,13 +1,13 @@
 ghost use Rattle.std.specs.Prelude.{◌≡◌, ℕ, List, Option};
-ghost use Rattle.ficus_keep.specs.Kept.{Kept};
+ghost use Rattle.ficus_keeper.specs.Kept.{Kept};
 ghost use Rattle.ficus_leads.specs.Holds.{Holds, Leads};
 ghost use Rattle.ficus_record.specs.declared.record.Record.{Record};
 ghost use Rattle.ficus_replica.specs.Makes.{Makes};
-ghost use Rattle.ficus_saved.specs.Saved.{FitsImage};
-ghost use Rattle.ficus_saved.specs.declared.saved.Saved.{Saved};
+ghost use Rattle.ficus_durable_state.specs.Saved.{FitsImage};
+ghost use Rattle.ficus_durable_state.specs.declared.saved.Saved.{Saved};
 
 use ficus_change_law::one_change;
-use ficus_recon_dir::one_merge;
+use ficus_merge_entries::one_merge;
 
 /// The laws that a record makes one thing of what was saved, so that applying the record of an event gives what the
 /// call gave; that bytes lead to one thing from what was saved; and that what a keeper found holds one thing at most.

@@ -7,7 +7,7 @@ use Rattle.ficus_disk.specs.Crash.{Only}
 use Rattle.ficus_disk.specs.Fuse.{picked}
 use Rattle.ficus_disk.specs.declared.fuse.Pick.{Pick}
 use Rattle.ficus_disk.specs.declared.fuse.Pick.TheVariants.{Synced, Written, Ones, Halves}
-use Rattle.ficus_keep.specs.Fuses.{is_found}
+use Rattle.ficus_keeper.specs.Fuses.{is_found}
 use Rattle.ficus_log.specs.Appending.{Appends, HasRecord, IsAppended, IsShutAt, StaysShut}
 use Rattle.ficus_log.specs.Log.{record_range}
 

@@ -8,7 +8,7 @@ use Rattle.ficus_ids.specs.Members.{IsMember}
 use Rattle.ficus_ids.specs.declared.id.Id.{Id}
 use Rattle.ficus_entry.specs.declared.entry.State.{State}
 use Rattle.ficus_entry.specs.declared.entry.State.TheVariants.{Live, Dead}
-use Rattle.ficus_recon_dir.specs.Table.{with, HasMarks, IsDead}
+use Rattle.ficus_merge_entries.specs.Table.{with, HasMarks, IsDead}
 use Rattle.ficus_model.specs.declared.event.Event.{Event}
 use Rattle.ficus_model.specs.Known.{Knows}
 use Rattle.ficus_model.specs.Live.{IsRemoved}

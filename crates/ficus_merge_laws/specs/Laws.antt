@@ -4,7 +4,7 @@ use Rattle.ficus_ids.specs.Members.{IsMember}
 use Rattle.ficus_ids.specs.declared.id.Id.{Id}
 use Rattle.ficus_entry.specs.declared.entry.State.{State}
 use Rattle.ficus_entry.specs.declared.entry.State.TheVariants.{Live, Dead}
-use Rattle.ficus_recon_dir.specs.Table.{Merges}
+use Rattle.ficus_merge_entries.specs.Table.{Merges}
 use Rattle.ficus_model.specs.declared.event.Event.{Event}
 use Rattle.ficus_model.specs.declared.event.Event.TheVariants.{Update, Accept, Collect}
 use Rattle.ficus_model.specs.declared.event.Op.{Op}

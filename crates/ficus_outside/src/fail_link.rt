@@ -3,8 +3,8 @@ ghost use Rattle.ficus_faults.specs.Calls.{fresh, called, failed, IsNextListed};
 ghost use Rattle.ficus_faults.specs.Faults.{Rose};
 ghost use Rattle.ficus_outside.specs.Link.{FailLinkState, OnFailed, OnMemory};
 
-use crate::{Failed, FetchFault, Link, MemLink};
-use ficus_faults::Calls;
+use crate::{FetchFault, Link, MemLink};
+use ficus_faults::{Calls, Failed};
 use ficus_ids::Memory;
 use std::alloc::Global;
 use std::marker::Model;

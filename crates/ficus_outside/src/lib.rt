@@ -15,7 +15,6 @@ mod system;
 mod writer_sink;
 
 pub use fail_link::FailLink;
-pub use ficus_faults::Failed;
 pub use link::{FetchFault, Link};
 pub use mem_link::MemLink;
 pub use mem_sink::{MEM_SINK_ROOM, MemSink};

@@ -2,7 +2,7 @@ ghost use Rattle.std.specs.Prelude.{◌≡◌, ◌+◌, ◌-◌, ◌^◌, ◌<�
 ghost use Rattle.ficus_faults.specs.Faults.{Rose};
 ghost use Rattle.ficus_outside.specs.Link.{OnFailed, OnMemory};
 
-use crate::Failed;
+use ficus_faults::Failed;
 use ficus_ids::Memory;
 
 /// Why a message isn't fetched.

@@ -3,8 +3,8 @@ ghost use Rattle.ficus_faults.specs.Faults.{Rose};
 ghost use Rattle.ficus_faults.specs.Calls.{fresh, called, failed, IsNextListed};
 ghost use Rattle.ficus_outside.specs.MemSink.{SinkState, sink_room};
 
-use crate::{Failed, Sink};
-use ficus_faults::Calls;
+use crate::Sink;
+use ficus_faults::{Calls, Failed};
 use ficus_ids::Memory;
 use std::alloc::Global;
 use std::marker::Model;

@@ -3,8 +3,8 @@ ghost use Rattle.ficus_faults.specs.Faults.{Rose};
 ghost use Rattle.ficus_faults.specs.Calls.{fresh, called, failed, IsNextListed};
 ghost use Rattle.ficus_outside.specs.MemSource.{SourceState};
 
-use crate::{Failed, Source};
-use ficus_faults::Calls;
+use crate::Source;
+use ficus_faults::{Calls, Failed};
 use std::marker::Model;
 
 /// A source of bytes in memory. It tells what is left, and fails at the calls that it was told.

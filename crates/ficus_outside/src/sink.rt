@@ -1,7 +1,7 @@
 ghost use Rattle.std.specs.Prelude.{◌≡◌, ◌<◌, ◌≤◌, ◌⊎◌, List, ◌++◌, ℕ, length, take, Ok, IfOk, OnErr};
 ghost use Rattle.ficus_faults.specs.Faults.{Rose};
 
-use crate::Failed;
+use ficus_faults::Failed;
 
 /// Where bytes go.
 pub trait Sink {

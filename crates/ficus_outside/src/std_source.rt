@@ -3,8 +3,9 @@ ghost use Rattle.std.specs.Io.KnownBytes.{ReadConsumes};
 ghost use Rattle.ficus_faults.specs.Faults.{Rose};
 ghost use Rattle.ficus_outside.specs.Stream.{StreamState};
 
+use crate::Source;
 use crate::reader_source::ReaderSource;
-use crate::{Failed, Source};
+use ficus_faults::Failed;
 use std::io::Input;
 use std::marker::Model;
 

@@ -5,8 +5,8 @@ ghost use Rattle.std.specs.IoError.{error_kind};
 ghost use Rattle.ficus_faults.specs.Faults.{Rose};
 ghost use Rattle.ficus_outside.specs.Stream.{StreamState};
 
-use crate::{Failed, Sink};
-use ficus_faults::Faults;
+use crate::Sink;
+use ficus_faults::{Failed, Faults};
 use std::io;
 use std::io::{ErrorKind, Write};
 use std::marker::Model;

@@ -1,6 +1,7 @@
 // The links in memory.
+use ficus_faults::Failed;
 use ficus_ids::Memory;
-use ficus_outside::{FailLink, Failed, FetchFault, Link, MemLink};
+use ficus_outside::{FailLink, FetchFault, Link, MemLink};
 use std::alloc::Global;
 use std::test::Fail;
 

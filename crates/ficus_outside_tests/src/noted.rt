@@ -1,7 +1,8 @@
 // An output over a system that tells what it is asked.
 use crate::noting::{Note, Noting};
 use crate::system::Turn;
-use ficus_outside::{Failed, Output, Sink, WriterSink};
+use ficus_faults::Failed;
+use ficus_outside::{Output, Sink, WriterSink};
 use std::alloc::Global;
 use std::process::Abort;
 use std::test::Fail;

@@ -1,6 +1,7 @@
 // Sources and sinks over the standard streams.
 use crate::system::{Screen, Turn, Typed};
-use ficus_outside::{Failed, Sink, Source, StdSink, StdSource};
+use ficus_faults::Failed;
+use ficus_outside::{Sink, Source, StdSink, StdSource};
 use std::alloc::{AllocError, Global};
 use std::cell::{Cell, RefCell};
 use std::test::Fail;

@@ -1,17 +1,98 @@
--- How high a tree stands above its sides.
-use Rattle.std.proofs.Common.{◌≡◌, ◌⊎◌, ℕ, ◌+◌, ◌-◌, ◌*◌, ◌/◌, ◌^◌, ◌<◌, ◌≤◌, suc, max, List, length, take, drop, Some, None, ap, ◌∙◌, arith, inl, inr}
-use Rattle.std.proofs.Math.Nat.{mul-le-mul, pow-suc}
+-- How high a tree stands.
+use Rattle.std.proofs.Common.{◌≡◌, ℕ, ◌+◌, ◌-◌, ◌*◌, ◌/◌, ◌^◌, ◌<◌, ◌≤◌, List, [], ◌∷◌, ◌++◌, length, ap, ◌∙◌, arith, inl, inr, length-append}
+use Rattle.std.proofs.Math.Nat.{mul-le-mul}
 use Rattle.std.proofs.Math.Pow.{pow_mono}
 use Rattle.std.proofs.lemmas.Bool.{cases_lt}
-use Rattle.std.proofs.lemmas.Grind.{common_steps}
 use Rattle.std.proofs.lemmas.Nat.{pow-add}
-use Rattle.std.specs.Prelude.{Option}
-use Rattle.std.specs.Option.{SomeIff}
-use Rattle.ficus_persistent.specs.Shape.{DifferByAtMost, IsLow, IsLeast}
+use Rattle.ficus_persistent.specs.Node.{items_of, IsSound}
+use Rattle.ficus_persistent.specs.declared.tree.Node.{Node}
+use Rattle.ficus_persistent.specs.declared.tree.Node.TheVariants.{Empty, Leaf, Fork}
+use Rattle.ficus_persistent.specs.Shape.{Shape, joined, IsBelow, AreBelow, IsLow}
 
-pub some_is : (P : Type 0) (found : Option ℕ) (x y : ℕ) → SomeIff found P y → found ≡ Some x → x ≡ y
-some_is P (Some z) x y is same = let right = is.1 in cc
-some_is P None x y is same = cc
+twice_power : (k : ℕ) → 2 ^ (k + 1) ≡ 2 ^ k * 2
+twice_power k = pow-add 2 k 1
+
+-- two trees below a node of this height have as many items as a tree of that height has at the least
+pub below_filled : {T : Type 0} (height : ℕ) (trees : List (Shape T)) → AreBelow height trees → 2 ≤ length trees →
+    2 ^ height ≤ 2 * length (joined trees)
+below_filled height [] level several = absurd (omega arith)
+below_filled height (tree ∷ []) level several = absurd (omega arith)
+below_filled height (first ∷ second ∷ rest) level several =
+    let up : 2 ^ height ≡ 2 ^ first.height * 2 = ap (λ h. 2 ^ h) level.0.above ∙ twice_power first.height in
+    let same : first.height ≡ second.height = omega (arith, level.0.above, level.1.0.above) in
+    let also : 2 ^ first.height ≤ 2 * length second.items = rw same level.1.0.filled in
+    omega (
+      arith,
+      up,
+      level.0.filled,
+      also,
+      length-append first.items (second.items ++ joined rest),
+      length-append second.items (joined rest),
+    )
+
+-- they stand, so a node above them is higher than one
+fork_stands : {T : Type 0} (height : ℕ) (trees : List (Shape T)) → 2 ≤ length trees → AreBelow height trees →
+    height ≡ 0 → ⊥
+fork_stands height [] several level none = omega arith
+fork_stands height (tree ∷ trees) several level none = omega (arith, level.0.above)
+
+pub node_filled : {T : Type 0} (height : ℕ) (n : Node T) → IsSound height n → 0 < height →
+    2 ^ height ≤ 2 * length (items_of n)
+node_filled height Empty sound some = absurd (omega arith)
+node_filled height (Leaf items) sound some =
+    let one : 2 ^ height ≡ 2 = ap (λ h. 2 ^ h) sound.high in omega (arith, one, sound.some)
+node_filled height (Fork below) sound some = below_filled height below.value.items sound.level sound.several
+
+-- of no height are the trees without items
+pub node_stands : {T : Type 0} (height : ℕ) (n : Node T) → IsSound height n → length (items_of n) ≡ 0 → height ≡ 0
+node_stands height n sound none =
+    elim (cases_lt 0 height) [
+      | inl some ↦
+          let more : 2 ^ 0 ≤ 2 ^ height = pow_mono {i = 0} {j = height} (omega arith) in
+          absurd (omega (arith, node_filled height n sound some, more))
+      | inr none_stand ↦ omega arith
+    ]
+
+pub node_lies : {T : Type 0} (height : ℕ) (n : Node T) → IsSound height n → height ≡ 0 → length (items_of n) ≡ 0
+node_lies height Empty sound none = omega arith
+node_lies height (Leaf items) sound none = absurd (omega (arith, sound.high))
+node_lies height (Fork below) sound none = absurd (fork_stands height below.value.items sound.several sound.level none)
+
+-- a fork stands above its trees
+pub above_row : {T : Type 0} (height : ℕ) (row : List (Shape T)) (tree : Shape T) → AreBelow height row →
+    2 ≤ length row → tree.items ≡ joined row → tree.height ≡ height → IsBelow (height + 1) tree
+above_row height row tree level several items high = record {
+  above = omega arith;
+  stands =
+      elim (cases_lt 0 tree.height) [
+        | inl some ↦ some
+        | inr none ↦ absurd (fork_stands height row several level (omega arith))
+      ];
+  filled = rw (high, items) (below_filled height row level several);
+}
+
+-- a tree with so many items for its height is low
+pub low_where_filled : (count height : ℕ) → (0 < height → 2 ^ height ≤ 2 * count) → IsLow count height
+low_where_filled count height filled =
+    elim (cases_lt 1 height) [
+      | inl more ↦
+          let down : 2 ^ ((height + 1) / 2) ≤ 2 ^ (height - 1) = pow_mono (omega arith) in
+          let at : height ≡ height - 1 + 1 = omega arith in
+          let up : 2 ^ height ≡ 2 ^ (height - 1) * 2 = ap (λ h. 2 ^ h) at ∙ twice_power (height - 1) in
+          omega (arith, down, up, filled (omega arith))
+      | inr few ↦ elim (cases_lt 0 height) [
+        | inl one ↦
+            let at : (height + 1) / 2 ≡ 1 = omega arith in
+            let is : 2 ^ ((height + 1) / 2) ≡ 2 = ap (λ h. 2 ^ h) at in
+            let high : height ≡ 1 = omega arith in
+            let two : 2 ^ height ≡ 2 = ap (λ h. 2 ^ h) high in
+            omega (arith, is, two, filled one)
+        | inr none ↦
+            let at : (height + 1) / 2 ≡ 0 = omega arith in
+            let is : 2 ^ ((height + 1) / 2) ≡ 1 = ap (λ h. 2 ^ h) at in
+            omega (arith, is)
+      ]
+    ]
 
 -- a tree that a `u32` can count is at most 64 high
 pub low_fits : (count height : ℕ) → IsLow count height → count < 4294967296 → height ≤ 64
@@ -31,93 +112,7 @@ low_square count height low =
     let square : 2 ^ half * 2 ^ half ≤ (count + 1) * (count + 1) = mul-le-mul low low in
     omega (arith, up, pow-add 2 half half, square)
 
--- above two low sides of nearly the same height stands a low tree
-pub low_above : (a b left right : ℕ) → IsLow a left → IsLow b right → DifferByAtMost 1 left right →
-    IsLow (a + 1 + b) (max left right + 1)
-low_above a b left right first last level =
-    let half = max left right / 2 in
-    let in_left : 2 ^ half ≤ 2 ^ ((left + 1) / 2) = pow_mono (omega arith) in
-    let in_right : 2 ^ half ≤ 2 ^ ((right + 1) / 2) = pow_mono (omega arith) in
-    let at : (max left right + 1 + 1) / 2 ≡ suc half = omega arith in
-    let twice : 2 ^ ((max left right + 1 + 1) / 2) ≡ 2 ^ half * 2 = ap (λ k. 2 ^ k) at ∙ pow-suc 2 half in
-    omega (arith, in_left, in_right, twice, first, last)
-
-twice_power : (k : ℕ) → 2 ^ (k + 1) ≡ 2 ^ k * 2
-twice_power k = pow-add 2 k 1
-
--- the least height doesn't fall with the count
-least_rises : (n m left right : ℕ) → IsLeast n left → IsLeast m right → m ≤ n → right ≤ left
-least_rises n m left right first last fewer =
-    elim (cases_lt left right) [
-      | inl higher ↦
-          let up : 2 ^ (left + 1) ≤ 2 ^ right = pow_mono (omega arith) in
-          absurd (omega (arith, up, twice_power left, first.room, last.least))
-      | inr within ↦ within
-    ]
-
--- sides of which one is at most twice the other have nearly the same least height
-pub least_level : (n m left right : ℕ) → IsLeast n left → IsLeast m right → n ≤ 2 * m + 1 → m ≤ n →
-    DifferByAtMost 1 left right
-least_level n m left right first last most fewer =
-    let rises = least_rises n m left right first last fewer in (
-      elim (cases_lt (right + 1) left) [
-        | inl higher ↦
-            let up : 2 ^ (right + 1 + 1) ≤ 2 ^ left = pow_mono (omega arith) in
-            absurd (omega (arith, up, twice_power right, twice_power (right + 1), first.least, last.room))
-        | inr within ↦ within
-      ],
-      omega (arith, rises),
-    )
-
--- above them stands a tree of the least height, where the left side has fewer items than a full row
-pub least_above : (n m left right digits : ℕ) → IsLeast n left → IsLeast m right → m ≤ n → n < 2 ^ digits →
-    2 ^ digits ≤ n + 1 + m → IsLeast (n + 1 + m) (max left right + 1)
-least_above n m left right digits first last fewer below row =
-    let rises = least_rises n m left right first last fewer in
-    let highest : max left right ≡ left = omega (arith, rises) in
-    let twice : 2 ^ (max left right + 1) ≡ 2 ^ left * 2 = ap (λ h. 2 ^ (h + 1)) highest ∙ twice_power left in
-    let fits : 2 ^ left ≤ n + 1 + m =
-    elim (cases_lt digits left) [
-      | inl higher ↦
-          let up : 2 ^ (digits + 1) ≤ 2 ^ left = pow_mono (omega arith) in
-          absurd (omega (arith, up, twice_power digits, first.least, below))
-      | inr within ↦ let up : 2 ^ left ≤ 2 ^ digits = pow_mono within in omega (arith, up, row)
-    ] in
-    record { room = omega (arith, twice, first.room); least = omega (arith, twice, fits) }
-
--- of a full row that isn't one node one half is as many as the other
-pub even_row : (digits : ℕ) → (2 ^ digits ≡ 1) ⊎ ((half : ℕ) × (2 ^ digits ≡ 2 * half))
-even_row digits =
-    elim (cases_lt 0 digits) [
-      | inl some ↦
-          let at : digits ≡ digits - 1 + 1 = omega arith in
-          let is : 2 ^ digits ≡ 2 ^ (digits - 1) * 2 = ap (λ k. 2 ^ k) at ∙ twice_power (digits - 1) in
-          inr (2 ^ (digits - 1), omega (arith, is))
-      | inr none ↦ let at : digits ≡ 0 = omega arith in inl (ap (λ k. 2 ^ k) at)
-    ]
-
--- the parts of a list on both sides of an item, where there are as many as `left_of` says
-module _ {X : Type 0} (items : List X) (middle left right : ℕ) (inside : middle < length items)
-    (fewer : length items - middle - 1 ≤ middle) (first : IsLeast (length (take middle items)) left)
-    (last : IsLeast (length (take (length items - (middle + 1)) (drop (middle + 1) items))) right) where
-  long_left : length (take middle items) ≡ middle
-  long_left = grind (arith, common_steps)
-
-  long_right : length (take (length items - (middle + 1)) (drop (middle + 1) items)) ≡ length items - middle - 1
-  long_right = grind (arith, common_steps)
-
-  least_left : IsLeast middle left
-  least_left = rw long_left at first
-
-  least_right : IsLeast (length items - middle - 1) right
-  least_right = rw long_right at last
-
-  pub parts_level : middle ≤ 2 * (length items - middle - 1) + 1 → DifferByAtMost 1 left right
-  parts_level most = least_level middle (length items - middle - 1) left right least_left least_right most fewer
-
-  pub parts_least : (digits : ℕ) → middle < 2 ^ digits → 2 ^ digits ≤ length items →
-      IsLeast (length items) (max left right + 1)
-  parts_least digits below row =
-      let whole : middle + 1 + (length items - middle - 1) ≡ length items = omega arith in
-      rw whole at (least_above middle (length items - middle - 1) left right digits least_left least_right fewer below
-      (omega arith))
+pub leaf_below : {T : Type 0} (tree : Shape T) → tree.height ≡ 1 → 1 ≤ length tree.items → IsBelow 2 tree
+leaf_below tree high some =
+    let one : 2 ^ tree.height ≡ 2 = ap (λ h. 2 ^ h) high in
+    record { above = omega arith; stands = omega arith; filled = omega (arith, one) }

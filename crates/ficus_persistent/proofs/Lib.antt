@@ -1,4 +1,3 @@
-pub mod Around
+pub mod Cuts
 pub mod Heights
-pub mod Sides
-pub mod Spelled
+pub mod Rows

@@ -1,3 +1,4 @@
 pub mod Cut
+pub mod Falls
 pub mod Node
 pub mod Shape

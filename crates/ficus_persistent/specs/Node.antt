@@ -1,29 +1,36 @@
 -- What a node stands for, and what holds of it.
-use Rattle.std.specs.Prelude.{◌≡◌, [], ◌∷◌, length}
-use Rattle.ficus_persistent.specs.declared.tree.Branch.{Branch}
+use Rattle.std.specs.Prelude.{◌≡◌, ◌≤◌, ℕ, List, [], ◌∷◌, length}
+use Rattle.ficus_persistent.specs.declared.tree.Grown.{Grown}
+use Rattle.ficus_persistent.specs.declared.tree.Grown.TheVariants.{One, Two}
 use Rattle.ficus_persistent.specs.declared.tree.Node.{Node}
-use Rattle.ficus_persistent.specs.declared.tree.Node.TheVariants.{Empty, One, Fork}
-use Rattle.ficus_persistent.specs.Shape.{Shape, nothing, above, DifferByAtMost, IsLow}
+use Rattle.ficus_persistent.specs.declared.tree.Node.TheVariants.{Empty, Leaf, Fork}
+use Rattle.ficus_persistent.specs.Shape.{Shape, joined, AreBelow}
 
--- the tree that a branch is the top of
-abbrev pub top_shape : {T : Type 0} → Branch T → Shape T
-top_shape branch = above branch.left branch.item branch.right
+-- the items in order
+abbrev pub items_of : {T : Type 0} → Node T → List T
+items_of Empty = []
+items_of (Leaf items) = items.value.items
+items_of (Fork below) = joined below.value.items
 
--- the items in order, and the height
-abbrev pub shape : {T : Type 0} → Node T → Shape T
-shape Empty = nothing
-shape (One item) = record { items = item.value ∷ []; height = 1 }
-shape (Fork branch) = top_shape branch.value
+-- a leaf has an item, and no more than fit
+pub record IsLeaf {T : Type 0} (height : ℕ) (items : List T) : Type 0 where
+  pub high : height ≡ 1
+  pub some : 1 ≤ length items
+  pub few : length items ≤ 32
 
--- the branch tells its count and its height, the heights of its sides differ by at most one, and so it is low
-pub record IsSoundBranch {T : Type 0} (branch : Branch T) : Type 0 where
-  pub counted : branch.count ≡ length (top_shape branch).items
-  pub high : branch.height ≡ (top_shape branch).height
-  pub level : DifferByAtMost 1 branch.left.height branch.right.height
-  pub low : IsLow (length (top_shape branch).items) (top_shape branch).height
+-- below a fork stand two trees, and no more than fit, each one lower
+pub record IsFork {T : Type 0} (height : ℕ) (below : List (Shape T)) : Type 0 where
+  pub several : 2 ≤ length below
+  pub few : length below ≤ 32
+  pub level : AreBelow height below
 
--- what a node stores is right
-abbrev pub IsSound : {T : Type 0} → Node T → Type 0
-IsSound Empty = Unit {0}
-IsSound (One item) = Unit {0}
-IsSound (Fork branch) = IsSoundBranch branch.value
+-- what a node of this height holds is right
+abbrev pub IsSound : {T : Type 0} → ℕ → Node T → Type 0
+IsSound height Empty = height ≡ 0
+IsSound height (Leaf items) = IsLeaf height items.value.items
+IsSound height (Fork below) = IsFork height below.value.items
+
+-- one tree, or two side by side
+abbrev pub trees : {T : Type 0} → Grown T → List (Shape T)
+trees (One tree) = tree ∷ []
+trees (Two first second) = first ∷ second ∷ []

@@ -1,5 +1,6 @@
 -- A tree as seen from outside, and how high it stands.
-use Rattle.std.specs.Prelude.{◌≡◌, ℕ, ◌+◌, ◌*◌, ◌/◌, ◌^◌, ◌<◌, ◌≤◌, max, List, [], ◌∷◌, ◌++◌}
+use Rattle.std.specs.Prelude.{◌≡◌, ℕ, ◌+◌, ◌*◌, ◌/◌, ◌^◌, ◌<◌, ◌≤◌, List, [], length}
+use Rattle.std.specs.List.{flat_map, AllByRecursion}
 
 -- a tree: its items in order, and how many nodes lie one below the other
 pub record Shape (T : Type 0) : Type 0 where
@@ -10,16 +11,20 @@ pub record Shape (T : Type 0) : Type 0 where
 abbrev pub nothing : {T : Type 0} → Shape T
 nothing = record { items = []; height = 0 }
 
--- one node with an item above two trees
-abbrev pub above : {T : Type 0} → Shape T → T → Shape T → Shape T
-above left item right = record {
-  items = left.items ++ item ∷ right.items;
-  height = max left.height right.height + 1;
-}
+-- the items of trees that stand side by side
+abbrev pub joined : {T : Type 0} → List (Shape T) → List T
+joined trees = flat_map (λ tree. tree.items) trees
 
--- neither height is more than this above the other
-abbrev pub DifferByAtMost : ℕ → ℕ → ℕ → Type 0
-DifferByAtMost by left right = (left ≤ right + by) × (right ≤ left + by)
+-- a tree that may stand below a node of this height: it is one lower, and has as many items as a tree of its height
+-- has at the least, whose nodes have two trees below each
+pub record IsBelow {T : Type 0} (height : ℕ) (tree : Shape T) : Type 0 where
+  pub above : height ≡ tree.height + 1
+  pub stands : 0 < tree.height
+  pub filled : 2 ^ tree.height ≤ 2 * length tree.items
+
+-- trees that may all stand below a node of this height
+abbrev pub AreBelow : {T : Type 0} → ℕ → List (Shape T) → Type 0
+AreBelow height trees = AllByRecursion (IsBelow height) trees
 
 -- the second height is the first or one more
 abbrev pub IsAtMostOneAbove : ℕ → ℕ → Type 0
@@ -28,13 +33,3 @@ IsAtMostOneAbove low high = (low ≤ high) × (high ≤ low + 1)
 -- the height is at most twice the binary logarithm, rounded down, of one more than the count
 abbrev pub IsLow : ℕ → ℕ → Type 0
 IsLow count height = 2 ^ ((height + 1) / 2) ≤ count + 1
-
--- no lower tree has room for so many items: the height is the number of binary digits of the count
-pub record IsLeast (count height : ℕ) : Type 0 where
-  pub room : count < 2 ^ height
-  pub least : 2 ^ height ≤ 2 * count + 1
-
--- the height of a tree that was balanced above sides of these heights
-pub record IsBalancedAbove (left right height : ℕ) : Type 0 where
-  pub near : IsAtMostOneAbove (max left right) height
-  pub level : DifferByAtMost 1 left right → height ≡ max left right + 1

@@ -1,10 +1,12 @@
 //! Lists whose versions share what they have in common: a copy shares all, and a change makes only one way down
-//! a balanced tree anew.
+//! a wide tree anew.
 #![tactic(auto)]
 
+mod below;
 mod item;
 mod laws;
 mod list;
+mod row;
 mod tree;
 
 pub use item::{Cut, Item};

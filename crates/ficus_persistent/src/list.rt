@@ -13,8 +13,8 @@ use std::alloc::Global;
 use std::marker::Model;
 
 /// A list. A copy shares all nodes with it, and a change makes only those on one way down anew. The nodes are a
-/// search tree by place, which is balanced as by Adelson-Velsky and Landis (1962), so no way down is longer than
-/// [`height`](PersistentList::height) says.
+/// search tree by place, with up to 32 items in a leaf and up to 32 nodes below one, and all leaves at one height
+/// (Bayer and McCreight 1972), so no way down is longer than [`height`](PersistentList::height) says.
 #[derive(Drop)]
 pub struct PersistentList<T> {
     tree: Tree<T>,

@@ -1,13 +1,14 @@
-ghost use Rattle.std.specs.Prelude.{◌≡◌, ◌<◌, ◌≤◌, ◌+◌, ◌-◌, ◌*◌, ◌^◌, ℕ, min, max, [], ◌∷◌, ◌++◌, length, map};
-ghost use Rattle.std.specs.Prelude.{slice_get, slice_set, Some, IfOk, IfSome, IfNone, OnOk, IsTrue, ◌↔◌};
-ghost use Rattle.std.specs.Option.{SomeIff};
+ghost use Rattle.std.specs.Prelude.{◌≡◌, ◌<◌, ◌≤◌, ◌+◌, ◌*◌, ◌^◌, ℕ, ◌≢◌, ◌-◌, [], ◌∷◌, ◌++◌, length, map, take, drop};
+ghost use Rattle.std.specs.Prelude.{slice_get, slice_set, Some, IfOk, IfSome, OnOk, IsTrue, ◌↔◌};
 ghost use Rattle.std.specs.List.{insert, remove, flat_map, AllByRecursion};
 ghost use Rattle.std.specs.List.Sorted.{IsPartitionedBy};
 ghost use Rattle.ficus_formats.specs.Format.{Keeps};
 ghost use Rattle.ficus_persistent.specs.Cut.{IsCutAt};
-ghost use Rattle.ficus_persistent.specs.Shape.{nothing, above, DifferByAtMost, IsAtMostOneAbove, IsLow, IsLeast, IsBalancedAbove};
-ghost use Rattle.ficus_persistent.specs.Node.{top_shape, IsSoundBranch};
+ghost use Rattle.ficus_persistent.specs.Shape.{nothing, joined, IsBelow, AreBelow, IsAtMostOneAbove, IsLow};
+ghost use Rattle.ficus_persistent.specs.Node.{trees};
 
+use crate::below::{count_of, counted, cut_through, locate, locate_gap, with_grown};
+use crate::row::{copies, cut_in, cut_off, gather_all, put_all, with, with_other, without};
 use crate::{Cut, Item};
 use ficus_formats::{Window, WindowSpelling};
 use ficus_ids::Memory;
@@ -15,50 +16,60 @@ use std::alloc::Global;
 use std::marker::Model;
 use std::rc::Rc;
 
-/// A search tree by place, in which the heights of a node's sides differ by at most one (Adelson-Velsky and Landis
-/// 1962). Contracts see its items in order and its height.
+// How many items a leaf has at the most, and how many trees stand below a fork.
+const WIDTH: usize = 32;
+
+/// A search tree by place, with its items in leaves that all stand at one height (Bayer and McCreight 1972). Contracts
+/// see its items in order and its height.
 #[cycle(tree)]
 #[derive(Drop)]
 pub(crate) struct Tree<T> {
     node: Node<T>,
+    count: u32,
+    height: u8,
 }
 
 #[cycle(tree)]
 #[derive(Drop)]
 enum Node<T> {
     Empty,
-    // In place of a branch without sides, half of all nodes, which would take half as much again.
-    One(Rc<T>),
-    Fork(Rc<Branch<T>>),
+    Leaf(Rc<Vec<T>>),
+    Fork(Rc<Vec<Tree<T>>>),
 }
 
-#[cycle(tree)]
+/// What a tree became that had an item put into it: one tree, or two of its height side by side.
 #[derive(Drop)]
-struct Branch<T> {
-    left: Tree<T>,
-    item: T,
-    right: Tree<T>,
-    count: u32,
-    height: u8,
+pub(crate) enum Grown<T> {
+    One(Tree<T>),
+    Two(Tree<T>, Tree<T>),
 }
 
 impl<T> Model for Tree<T> {
-    ghost use Rattle.std.specs.Prelude.{length};
+    ghost use Rattle.std.specs.Prelude.{◌≡◌, length};
     ghost use Rattle.ficus_persistent.specs.Shape.{Shape};
 
     ghost Value = { Shape T };
 
-    ghost use Rattle.ficus_persistent.specs.Node.{shape, IsSound};
+    ghost use Rattle.ficus_persistent.specs.Node.{items_of, IsSound};
 
-    ghost view = { λ tree. shape tree.node };
+    ghost view = { λ tree. record { items = items_of tree.node; height = tree.height } };
 
-    ghost invariant = { λ tree. IsSound tree.node };
+    ghost invariant = { λ tree. (tree.count ≡ length (items_of tree.node)) × IsSound tree.height tree.node };
 
-    ghost size = { λ shape. length shape.items };
+    ghost size = { λ shape. shape.height };
 
-    ghost use Rattle.std.proofs.Common.{arith, length-append};
+    ghost use Rattle.std.proofs.Common.{arith};
+    ghost use Rattle.ficus_persistent.specs.Falls.{depth_le_height};
 
-    ghost size_decreases = { λ t h. Prim.grind (arith, length-append) };
+    ghost size_decreases = { λ t h. Prim.omega (arith, depth_le_height t.height t.node h.1) };
+}
+
+impl<T: Item> Item for Tree<T> {
+    fn copied(&self) -> Result<Tree<T>, Memory>
+        ensures { IfOk result (λ tree. tree ≡ self.now) }
+    {
+        self.copy()
+    }
 }
 
 impl<T: Item> Tree<T> {
@@ -66,18 +77,25 @@ impl<T: Item> Tree<T> {
     pub(crate) fn new() -> Tree<T>
         ensures { result ≡ nothing }
     {
-        Tree { node: Node::Empty }
+        Tree {
+            node: Node::Empty,
+            count: 0,
+            height: 0,
+        }
     }
 
     /// How many items there are.
     pub(crate) fn len(&self) -> usize
         ensures { result ≡ length self.now.items }
     {
-        match &self.node {
-            Node::Empty => 0,
-            Node::One(_) => 1,
-            Node::Fork(branch) => branch.count as usize,
-        }
+        self.count as usize
+    }
+
+    /// The same as a number that a node stores.
+    pub(crate) fn count(&self) -> u32
+        ensures { result ≡ length self.now.items }
+    {
+        self.count
     }
 
     /// Whether there are no items.
@@ -85,48 +103,41 @@ impl<T: Item> Tree<T> {
         ensures items { IsTrue result ↔ (self.now.items ≡ []) }
         ensures height { IsTrue result ↔ (self.now.height ≡ 0) }
     {
-        match &self.node {
-            Node::Empty => true,
-            Node::One(_) | Node::Fork(_) => false,
-        }
+        self.count == 0
     }
 
     /// How many nodes lie one below the other.
     pub(crate) fn height(&self) -> u8
         ensures is { result ≡ self.now.height }
         ensures low { IsLow (length self.now.items) self.now.height }
+        ensures filled { 0 < self.now.height → 2 ^ self.now.height ≤ 2 * length self.now.items }
         // Since no more than 2^32 - 1 items are counted.
         ensures fits { result ≤ 64 }
     {
-        match &self.node {
-            Node::Empty => 0,
-            Node::One(_) => 1,
-            Node::Fork(branch) => {
-                let _count = branch.count;
-                branch.height
-            }
-        }
+        let _count = self.count;
+        self.height
     }
 
     /// The same tree once more, in the same nodes.
     pub(crate) fn copy(&self) -> Result<Tree<T>, Memory>
         ensures { IfOk result (λ tree. tree ≡ self.now) }
     {
-        match &self.node {
-            Node::Empty => Ok(Tree { node: Node::Empty }),
-            Node::One(item) => {
-                let item = item.clone()?;
-                Ok(Tree {
-                    node: Node::One(item),
-                })
+        let node = match &self.node {
+            Node::Empty => Node::Empty,
+            Node::Leaf(items) => {
+                let items = items.clone()?;
+                Node::Leaf(items)
             }
-            Node::Fork(branch) => {
-                let branch = branch.clone()?;
-                Ok(Tree {
-                    node: Node::Fork(branch),
-                })
+            Node::Fork(below) => {
+                let below = below.clone()?;
+                Node::Fork(below)
             }
-        }
+        };
+        Ok(Tree {
+            node,
+            count: self.count,
+            height: self.height,
+        })
     }
 
     /// The item at an index.
@@ -136,16 +147,32 @@ impl<T: Item> Tree<T> {
     {
         match &self.node {
             Node::Empty => unreachable!(),
-            Node::One(item) => item.as_ref(),
-            Node::Fork(branch) => {
-                let before = branch.left.len();
-                if index < before {
-                    branch.left.at(index)
-                } else if index == before {
-                    &branch.item
-                } else {
-                    branch.right.at(index - before - 1)
-                }
+            Node::Leaf(items) => {
+                let items = items.as_ref();
+                &items[index]
+            }
+            Node::Fork(below) => {
+                let below = below.as_ref().as_slice();
+                let place = locate(below, index);
+                below[place.child].at(place.index)
+            }
+        }
+    }
+
+    /// The first item.
+    pub(crate) fn first(&self) -> &T
+        requires { 0 < length self.now.items }
+        ensures { slice_get self.now.items 0 ≡ Some result.now }
+    {
+        match &self.node {
+            Node::Empty => unreachable!(),
+            Node::Leaf(items) => {
+                let items = items.as_ref();
+                &items[0]
+            }
+            Node::Fork(below) => {
+                let below = below.as_ref().as_slice();
+                below[0].first()
             }
         }
     }
@@ -156,17 +183,15 @@ impl<T: Item> Tree<T> {
         ensures within { result ≤ length self.now.items }
         ensures point { IsCutAt (C.is_before cut.now) self.now.items result }
     {
-        let _whole = self.len();
+        let _whole = self.count();
         match &self.node {
             Node::Empty => 0,
-            Node::One(item) => usize::from(cut.is_before(item.as_ref())),
-            Node::Fork(branch) => {
-                let branch = branch.as_ref();
-                if cut.is_before(&branch.item) {
-                    branch.left.len() + 1 + branch.right.partition_point(cut)
-                } else {
-                    branch.left.partition_point(cut)
-                }
+            Node::Leaf(items) => cut_in(items.as_ref(), cut),
+            Node::Fork(below) => {
+                let below = below.as_ref().as_slice();
+                let child = cut_through(below, cut, self.height);
+                let before = count_of(&below[..child]);
+                before + below[child].partition_point(cut)
             }
         }
     }
@@ -178,15 +203,13 @@ impl<T: Item> Tree<T> {
     {
         match &self.node {
             Node::Empty => Ok(()),
-            Node::One(item) => {
-                gathered.push(item.as_ref())?;
+            Node::Leaf(items) => gather_all(items.as_ref(), gathered),
+            Node::Fork(below) => {
+                let below = below.as_ref().as_slice();
+                for tree in below {
+                    tree.gather(gathered)?;
+                }
                 Ok(())
-            }
-            Node::Fork(branch) => {
-                let branch = branch.as_ref();
-                branch.left.gather(gathered)?;
-                gathered.push(&branch.item)?;
-                branch.right.gather(gathered)
             }
         }
     }
@@ -205,12 +228,13 @@ impl<T: Item> Tree<T> {
     {
         match &self.node {
             Node::Empty => Ok(()),
-            Node::One(item) => spelling.put_in(window, out, item.as_ref()),
-            Node::Fork(branch) => {
-                let branch = branch.as_ref();
-                branch.left.put_each(spelling, window, out)?;
-                spelling.put_in(window, out, &branch.item)?;
-                branch.right.put_each(spelling, window, out)
+            Node::Leaf(items) => put_all(items.as_ref(), spelling, window, out),
+            Node::Fork(below) => {
+                let below = below.as_ref().as_slice();
+                for tree in below {
+                    tree.put_each(spelling, window, out)?;
+                }
+                Ok(())
             }
         }
     }
@@ -218,28 +242,37 @@ impl<T: Item> Tree<T> {
     /// The tree with one more item, in front of the one at the index.
     pub(crate) fn insert(&self, alloc: Global, index: usize, item: T) -> Result<Tree<T>, Memory>
         requires { index ≤ length self.now.items }
-        ensures items { IfOk result (λ tree. tree.items ≡ insert self.now.items index item) }
-        ensures height { IfOk result (λ tree. IsAtMostOneAbove self.now.height tree.height) }
+        ensures { IfOk result (λ tree. tree.items ≡ insert self.now.items index item) }
+    {
+        if self.is_empty() {
+            return Tree::single(alloc, item);
+        }
+        let height = self.height() + 1;
+        match self.grown(alloc, index, item)? {
+            Grown::One(tree) => Ok(tree),
+            Grown::Two(first, second) => Tree::above(alloc, first, second, height),
+        }
+    }
+
+    // The same, or two trees of its height, one behind the other.
+    fn grown(&self, alloc: Global, index: usize, item: T) -> Result<Grown<T>, Memory>
+        requires some { 0 < length self.now.items }
+        requires within { index ≤ length self.now.items }
+        ensures items { IfOk result (λ grown. joined (trees grown) ≡ insert self.now.items index item) }
+        ensures level { IfOk result (λ grown. AreBelow (self.now.height + 1) (trees grown)) }
     {
         match &self.node {
-            Node::Empty => Tree::single(alloc, item),
-            Node::One(_) => {
-                if index == 0 {
-                    self.prepend(alloc, item)
-                } else {
-                    self.append(alloc, item)
-                }
+            Node::Empty => unreachable!(),
+            Node::Leaf(items) => {
+                let items = with(alloc, items.as_ref(), index, item)?;
+                Tree::leaves(alloc, items, index)
             }
-            Node::Fork(branch) => {
-                let branch = branch.as_ref();
-                let before = branch.left.len();
-                if index <= before {
-                    let left = branch.left.insert(alloc, index, item)?;
-                    branch.with_left(alloc, left)
-                } else {
-                    let right = branch.right.insert(alloc, index - before - 1, item)?;
-                    branch.with_right(alloc, right)
-                }
+            Node::Fork(below) => {
+                let below = below.as_ref().as_slice();
+                let place = locate_gap(below, index);
+                let grown = below[place.child].grown(alloc, place.index, item)?;
+                let row = with_grown(alloc, below, place.child, grown)?;
+                Tree::forks(alloc, row, self.height, place.child + 1)
             }
         }
     }
@@ -249,27 +282,21 @@ impl<T: Item> Tree<T> {
         ensures items { IfOk result (λ tree. tree.items ≡ slice_set self.now.items index item) }
         ensures height { IfOk result (λ tree. tree.height ≡ self.now.height) }
     {
+        if index >= self.len() {
+            return self.copy();
+        }
         match &self.node {
-            Node::Empty => Ok(Tree::new()),
-            Node::One(_) => {
-                if index == 0 {
-                    Tree::single(alloc, item)
-                } else {
-                    self.copy()
-                }
+            Node::Empty => unreachable!(),
+            Node::Leaf(items) => {
+                let items = with_other(alloc, items.as_ref(), index, item)?;
+                Tree::leaf(alloc, items)
             }
-            Node::Fork(branch) => {
-                let branch = branch.as_ref();
-                let before = branch.left.len();
-                if index < before {
-                    let left = branch.left.put(alloc, index, item)?;
-                    branch.with_left(alloc, left)
-                } else if index == before {
-                    branch.with_item(alloc, item)
-                } else {
-                    let right = branch.right.put(alloc, index - before - 1, item)?;
-                    branch.with_right(alloc, right)
-                }
+            Node::Fork(below) => {
+                let below = below.as_ref().as_slice();
+                let place = locate(below, index);
+                let tree = below[place.child].put(alloc, place.index, item)?;
+                let row = with_other(alloc, below, place.child, tree)?;
+                Tree::fork(alloc, row, self.height)
             }
         }
     }
@@ -282,378 +309,275 @@ impl<T: Item> Tree<T> {
     {
         match &self.node {
             Node::Empty => unreachable!(),
-            Node::One(_) => Ok(Tree::new()),
-            Node::Fork(branch) => {
-                let branch = branch.as_ref();
-                let before = branch.left.len();
-                if index < before {
-                    let left = branch.left.remove(alloc, index)?;
-                    branch.with_left(alloc, left)
-                } else if index > before {
-                    let right = branch.right.remove(alloc, index - before - 1)?;
-                    branch.with_right(alloc, right)
-                } else if branch.right.is_empty() {
-                    branch.left.copy()
-                } else {
-                    let behind = branch.right.remove(alloc, 0)?;
-                    branch.with_first_behind(alloc, behind)
-                }
+            Node::Leaf(items) => {
+                let items = without(alloc, items.as_ref(), index)?;
+                Tree::leaf_or_none(alloc, items)
+            }
+            Node::Fork(below) => {
+                let below = below.as_ref().as_slice();
+                let place = locate(below, index);
+                let less = below[place.child].remove(alloc, place.index)?;
+                let row = Tree::with_less(alloc, below, place.child, less, self.height)?;
+                Tree::fork_or_one(alloc, row, self.height)
             }
         }
     }
 
     /// The items of a slice, in nodes of the least height.
     pub(crate) fn of(alloc: Global, items: &[T]) -> Result<Tree<T>, Memory>
-        ensures items { IfOk result (λ tree. tree.items ≡ items.now) }
-        ensures height { IfOk result (λ tree. IsLeast (length items.now) tree.height) }
+        ensures { IfOk result (λ tree. tree.items ≡ items.now) }
     {
         if items.is_empty() {
             return Ok(Tree::new());
         }
-        let middle = left_of(items.len());
-        let left = Tree::of(alloc, &items[..middle])?;
-        let right = Tree::of(alloc, &items[middle + 1..])?;
-        Tree::join_copied(alloc, left, &items[middle], right)
+        let mut row = Tree::row_of(alloc, items)?;
+        while row.len() > 1 {
+            row = Tree::row_above(alloc, &row)?;
+        }
+        Ok(row.remove(0))
+    }
+
+    // Full leaves of the items of a slice.
+    fn row_of(alloc: Global, items: &[T]) -> Result<Vec<Tree<T>>, Memory>
+        requires { 0 < length items.now }
+        ensures some { IfOk result (λ row. 0 < length row.items) }
+        ensures items { IfOk result (λ row. joined row.items ≡ items.now) }
+        ensures level { IfOk result (λ row. AreBelow 2 row.items) }
+    {
+        let mut row = Vec::with_capacity(alloc, items.len() / WIDTH + 1)?;
+        let mut from = 0;
+        while from < items.len() {
+            let end = from + WIDTH.min(items.len() - from);
+            let part = copies(alloc, &items[from..end], 0)?;
+            let leaf = Tree::leaf(alloc, part)?;
+            row.push(leaf)?;
+            from = end;
+        }
+        Ok(row)
+    }
+
+    // The trees of a row, below full nodes.
+    fn row_above(alloc: Global, row: &[Tree<T>]) -> Result<Vec<Tree<T>>, Memory>
+        requires several { 2 ≤ length row.now }
+        requires level { (height : ℕ) × AreBelow height row.now }
+        ensures some { IfOk result (λ above. 0 < length above.items) }
+        ensures shorter { IfOk result (λ above. length above.items < length row.now) }
+        ensures items { IfOk result (λ above. joined above.items ≡ joined row.now) }
+        ensures level { IfOk result (λ above. (height : ℕ) × AreBelow height above.items) }
+    {
+        let height = row[0].height() + 1;
+        let mut above = Vec::with_capacity(alloc, row.len() / WIDTH + 1)?;
+        let mut from = 0;
+        while from < row.len() {
+            let end = from + few_of(row.len() - from);
+            let part = copies(alloc, &row[from..end], 0)?;
+            let fork = Tree::fork(alloc, part, height)?;
+            above.push(fork)?;
+            from = end;
+        }
+        Ok(above)
     }
 
     // One item.
     fn single(alloc: Global, item: T) -> Result<Tree<T>, Memory>
-        ensures { IfOk result (λ tree. tree ≡ above nothing item nothing) }
+        ensures { IfOk result (λ tree. tree.items ≡ item ∷ []) }
     {
-        let item = Rc::new(alloc, item)?;
+        let mut items = Vec::with_capacity(alloc, 1)?;
+        items.push(item)?;
+        Tree::leaf(alloc, items)
+    }
+
+    // A leaf of these items.
+    fn leaf(alloc: Global, items: Vec<T>) -> Result<Tree<T>, Memory>
+        requires some { 1 ≤ length items.items }
+        requires few { length items.items ≤ 32 }
+        ensures items { IfOk result (λ tree. tree.items ≡ items.items) }
+        ensures height { IfOk result (λ tree. tree.height ≡ 1) }
+    {
+        let count = items.len() as u32;
+        let items = Rc::new(alloc, items)?;
         Ok(Tree {
-            node: Node::One(item),
+            node: Node::Leaf(items),
+            count,
+            height: 1,
         })
     }
 
-    // The tree with one more item in front.
-    fn prepend(&self, alloc: Global, item: T) -> Result<Tree<T>, Memory>
-        requires { self.now.height ≡ 1 }
-        ensures { IfOk result (λ tree. tree ≡ above nothing item self.now) }
+    // The same, or no items.
+    fn leaf_or_none(alloc: Global, items: Vec<T>) -> Result<Tree<T>, Memory>
+        requires { length items.items ≤ 32 }
+        ensures items { IfOk result (λ tree. tree.items ≡ items.items) }
+        ensures height { IfOk result (λ tree. tree.height ≤ 1) }
     {
-        let right = self.copy()?;
-        Tree::join(alloc, Tree::new(), item, right)
-    }
-
-    // The tree with one more item behind.
-    fn append(&self, alloc: Global, item: T) -> Result<Tree<T>, Memory>
-        requires { self.now.height ≡ 1 }
-        ensures { IfOk result (λ tree. tree ≡ above self.now item nothing) }
-    {
-        let left = self.copy()?;
-        Tree::join(alloc, left, item, Tree::new())
-    }
-
-    // One node above two trees. Each node is its own, with two counters of eight bytes, so those that a `u32` can't
-    // count would take 64 gigabytes and their items: that they can't be counted is want of memory.
-    fn join(alloc: Global, left: Tree<T>, item: T, right: Tree<T>) -> Result<Tree<T>, Memory>
-        requires { DifferByAtMost 1 left.height right.height }
-        ensures { IfOk result (λ tree. tree ≡ above left item right) }
-    {
-        if left.is_empty() && right.is_empty() {
-            return Tree::single(alloc, item);
+        if items.is_empty() {
+            Ok(Tree::new())
+        } else {
+            Tree::leaf(alloc, items)
         }
-        let count = Tree::count_above(&left, &right).ok_or(Memory)?;
-        let height = Tree::height_above(&left, &right);
-        Tree::fork(
-            alloc,
-            Branch {
-                left,
-                item,
-                right,
-                count,
-                height,
-            },
-        )
     }
 
-    // The same, with a copy of the item.
-    fn join_copied(
-        alloc: Global,
-        left: Tree<T>,
-        item: &T,
-        right: Tree<T>,
-    ) -> Result<Tree<T>, Memory>
-        requires { DifferByAtMost 1 left.height right.height }
-        ensures { IfOk result (λ tree. tree ≡ above left item.now right) }
+    // A leaf of these items, or two where they are one too many, of which the one at the index is new.
+    fn leaves(alloc: Global, items: Vec<T>, index: usize) -> Result<Grown<T>, Memory>
+        requires some { 1 ≤ length items.items }
+        requires few { length items.items ≤ 33 }
+        ensures items { IfOk result (λ grown. joined (trees grown) ≡ items.items) }
+        ensures level { IfOk result (λ grown. AreBelow 2 (trees grown)) }
     {
-        let item = item.copied()?;
-        Tree::join(alloc, left, item, right)
+        let mut items = items;
+        if items.len() <= WIDTH {
+            let leaf = Tree::leaf(alloc, items)?;
+            return Ok(Grown::One(leaf));
+        }
+        let behind = cut_off(&mut items, index)?;
+        let first = Tree::leaf(alloc, items)?;
+        let second = Tree::leaf(alloc, behind)?;
+        Ok(Grown::Two(first, second))
     }
 
-    // The same, with copies of all three.
-    fn join_shared(
-        alloc: Global,
-        left: &Tree<T>,
-        item: &T,
-        right: &Tree<T>,
-    ) -> Result<Tree<T>, Memory>
-        requires { DifferByAtMost 1 left.now.height right.now.height }
-        ensures { IfOk result (λ tree. tree ≡ above left.now item.now right.now) }
+    // A fork above these trees. Its leaves have blocks of their own, so items that a `u32` can't count would take more
+    // than four gigabytes: that they can't be counted is want of memory.
+    fn fork(alloc: Global, below: Vec<Tree<T>>, height: u8) -> Result<Tree<T>, Memory>
+        requires several { 2 ≤ length below.items }
+        requires few { length below.items ≤ 32 }
+        requires level { AreBelow height below.items }
+        ensures items { IfOk result (λ tree. tree.items ≡ joined below.items) }
+        ensures height { IfOk result (λ tree. tree.height ≡ height) }
     {
-        let left = left.copy()?;
-        let right = right.copy()?;
-        Tree::join_copied(alloc, left, item, right)
-    }
-
-    // The tree of a branch.
-    fn fork(alloc: Global, branch: Branch<T>) -> Result<Tree<T>, Memory>
-        requires { IsSoundBranch branch }
-        ensures { IfOk result (λ tree. tree ≡ top_shape branch) }
-    {
-        let branch = Rc::new(alloc, branch)?;
+        let count = counted(&below).ok_or(Memory)?;
+        let below = Rc::new(alloc, below)?;
         Ok(Tree {
-            node: Node::Fork(branch),
+            node: Node::Fork(below),
+            count,
+            height,
         })
     }
 
-    // How many items a node above two trees has below it, itself among them, where a `u32` can tell.
-    fn count_above(left: &Tree<T>, right: &Tree<T>) -> Option<u32>
-        ensures { let count = length left.now.items + 1 + length right.now.items in
-            SomeIff result (count < 2 ^ 32) count }
+    // The same, or the one tree that there is.
+    fn fork_or_one(alloc: Global, below: Vec<Tree<T>>, height: u8) -> Result<Tree<T>, Memory>
+        requires some { 1 ≤ length below.items }
+        requires few { length below.items ≤ 32 }
+        requires level { AreBelow height below.items }
+        ensures items { IfOk result (λ tree. tree.items ≡ joined below.items) }
+        ensures height { IfOk result (λ tree. IsAtMostOneAbove tree.height height) }
     {
-        let count = left.len().checked_add(right.len())?.checked_add(1)?;
-        u32::try_from(count).ok()
-    }
-
-    // The height of a node above two trees.
-    fn height_above(left: &Tree<T>, right: &Tree<T>) -> u8
-        requires { DifferByAtMost 1 left.now.height right.now.height }
-        ensures is { result ≡ max left.now.height right.now.height + 1 }
-        ensures low { IsLow (length left.now.items + 1 + length right.now.items)
-            (max left.now.height right.now.height + 1) }
-    {
-        left.height().max(right.height()) + 1
-    }
-
-    // The same as `join_shared`, by a rotation where one side is more than one higher.
-    fn balanced(alloc: Global, left: &Tree<T>, item: &T, right: &Tree<T>) -> Result<Tree<T>, Memory>
-        requires { DifferByAtMost 2 left.now.height right.now.height }
-        ensures items { IfOk result (λ tree. tree.items ≡ left.now.items ++ item.now ∷ right.now.items) }
-        ensures height { IfOk result (λ tree. IsBalancedAbove left.now.height right.now.height tree.height) }
-    {
-        if let Some(outer) = left.too_high_beside(right) {
-            outer
-                .right
-                .rotated(alloc, &outer.left, &outer.item, item, right)
-        } else if let Some(outer) = right.too_high_beside(left) {
-            outer
-                .left
-                .rotated(alloc, left, item, &outer.item, &outer.right)
+        let mut below = below;
+        if below.len() == 1 {
+            Ok(below.remove(0))
         } else {
-            Tree::join_shared(alloc, left, item, right)
+            Tree::fork(alloc, below, height)
         }
     }
 
-    // The tree between two others, each with an item in between, with the highest of the three at the top.
-    fn rotated(
-        &self,
+    // A fork above these trees, or two where they are one too many, of which the one at the index is new.
+    fn forks(
         alloc: Global,
-        left: &Tree<T>,
-        first: &T,
-        last: &T,
-        right: &Tree<T>,
-    ) -> Result<Tree<T>, Memory>
-        requires base { min left.now.height right.now.height ≤ self.now.height }
-        requires higher { max left.now.height (max self.now.height right.now.height)
-            ≡ min left.now.height right.now.height + 1 }
-        ensures items { IfOk result (λ tree. tree.items
-            ≡ left.now.items ++ first.now ∷ (self.now.items ++ last.now ∷ right.now.items)) }
-        ensures height { IfOk result (λ tree.
-            IsAtMostOneAbove (min left.now.height right.now.height + 2) tree.height) }
+        below: Vec<Tree<T>>,
+        height: u8,
+        index: usize,
+    ) -> Result<Grown<T>, Memory>
+        requires several { 2 ≤ length below.items }
+        requires few { length below.items ≤ 33 }
+        requires level { AreBelow height below.items }
+        ensures items { IfOk result (λ grown. joined (trees grown) ≡ joined below.items) }
+        ensures level { IfOk result (λ grown. AreBelow (height + 1) (trees grown)) }
     {
-        let height = self.height();
-        if height > left.height() && height > right.height() {
-            self.at_the_top(alloc, left, first, last, right)
-        } else if left.height() > right.height() {
-            self.below_first(alloc, left, first, last, right)
+        let mut below = below;
+        if below.len() <= WIDTH {
+            let fork = Tree::fork(alloc, below, height)?;
+            return Ok(Grown::One(fork));
+        }
+        let behind = cut_off(&mut below, index)?;
+        let first = Tree::fork(alloc, below, height)?;
+        let second = Tree::fork(alloc, behind, height)?;
+        Ok(Grown::Two(first, second))
+    }
+
+    // A fork above two trees.
+    fn above(alloc: Global, first: Tree<T>, second: Tree<T>, height: u8) -> Result<Tree<T>, Memory>
+        requires { AreBelow height (first ∷ second ∷ []) }
+        ensures items { IfOk result (λ tree. tree.items ≡ first.items ++ second.items) }
+        ensures height { IfOk result (λ tree. tree.height ≡ height) }
+    {
+        let mut below = Vec::with_capacity(alloc, 2)?;
+        below.push(first)?;
+        below.push(second)?;
+        Tree::fork(alloc, below, height)
+    }
+
+    // The row with what one of its trees became by a removal. What is too low to stand in it is put below a neighbour.
+    fn with_less(
+        alloc: Global,
+        row: &[Tree<T>],
+        child: usize,
+        less: Tree<T>,
+        height: u8,
+    ) -> Result<Vec<Tree<T>>, Memory>
+        requires child { child < length row.now }
+        requires several { 2 ≤ length row.now }
+        requires level { AreBelow height row.now }
+        requires near { IsAtMostOneAbove (less.height + 1) height }
+        ensures some { IfOk result (λ new. 1 ≤ length new.items) }
+        ensures few { IfOk result (λ new. length new.items ≤ length row.now) }
+        ensures level { IfOk result (λ new. AreBelow height new.items) }
+        ensures items { IfOk result (λ new. joined new.items
+            ≡ joined (take child row.now) ++ (less.items ++ joined (drop (child + 1) row.now))) }
+    {
+        if less.is_empty() {
+            without(alloc, row, child)
+        } else if less.height() + 1 == height {
+            with_other(alloc, row, child, less)
+        } else if child == 0 {
+            let grown = row[1].with_front(alloc, less)?;
+            with_grown(alloc, &row[1..], 0, grown)
         } else {
-            self.below_last(alloc, left, first, last, right)
+            let grown = row[child - 1].with_behind(alloc, less)?;
+            let rest = without(alloc, row, child)?;
+            with_grown(alloc, &rest, child - 1, grown)
         }
     }
 
-    // The same, with the first item at the top.
-    fn below_first(
-        &self,
-        alloc: Global,
-        left: &Tree<T>,
-        first: &T,
-        last: &T,
-        right: &Tree<T>,
-    ) -> Result<Tree<T>, Memory>
-        requires lower { DifferByAtMost 1 self.now.height right.now.height }
-        requires upper { DifferByAtMost 1 left.now.height (max self.now.height right.now.height + 1) }
-        ensures { IfOk result (λ tree. tree ≡ above left.now first.now (above self.now last.now right.now)) }
-    {
-        let below = Tree::join_shared(alloc, self, last, right)?;
-        Tree::join_shared(alloc, left, first, &below)
-    }
-
-    // The same, with the last item at the top.
-    fn below_last(
-        &self,
-        alloc: Global,
-        left: &Tree<T>,
-        first: &T,
-        last: &T,
-        right: &Tree<T>,
-    ) -> Result<Tree<T>, Memory>
-        requires lower { DifferByAtMost 1 left.now.height self.now.height }
-        requires upper { DifferByAtMost 1 (max left.now.height self.now.height + 1) right.now.height }
-        ensures { IfOk result (λ tree. tree ≡ above (above left.now first.now self.now) last.now right.now) }
-    {
-        let below = Tree::join_shared(alloc, left, first, self)?;
-        Tree::join_shared(alloc, &below, last, right)
-    }
-
-    // The same, with the tree's own top at the top.
-    fn at_the_top(
-        &self,
-        alloc: Global,
-        left: &Tree<T>,
-        first: &T,
-        last: &T,
-        right: &Tree<T>,
-    ) -> Result<Tree<T>, Memory>
-        requires level { left.now.height ≡ right.now.height }
-        requires higher { self.now.height ≡ left.now.height + 1 }
-        ensures items { IfOk result (λ tree. tree.items
-            ≡ left.now.items ++ first.now ∷ (self.now.items ++ last.now ∷ right.now.items)) }
-        ensures height { IfOk result (λ tree. tree.height ≡ self.now.height + 1) }
+    // With one more tree below it, in front of the others.
+    fn with_front(&self, alloc: Global, front: Tree<T>) -> Result<Grown<T>, Memory>
+        requires { IsBelow self.now.height front }
+        ensures items { IfOk result (λ grown. joined (trees grown) ≡ front.items ++ self.now.items) }
+        ensures level { IfOk result (λ grown. AreBelow (self.now.height + 1) (trees grown)) }
     {
         match &self.node {
-            Node::Empty => unreachable!(),
-            Node::One(top) => { Tree::around(alloc, left, first, top.as_ref(), last, right) }
-            Node::Fork(branch) => branch.as_ref().between(alloc, left, first, last, right),
+            Node::Empty | Node::Leaf(_) => unreachable!(),
+            Node::Fork(below) => {
+                let row = with(alloc, below.as_ref(), 0, front)?;
+                Tree::forks(alloc, row, self.height, 0)
+            }
         }
     }
 
-    // Two trees and three items between them, with the one in the middle at the top.
-    fn around(
-        alloc: Global,
-        left: &Tree<T>,
-        first: &T,
-        top: &T,
-        last: &T,
-        right: &Tree<T>,
-    ) -> Result<Tree<T>, Memory>
-        requires left { left.now.height ≡ 0 }
-        requires right { right.now.height ≡ 0 }
-        ensures { IfOk result (λ tree. tree
-            ≡ above (above left.now first.now nothing) top.now (above nothing last.now right.now)) }
-    {
-        let none = Tree::new();
-        let before = Tree::join_shared(alloc, left, first, &none)?;
-        let behind = Tree::join_shared(alloc, &none, last, right)?;
-        Tree::join_copied(alloc, before, top, behind)
-    }
-
-    // Whether neither is more than one higher than the other.
-    fn is_level_with(&self, other: &Tree<T>) -> bool
-        ensures { IsTrue result ↔ DifferByAtMost 1 self.now.height other.now.height }
-    {
-        self.height().abs_diff(other.height()) <= 1
-    }
-
-    // The branch at the top, where it is more than one higher than the other tree.
-    fn too_high_beside(&self, other: &Tree<T>) -> Option<&Branch<T>>
-        ensures top { IfSome result (λ outer. self.now ≡ top_shape outer.now) }
-        ensures level { IfSome result (λ outer. DifferByAtMost 1 outer.now.left.height outer.now.right.height) }
-        ensures higher { IfSome result (λ _. other.now.height + 1 < self.now.height) }
-        ensures none { IfNone result (self.now.height ≤ other.now.height + 1) }
+    // With one more tree below it, behind the others.
+    fn with_behind(&self, alloc: Global, behind: Tree<T>) -> Result<Grown<T>, Memory>
+        requires { IsBelow self.now.height behind }
+        ensures items { IfOk result (λ grown. joined (trees grown) ≡ self.now.items ++ behind.items) }
+        ensures level { IfOk result (λ grown. AreBelow (self.now.height + 1) (trees grown)) }
     {
         match &self.node {
-            Node::Fork(branch) if branch.height > other.height() + 1 => { Some(branch.as_ref()) }
-            _ => None,
+            Node::Empty | Node::Leaf(_) => unreachable!(),
+            Node::Fork(below) => {
+                let row = with(alloc, below.as_ref(), below.len(), behind)?;
+                Tree::forks(alloc, row, self.height, 0)
+            }
         }
     }
 }
 
-impl<T: Item> Branch<T> {
-    // With another left side.
-    fn with_left(&self, alloc: Global, left: Tree<T>) -> Result<Tree<T>, Memory>
-        requires { DifferByAtMost 2 left.height self.now.right.height }
-        ensures items { IfOk result (λ tree. tree.items ≡ left.items ++ self.now.item ∷ self.now.right.items) }
-        ensures height { IfOk result (λ tree. IsBalancedAbove left.height self.now.right.height tree.height) }
-    {
-        if left.is_level_with(&self.right) {
-            let right = self.right.copy()?;
-            Tree::join_copied(alloc, left, &self.item, right)
-        } else {
-            Tree::balanced(alloc, &left, &self.item, &self.right)
-        }
-    }
-
-    // With another right side.
-    fn with_right(&self, alloc: Global, right: Tree<T>) -> Result<Tree<T>, Memory>
-        requires { DifferByAtMost 2 self.now.left.height right.height }
-        ensures items { IfOk result (λ tree. tree.items ≡ self.now.left.items ++ self.now.item ∷ right.items) }
-        ensures height { IfOk result (λ tree. IsBalancedAbove self.now.left.height right.height tree.height) }
-    {
-        if self.left.is_level_with(&right) {
-            let left = self.left.copy()?;
-            Tree::join_copied(alloc, left, &self.item, right)
-        } else {
-            Tree::balanced(alloc, &self.left, &self.item, &right)
-        }
-    }
-
-    // With another item between the same sides.
-    fn with_item(&self, alloc: Global, item: T) -> Result<Tree<T>, Memory>
-        requires { DifferByAtMost 1 self.now.left.height self.now.right.height }
-        ensures { IfOk result (λ tree. tree ≡ above self.now.left item self.now.right) }
-    {
-        let left = self.left.copy()?;
-        let right = self.right.copy()?;
-        Tree::join(alloc, left, item, right)
-    }
-
-    // The left side, and then the first item of the right one above those behind it.
-    fn with_first_behind(&self, alloc: Global, behind: Tree<T>) -> Result<Tree<T>, Memory>
-        requires some { 0 < length self.now.right.items }
-        requires first { behind.items ≡ remove self.now.right.items 0 }
-        requires near { DifferByAtMost 2 self.now.left.height behind.height }
-        ensures items { IfOk result (λ tree. tree.items ≡ self.now.left.items ++ self.now.right.items) }
-        ensures height { IfOk result (λ tree. IsBalancedAbove self.now.left.height behind.height tree.height) }
-    {
-        Tree::balanced(alloc, &self.left, self.right.at(0), &behind)
-    }
-
-    // The branch between two trees, each with an item in between, and its own item at the top.
-    fn between(
-        &self,
-        alloc: Global,
-        left: &Tree<T>,
-        first: &T,
-        last: &T,
-        right: &Tree<T>,
-    ) -> Result<Tree<T>, Memory>
-        requires left { DifferByAtMost 1 left.now.height self.now.left.height }
-        requires right { DifferByAtMost 1 self.now.right.height right.now.height }
-        requires upper { DifferByAtMost 1 (max left.now.height self.now.left.height + 1)
-            (max self.now.right.height right.now.height + 1) }
-        ensures { IfOk result (λ tree. tree ≡ above (above left.now first.now self.now.left) self.now.item
-            (above self.now.right last.now right.now)) }
-    {
-        let before = Tree::join_shared(alloc, left, first, &self.left)?;
-        let behind = Tree::join_shared(alloc, &self.right, last, right)?;
-        Tree::join_copied(alloc, before, &self.item, behind)
-    }
-}
-
-// How many of so many items stand on the left where only the lowest row of nodes isn't full, and is filled from the
-// left: so most nodes have no sides.
-fn left_of(count: usize) -> usize
-    requires { 0 < count }
-    ensures inside { result < count }
-    ensures left { result ≤ 2 * (count - result - 1) + 1 }
-    ensures right { count - result - 1 ≤ result }
-    // Some power of two is more than stand on the left, and no more than all.
-    ensures row { (digits : ℕ) × (result < 2 ^ digits) × (2 ^ digits ≤ count) }
+// How many of the trees of a row stand below the next node, so that of the others there is none or more than one.
+fn few_of(count: usize) -> usize
+    requires { 2 ≤ count }
+    ensures several { 2 ≤ result }
+    ensures few { result ≤ 32 }
+    ensures within { result ≤ count }
+    ensures rest { count - result ≢ 1 }
 {
-    let row = 1 << count.ilog2();
-    let lowest = count - row + 1;
-    (row / 2 + lowest.min(row / 2))
-        .saturating_sub(1)
-        .min(count - 1)
+    if count == WIDTH + 1 {
+        WIDTH - 1
+    } else {
+        count.min(WIDTH)
+    }
 }

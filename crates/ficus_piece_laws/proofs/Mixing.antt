@@ -5,7 +5,7 @@ use Rattle.std.specs.List.{concat}
 use Rattle.ficus_model.specs.declared.event.Event.{Event}
 use Rattle.ficus_model.specs.Events.{through, generation_of}
 use Rattle.ficus_model.specs.Lawful.{Volume}
-use Rattle.ficus_saved.specs.declared.saved.Saved.{Saved}
+use Rattle.ficus_durable_state.specs.declared.saved.Saved.{Saved}
 use Rattle.ficus_replica.specs.SavedOf.{IsSavedOf}
 use Rattle.ficus_formats.specs.Pieces.{piece_count, piece_at}
 use Rattle.ficus_piece_laws.specs.Laws.{Spelling, spelling_of, IsServedPiece}

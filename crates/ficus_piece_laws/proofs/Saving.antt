@@ -9,7 +9,7 @@ use Rattle.ficus_model.specs.declared.event.Event.TheVariants.{Serve, Take, Rest
 use Rattle.ficus_model.specs.Events.{IsOf, actor, traits, is_update_of, is_saved, generation_of, through}
 use Rattle.ficus_model.specs.Known.{Knows}
 use Rattle.ficus_model.specs.Lawful.{Volume}
-use Rattle.ficus_saved.specs.declared.saved.Saved.{Saved}
+use Rattle.ficus_durable_state.specs.declared.saved.Saved.{Saved}
 use Rattle.ficus_held_laws.specs.Entries.{IsIdle}
 use Rattle.ficus_laws.specs.Known.{Takes, IsKnownAfter}
 use Rattle.ficus_held_laws.proofs.Standing.{idle_quiet}

@@ -5,7 +5,7 @@ use Rattle.ficus_model.specs.declared.event.Event.{Event}
 use Rattle.ficus_model.specs.declared.event.Event.TheVariants.{Ask, Serve}
 use Rattle.ficus_model.specs.Events.{IsAt, through, generation_of}
 use Rattle.ficus_model.specs.Lawful.{Volume, IsLawful, MayServe}
-use Rattle.ficus_saved.specs.declared.saved.Saved.{Saved}
+use Rattle.ficus_durable_state.specs.declared.saved.Saved.{Saved}
 use Rattle.ficus_replica.specs.SavedOf.{IsSavedOf}
 use Rattle.ficus_formats.specs.Pieces.{piece_count}
 use Rattle.ficus_piece_laws.specs.Laws.{Spelling, spelling_of, HasServedAll}

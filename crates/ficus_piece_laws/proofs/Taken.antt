@@ -5,7 +5,7 @@ use Rattle.ficus_model.specs.declared.event.Event.{Event}
 use Rattle.ficus_model.specs.declared.event.Event.TheVariants.{Ask, Serve, Take}
 use Rattle.ficus_model.specs.Events.{IsAt, before, through, is_saved, generation_of}
 use Rattle.ficus_model.specs.Lawful.{Volume, IsLawful, IsOpenAsk, AnswersOpenAsk, HasTaken, IsWantedPiece}
-use Rattle.ficus_saved.specs.declared.saved.Saved.{Saved}
+use Rattle.ficus_durable_state.specs.declared.saved.Saved.{Saved}
 use Rattle.ficus_laws.proofs.Counts.{counted_none}
 use Rattle.ficus_laws.proofs.Positions.{at_same, at_before, at_from_before, through_is}
 use Rattle.ficus_laws.proofs.OpenAsk.{open_once}

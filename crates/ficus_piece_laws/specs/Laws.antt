@@ -9,7 +9,7 @@ use Rattle.ficus_model.specs.declared.event.Event.TheVariants.{Ask, Serve}
 use Rattle.ficus_model.specs.Events.{IsAt, IsOf, through, generation_of}
 use Rattle.ficus_model.specs.Known.{Knows}
 use Rattle.ficus_model.specs.Lawful.{Volume, IsLawful, AnswersOpenAsk, HasTaken, IsWantedPiece, MayServe}
-use Rattle.ficus_saved.specs.declared.saved.Saved.{Saved}
+use Rattle.ficus_durable_state.specs.declared.saved.Saved.{Saved}
 use Rattle.ficus_replica.specs.SavedOf.{IsSavedOf}
 
 -- an own event of the replica after the first so many

@@ -8,7 +8,7 @@ use Rattle.ficus_model.specs.declared.event.Op.{Op}
 use Rattle.ficus_model.specs.declared.event.Op.TheVariants.{Make, Link, Remove, Move, Write, Settle, Resolve, Adopt, Discard}
 use Rattle.ficus_formats.specs.Format.{Format, ◌then◌, id, meeting, number16, rising, string}
 use Rattle.ficus_codec.specs.Formats.{kind, name, tables_bytes}
-use Rattle.ficus_saved.specs.Tables.{FitsTables}
+use Rattle.ficus_durable_state.specs.Tables.{FitsTables}
 use Rattle.ficus_record.specs.declared.record.Record.{Record}
 use Rattle.ficus_record.specs.declared.record.Record.TheVariants as record_
 

@@ -2,14 +2,14 @@
 ghost use Rattle.std.specs.Prelude.{◌≡◌, ◌-◌, ◌^◌, ◌<◌, All, IfOk, OnOk};
 ghost use Rattle.ficus_commands.specs.Change.{HasFitPaths};
 ghost use Rattle.ficus_record.specs.Record.{FitsOp, FitsRecord};
-ghost use Rattle.ficus_saved.specs.Saved.{FitsImage};
+ghost use Rattle.ficus_durable_state.specs.Saved.{FitsImage};
 ghost use Rattle.ficus_script.specs.Command.{IsCommand};
 
 use ficus_commands::Change;
+use ficus_durable_state::{BYTE_LIMIT, UPDATE_LIMIT};
 use ficus_ids::{Listed, Members, Refusal};
 use ficus_record::{Record, RecordFault, decode_record, encode_change, encode_record};
 use ficus_replica::{Next, Replica};
-use ficus_saved::{BYTE_LIMIT, UPDATE_LIMIT};
 use ficus_script::{Command, read_script};
 use std::alloc::Global;
 

@@ -17,15 +17,15 @@ use Rattle.ficus_model.specs.Live.{IsDirectory}
 use Rattle.ficus_model.specs.Lawful.{Volume, IsLawful, IsOpenAsk, MayAccept, AnswersOpenAsk}
 use Rattle.ficus_entry.specs.declared.entry.Entry.{Entry}
 use Rattle.ficus_file.specs.declared.file.FileReplica.{FileReplica}
-use Rattle.ficus_saved.specs.Saved.{FitsImage, IsOfPast, IsEntryOfPast, IsFileOfPast, HasOwnPast}
-use Rattle.ficus_saved.specs.Tables.{FitsTables}
-use Rattle.ficus_saved.specs.declared.saved.Saved.{Saved}
+use Rattle.ficus_durable_state.specs.Saved.{FitsImage, IsOfPast, IsEntryOfPast, IsFileOfPast, HasOwnPast}
+use Rattle.ficus_durable_state.specs.Tables.{FitsTables}
+use Rattle.ficus_durable_state.specs.declared.saved.Saved.{Saved}
 use Rattle.ficus_record.specs.declared.record.Record.{Record}
 use Rattle.ficus_record.specs.declared.record.Record.TheVariants as noted
-use Rattle.ficus_touched.specs.Touched.{touched_by}
-use Rattle.ficus_saved.proofs.MergedTables.{merged_tables_fit}
-use Rattle.ficus_saved.proofs.Touched.{touched_is}
-use Rattle.ficus_recon_dir.specs.Merge.{MergesEntries}
+use Rattle.ficus_mentions.specs.Touched.{touched_by}
+use Rattle.ficus_durable_state.proofs.MergedTables.{merged_tables_fit}
+use Rattle.ficus_durable_state.proofs.Touched.{touched_is}
+use Rattle.ficus_merge_entries.specs.Merge.{MergesEntries}
 use Rattle.ficus_laws.specs.Updates.{IsIssued}
 use Rattle.ficus_laws.proofs.Positions.{at_same, of_at}
 use Rattle.ficus_laws.proofs.Counts.{counted_rises}

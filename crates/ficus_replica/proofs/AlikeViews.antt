@@ -28,12 +28,12 @@ use Rattle.ficus_file_laws.specs.Items.{AreVersionsOf}
 use Rattle.ficus_file_laws.proofs.Listing.{conflict_of_list}
 use Rattle.ficus_names.specs.Binds.{BindsIn}
 use Rattle.ficus_names.specs.ListingLaws.{HasOther-along, IsShownAs-along}
-use Rattle.ficus_saved.specs.declared.saved.Saved.{Saved}
+use Rattle.ficus_durable_state.specs.declared.saved.Saved.{Saved}
 use Rattle.ficus_rules.specs.Alike.{AreAlike}
 use Rattle.ficus_rules.specs.View.{IsBoundIn, history_view}
 use Rattle.ficus_rules.proofs.Alikes.{alike_back}
 use Rattle.ficus_rules.proofs.Views.{bound_same, turned}
-use Rattle.ficus_answers.proofs.Tables.{tables_bound}
+use Rattle.ficus_deciding.proofs.Tables.{tables_bound}
 use Rattle.ficus_replica.specs.SavedOf.{IsSavedOf}
 use Rattle.ficus_replica.proofs.Views.{named_made, orphan_made, stands_same, visible_versions}
 

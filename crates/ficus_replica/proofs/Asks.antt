@@ -6,8 +6,8 @@ use Rattle.ficus_model.specs.declared.event.Event.TheVariants.{Ask}
 use Rattle.ficus_model.specs.Events.{through, generation_of}
 use Rattle.ficus_model.specs.Lawful.{Volume}
 use Rattle.ficus_record.specs.declared.record.Record.TheVariants as noted
-use Rattle.ficus_saved.specs.Saved.{FitsImage}
-use Rattle.ficus_saved.specs.declared.saved.Saved.{Saved}
+use Rattle.ficus_durable_state.specs.Saved.{FitsImage}
+use Rattle.ficus_durable_state.specs.declared.saved.Saved.{Saved}
 use Rattle.ficus_laws.proofs.OpenAsk.{open_end}
 use Rattle.ficus_replica.specs.declared.replica.Replica.{Replica}
 use Rattle.ficus_replica.specs.Ask.{AskGives}

@@ -11,7 +11,7 @@ use Rattle.ficus_model.specs.declared.event.Op.{Op}
 use Rattle.ficus_model.specs.Known.{Knows}
 use Rattle.ficus_model.specs.Lawful.{Volume, IsLawful, MayCome, IsAllowed, MaySettle, HasBytesLeft, FitsBytes}
 use Rattle.ficus_path.specs.declared.path.Path.{Path}
-use Rattle.ficus_saved.specs.Saved.{FitsImage}
+use Rattle.ficus_durable_state.specs.Saved.{FitsImage}
 use Rattle.ficus_laws.proofs.Lawful.{lawful_more}
 use Rattle.ficus_commands.specs.declared.change.Change.{Change}
 use Rattle.ficus_commands.specs.declared.change.Change.TheVariants.{MkDir, Create, Symlink, Write, Settle, Resolve, Rm, Ln, Mv, Adopt, Discard}
@@ -30,7 +30,7 @@ use Rattle.ficus_rules.specs.Walk.{VersionedRule, last_name}
 pub use Rattle.ficus_rules.proofs.Changes.{change_once, change_along}
 use Rattle.ficus_rules.proofs.Changes.{change_answer_along}
 use Rattle.ficus_rules.proofs.Walks.{IsVersionedAt, entry_walked, versioned_walked, parent_walked, places_walked}
-use Rattle.ficus_answers.specs.View.{tables_view}
+use Rattle.ficus_deciding.specs.View.{tables_view}
 use Rattle.ficus_replica.specs.declared.replica.Next.{Next}
 use Rattle.ficus_replica.specs.declared.replica.Replica.{Replica}
 use Rattle.ficus_replica.specs.Change.{Changed, ChangeGives, ChangedAfter, ChangeStands}

@@ -9,8 +9,8 @@ use Rattle.ficus_entry.specs.Entry.{Holds as HoldsEntry, HoldsUnder}
 use Rattle.ficus_entry.specs.declared.entry.Entry.{Entry}
 use Rattle.ficus_file.specs.Files.{id_of, Holds}
 use Rattle.ficus_file.specs.declared.orphan.Orphan.{Orphan}
-use Rattle.ficus_gc.specs.Reclaim.{IsReclaimed, AreUndropped}
-use Rattle.ficus_gc.specs.declared.reclaiming.Reclaimed.{Reclaimed}
+use Rattle.ficus_collection.specs.Reclaim.{IsReclaimed, AreUndropped}
+use Rattle.ficus_collection.specs.declared.reclaiming.Reclaimed.{Reclaimed}
 use Rattle.ficus_model.specs.declared.event.Event.{Event}
 use Rattle.ficus_model.specs.declared.event.Event.TheVariants.{Collect}
 use Rattle.ficus_model.specs.Held.{IsHeldEntry, IsHeldObject}
@@ -23,16 +23,16 @@ use Rattle.ficus_laws.proofs.OneMore.{within_more}
 use Rattle.ficus_laws.proofs.Shown.{entered_within, made_within}
 use Rattle.ficus_laws.proofs.Updates.{count_no_update}
 use Rattle.ficus_orphan.specs.Orphan.{AreOrphans}
-use Rattle.ficus_touched.specs.Touched.{touched_by}
-use Rattle.ficus_saved.specs.declared.saved.Saved.{Saved}
-use Rattle.ficus_saved.proofs.ReclaimedTables.{entry_was, file_was}
+use Rattle.ficus_mentions.specs.Touched.{touched_by}
+use Rattle.ficus_durable_state.specs.declared.saved.Saved.{Saved}
+use Rattle.ficus_durable_state.proofs.ReclaimedTables.{entry_was, file_was}
 use Rattle.ficus_held_laws.specs.Entries.{AreKeptEntries, place_of}
 use Rattle.ficus_held_laws.specs.Objects.{KeptObject, IsTouched, AreLeft, AreOrphans as AreKnownOrphans}
 use Rattle.ficus_held_laws.proofs.Leaving.{held_listed, objects_left}
 use Rattle.ficus_held_laws.proofs.Listing.{list_collected}
 use Rattle.ficus_held_file_laws.specs.Tables.{object_of, objects_of, AreHeldEntries, AreHeldFiles}
 use Rattle.ficus_held_file_laws.proofs.Files.{held_object, kept_file}
-use Rattle.ficus_answers.proofs.Orphanages.{orphan_ids}
+use Rattle.ficus_deciding.proofs.Orphanages.{orphan_ids}
 use Rattle.ficus_replica.specs.declared.collect.Collected.{Collected}
 use Rattle.ficus_replica.specs.declared.replica.Replica.{Replica}
 use Rattle.ficus_replica.specs.Collect.{CollectGives, CollectStands, IsEntryGivenUp, IsObjectGivenUp, IsGarbage, Garbage}

@@ -16,7 +16,7 @@ use Rattle.ficus_ids.specs.RisingLaws.{same_items}
 use Rattle.ficus_ids.specs.declared.id.Id.{Id}
 use Rattle.ficus_laws.proofs.Deciding.{Decided}
 use Rattle.ficus_held_laws.proofs.Standing.{inside_decided}
-use Rattle.ficus_answers.proofs.RemovedEntries.{into_filter}
+use Rattle.ficus_deciding.proofs.RemovedEntries.{into_filter}
 use Rattle.ficus_replica.specs.Collect.{AreSoMany}
 
 -- so many are such, and no other number

@@ -6,7 +6,7 @@ use Rattle.ficus_model.specs.declared.event.Event.{Event}
 use Rattle.ficus_model.specs.declared.event.Event.TheVariants.{Update}
 use Rattle.ficus_model.specs.declared.event.Op.{Op}
 use Rattle.ficus_model.specs.Lawful.{Volume, IsLawful}
-use Rattle.ficus_saved.specs.declared.saved.Saved.{Saved}
+use Rattle.ficus_durable_state.specs.declared.saved.Saved.{Saved}
 use Rattle.ficus_laws.specs.Updates.{next_number}
 use Rattle.ficus_laws.proofs.Lawful.{lawful_less}
 use Rattle.ficus_laws.proofs.Updates.{count_update}
@@ -15,7 +15,7 @@ use Rattle.ficus_held_laws.specs.Objects.{AreObjectsStepped}
 use Rattle.ficus_held_laws.proofs.Growing.{objects_stepped}
 use Rattle.ficus_held_laws.proofs.Listing.{list_stepped}
 use Rattle.ficus_held_file_laws.specs.Tables.{objects_of}
-use Rattle.ficus_recon_file.proofs.Current.{ordered_of}
+use Rattle.ficus_merge_files.proofs.Current.{ordered_of}
 use Rattle.ficus_replica.specs.Effect.{Applied, next_id}
 use Rattle.ficus_replica.specs.SavedOf.{IsSavedOf}
 use Rattle.ficus_replica.proofs.Saves.{saved_then, generation_saved, update_is_saved, written_more}

@@ -13,7 +13,7 @@ use Rattle.ficus_model.specs.declared.event.Op.{Op}
 use Rattle.ficus_model.specs.Lawful.{Volume, ClosesAsk}
 use Rattle.ficus_model.specs.Versions.{written_in, written_of}
 use Rattle.ficus_ids.specs.Members.{IsMember}
-use Rattle.ficus_saved.specs.declared.saved.Saved.{Saved}
+use Rattle.ficus_durable_state.specs.declared.saved.Saved.{Saved}
 use Rattle.ficus_laws.proofs.Positions.{at_within}
 use Rattle.ficus_laws.proofs.Updates.{is_update_of_other}
 use Rattle.ficus_held_file_laws.specs.Tables.{AreHeldEntries, AreHeldFiles}

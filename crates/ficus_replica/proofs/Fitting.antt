@@ -18,10 +18,10 @@ use Rattle.ficus_model.specs.declared.event.Op.{Op}
 use Rattle.ficus_model.specs.declared.event.Op.TheVariants.{Make, Link, Remove, Move, Write, Settle, Resolve, Adopt, Discard}
 use Rattle.ficus_record.specs.Record.{FitsOp, ids}
 use Rattle.ficus_record.proofs.Making.{fitting_kind, making_fits}
-use Rattle.ficus_saved.specs.Saved.{FitsImage}
-use Rattle.ficus_saved.specs.Tables.{FitsEntry, FitsFile, HasObjectsIn, IsIssuable}
-use Rattle.ficus_saved.specs.declared.saved.Saved.{Saved}
-use Rattle.ficus_saved.proofs.Countable.{tables_countable}
+use Rattle.ficus_durable_state.specs.Saved.{FitsImage}
+use Rattle.ficus_durable_state.specs.Tables.{FitsEntry, FitsFile, HasObjectsIn, IsIssuable}
+use Rattle.ficus_durable_state.specs.declared.saved.Saved.{Saved}
+use Rattle.ficus_durable_state.proofs.Countable.{tables_countable}
 use Rattle.ficus_replica.specs.Effect.{HasName, IsPossible, IsReady, MayMake, MayRemove}
 use Rattle.ficus_replica.specs.Makes.{AreNames, FitsOpIn, FitsUpdate, IsNameOf, IsPlace}
 use Rattle.ficus_replica.proofs.Counting.{no_more_ids}

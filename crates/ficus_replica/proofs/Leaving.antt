@@ -9,14 +9,14 @@ use Rattle.ficus_entry.specs.declared.entry.State.TheVariants.{Live}
 use Rattle.ficus_file.specs.Files.{id_of}
 use Rattle.ficus_file.specs.declared.file.FileReplica.{FileReplica}
 use Rattle.ficus_file.specs.declared.orphan.Orphan.{Orphan}
-use Rattle.ficus_gc.specs.Reclaim.{IsFullyKnown, IsReclaimed}
-use Rattle.ficus_gc.specs.declared.reclaiming.Reclaimed.{Reclaimed}
+use Rattle.ficus_collection.specs.Reclaim.{IsFullyKnown, IsReclaimed}
+use Rattle.ficus_collection.specs.declared.reclaiming.Reclaimed.{Reclaimed}
 use Rattle.ficus_orphan.specs.Orphan.{AreOrphans, IsKept, IsOrphanIn}
-use Rattle.ficus_touched.specs.Touched.{touched_by}
-use Rattle.ficus_saved.specs.Saved.{FitsImage}
-use Rattle.ficus_saved.specs.declared.saved.Saved.{Saved}
-use Rattle.ficus_saved.proofs.ReclaimedTables.{entry_was, reclaimed_tables_fit}
-use Rattle.ficus_answers.proofs.Orphanages.{orphan_ids}
+use Rattle.ficus_mentions.specs.Touched.{touched_by}
+use Rattle.ficus_durable_state.specs.Saved.{FitsImage}
+use Rattle.ficus_durable_state.specs.declared.saved.Saved.{Saved}
+use Rattle.ficus_durable_state.proofs.ReclaimedTables.{entry_was, reclaimed_tables_fit}
+use Rattle.ficus_deciding.proofs.Orphanages.{orphan_ids}
 use Rattle.ficus_replica.specs.declared.collect.Collected.{Collected}
 use Rattle.ficus_replica.specs.Makes.{IsNoted}
 use Rattle.ficus_record.specs.declared.record.Record.TheVariants as noted

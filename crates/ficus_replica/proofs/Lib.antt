@@ -1,7 +1,6 @@
 pub mod Views
 pub mod Looking
 pub mod AlikeViews
-pub mod Telling
 pub mod Saves
 pub mod Standing
 pub mod OpenAsks

@@ -10,8 +10,8 @@ use Rattle.ficus_model.specs.declared.event.Op.{Op}
 use Rattle.ficus_model.specs.Lawful.{most_file_bytes}
 use Rattle.ficus_path.specs.declared.path.Path.{Path}
 use Rattle.ficus_record.specs.declared.record.Record.TheVariants as noted
-use Rattle.ficus_saved.specs.Saved.{FitsImage}
-use Rattle.ficus_saved.specs.declared.saved.Saved.{Saved}
+use Rattle.ficus_durable_state.specs.Saved.{FitsImage}
+use Rattle.ficus_durable_state.specs.declared.saved.Saved.{Saved}
 use Rattle.ficus_commands.specs.declared.change.Change.{Change}
 use Rattle.ficus_commands.specs.declared.change.Change.TheVariants.{MkDir, Create, Symlink, Write, Settle, Resolve, Rm, Ln, Mv, Adopt, Discard}
 use Rattle.ficus_rules.specs.Adopt.{AdoptRule}
@@ -28,8 +28,8 @@ use Rattle.ficus_rules.specs.Symlink.{SymlinkRule}
 use Rattle.ficus_rules.specs.View.{IsDirectoryIn, IsVisibleIn}
 use Rattle.ficus_rules.specs.Walk.{VersionedRule, Found, last_name}
 use Rattle.ficus_rules.proofs.Walks.{IsVersionedAt, IsEntryAt, IsWalkedTo, entry_walked, versioned_walked, parent_walked, places_walked}
-use Rattle.ficus_answers.specs.View.{IsVisibleBy, held_live, tables_view}
-use Rattle.ficus_answers.proofs.Tables.{bound_named, tables_named, visible_held}
+use Rattle.ficus_deciding.specs.View.{IsVisibleBy, held_live, tables_view}
+use Rattle.ficus_deciding.proofs.Tables.{bound_named, tables_named, visible_held}
 use Rattle.ficus_replica.specs.Effect.{Applied, HasName, IsReady, MayWrite}
 use Rattle.ficus_replica.specs.Makes.{AreNames, FitsOpIn, FitsUpdate, IsFile, IsNoted, IsPlace}
 use Rattle.ficus_replica.proofs.Fitting.{HasForm, op_spelled, update_ready}

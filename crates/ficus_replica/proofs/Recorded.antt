@@ -6,8 +6,8 @@ use Rattle.ficus_model.specs.declared.event.Event.TheVariants.{Update, Ask, Coll
 use Rattle.ficus_model.specs.Lawful.{Volume, IsLawful, MayCome}
 use Rattle.ficus_laws.proofs.Lawful.{lawful_more}
 use Rattle.ficus_record.specs.declared.record.Record.{Record}
-use Rattle.ficus_saved.specs.Saved.{FitsImage}
-use Rattle.ficus_saved.specs.declared.saved.Saved.{Saved}
+use Rattle.ficus_durable_state.specs.Saved.{FitsImage}
+use Rattle.ficus_durable_state.specs.declared.saved.Saved.{Saved}
 use Rattle.ficus_replica.specs.Makes.{Makes}
 use Rattle.ficus_replica.specs.Recording.{IsRecordOf}
 use Rattle.ficus_replica.specs.Recording.IsRecordOf.{OfUpdate, OfAsk, OfAccept, OfCollect}

@@ -10,7 +10,7 @@ use Rattle.ficus_model.specs.Lawful.{Volume}
 use Rattle.ficus_model.specs.Versions.{bytes_of, written_in, written_of}
 use Rattle.ficus_entry.specs.declared.entry.Entry.{Entry}
 use Rattle.ficus_file.specs.declared.file.FileReplica.{FileReplica}
-use Rattle.ficus_saved.specs.declared.saved.Saved.{Saved}
+use Rattle.ficus_durable_state.specs.declared.saved.Saved.{Saved}
 use Rattle.ficus_laws.proofs.Counts.{counted_one, counted_none}
 use Rattle.ficus_laws.proofs.Updates.{count_no_update, not_own}
 use Rattle.ficus_held_laws.specs.Entries.{IsIdle}

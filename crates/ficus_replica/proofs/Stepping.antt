@@ -12,7 +12,7 @@ use Rattle.ficus_ids.specs.declared.id.Id.{Id}
 use Rattle.ficus_ids.specs.declared.id.TheConstants.{ATTIC}
 use Rattle.ficus_ids.specs.declared.kind.Kind.{Kind}
 use Rattle.ficus_ids.specs.Rising.{Adds}
-use Rattle.ficus_vv.specs.Vector.{count_of}
+use Rattle.ficus_vectors.specs.Vector.{count_of}
 use Rattle.ficus_entry.specs.Entry.{IsRising, AddsEntry, Holds as HoldsEntry}
 use Rattle.ficus_entry.specs.Kill.{AreKilled, IsJustKilled}
 use Rattle.ficus_entry.specs.declared.entry.Entry.{Entry}
@@ -26,22 +26,22 @@ use Rattle.ficus_file.specs.declared.file.FileReplica.{FileReplica}
 use Rattle.ficus_model.specs.declared.event.Op.{Op}
 use Rattle.ficus_model.specs.declared.event.Op.TheVariants.{Make, Remove, Move, Write, Settle, Resolve, Discard}
 use Rattle.ficus_model.specs.Live.{entry_of}
-use Rattle.ficus_saved.specs.Saved.{FitsImage, IsEntryOfPast, IsFileOfPast}
-use Rattle.ficus_saved.specs.Laws.{FitsReplica}
-use Rattle.ficus_saved.specs.Tables.{FitsAttic, FitsFile, FitsState, HasObjectsIn}
-use Rattle.ficus_saved.specs.declared.saved.Saved.{Saved}
-use Rattle.ficus_saved.specs.Limits.{update_limit}
-use Rattle.ficus_saved.proofs.ChangedTables.{made_tables_fit, entered_tables_fit, written_tables_fit, covered_tables_fit, held_changed}
-use Rattle.ficus_saved.proofs.KilledTables.{killed_tables_fit}
-use Rattle.ficus_saved.proofs.MergedTables.{objects_in}
-use Rattle.ficus_saved.proofs.CountFits.{join_all_at_most}
+use Rattle.ficus_durable_state.specs.Saved.{FitsImage, IsEntryOfPast, IsFileOfPast}
+use Rattle.ficus_durable_state.specs.Laws.{FitsReplica}
+use Rattle.ficus_durable_state.specs.Tables.{FitsAttic, FitsFile, FitsState, HasObjectsIn}
+use Rattle.ficus_durable_state.specs.declared.saved.Saved.{Saved}
+use Rattle.ficus_durable_state.specs.Limits.{update_limit}
+use Rattle.ficus_durable_state.proofs.ChangedTables.{made_tables_fit, entered_tables_fit, written_tables_fit, covered_tables_fit, held_changed}
+use Rattle.ficus_durable_state.proofs.KilledTables.{killed_tables_fit}
+use Rattle.ficus_durable_state.proofs.MergedTables.{objects_in}
+use Rattle.ficus_durable_state.proofs.CountFits.{join_all_at_most}
 use Rattle.ficus_laws.proofs.AfterUpdate.{enters_none}
 use Rattle.ficus_held_laws.specs.Entries.{AreEntriesStepped}
 use Rattle.ficus_version_laws.specs.Operations.GivesUp.{ByRemove, ByDiscard}
 use Rattle.ficus_held_file_laws.specs.Laws.{Names, Overwrites}
 use Rattle.ficus_held_file_laws.specs.Laws.Names.{Links as LinksOnly, Moves, Adopts as AdoptsOnly}
 use Rattle.ficus_held_file_laws.proofs.Stepping.{make_steps, write_steps, cover_steps, name_steps}
-use Rattle.ficus_answers.specs.View.{held_as, held_live}
+use Rattle.ficus_deciding.specs.View.{held_as, held_live}
 use Rattle.ficus_replica.specs.Effect.{GivesName, IsStepped, attic_place, MayMakeObject, MayLink, MayRemove, MayMove, MayWrite, next_id}
 use Rattle.ficus_replica.specs.Effect.GivesName.{Links, Adopts}
 use Rattle.ficus_replica.proofs.Tables.{tables_of, entered_none, entered_one, entered_removed}

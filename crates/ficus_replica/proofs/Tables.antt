@@ -12,11 +12,11 @@ use Rattle.ficus_entry.specs.declared.entry.State.TheVariants.{Live, Dead}
 use Rattle.ficus_file.specs.declared.file.FileReplica.{FileReplica}
 use Rattle.ficus_model.specs.declared.event.Op.{Op}
 use Rattle.ficus_model.specs.Live.{ModelEntry, entered_by, removed_by}
-use Rattle.ficus_saved.specs.Laws.{FitsReplica}
-use Rattle.ficus_saved.specs.Saved.{FitsImage}
-use Rattle.ficus_saved.specs.declared.saved.Saved.{Saved}
+use Rattle.ficus_durable_state.specs.Laws.{FitsReplica}
+use Rattle.ficus_durable_state.specs.Saved.{FitsImage}
+use Rattle.ficus_durable_state.specs.declared.saved.Saved.{Saved}
 use Rattle.ficus_held_laws.specs.Entries.{place_of, AreEntriesStepped, HasSteppedEntry, IsFromEntry, IsJustRemoved, IsNewEntry, IsSteppedTo}
-use Rattle.ficus_answers.specs.View.{held_as, held_live}
+use Rattle.ficus_deciding.specs.View.{held_as, held_live}
 
 pub tables_of : {saved : Saved} → FitsImage saved →
     FitsReplica saved.members saved.me saved.next saved.entries saved.files

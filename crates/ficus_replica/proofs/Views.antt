@@ -15,7 +15,7 @@ use Rattle.ficus_model.specs.Versions.{IsInConflict}
 use Rattle.ficus_model.specs.View.{HasUnseen, IsOrphan, IsVisible}
 use Rattle.ficus_laws.proofs.Issued.{made_once}
 use Rattle.ficus_laws.proofs.Places.{entered_target}
-use Rattle.ficus_saved.specs.declared.saved.Saved.{Saved}
+use Rattle.ficus_durable_state.specs.declared.saved.Saved.{Saved}
 use Rattle.ficus_file_laws.specs.Items.{AreVersionsOf}
 use Rattle.ficus_file_laws.proofs.Listing.{one_list, conflict_of_list}
 use Rattle.ficus_held_laws.specs.Entries.{place_of}
@@ -25,7 +25,7 @@ use Rattle.ficus_held_file_laws.proofs.Files.{known_file, named_listed}
 use Rattle.ficus_held_file_laws.proofs.Orphans.{orphan_listed, unseen_uncovered, uncovered_unseen}
 use Rattle.ficus_orphan.specs.Orphan.{IsNamedBy, IsOrphanIn}
 use Rattle.ficus_rules.specs.View.{SameView, history_view}
-use Rattle.ficus_answers.specs.View.{IsVisibleBy, held_live, held_dead, tables_view}
+use Rattle.ficus_deciding.specs.View.{IsVisibleBy, held_live, held_dead, tables_view}
 use Rattle.ficus_replica.specs.SavedOf.{IsSavedOf}
 
 -- an object with a live name is made

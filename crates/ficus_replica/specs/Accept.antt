@@ -10,11 +10,11 @@ use Rattle.ficus_entry.specs.Entry.{IsRising}
 use Rattle.ficus_entry.specs.declared.entry.Entry.{Entry}
 use Rattle.ficus_file.specs.Files.{AreFiles}
 use Rattle.ficus_file.specs.declared.file.FileReplica.{FileReplica}
-use Rattle.ficus_recon_dir.specs.Merge.{MergesEntries}
-use Rattle.ficus_recon_file.specs.Merge.{Fit, AreMergedFiles}
-use Rattle.ficus_saved.specs.Saved.{HasOwnPast}
-use Rattle.ficus_saved.specs.declared.saved.Saved.{Saved}
-use Rattle.ficus_touched.specs.Touched.{touched_by}
+use Rattle.ficus_merge_entries.specs.Merge.{MergesEntries}
+use Rattle.ficus_merge_files.specs.Merge.{Fit, AreMergedFiles}
+use Rattle.ficus_durable_state.specs.Saved.{HasOwnPast}
+use Rattle.ficus_durable_state.specs.declared.saved.Saved.{Saved}
+use Rattle.ficus_mentions.specs.Touched.{touched_by}
 use Rattle.ficus_held_file_laws.specs.Tables.{AreHeldEntries, AreHeldFiles}
 use Rattle.ficus_replica.specs.declared.replica.Replica.{Replica}
 use Rattle.ficus_replica.specs.SavedOf.{StandsFor}

@@ -4,7 +4,7 @@ use Rattle.ficus_ids.specs.declared.refusal.Refusal.{Refusal}
 use Rattle.ficus_model.specs.declared.event.Event.{Event}
 use Rattle.ficus_model.specs.declared.event.Event.TheVariants.{Update}
 use Rattle.ficus_model.specs.Lawful.{Volume}
-use Rattle.ficus_answers.specs.View.{tables_view}
+use Rattle.ficus_deciding.specs.View.{tables_view}
 use Rattle.ficus_commands.specs.declared.change.Change.{Change}
 use Rattle.ficus_rules.specs.Change.{ChangeAnswer, ChangeRule}
 use Rattle.ficus_rules.specs.View.{history_view}

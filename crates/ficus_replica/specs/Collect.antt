@@ -6,15 +6,15 @@ use Rattle.ficus_ids.specs.declared.kind.Kind.{Kind}
 use Rattle.ficus_entry.specs.declared.entry.Entry.{Entry}
 use Rattle.ficus_file.specs.declared.file.FileReplica.{FileReplica}
 use Rattle.ficus_file.specs.declared.orphan.Orphan.{Orphan}
-use Rattle.ficus_gc.specs.Reclaim.{IsFullyKnown, IsReclaimed}
-use Rattle.ficus_gc.specs.declared.reclaiming.Reclaimed.{Reclaimed}
+use Rattle.ficus_collection.specs.Reclaim.{IsFullyKnown, IsReclaimed}
+use Rattle.ficus_collection.specs.declared.reclaiming.Reclaimed.{Reclaimed}
 use Rattle.ficus_model.specs.declared.event.Event.{Event}
 use Rattle.ficus_model.specs.declared.event.Event.TheVariants.{Collect}
 use Rattle.ficus_model.specs.Held.{IsHeldEntry, IsHeldObject}
 use Rattle.ficus_model.specs.Lawful.{Volume}
 use Rattle.ficus_model.specs.Live.{ModelEntry}
 use Rattle.ficus_orphan.specs.Orphan.{AreOrphans, IsOrphanIn}
-use Rattle.ficus_touched.specs.Touched.{touched_by}
+use Rattle.ficus_mentions.specs.Touched.{touched_by}
 use Rattle.ficus_replica.specs.declared.collect.Collected.{Collected}
 use Rattle.ficus_replica.specs.declared.replica.Replica.{Replica}
 use Rattle.ficus_replica.specs.SavedOf.{StandsAfter}

@@ -16,10 +16,10 @@ use Rattle.ficus_model.specs.declared.event.Op.{Op}
 use Rattle.ficus_model.specs.declared.event.Op.TheVariants.{Make, Link, Remove, Move, Write, Settle, Resolve, Adopt, Discard}
 use Rattle.ficus_model.specs.Live.{ModelEntry, entry_of}
 use Rattle.ficus_model.specs.Versions.{bytes_of}
-use Rattle.ficus_saved.specs.Laws.{FitsReplica}
-use Rattle.ficus_saved.specs.Tables.{IsPlaceIn}
-use Rattle.ficus_saved.specs.declared.saved.Saved.{Saved}
-use Rattle.ficus_saved.specs.Limits.{file_limit}
+use Rattle.ficus_durable_state.specs.Laws.{FitsReplica}
+use Rattle.ficus_durable_state.specs.Tables.{IsPlaceIn}
+use Rattle.ficus_durable_state.specs.declared.saved.Saved.{Saved}
+use Rattle.ficus_durable_state.specs.Limits.{file_limit}
 use Rattle.ficus_held_laws.specs.Entries.{AreEntriesStepped}
 use Rattle.ficus_held_laws.specs.Objects.{AreObjectsStepped}
 use Rattle.ficus_held_file_laws.specs.Tables.{objects_of}

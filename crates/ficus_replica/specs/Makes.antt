@@ -7,16 +7,16 @@ use Rattle.ficus_entry.specs.declared.entry.Entry.{Entry}
 use Rattle.ficus_entry.specs.declared.entry.State.TheVariants.{Live}
 use Rattle.ficus_file.specs.Files.{Holds, HoldsFile}
 use Rattle.ficus_file.specs.declared.orphan.Orphan.{Orphan}
-use Rattle.ficus_gc.specs.Reclaim.{IsReclaimed}
-use Rattle.ficus_gc.specs.declared.reclaiming.Reclaimed.{Reclaimed}
+use Rattle.ficus_collection.specs.Reclaim.{IsReclaimed}
+use Rattle.ficus_collection.specs.declared.reclaiming.Reclaimed.{Reclaimed}
 use Rattle.ficus_model.specs.declared.event.Op.{Op}
 use Rattle.ficus_model.specs.declared.event.Op.TheVariants.{Make, Link, Remove, Move, Write, Settle, Resolve, Adopt, Discard}
 use Rattle.ficus_orphan.specs.Orphan.{AreOrphans}
 use Rattle.ficus_record.specs.Record.{FitsRecord}
 use Rattle.ficus_record.specs.declared.record.Record.{Record}
 use Rattle.ficus_record.specs.declared.record.Record.TheVariants.{Change, Ask, Accept, Collect}
-use Rattle.ficus_saved.specs.Saved.{FitsImage}
-use Rattle.ficus_saved.specs.declared.saved.Saved.{Saved}
+use Rattle.ficus_durable_state.specs.Saved.{FitsImage}
+use Rattle.ficus_durable_state.specs.declared.saved.Saved.{Saved}
 use Rattle.ficus_replica.specs.Accept.{MakesMerged, MayTake}
 use Rattle.ficus_replica.specs.Effect.{Applied, MayWrite}
 

@@ -4,18 +4,18 @@ use crate::{Asked, Replica};
 use ficus_entry::{Entries, InOrder, SharedEntry};
 use ficus_file::{Files, FilesInOrder, SharedFile};
 use ficus_ids::{Memory, Refusal};
-use ficus_recon_dir::merge_in_order;
-use ficus_recon_file::{News, merge_news, news_fit};
+use ficus_merge_entries::merge_in_order;
+use ficus_merge_files::{News, merge_news, news_fit};
 use std::alloc::Global;
 use std::mem;
 
 impl Replica {
     ghost use Rattle.std.specs.Prelude.{All};
-    ghost use Rattle.ficus_saved.specs.Saved.{FitsImage, IsFileOfPast};
-    ghost use Rattle.ficus_saved.specs.Tables.{FitsTables};
+    ghost use Rattle.ficus_durable_state.specs.Saved.{FitsImage, IsFileOfPast};
+    ghost use Rattle.ficus_durable_state.specs.Tables.{FitsTables};
     ghost use Rattle.ficus_model.specs.Lawful.{Volume, IsLawful};
     ghost use Rattle.ficus_model.specs.declared.event.Event.{Event};
-    ghost use Rattle.ficus_recon_file.specs.Merge.{Fit};
+    ghost use Rattle.ficus_merge_files.specs.Merge.{Fit};
     ghost use Rattle.ficus_replica.specs.Accept.{AcceptGives, AcceptStands, AreTablesMerged, IsOpen, IsServed, MayTake};
     ghost use Rattle.ficus_replica.specs.Accept.{MakesMerged, TakeGives, Taken};
     ghost use Rattle.ficus_ids.specs.declared.refusal.Refusal.{Refusal as RefusalValue};
@@ -106,8 +106,8 @@ impl Replica {
         requires generation { self.now.saved.generation < 2 ^ 63 - 1 }
         ensures { TakeGives self.now.saved entries.now files.now result }
     {
-        let entries = InOrder::of_rows(alloc, entries)?;
-        let files = FilesInOrder::of_rows(alloc, files)?;
+        let entries = InOrder::of_rows(entries);
+        let files = FilesInOrder::of_rows(files);
         self.take(alloc, &entries, files)
     }
 
@@ -123,8 +123,8 @@ impl Replica {
         requires generation { self.saved.generation < 2 ^ 63 - 1 }
         ensures { TakeGives self.saved entries.now files.now result }
     {
-        let entries = InOrder::of_rows(alloc, entries)?;
-        let files = FilesInOrder::of_rows(alloc, files)?;
+        let entries = InOrder::of_rows(entries);
+        let files = FilesInOrder::of_rows(files);
         let mut replica = self;
         replica.become_taken(alloc, &entries, files)?;
         Ok(replica)

@@ -1,10 +1,10 @@
 use crate::Replica;
+use ficus_durable_state::Saved;
 use ficus_entry::SharedEntry;
 use ficus_file::SharedFile;
 use ficus_ids::{Memory, Refusal};
 use ficus_model::Op;
 use ficus_record::{Record, RecordFault};
-use ficus_saved::Saved;
 use std::alloc::Global;
 
 /// The generation from which on nothing more is saved.
@@ -14,8 +14,8 @@ impl Replica {
     ghost use Rattle.std.specs.Prelude.{◌≡◌, ◌-◌, ◌^◌, ◌<◌, None, IfOk, IsErrOf};
     ghost use Rattle.ficus_record.specs.Record.{FitsOp, FitsRecord};
     ghost use Rattle.ficus_record.specs.declared.record.Record.TheVariants.{Accept as NotedAccept, Change as NotedChange};
-    ghost use Rattle.ficus_saved.specs.Saved.{FitsImage};
-    ghost use Rattle.ficus_saved.specs.Tables.{FitsTables};
+    ghost use Rattle.ficus_durable_state.specs.Saved.{FitsImage};
+    ghost use Rattle.ficus_durable_state.specs.Tables.{FitsTables};
     ghost use Rattle.ficus_replica.specs.Accept.{MayTake};
     ghost use Rattle.ficus_replica.specs.Makes.{FitsUpdate, IsFit, IsNoted};
 

@@ -1,10 +1,10 @@
 use crate::{Asked, Replica};
+use ficus_durable_state::Saved;
 use ficus_ids::Memory;
-use ficus_saved::Saved;
 
 impl Replica {
     ghost use Rattle.std.specs.Prelude.{◌≡◌, ◌≢◌, ◌-◌, ◌^◌, ◌<◌, List, IfOk};
-    ghost use Rattle.ficus_saved.specs.Saved.{FitsImage};
+    ghost use Rattle.ficus_durable_state.specs.Saved.{FitsImage};
     ghost use Rattle.ficus_ids.specs.Members.{IsMember};
     ghost use Rattle.ficus_model.specs.Lawful.{Volume};
     ghost use Rattle.ficus_model.specs.declared.event.Event.{Event};

@@ -1,5 +1,4 @@
 use crate::{Next, Replica};
-use ficus_commands::{Look, Told};
 use ficus_entry::{Entries, Entry};
 use ficus_file::{Files, Orphan, Version};
 use ficus_ids::{Id, Kind, Memory, Refusal};
@@ -12,8 +11,8 @@ use std::alloc::Global;
 impl Replica {
     ghost use Rattle.std.specs.Prelude.{◌≡◌, ◌↔◌, ◌-◌, ◌^◌, ◌<◌, ◌≤◌, [], length, IfOk, IsTrue, Ok};
     ghost use Rattle.ficus_ids.specs.Kind.{FitsKind};
-    ghost use Rattle.ficus_answers.specs.View.{tables_view};
-    ghost use Rattle.ficus_saved.specs.Saved.{FitsImage};
+    ghost use Rattle.ficus_deciding.specs.View.{tables_view};
+    ghost use Rattle.ficus_durable_state.specs.Saved.{FitsImage};
     ghost use Rattle.ficus_commands.specs.declared.change.Change.TheVariants.{Create as Creates, Symlink as Symlinks, Write as Writes, Settle as Settles, Resolve as Resolves, Rm as Removes, Ln as Links, Mv as Moves, Adopt as Adopts, Discard as Discards};
     ghost use Rattle.ficus_commands.specs.declared.look.Look.TheVariants.{Ls as Lists, Read as Reads, Versions as TellsVersions, ReadLink as ReadsLink, Tree as TellsTree, Conflicts as TellsConflicts, Orphans as TellsOrphans, Detached as TellsDetached, Marks as TellsMarks};
     ghost use Rattle.ficus_commands.specs.declared.told.Told.TheVariants.{Text as ToldText, Names as ToldNames, Tree as ToldTree, Versions as ToldVersions, Conflicts as ToldConflicts, Orphans as ToldOrphans, Detached as ToldDetached, Marks as ToldMarks};
@@ -33,7 +32,7 @@ impl Replica {
         ensures gives { ChangeGives self.now (Creates path.now kind) result }
         ensures fits { IfOk result (λ next. FitsImage next.replica.saved) }
     {
-        self.done(alloc, ficus_answers::make(alloc, &self.saved, path, kind))
+        self.done(alloc, ficus_deciding::make(alloc, &self.saved, path, kind))
     }
 
     /// Makes a symbolic link with this text, which isn't empty, at the new path. Refused as the walk to the parent is;
@@ -49,7 +48,7 @@ impl Replica {
     {
         self.done(
             alloc,
-            ficus_answers::symlink(alloc, &self.saved, path, text),
+            ficus_deciding::symlink(alloc, &self.saved, path, text),
         )
     }
 
@@ -63,7 +62,10 @@ impl Replica {
         ensures gives { ChangeGives self.now (Writes path.now bytes.now) result }
         ensures fits { IfOk result (λ next. FitsImage next.replica.saved) }
     {
-        self.done(alloc, ficus_answers::write(alloc, &self.saved, path, bytes))
+        self.done(
+            alloc,
+            ficus_deciding::write(alloc, &self.saved, path, bytes),
+        )
     }
 
     /// Ends the conflict of the file at the path by these bytes. Refused as `write` is, but with `NoConflict` exactly
@@ -76,7 +78,7 @@ impl Replica {
     {
         self.done(
             alloc,
-            ficus_answers::settle(alloc, &self.saved, path, bytes),
+            ficus_deciding::settle(alloc, &self.saved, path, bytes),
         )
     }
 
@@ -88,7 +90,7 @@ impl Replica {
         ensures gives { ChangeGives self.now (Resolves path.now) result }
         ensures fits { IfOk result (λ next. FitsImage next.replica.saved) }
     {
-        self.done(alloc, ficus_answers::resolve(alloc, &self.saved, path))
+        self.done(alloc, ficus_deciding::resolve(alloc, &self.saved, path))
     }
 
     /// Removes the name at the path from its object: all live entries of the directory that have this name and lead to
@@ -101,7 +103,7 @@ impl Replica {
         ensures gives { ChangeGives self.now (Removes path.now) result }
         ensures fits { IfOk result (λ next. FitsImage next.replica.saved) }
     {
-        self.done(alloc, ficus_answers::remove(&self.saved, path))
+        self.done(alloc, ficus_deciding::remove(&self.saved, path))
     }
 
     /// Gives the file at the path `from` the new path `path` as a further name. Refused as the walk along `from` is; as
@@ -115,7 +117,7 @@ impl Replica {
         ensures gives { ChangeGives self.now (Links from.now path.now) result }
         ensures fits { IfOk result (λ next. FitsImage next.replica.saved) }
     {
-        self.done(alloc, ficus_answers::link(&self.saved, from, path))
+        self.done(alloc, ficus_deciding::link(&self.saved, from, path))
     }
 
     /// Gives the object at the path `from` the new path `path` in place of this name: it stays the same object, with
@@ -130,7 +132,10 @@ impl Replica {
         ensures gives { ChangeGives self.now (Moves from.now path.now) result }
         ensures fits { IfOk result (λ next. FitsImage next.replica.saved) }
     {
-        self.done(alloc, ficus_answers::rename(alloc, &self.saved, from, path))
+        self.done(
+            alloc,
+            ficus_deciding::rename(alloc, &self.saved, from, path),
+        )
     }
 
     /// Gives the orphan the new path as its name. Refused with `NotOrphan` exactly where no orphan has this identifier;
@@ -145,7 +150,7 @@ impl Replica {
     {
         self.done(
             alloc,
-            ficus_answers::adopt(alloc, &self.saved, orphan, path),
+            ficus_deciding::adopt(alloc, &self.saved, orphan, path),
         )
     }
 
@@ -158,7 +163,7 @@ impl Replica {
         ensures gives { ChangeGives self.now (Discards orphan) result }
         ensures fits { IfOk result (λ next. FitsImage next.replica.saved) }
     {
-        self.done(alloc, ficus_answers::discard(&self.saved, orphan))
+        self.done(alloc, ficus_deciding::discard(&self.saved, orphan))
     }
 
     /// The names that the directory at the path shows, by name, then by object. Refused as the walk is; with `NotDir`
@@ -167,10 +172,7 @@ impl Replica {
         requires { FitsImage self.now.saved }
         ensures { LookGivesAs self.now (Lists path.now) (λ lines. ToldNames lines.items) result }
     {
-        match ficus_answers::list(alloc, &self.saved, path)? {
-            Told::Names(lines) => Ok(lines.into_vec()),
-            _ => unreachable!(),
-        }
+        ficus_deciding::list(alloc, &self.saved, path)
     }
 
     /// The bytes of the file at the path. Refused as the walk is; with `IsDir` exactly where the object is a directory;
@@ -179,10 +181,7 @@ impl Replica {
         requires { FitsImage self.now.saved }
         ensures { LookGivesAs self.now (Reads path.now) (λ bytes. ToldText bytes.items) result }
     {
-        match ficus_answers::read(alloc, &self.saved, path)? {
-            Told::Text(bytes) => Ok(bytes.into_vec()),
-            _ => unreachable!(),
-        }
+        ficus_deciding::read(alloc, &self.saved, path)
     }
 
     /// The versions of the file at the path, in the order of vectors. Refused as the walk is; with `IsDir` exactly
@@ -192,10 +191,7 @@ impl Replica {
         ensures { LookGivesAs self.now (TellsVersions path.now)
             (λ list. ToldVersions self.now.saved.members list.items) result }
     {
-        match ficus_answers::versions(alloc, &self.saved, path)? {
-            Told::Versions { list, .. } => Ok(list.into_vec()),
-            _ => unreachable!(),
-        }
+        ficus_deciding::versions(alloc, &self.saved, path)
     }
 
     /// The text of the symbolic link at the path. Refused as the walk is; with `NotLink` exactly where the object is
@@ -204,10 +200,7 @@ impl Replica {
         requires { FitsImage self.now.saved }
         ensures { LookGivesAs self.now (ReadsLink path.now) (λ bytes. ToldText bytes.items) result }
     {
-        match ficus_answers::readlink(alloc, &self.saved, path)? {
-            Told::Text(bytes) => Ok(bytes.into_vec()),
-            _ => unreachable!(),
-        }
+        ficus_deciding::readlink(alloc, &self.saved, path)
     }
 
     /// The names in each directory that is reached from the root, by directory, then as `list` has them.
@@ -215,11 +208,7 @@ impl Replica {
         requires { FitsImage self.now.saved }
         ensures { IfOk result (λ lines. LookGives self.now TellsTree (Ok (ToldTree lines.items))) }
     {
-        match self.look(alloc, &Look::Tree) {
-            Ok(Told::Tree(lines)) => Ok(lines.into_vec()),
-            Err(Refusal::Memory) => Err(Memory),
-            _ => unreachable!(),
-        }
+        ficus_deciding::tree(alloc, &self.saved)
     }
 
     /// What is in conflict: each name under which a directory has several objects, by directory and name; and each file
@@ -228,11 +217,7 @@ impl Replica {
         requires { FitsImage self.now.saved }
         ensures { IfOk result (λ clashes. LookGives self.now TellsConflicts (Ok (ToldConflicts clashes))) }
     {
-        match self.look(alloc, &Look::Conflicts) {
-            Ok(Told::Conflicts(clashes)) => Ok(clashes),
-            Err(Refusal::Memory) => Err(Memory),
-            _ => unreachable!(),
-        }
+        ficus_deciding::conflicts(alloc, &self.saved)
     }
 
     /// The orphans, by identifier: the objects without a live name that are directories with something in them or files
@@ -241,11 +226,7 @@ impl Replica {
         requires { FitsImage self.now.saved }
         ensures { IfOk result (λ orphans. LookGives self.now TellsOrphans (Ok (ToldOrphans orphans.items))) }
     {
-        match self.look(alloc, &Look::Orphans) {
-            Ok(Told::Orphans(orphans)) => Ok(orphans.into_vec()),
-            Err(Refusal::Memory) => Err(Memory),
-            _ => unreachable!(),
-        }
+        ficus_deciding::orphans(alloc, &self.saved)
     }
 
     /// The directories with a live name that are reached neither from the root nor from an orphan, rising.
@@ -253,11 +234,7 @@ impl Replica {
         requires { FitsImage self.now.saved }
         ensures { IfOk result (λ dirs. LookGives self.now TellsDetached (Ok (ToldDetached dirs.items))) }
     {
-        match self.look(alloc, &Look::Detached) {
-            Ok(Told::Detached(dirs)) => Ok(dirs.into_vec()),
-            Err(Refusal::Memory) => Err(Memory),
-            _ => unreachable!(),
-        }
+        ficus_deciding::detached(alloc, &self.saved)
     }
 
     /// The removed entries that it holds, by identifier, each with the members that are known to know of the removal
@@ -266,11 +243,7 @@ impl Replica {
         requires { FitsImage self.now.saved }
         ensures { IfOk result (λ marks. LookGives self.now TellsMarks (Ok (ToldMarks marks.items))) }
     {
-        match self.look(alloc, &Look::Marks) {
-            Ok(Told::Marks(marks)) => Ok(marks.into_vec()),
-            Err(Refusal::Memory) => Err(Memory),
-            _ => unreachable!(),
-        }
+        ficus_deciding::marks(alloc, &self.saved)
     }
 
     /// Whether both replicas show the same: the same names in every directory, the same orphans, and the same kind and
@@ -282,7 +255,7 @@ impl Replica {
         ensures { IfOk result (λ alike. IsTrue alike
             ↔ AreAlike (tables_view self.now.saved) (tables_view other.now.saved)) }
     {
-        ficus_answers::alike(alloc, &self.saved, &other.saved)
+        ficus_deciding::alike(alloc, &self.saved, &other.saved)
     }
 
     /// What it holds: its entries, live and removed, and its files. This is what it serves to a peer that asks.

@@ -1,5 +1,5 @@
 use crate::Replica;
-use ficus_gc::reclaim;
+use ficus_collection::reclaim;
 use ficus_ids::Memory;
 use std::alloc::Global;
 
@@ -16,7 +16,7 @@ pub struct Collected {
 
 impl Replica {
     ghost use Rattle.std.specs.Prelude.{◌-◌, ◌^◌, ◌<◌, List, IfOk};
-    ghost use Rattle.ficus_saved.specs.Saved.{FitsImage};
+    ghost use Rattle.ficus_durable_state.specs.Saved.{FitsImage};
     ghost use Rattle.ficus_model.specs.Lawful.{Volume, IsLawful};
     ghost use Rattle.ficus_model.specs.declared.event.Event.{Event};
     ghost use Rattle.ficus_replica.specs.Collect.{CollectGives, CollectStands, HoldsNoGarbage};

@@ -7,8 +7,8 @@ use std::alloc::Global;
 
 impl Replica {
     ghost use Rattle.std.specs.Prelude.{◌-◌, ◌^◌, ◌<◌, IfOk};
-    ghost use Rattle.ficus_saved.specs.Saved.{FitsImage};
-    ghost use Rattle.ficus_answers.specs.View.{tables_view};
+    ghost use Rattle.ficus_durable_state.specs.Saved.{FitsImage};
+    ghost use Rattle.ficus_deciding.specs.View.{tables_view};
     ghost use Rattle.ficus_commands.specs.Change.{HasFitPaths};
     ghost use Rattle.ficus_commands.specs.declared.change.Change.{Change as ChangeValue};
     ghost use Rattle.ficus_rules.specs.Change.{ChangeAnswer};
@@ -27,7 +27,7 @@ impl Replica {
         ensures fits { IfOk result (λ next. FitsImage next.replica.saved) }
         ensures noted { IfOk result (λ next. IsNoted self.now.saved (Noted next.op) next.replica.saved) }
     {
-        self.done(alloc, ficus_answers::change(alloc, &self.saved, change))
+        self.done(alloc, ficus_deciding::change(alloc, &self.saved, change))
     }
 
     // The replica once the operation is done that a change is answered with, and the operation.
@@ -50,6 +50,6 @@ impl Replica {
         requires { FitsImage self.now.saved }
         ensures { LookGives self.now look.now result }
     {
-        ficus_answers::look(alloc, &self.saved, look)
+        ficus_deciding::look(alloc, &self.saved, look)
     }
 }

@@ -1,19 +1,19 @@
 ghost use Rattle.std.specs.Prelude.{◌≡◌, IfOk, codes};
 ghost use Rattle.ficus_ids.specs.Name.{IsName};
-ghost use Rattle.ficus_answers.specs.View.{held_as, held_live};
+ghost use Rattle.ficus_deciding.specs.View.{held_as, held_live};
 
 use crate::{Next, Replica};
+use ficus_durable_state::Saved;
 use ficus_entry::{Entries, Entry, State};
 use ficus_file::{FileReplica, Files};
 use ficus_ids::{ATTIC, Id, Kind, Marks, Memory, Name};
 use ficus_model::Op;
-use ficus_saved::Saved;
 use std::alloc::Global;
 
 impl Replica {
     ghost use Rattle.std.specs.Prelude.{◌-◌, ◌^◌, ◌<◌, ◌≤◌, OnOk};
-    ghost use Rattle.ficus_answers.specs.View.{tables_view};
-    ghost use Rattle.ficus_saved.specs.Saved.{FitsImage};
+    ghost use Rattle.ficus_deciding.specs.View.{tables_view};
+    ghost use Rattle.ficus_durable_state.specs.Saved.{FitsImage};
     ghost use Rattle.ficus_entry.specs.Entry.{AddsEntry, Holds, IsRising};
     ghost use Rattle.ficus_entry.specs.Kill.{IsJustKilled};
     ghost use Rattle.ficus_file.specs.File.{made_file};

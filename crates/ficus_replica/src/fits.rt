@@ -1,9 +1,9 @@
 use crate::Replica;
+use ficus_durable_state::FILE_LIMIT;
 use ficus_entry::Entry;
 use ficus_file::FileReplica;
 use ficus_ids::{Id, Kind, ROOT, Sort};
 use ficus_model::Op;
-use ficus_saved::FILE_LIMIT;
 
 // Which operations fit what is held, as records have to.
 impl Replica {
@@ -12,7 +12,7 @@ impl Replica {
     ghost use Rattle.ficus_ids.specs.Kind.{sort_of};
     ghost use Rattle.ficus_ids.specs.declared.kind.Sort.TheVariants.{Versioned};
     ghost use Rattle.ficus_ids.specs.declared.kind.Kind.TheVariants.{Dir};
-    ghost use Rattle.ficus_saved.specs.Saved.{FitsImage};
+    ghost use Rattle.ficus_durable_state.specs.Saved.{FitsImage};
     ghost use Rattle.ficus_replica.specs.Effect.{MayWrite};
     ghost use Rattle.ficus_replica.specs.Makes.{AreNames, FitsOpIn, FitsUpdate, IsFile, IsNameOf, IsPlace};
 

@@ -1,6 +1,6 @@
 ghost use Rattle.std.specs.Prelude.{◌≡◌, ◌↔◌, ◌++◌, ◌∷◌, [], ℕ, List, Result};
-ghost use Rattle.ficus_saved.specs.Saved.{FitsImage};
-ghost use Rattle.ficus_saved.specs.declared.saved.Saved.{Saved};
+ghost use Rattle.ficus_durable_state.specs.Saved.{FitsImage};
+ghost use Rattle.ficus_durable_state.specs.declared.saved.Saved.{Saved};
 ghost use Rattle.ficus_commands.specs.declared.change.Change.{Change};
 ghost use Rattle.ficus_commands.specs.declared.look.Look.{Look};
 ghost use Rattle.ficus_commands.specs.declared.told.Told.{Told};

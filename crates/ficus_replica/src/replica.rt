@@ -1,10 +1,10 @@
 ghost use Rattle.std.specs.Prelude.{◌≡◌, ◌+◌, ◌-◌, ◌^◌, ◌<◌, ◌≤◌, List, ◌∷◌, [], ◌++◌, None};
 
+use ficus_durable_state::Saved;
 use ficus_entry::Entries;
 use ficus_file::Files;
 use ficus_ids::Members;
 use ficus_model::Op;
-use ficus_saved::Saved;
 use std::alloc::Global;
 
 /// An ask that waits for its answer.
@@ -32,8 +32,8 @@ pub struct Next {
 
 impl Replica {
     ghost use Rattle.ficus_ids.specs.Members.{IsMember};
-    ghost use Rattle.ficus_saved.specs.Saved.{FitsImage};
-    ghost use Rattle.ficus_saved.specs.Limits.{update_limit, byte_limit};
+    ghost use Rattle.ficus_durable_state.specs.Saved.{FitsImage};
+    ghost use Rattle.ficus_durable_state.specs.Limits.{update_limit, byte_limit};
     ghost use Rattle.ficus_model.specs.Lawful.{Volume};
     ghost use Rattle.ficus_model.specs.declared.event.Event.{Event};
     ghost use Rattle.ficus_model.specs.declared.event.Event.TheVariants.{Restart};

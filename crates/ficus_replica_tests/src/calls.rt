@@ -1,9 +1,9 @@
-ghost use Rattle.ficus_saved.specs.Saved.{FitsImage};
+ghost use Rattle.ficus_durable_state.specs.Saved.{FitsImage};
 
 use crate::steps::{entry_path, may_save, new_path};
 use ficus_ids::{Id, Refusal};
+use ficus_merge_files::{merge_files, merge_fits};
 use ficus_path::read_path;
-use ficus_recon_file::{merge_files, merge_fits};
 use ficus_replica::{Next, Replica};
 use std::alloc::Global;
 use std::test::Fail;

@@ -1,5 +1,5 @@
 ghost use Rattle.std.specs.Prelude.{IfOk};
-ghost use Rattle.ficus_saved.specs.Saved.{FitsImage};
+ghost use Rattle.ficus_durable_state.specs.Saved.{FitsImage};
 
 use crate::steps::{Make, changed, changed_by, entry_path, made, may_save, new_path};
 use ficus_commands::Change;

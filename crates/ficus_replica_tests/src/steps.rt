@@ -1,13 +1,13 @@
 ghost use Rattle.std.specs.Prelude.{◌-◌, ◌^◌, ◌<◌, IfOk, OnOk};
-ghost use Rattle.ficus_saved.specs.Saved.{FitsImage};
+ghost use Rattle.ficus_durable_state.specs.Saved.{FitsImage};
 ghost use Rattle.ficus_commands.specs.Change.{HasFitPaths};
 ghost use Rattle.ficus_path.specs.Path.{IsEntry, IsNew};
 
 use ficus_commands::Change;
+use ficus_durable_state::{BYTE_LIMIT, UPDATE_LIMIT};
 use ficus_ids::{Kind, Listed, Members, Refusal, Sort};
 use ficus_path::{Path, read_path};
 use ficus_replica::Replica;
-use ficus_saved::{BYTE_LIMIT, UPDATE_LIMIT};
 use std::alloc::Global;
 use std::test::Fail;
 

@@ -12,7 +12,7 @@ use Rattle.ficus_model.specs.Lawful.{Volume}
 use Rattle.ficus_model.specs.Versions.{IsVersion}
 use Rattle.ficus_path.specs.Path.{IsEntry}
 use Rattle.ficus_path.specs.declared.path.Path.{Path}
-use Rattle.ficus_recon_file.specs.Versions.{AreMerged}
+use Rattle.ficus_merge_files.specs.Versions.{AreMerged}
 use Rattle.ficus_file_laws.specs.Items.{AreVersionsOf}
 use Rattle.ficus_rules.specs.Resolved.{ResolvedRule}
 use Rattle.ficus_rules.specs.View.{history_view}

@@ -16,7 +16,7 @@ use Rattle.ficus_piece_laws.proofs.Serving.{serve_may_come}
 use Rattle.ficus_replica.proofs.OpenAsks.{through_end, through_more}
 use Rattle.ficus_replica.proofs.Saves.{saved_kept}
 use Rattle.ficus_replica.specs.SavedOf.{IsSavedOf}
-use Rattle.ficus_saved.specs.declared.saved.Saved.{Saved}
+use Rattle.ficus_durable_state.specs.declared.saved.Saved.{Saved}
 use Rattle.ficus_runs.specs.Actions.{with_event}
 use Rattle.ficus_runs.specs.Exchange.{IsServedNow, Served, ServesAll}
 use Rattle.ficus_wire.specs.Message.{messages_of_tables, piece_message}

@@ -12,7 +12,7 @@ use Rattle.ficus_model.specs.Vectors.{Counts}
 use Rattle.ficus_piece_laws.specs.Laws.{HasServedAll}
 use Rattle.ficus_replica.specs.SavedOf.{IsSavedOf}
 use Rattle.ficus_rules.specs.Rule.{Gives, Tells}
-use Rattle.ficus_saved.specs.declared.saved.Saved.{Saved}
+use Rattle.ficus_durable_state.specs.declared.saved.Saved.{Saved}
 use Rattle.ficus_script.specs.declared.answer.Answer.{Answer}
 use Rattle.ficus_script.specs.declared.answer.Answer.TheVariants.{Alike, Collected, Done, Made, Mail, Mails, Part, Refused, Swept, Told, Why}
 use Rattle.ficus_wire.specs.Message.{message_bytes, messages_of_tables}

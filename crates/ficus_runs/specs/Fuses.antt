@@ -2,7 +2,7 @@
 use Rattle.std.specs.Prelude.{◌≡◌, ℕ, ◌+◌, Bool, true, false, ◌==◌, if◌then◌else◌, List, [], ◌∷◌}
 use Rattle.ficus_disk.specs.Fuse.{armed, numbered}
 use Rattle.ficus_disk.specs.declared.fuse.Fuse.{Fuse}
-use Rattle.ficus_keep.specs.Fuses.{Fuses, after_save, both_unarmed, finds, lasts, on_side}
+use Rattle.ficus_keeper.specs.Fuses.{Fuses, after_save, both_unarmed, finds, lasts, on_side}
 use Rattle.ficus_runs.specs.Outcome.{Outcome, IsDone, LinkFails, IsSaved, SaveFails, IsOpened, IsFound, OpeningFails, IsArmed}
 
 -- how many calls save a generation, and whether they go to the disk `a`

@@ -5,7 +5,7 @@ use Rattle.std.specs.List.{flat_map, join_with_byte}
 use Rattle.std.proofs.lemmas.List.{append-nil, append_assoc, take_more, drop-append-le}
 use Rattle.std.proofs.lemmas.List.Concat.{flat_map-append}
 use Rattle.std.proofs.lemmas.List.Folds.{flat_map-map}
-use Rattle.ficus_vv.specs.Vector.{Counts, in_order, count_of}
+use Rattle.ficus_vectors.specs.Vector.{Counts, in_order, count_of}
 use Rattle.ficus_script.specs.Answer.{vector_text}
 
 -- a count behind the first one is written with a comma before it

@@ -18,7 +18,7 @@ use Rattle.ficus_names.specs.Text.{shown_text_of}
 use Rattle.ficus_file.specs.declared.orphan.Orphan.{Orphan}
 use Rattle.ficus_path.specs.Spelling.{name_text}
 use Rattle.ficus_path.specs.Text.{quoted_text}
-use Rattle.ficus_vv.specs.Vector.{Counts, in_order}
+use Rattle.ficus_vectors.specs.Vector.{Counts, in_order}
 use Rattle.ficus_commands.specs.declared.told.Told.{Told}
 use Rattle.ficus_commands.specs.declared.told.Told.TheVariants.{Text, Names, Tree, Versions, Conflicts, Orphans, Detached, Marks}
 use Rattle.ficus_script.specs.declared.answer.Answer.{Answer}

@@ -12,7 +12,7 @@ use ficus_file::{Orphan, Version};
 use ficus_ids::{Id, Listed, Members, Memory};
 use ficus_names::{Clashes, Line, shown_text};
 use ficus_path::append_text;
-use ficus_vv::Vector;
+use ficus_vectors::Vector;
 use std::alloc::Global;
 
 /// The text of the answer. Each of its lines ends with byte 10.

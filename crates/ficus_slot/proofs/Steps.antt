@@ -7,7 +7,7 @@ use Rattle.ficus_disk.specs.Crash.{Only}
 use Rattle.ficus_disk.specs.Fuse.{picked}
 use Rattle.ficus_disk.specs.declared.fuse.Pick.{Pick}
 use Rattle.ficus_disk.specs.declared.fuse.Pick.TheVariants.{Synced, Written, Ones, Halves}
-use Rattle.ficus_keep.specs.Fuses.{is_found}
+use Rattle.ficus_keeper.specs.Fuses.{is_found}
 use Rattle.ficus_slot.specs.Gate.{GateIs, IsShut}
 use Rattle.ficus_slot.specs.Slot.{Saved, range_of, slot_in}
 use Rattle.ficus_slot.specs.Stays.{IsFound, IsNew, IsOld, Stays}

@@ -14,10 +14,10 @@ use Rattle.ficus_model.specs.Reached.IsReached.{Base, Through}
 use Rattle.ficus_laws.proofs.Deciding.{Decided}
 use Rattle.ficus_held_laws.specs.Entries.{place_of}
 use Rattle.ficus_orphan.specs.Orphan.{IsNameFor, IsNamedBy}
-use Rattle.ficus_saved.specs.declared.saved.Saved.{Saved}
+use Rattle.ficus_durable_state.specs.declared.saved.Saved.{Saved}
 use Rattle.ficus_rules.specs.Detached.{IsDetachedIn}
 use Rattle.ficus_rules.specs.View.{IsBoundIn, IsInReachIn}
-use Rattle.ficus_answers.specs.View.{held_as, held_live, tables_view}
+use Rattle.ficus_deciding.specs.View.{held_as, held_live, tables_view}
 use Rattle.ficus_standing_laws.specs.Laws.{LieInDirectories, LiesInDetachedIn}
 
 name_or_not : (entry : Entry) (object : Id) (state : State) → entry.state ≡ state →

@@ -18,8 +18,8 @@ use Rattle.ficus_table_laws.proofs.Files.{files_exist}
 use Rattle.ficus_rules.specs.Alike.{AreAlike}
 use Rattle.ficus_rules.specs.View.{history_view}
 use Rattle.ficus_rules.proofs.Alikes.{alike_along}
-use Rattle.ficus_answers.specs.View.{tables_view}
-use Rattle.ficus_saved.specs.declared.saved.Saved.{Saved}
+use Rattle.ficus_deciding.specs.View.{tables_view}
+use Rattle.ficus_durable_state.specs.declared.saved.Saved.{Saved}
 use Rattle.ficus_replica.specs.SavedOf.{IsOpenAskOf, IsSavedOf, StandsFor}
 use Rattle.ficus_replica.specs.declared.replica.Asked.{Asked}
 use Rattle.ficus_replica.specs.declared.replica.Replica.{Replica}

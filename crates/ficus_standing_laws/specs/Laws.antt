@@ -17,11 +17,11 @@ use Rattle.ficus_model.specs.Live.{ModelEntry}
 use Rattle.ficus_model.specs.View.{IsOrphan, ViewSame}
 use Rattle.ficus_removal_laws.specs.Marks.{IsTwoFull}
 use Rattle.ficus_view_laws.specs.Laws.{IsNeeded}
-use Rattle.ficus_saved.specs.declared.saved.Saved.{Saved}
+use Rattle.ficus_durable_state.specs.declared.saved.Saved.{Saved}
 use Rattle.ficus_rules.specs.Alike.{AreAlike}
 use Rattle.ficus_rules.specs.Detached.{IsDetachedIn}
 use Rattle.ficus_rules.specs.View.{View, IsBoundIn, history_view}
-use Rattle.ficus_answers.specs.View.{tables_view}
+use Rattle.ficus_deciding.specs.View.{tables_view}
 use Rattle.ficus_replica.specs.Collect.{Garbage, IsEntryGivenUp, IsGarbage, IsObjectGivenUp}
 use Rattle.ficus_replica.specs.SavedOf.{StandsFor}
 use Rattle.ficus_replica.specs.declared.replica.Replica.{Replica}

@@ -9,9 +9,9 @@ use Rattle.ficus_replica.specs.declared.replica.Replica.{Replica}
 use Rattle.ficus_run_laws.proofs.Numbers.{number_cases, number_exists}
 use Rattle.ficus_runs.specs.ModelWorld.{ModelWorld, Standing, Up}
 use Rattle.ficus_runs.specs.Numbered.{IsNumbered}
-use Rattle.ficus_world.specs.declared.member.Member.{Member}
-use Rattle.ficus_world.specs.declared.member.MemberState.{MemberState}
-use Rattle.ficus_world.specs.declared.member.MemberState.TheVariants as state
+use Rattle.ficus_opening.specs.declared.member.Member.{Member}
+use Rattle.ficus_opening.specs.declared.member.MemberState.{MemberState}
+use Rattle.ficus_opening.specs.declared.member.MemberState.TheVariants as state
 use Rattle.ficus_world.specs.World.{IsReplica, IsUpIn, MemberStandsFor, StateStandsFor, Whole, WorldStandsFor}
 use Rattle.ficus_summary.specs.Running.{HoldingsIn}
 use Rattle.ficus_summary.specs.Summary.{AreHoldings}

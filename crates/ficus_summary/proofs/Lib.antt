@@ -1,4 +1,3 @@
-pub mod Generating
 pub mod Holdings
 pub mod Keepers
 pub mod OneSummary

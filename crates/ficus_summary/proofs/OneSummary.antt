@@ -9,11 +9,11 @@ use Rattle.ficus_replica.proofs.Saves.{saved_once}
 use Rattle.ficus_run_laws.proofs.OneRun.{done_run_once}
 use Rattle.ficus_runs.specs.ModelWorld.{ModelWorld}
 use Rattle.ficus_runs.specs.Start.{default_volume}
-use Rattle.ficus_saved.specs.declared.saved.Saved.{Saved}
+use Rattle.ficus_durable_state.specs.declared.saved.Saved.{Saved}
 use Rattle.ficus_script.specs.declared.command.Command.{Command}
 use Rattle.ficus_script.proofs.ScriptLaws.{one_script}
-use Rattle.ficus_serving.proofs.Places.{at_index}
-use Rattle.ficus_serving.specs.Tally.{is_no_refusal, is_refusal}
+use Rattle.ficus_loop.proofs.Places.{at_index}
+use Rattle.ficus_loop.specs.Tally.{is_no_refusal, is_refusal}
 use Rattle.ficus_summary.specs.Summary.{AreHoldings, ComesTo, Summarizes}
 use Rattle.ficus_check.specs.Holding.{holding_of}
 use Rattle.ficus_summary.specs.Text.{summary_text}

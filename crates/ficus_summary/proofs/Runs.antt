@@ -6,12 +6,12 @@ use Rattle.ficus_disk.specs.declared.disk.Disk.{Ghosts as Disk}
 use Rattle.ficus_disk.specs.declared.pair.Pair.{Pair}
 use Rattle.ficus_generator.specs.Lines.{StopsNothing}
 use Rattle.ficus_ids.specs.Members.{IsCount}
-use Rattle.ficus_keep.specs.declared.keep.Keep.{Ghosts as Keep}
+use Rattle.ficus_keeper.specs.declared.keep.Keep.{Ghosts as Keep}
 use Rattle.ficus_model.specs.Events.{raised}
 use Rattle.ficus_runs.specs.Start.{default_volume}
 use Rattle.ficus_script.specs.declared.command.Command.{Command}
-use Rattle.ficus_serving.specs.Tally.{Tallies}
-use Rattle.ficus_serving.specs.declared.tally.Tally.{Tally}
+use Rattle.ficus_loop.specs.Tally.{Tallies}
+use Rattle.ficus_loop.specs.declared.tally.Tally.{Tally}
 use Rattle.ficus_world.specs.Fuses.{FusesStand, at_rest, keeping_of}
 use Rattle.ficus_world.specs.World.{Whole, WorldStandsFor}
 use Rattle.ficus_run_laws.specs.Outcomes.{NothingFails, all_outcomes}
@@ -21,7 +21,7 @@ use Rattle.ficus_run_laws.proofs.Up.{run_up, up_first}
 use Rattle.ficus_summary.specs.Running.{CountedAs}
 use Rattle.ficus_summary.specs.Summary.{fresh_start}
 use Rattle.ficus_summary.specs.declared.counts.Counts.{Counts}
-use Rattle.ficus_serving.proofs.Places.{none_caused}
+use Rattle.ficus_loop.proofs.Places.{none_caused}
 use Rattle.ficus_summary.proofs.Unfailing.{none_armed, none_fails}
 
 -- a fresh world stores one event for each member at most

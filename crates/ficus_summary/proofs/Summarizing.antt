@@ -7,7 +7,7 @@ use Rattle.ficus_disk.specs.declared.mem_disk.MemDisk.{MemDisk}
 use Rattle.ficus_disk.specs.declared.pair.Pair.{Pair}
 use Rattle.ficus_runs.specs.Start.{default_volume}
 use Rattle.ficus_script.specs.declared.command.Command.{Command}
-use Rattle.ficus_world.specs.Opening.{fuses_in}
+use Rattle.ficus_opening.specs.Opening.{fuses_in}
 use Rattle.ficus_world.specs.World.{Whole}
 use Rattle.ficus_summary.specs.Running.{CountedAs, HoldingsIn}
 use Rattle.ficus_summary.specs.Summary.{ComesTo}

@@ -7,7 +7,7 @@ use Rattle.std.proofs.lemmas.List.Sums.{sum_by-cons}
 use Rattle.ficus_disk.specs.declared.fuse.Fuse.{Fuse}
 use Rattle.ficus_disk.specs.declared.fuse.Fuse.TheVariants.{Unarmed}
 use Rattle.ficus_generator.specs.Lines.{StopsNothing}
-use Rattle.ficus_keep.specs.Fuses.{Fuses, after_save, both_unarmed, lasts, on_side}
+use Rattle.ficus_keeper.specs.Fuses.{Fuses, after_save, both_unarmed, lasts, on_side}
 use Rattle.ficus_model.specs.Lawful.{Volume}
 use Rattle.ficus_runs.specs.Fuses.{FuseState, FusesAllow, FusesAllowAll, Keeping, after_outcome, with_fuses}
 use Rattle.ficus_runs.specs.ModelWorld.{ModelWorld}
@@ -110,5 +110,5 @@ none_armed {commands = commands} {outcomes = outcomes} run stopless r =
       | inl none ↦ none
       | inr some ↦
           let stop = run_arms r run some in
-          absurd (All-contains StopsNothing commands (Stop r stop.0 stop.1) stopless stop.2)
+          absurd (All-contains StopsNothing commands (Stop r stop.0 stop.1) stopless stop.2 r stop.0 stop.1 refl)
     ]

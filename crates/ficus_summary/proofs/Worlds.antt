@@ -2,15 +2,15 @@
 use Rattle.std.proofs.Common.{◌≡◌, ℕ, List, length, refl, ◌∙◌}
 use Rattle.ficus_disk.specs.declared.disk.Disk.{Ghosts as Disk}
 use Rattle.ficus_disk.specs.declared.pair.Pair.{Pair}
-use Rattle.ficus_keep.specs.declared.keep.Keep.{Ghosts as Keep}
+use Rattle.ficus_keeper.specs.declared.keep.Keep.{Ghosts as Keep}
 use Rattle.ficus_model.specs.Lawful.{Volume}
 use Rattle.ficus_runs.specs.Fuses.{FuseState}
 use Rattle.ficus_world.specs.Fuses.{AreAtRest, at_rest}
-use Rattle.ficus_world.specs.Opening.{AreMade, AreRead}
-use Rattle.ficus_world.specs.declared.member.Member.{Member}
-use Rattle.ficus_world.specs.declared.opening.WorldFault.{WorldFault}
-use Rattle.ficus_world.specs.declared.opening.WorldFault.TheVariants.{Image, Memory, Occupied, Store}
-use Rattle.ficus_world.proofs.Unarmed.{made_at_rest}
+use Rattle.ficus_opening.specs.Opening.{AreMade, AreRead}
+use Rattle.ficus_opening.specs.declared.member.Member.{Member}
+use Rattle.ficus_opening.specs.declared.fault.WorldFault.{WorldFault}
+use Rattle.ficus_opening.specs.declared.fault.WorldFault.TheVariants.{Image, Memory, Occupied, Store}
+use Rattle.ficus_world.proofs.AtRest.{made_at_rest}
 
 -- where no other fault comes, it is want of memory
 pub memory_alone : (fault : WorldFault) → ((r : ℕ) → fault ≡ Occupied r → ⊥) → ((r : ℕ) → fault ≡ Store r → ⊥)

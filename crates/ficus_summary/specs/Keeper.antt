@@ -1,8 +1,8 @@
 -- The program's keeper, which keeps what each replica saves on its pair of disks. This is the one place that says which
 -- keeper it is; whatever stands above cites it from here.
 use Rattle.std.specs.Prelude.{ℕ, List, Option}
-use Rattle.ficus_keep.specs.Kept.{Kept}
-use Rattle.ficus_keep.specs.declared.keep.Keep.{Ghosts as Keep}
+use Rattle.ficus_keeper.specs.Kept.{Kept}
+use Rattle.ficus_keeper.specs.declared.keep.Keep.{Ghosts as Keep}
 use Rattle.ficus_journal.specs.Logs as logs
 use Rattle.ficus_journal.specs.contracts.journal.JournalKeep
 use Rattle.ficus_journal.specs.declared.journal.Journal.{Journal}

@@ -1,6 +1,5 @@
 pub mod Text
 pub mod Summary
-pub mod Disks
 pub mod Running
 pub mod Sized
 pub mod Keeper

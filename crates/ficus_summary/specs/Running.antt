@@ -8,7 +8,7 @@ use Rattle.ficus_runs.specs.Run.{EachDone, Run}
 use Rattle.ficus_runs.specs.Start.{default_volume}
 use Rattle.ficus_script.specs.declared.answer.Answer.{Answer}
 use Rattle.ficus_script.specs.declared.command.Command.{Command}
-use Rattle.ficus_serving.specs.Tally.{is_no_refusal, is_refusal}
+use Rattle.ficus_loop.specs.Tally.{is_no_refusal, is_refusal}
 use Rattle.ficus_summary.specs.Summary.{fresh_start}
 use Rattle.ficus_check.specs.Holding.{holding_of}
 use Rattle.ficus_summary.specs.declared.counts.Counts.{Counts}

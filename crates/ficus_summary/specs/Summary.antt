@@ -9,11 +9,11 @@ use Rattle.ficus_runs.specs.Numbered.{IsNumbered}
 use Rattle.ficus_runs.specs.Outcome.{Outcome}
 use Rattle.ficus_runs.specs.Run.{EachDone, Run}
 use Rattle.ficus_runs.specs.Start.{default_volume, start}
-use Rattle.ficus_saved.specs.declared.saved.Saved.{Saved}
+use Rattle.ficus_durable_state.specs.declared.saved.Saved.{Saved}
 use Rattle.ficus_script.specs.Script.{IsScript}
 use Rattle.ficus_script.specs.declared.answer.Answer.{Answer}
 use Rattle.ficus_script.specs.declared.command.Command.{Command}
-use Rattle.ficus_serving.specs.Tally.{is_no_refusal, is_refusal}
+use Rattle.ficus_loop.specs.Tally.{is_no_refusal, is_refusal}
 use Rattle.ficus_check.specs.Holding.{holding_of}
 use Rattle.ficus_summary.specs.Text.{summary_text}
 use Rattle.ficus_summary.specs.declared.counts.Counts.{Counts}

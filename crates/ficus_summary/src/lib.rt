@@ -2,8 +2,6 @@
 #![tactic(auto)]
 
 mod counts;
-mod disks;
-mod generated;
 mod keeper;
 mod laws;
 mod running;
@@ -11,7 +9,6 @@ mod summary;
 mod text;
 mod world;
 
-pub use disks::fresh_disks;
 pub use keeper::Keeper;
 pub use laws::one_summary;
 pub use summary::summarize;

@@ -2,11 +2,11 @@ ghost use Rattle.std.specs.Prelude.{◌<◌, ◌≤◌, ◌^◌, IfOk};
 ghost use Rattle.ficus_ids.specs.Members.{IsCount};
 ghost use Rattle.ficus_summary.specs.Summary.{Summarizes};
 
-use crate::disks::fresh_disks;
-use crate::generated::generated_commands;
 use crate::running::{holdings_of, run};
 use crate::text::summary_text;
 use crate::world::fresh_world;
+use ficus_disk::fresh_disks;
+use ficus_generator::generated_commands;
 use ficus_ids::{Members, Memory};
 use ficus_world::{DEFAULT_BYTES, DEFAULT_IDS};
 use std::alloc::Global;

@@ -2,19 +2,21 @@ ghost use Rattle.std.specs.Prelude.{◌≡◌, ◌≤◌, ℕ, [], length, take,
 ghost use Rattle.ficus_ids.specs.Members.{IsCount};
 ghost use Rattle.ficus_runs.specs.Fuses.{FuseState};
 ghost use Rattle.ficus_runs.specs.Start.{start};
-ghost use Rattle.ficus_saved.specs.Limits.{byte_limit, update_limit};
+ghost use Rattle.ficus_durable_state.specs.Limits.{byte_limit, update_limit};
 ghost use Rattle.ficus_summary.specs.Keeper.{IsRegular, keeper, kept_in};
 ghost use Rattle.ficus_summary.specs.Sized.{sized};
 ghost use Rattle.ficus_world.specs.Disks.{IsBacked};
-ghost use Rattle.ficus_world.specs.Fuses.{AreRegular, AreUnarmed, FusesStand, at_rest};
-ghost use Rattle.ficus_world.specs.Opening.{AreEmpty, AreMade, Steady, fuses_in};
+ghost use Rattle.ficus_opening.specs.Fuses.{AreRegular, AreUnarmed};
+ghost use Rattle.ficus_world.specs.Fuses.{FusesStand, at_rest};
+ghost use Rattle.ficus_opening.specs.Opening.{AreEmpty, AreMade, Steady, fuses_in};
 ghost use Rattle.ficus_world.specs.World.{WorldStandsFor};
 
 use crate::keeper::Keeper;
 use ficus_disk::{Disk, Pair};
 use ficus_ids::{Members, Memory};
+use ficus_opening::{WorldFault, what_is_made_stands};
 use ficus_outside::MemLink;
-use ficus_world::{World, WorldFault, what_is_made_stands};
+use ficus_world::World;
 use std::alloc::Global;
 
 /// Makes a fresh volume with these limits on empty disks, whose fuses aren't armed, and opens it, over a link that

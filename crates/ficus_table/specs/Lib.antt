@@ -1,4 +1,5 @@
 pub mod Edits
+pub mod InOrder
 pub mod Made
 pub mod SideBySide
 pub mod Table

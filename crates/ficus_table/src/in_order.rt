@@ -13,21 +13,27 @@ use std::marker::Model;
 /// time wherever it stands, however many there are.
 #[derive(Drop)]
 pub struct InOrder<'a, R: Row> {
-    seen: Vec<&'a R::Seen>,
-    // What shows it, where that stands in no table.
-    rows: Option<&'a [R]>,
+    held: Held<'a, R, R::Seen>,
+}
+
+// What is looked at: what rows show, by itself, or the rows of a table, or rows that stand in none.
+#[derive(Drop)]
+enum Held<'a, R, S> {
+    Seen(Vec<&'a S>),
+    Gathered(Vec<&'a R>),
+    Rows(&'a [R]),
 }
 
 impl<'a, R: Row> Model for InOrder<'a, R> {
-    ghost use Rattle.std.specs.Prelude.{◌≡◌, List, map, IfSome};
+    ghost use Rattle.std.specs.Prelude.{List};
     ghost use Rattle.ficus_ids.specs.Rising.{IsRisingBy};
+    ghost use Rattle.ficus_table.specs.InOrder.{shown};
 
     ghost Value = { List R.Seen };
 
-    ghost view = { λ o. map (λ seen. seen.now) o.seen.items };
+    ghost view = { λ o. shown R.seen o.held };
 
-    ghost invariant = { λ o. IsRisingBy R.id_of (map (λ seen. seen.now) o.seen.items)
-        × IfSome o.rows (λ rows. map R.seen rows.now ≡ map (λ seen. seen.now) o.seen.items) };
+    ghost invariant = { λ o. IsRisingBy R.id_of (shown R.seen o.held) };
 }
 
 impl<'a, R: Row> InOrder<'a, R> {
@@ -36,7 +42,19 @@ impl<'a, R: Row> InOrder<'a, R> {
         requires { IsRisingBy R.id_of (map (λ one. one.now) seen.items) }
         ensures { result ≡ map (λ one. one.now) seen.entry.items }
     {
-        InOrder { seen, rows: None }
+        InOrder {
+            held: Held::Seen(seen),
+        }
+    }
+
+    // What the rows of a table show, whose identifiers rise strictly.
+    fn gathered(rows: Vec<&'a R>) -> InOrder<'a, R>
+        requires { IsRisingBy (λ row. R.id_of (R.seen row)) (map (λ row. row.now) rows.items) }
+        ensures { result ≡ map R.seen (map (λ row. row.now) rows.entry.items) }
+    {
+        InOrder {
+            held: Held::Gathered(rows),
+        }
     }
 
     /// Rows that stand in no table, whose identifiers rise strictly.
@@ -44,22 +62,18 @@ impl<'a, R: Row> InOrder<'a, R> {
         requires { IsRisingBy R.id_of rows.now }
         ensures { IfOk result (λ in_order. in_order ≡ rows.now) }
     {
-        let seen = each_of(alloc, rows)?;
-        Ok(InOrder { seen, rows: None })
+        Ok(InOrder::of(each_of(alloc, rows)?))
     }
 
     /// What rows show that stand in no table, whose identifiers rise strictly. A table may share them, by
-    /// [`row`](InOrder::row).
-    pub fn of_rows(alloc: Global, rows: &'a [R]) -> Result<InOrder<'a, R>, Memory>
+    /// [`row`](InOrder::row). Takes no memory.
+    pub fn of_rows(rows: &'a [R]) -> InOrder<'a, R>
         requires { IsRisingBy (λ row. R.id_of (R.seen row)) rows.now }
-        ensures { IfOk result (λ in_order. in_order ≡ map R.seen rows.now) }
+        ensures { result ≡ map R.seen rows.now }
     {
-        let each = each_of(alloc, rows)?;
-        let seen = looks_at(alloc, &each)?;
-        Ok(InOrder {
-            seen,
-            rows: Some(rows),
-        })
+        InOrder {
+            held: Held::Rows(rows),
+        }
     }
 
     /// How many rows there are.
@@ -67,14 +81,18 @@ impl<'a, R: Row> InOrder<'a, R> {
         ensures value { result ≡ length self.now }
         ensures rising { IsRisingBy R.id_of self.now }
     {
-        self.seen.len()
+        match &self.held {
+            Held::Seen(seen) => seen.len(),
+            Held::Gathered(rows) => rows.len(),
+            Held::Rows(rows) => rows.len(),
+        }
     }
 
     /// Whether there are no rows.
     pub fn is_empty(&self) -> bool
         ensures { result ≡ (length self.now == 0) }
     {
-        self.seen.is_empty()
+        self.len() == 0
     }
 
     /// What the row at a place shows, from 0. The place is below the length.
@@ -82,14 +100,21 @@ impl<'a, R: Row> InOrder<'a, R> {
         requires { index < length self.now }
         ensures { slice_get self.now index ≡ Some result.now }
     {
-        self.seen[index]
+        match &self.held {
+            Held::Seen(seen) => seen[index],
+            Held::Gathered(rows) => rows[index].look(),
+            Held::Rows(rows) => row_at(rows, index).look(),
+        }
     }
 
     /// The row at a place, from 0, if there is one, and if it was made [of rows](InOrder::of_rows).
     pub fn row(&self, index: usize) -> Option<&'a R>
         ensures { IfSome result (λ row. slice_get self.now index ≡ Some (R.seen row.now)) }
     {
-        self.rows?.get(index)
+        match &self.held {
+            Held::Rows(rows) => rows.get(index),
+            _ => None,
+        }
     }
 }
 
@@ -98,10 +123,20 @@ impl<R: Row> Table<R> {
     pub fn in_order(&self) -> Result<InOrder<'_, R>, Memory>
         ensures { IfOk result (λ rows. rows ≡ self.now.items) }
     {
+        if self.edits.is_empty() {
+            return Ok(InOrder::gathered(rows_of(self.allocator(), &self.list)?));
+        }
         let mut seen = gathered(self.allocator(), &self.list)?;
         overlay(&mut seen, &self.list, &self.edits);
         Ok(InOrder::of(seen))
     }
+}
+
+fn row_at<R>(rows: &[R], index: usize) -> &R
+    requires { index < length rows.now }
+    ensures { slice_get rows.now index ≡ Some result.now }
+{
+    &rows[index]
 }
 
 /// The rows of a list, in order.

@@ -5,10 +5,10 @@ use Rattle.ficus_ids.specs.ListLaws.{from_map, into_map}
 use Rattle.ficus_ids.specs.Members.{IsCount}
 use Rattle.ficus_ids.specs.declared.id.Id.{Id}
 use Rattle.ficus_ids.specs.declared.kind.Kind.{Kind}
-use Rattle.ficus_vv.specs.Vector.{count_of}
-use Rattle.ficus_vv.specs.VectorLaws.{same_vector}
+use Rattle.ficus_vectors.specs.Vector.{count_of}
+use Rattle.ficus_vectors.specs.VectorLaws.{same_vector}
 use Rattle.ficus_file.specs.declared.file.FileReplica.{FileReplica}
-use Rattle.ficus_recon_file.specs.Versions.{AreOrdered}
+use Rattle.ficus_merge_files.specs.Versions.{AreOrdered}
 use Rattle.ficus_model.specs.declared.event.Event.{Event}
 use Rattle.ficus_model.specs.declared.event.Op.{Op}
 use Rattle.ficus_model.specs.declared.event.Op.TheVariants.{Make}

@@ -6,8 +6,8 @@ use Rattle.std.specs.declared.cmp.Ordering.TheVariants.{Less, Equal, Greater}
 use Rattle.ficus_ids.specs.ListLaws.{here, there}
 use Rattle.ficus_ids.specs.Members.{IsCount, IsMember}
 use Rattle.ficus_ids.specs.declared.id.Id.{Id}
-use Rattle.ficus_vv.specs.Vector.{Counts, count_of, vector_cmp, vector_of}
-use Rattle.ficus_vv.specs.VectorLaws.{vector_cmp-Equal, vector_cmp-flip, vector_cmp_total}
+use Rattle.ficus_vectors.specs.Vector.{Counts, count_of, vector_cmp, vector_of}
+use Rattle.ficus_vectors.specs.VectorLaws.{vector_cmp-Equal, vector_cmp-flip, vector_cmp_total}
 use Rattle.ficus_file.specs.declared.version.Version.{Version}
 use Rattle.ficus_model.specs.declared.event.Event.{Event}
 use Rattle.ficus_model.specs.Events.{IsOf}

@@ -15,10 +15,10 @@ use Rattle.ficus_run_laws.proofs.Runs.{part_lawful, run_lawful}
 use Rattle.ficus_run_laws.proofs.Starts.{start_lawful}
 use Rattle.ficus_top.specs.Ends.{Ends, EndsFront}
 use Rattle.ficus_top.specs.Headline.{Answers, AnswersFront, fuses_of}
-use Rattle.ficus_serving.specs.Serving.{IsCut}
-use Rattle.ficus_serving.specs.Serving.IsCut.{Uncut, CutIn}
+use Rattle.ficus_loop.specs.Serving.{IsCut}
+use Rattle.ficus_loop.specs.Serving.IsCut.{Uncut, CutIn}
 use Rattle.ficus_top.proofs.Returning.{final_throughout, nothing_returns}
-use Rattle.ficus_serving.proofs.Serves.{front_where}
+use Rattle.ficus_loop.proofs.Serves.{front_where}
 
 -- what a command has done that was cut short leaves a lawful history lawful
 cut_lawful : {may : Type 0} {volume : Volume} {W after : ModelWorld} {last : List Answer} {commands : List Command}

@@ -17,8 +17,8 @@ use Rattle.ficus_runs.specs.Numbered.{IsNumbered}
 use Rattle.ficus_runs.specs.Run.Run.{End}
 use Rattle.ficus_summary.specs.Keeper.{Keeper, keeper}
 use Rattle.ficus_world.specs.World.{Backed, Whole, WorldStandsFor}
-use Rattle.ficus_serving.proofs.Places.{none_caused, tells_for}
-use Rattle.ficus_serving.specs.Serving.{serving_limit}
+use Rattle.ficus_loop.proofs.Places.{none_caused, tells_for}
+use Rattle.ficus_loop.specs.Serving.{serving_limit}
 use Rattle.ficus_world.specs.Fuses.{at_rest}
 use Rattle.ficus_script.specs.declared.volume_line.VolumeLine.{VolumeLine}
 use Rattle.ficus_graft.specs.Answered.{AreAnswered, Sent}

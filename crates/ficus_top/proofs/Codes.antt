@@ -7,9 +7,9 @@ use Rattle.ficus_top.specs.Status.{code_of, line_of, replica_of}
 use Rattle.ficus_top.specs.declared.fault.Fault.{Fault}
 use Rattle.ficus_top.specs.declared.fault.Fault.TheVariants.{Words, Reading, Storing, Answering}
 use Rattle.ficus_top.specs.declared.fault.ReadingFault.TheVariants.{BadLine, Memory, Source, TooLong}
-use Rattle.ficus_serving.specs.declared.fault.AnsweringFault.TheVariants.{Memory as NoMemory, Sink}
+use Rattle.ficus_loop.specs.declared.fault.AnsweringFault.TheVariants.{Memory as NoMemory, Sink}
 use Rattle.ficus_words.specs.declared.fault.WordsFault.TheVariants as words
-use Rattle.ficus_world.specs.declared.opening.WorldFault.TheVariants as world
+use Rattle.ficus_opening.specs.declared.fault.WorldFault.TheVariants as world
 
 -- a code with which nothing was done is none of the others
 zero_idle : IsIdleCode 0 → ⊥

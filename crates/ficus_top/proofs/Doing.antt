@@ -2,7 +2,7 @@
 use Rattle.std.proofs.Common.{◌≡◌, ◌⊎◌, ℕ, ◌<◌, ◌≤◌, List, [], Option, Result, Ok, Err, refl, sym, ap, subst, inl, inr, arith, length}
 use Rattle.std.specs.declared.alloc.Global.{Global}
 use Rattle.std.specs.Prelude.{IfErr, IsErrAnd, IsErrOf, OnErr, OnOk, Vec, vec_items}
-use Rattle.ficus_saved.specs.declared.saved.Saved.{Saved}
+use Rattle.ficus_durable_state.specs.declared.saved.Saved.{Saved}
 use Rattle.ficus_disk.specs.declared.disk.Disk.{Ghosts as Disk}
 use Rattle.ficus_disk.specs.declared.pair.Pair.{Pair}
 use Rattle.ficus_outside.specs.declared.sink.Sink.{Ghosts as Sink}
@@ -20,17 +20,17 @@ use Rattle.ficus_top.specs.Modes.Replay.{DoesReplay, IsReplayCode, StaysUnmade}
 use Rattle.ficus_top.specs.Killed.{KilledFrontOf, KilledOf}
 use Rattle.ficus_top.specs.Modes.Run.{DoesRun, HoldsSame, IsRunCode, StaysUnopened}
 use Rattle.ficus_top.proofs.Kills.{killed_where}
-use Rattle.ficus_world.specs.Kills.{AllRest, OthersRest, OthersStay}
-use Rattle.ficus_world.proofs.Kills.{all_rest_none}
-use Rattle.ficus_world.proofs.Making.{none_in_part}
-use Rattle.ficus_world.proofs.Others.{all_others_rest, others_none}
+use Rattle.ficus_opening.specs.Rests.{AllRest, OthersRest, OthersStay}
+use Rattle.ficus_opening.proofs.Rests.{all_rest_none}
+use Rattle.ficus_opening.proofs.Made.{none_in_part}
+use Rattle.ficus_opening.proofs.Others.{all_others_rest, others_none}
 use Rattle.ficus_top.specs.Program.{Does, EndsAsAnyMode}
 use Rattle.ficus_top.specs.Reading.{TakesUntil}
 use Rattle.ficus_top.specs.Modes.Volumes.{AnswersVolumesFrontOf, AnswersVolumesOf, DoesVolumes, IsVolumesCode}
 use Rattle.ficus_top.specs.Script.{AnswersFrontOf, AnswersOf, AnswersScript, HasIn, ReadsIn}
 use Rattle.ficus_top.specs.Seen.{Seen, SinkFailed, SourceFailed, disks_after, disks_before, left_of, script_of}
 use Rattle.ficus_top.specs.Status.{code_of, line_of, replica_of}
-use Rattle.ficus_serving.specs.declared.fault.AnsweringFault.TheVariants as answering
+use Rattle.ficus_loop.specs.declared.fault.AnsweringFault.TheVariants as answering
 use Rattle.ficus_top.specs.declared.fault.Fault.{Fault}
 use Rattle.ficus_top.specs.declared.fault.Fault.TheVariants.{Words, Reading, Storing, Answering}
 use Rattle.ficus_top.specs.declared.fault.ReadingFault.TheVariants as reading
@@ -39,17 +39,17 @@ use Rattle.ficus_words.specs.declared.fault.WordsFault.TheVariants as word
 use Rattle.ficus_words.specs.declared.mode.Mode.{Mode}
 use Rattle.ficus_words.specs.declared.mode.Mode.TheVariants.{Init, Run, Check, Replay, Volumes, Gen}
 use Rattle.ficus_words.specs.declared.mode.Size.{Size}
-use Rattle.ficus_world.specs.Fuses.{AreUnarmed}
-use Rattle.ficus_world.specs.Opening.{AreEmpty, AreMadeInPart, AreSynced, IsAtFault, IsFirstBad, IsFirstOccupied, IsUnfailed, Opens, SeenSame, StandsOn, Steady}
-use Rattle.ficus_world.specs.declared.opening.WorldFault.{WorldFault}
-use Rattle.ficus_world.specs.declared.opening.WorldFault.TheVariants as world
-use Rattle.ficus_world.proofs.Steadies.{steady_none}
+use Rattle.ficus_opening.specs.Fuses.{AreUnarmed}
+use Rattle.ficus_opening.specs.Opening.{AreEmpty, AreMadeInPart, AreSynced, IsAtFault, IsFirstBad, IsFirstOccupied, IsUnfailed, Opens, SeenSame, StandsOn, Steady}
+use Rattle.ficus_opening.specs.declared.fault.WorldFault.{WorldFault}
+use Rattle.ficus_opening.specs.declared.fault.WorldFault.TheVariants as world
+use Rattle.ficus_opening.proofs.Steadies.{steady_none}
 use Rattle.ficus_top.proofs.Answering.{answers_where}
 use Rattle.ficus_top.proofs.Codes.{done_of_code, idle_of_code, image_of_code, is_code, line_of_code, occupied_of_code, prefix_of_code, replica_of_code, sink_of_code, source_of_code, store_of_code, untouched_of_code, usage_of_code}
 use Rattle.ficus_top.proofs.Earlier.{not_at_fault}
 use Rattle.ficus_top.proofs.Stored.{idle_both}
 use Rattle.ficus_top.proofs.Endings.{AreUsed, Excludes, IsStored, bad_line_comes, bad_line_told, complete_of_code, excludes_commands, excludes_volumes, made_of_code, nothing_left, refusal_comes, too_long_comes, too_long_of_code, within_of_code}
-use Rattle.ficus_serving.proofs.Places.{not_occupied}
+use Rattle.ficus_loop.proofs.Places.{not_occupied}
 
 -- what was seen of a source, a sink and disks
 abbrev pub seen_of : {S K D : Type 0} → Source S → S → S → Sink K → K → K → Disk D → Vec (Pair D) Global

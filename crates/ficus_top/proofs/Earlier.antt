@@ -11,11 +11,11 @@ use Rattle.ficus_runs.specs.Fuses.{FuseState}
 use Rattle.ficus_runs.specs.Outcome.{Outcome}
 use Rattle.ficus_runs.specs.Start.{start}
 use Rattle.ficus_world.specs.Disks.{DisksFollow}
-use Rattle.ficus_world.specs.Opening.{IsAtFault, Steady}
+use Rattle.ficus_opening.specs.Opening.{IsAtFault, Steady}
 use Rattle.ficus_world.proofs.Disks.{follows_steady, follows_then}
 use Rattle.ficus_run_laws.proofs.Numbers.{number_exists}
-use Rattle.ficus_serving.proofs.Places.{fuses_same}
-use Rattle.ficus_world.proofs.Steadies.{steady_back, steady_trans}
+use Rattle.ficus_loop.proofs.Places.{fuses_same}
+use Rattle.ficus_opening.proofs.Steadies.{steady_back, steady_trans}
 use Rattle.ficus_top.specs.Ends.{Ends, EndsFront, NoneFailed}
 use Rattle.ficus_top.specs.Headline.{fuses_of}
 

@@ -8,17 +8,17 @@ use Rattle.ficus_top.specs.Ending.{IsInterruption, IsOfMaking, TakesAsEndedIn}
 use Rattle.ficus_top.specs.Grammar.{Grammar, of_commands, of_volumes}
 use Rattle.ficus_top.specs.Outside.{GivesCount}
 use Rattle.ficus_top.specs.Reading.{TakesUntil, TakesUntilIn}
-use Rattle.ficus_serving.specs.Serving.{script_limit}
+use Rattle.ficus_loop.specs.Serving.{script_limit}
 use Rattle.ficus_top.specs.Status.{code_of, line_of, replica_of}
 use Rattle.ficus_top.specs.declared.fault.Fault.{Fault}
 use Rattle.ficus_top.specs.declared.fault.Fault.TheVariants.{Words, Reading, Storing, Answering}
 use Rattle.ficus_top.specs.declared.fault.ReadingFault.{ReadingFault}
 use Rattle.ficus_top.specs.declared.fault.ReadingFault.TheVariants.{BadLine, Memory, Source, TooLong}
-use Rattle.ficus_serving.specs.declared.fault.AnsweringFault.TheVariants.{Memory as NoMemory, Sink}
+use Rattle.ficus_loop.specs.declared.fault.AnsweringFault.TheVariants.{Memory as NoMemory, Sink}
 use Rattle.ficus_words.specs.declared.fault.WordsFault.{WordsFault}
 use Rattle.ficus_words.specs.declared.fault.WordsFault.TheVariants as word
-use Rattle.ficus_world.specs.declared.opening.WorldFault.{WorldFault}
-use Rattle.ficus_world.specs.declared.opening.WorldFault.TheVariants as world
+use Rattle.ficus_opening.specs.declared.fault.WorldFault.{WorldFault}
+use Rattle.ficus_opening.specs.declared.fault.WorldFault.TheVariants as world
 
 one_unread : IsReadCode 1 → ⊥
 one_unread code = grind arith

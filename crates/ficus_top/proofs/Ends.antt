@@ -4,7 +4,7 @@ use Rattle.std.proofs.lemmas.Bool.{cases_lt}
 use Rattle.ficus_disk.specs.declared.disk.Disk.{Ghosts as Disk}
 use Rattle.ficus_disk.specs.declared.pair.Pair.{Pair}
 use Rattle.ficus_ids.specs.Members.{IsMember}
-use Rattle.ficus_keep.specs.declared.keep.Keep.{Ghosts as Keep}
+use Rattle.ficus_keeper.specs.declared.keep.Keep.{Ghosts as Keep}
 use Rattle.ficus_model.specs.Lawful.{Volume}
 use Rattle.ficus_model.specs.declared.event.Event.{Event}
 use Rattle.ficus_script.specs.declared.command.Command.{Command}
@@ -21,18 +21,18 @@ use Rattle.ficus_run_laws.proofs.Up.{run_up}
 use Rattle.ficus_world.specs.Disks.{DisksFollow}
 use Rattle.ficus_summary.specs.Keeper.{keeping, kept_in}
 use Rattle.ficus_world.specs.Fuses.{FusesPermit, keeping_of}
-use Rattle.ficus_world.specs.Opening.{Steady}
+use Rattle.ficus_opening.specs.Opening.{Steady}
 use Rattle.ficus_world.specs.Stand.{ArePending, DisksOutlast, DisksStand}
 use Rattle.ficus_world.specs.World.{Whole, WorldStandsFor}
 use Rattle.ficus_world.proofs.Disks.{follows_steady, follows_then}
-use Rattle.ficus_keep.specs.Kept.{Kept}
-use Rattle.ficus_serving.specs.Trail.{FrontOn, RunOn}
+use Rattle.ficus_keeper.specs.Kept.{Kept}
+use Rattle.ficus_loop.specs.Trail.{FrontOn, RunOn}
 use Rattle.ficus_top.specs.Killed.{EndsFrontOn, EndsOn}
 use Rattle.ficus_top.specs.Ends.{AllUp, Ends, EndsFront, NoneFailed, StandNow}
-use Rattle.ficus_serving.specs.Serving.{ServesWorld, ServesWorldFront}
-use Rattle.ficus_serving.proofs.Places.{none_caused}
+use Rattle.ficus_loop.specs.Serving.{ServesWorld, ServesWorldFront}
+use Rattle.ficus_loop.proofs.Places.{none_caused}
 use Rattle.ficus_top.proofs.Members.{run_spares}
-use Rattle.ficus_serving.proofs.Serves.{front_where}
+use Rattle.ficus_loop.proofs.Serves.{front_where}
 
 -- a world that is opened over a link on which nothing was posted stands so
 pub opened_stands : {volume : Volume} (H : List Event) {total : ℕ} (fused : List Bool) {world : Whole} → total ≡ 0

@@ -11,10 +11,10 @@ use Rattle.ficus_runs.specs.ModelWorld.{ModelWorld}
 use Rattle.ficus_runs.specs.Outcome.{Outcome}
 use Rattle.ficus_runs.specs.Run.{Run}
 use Rattle.ficus_runs.specs.Run.Run.{End, Then}
-use Rattle.ficus_serving.specs.Puts.{PutsFront}
-use Rattle.ficus_serving.specs.Serving.{texts_of, IsCut, ServesFront, PutsAllButLast}
-use Rattle.ficus_serving.specs.Serving.IsCut.{Uncut, CutIn}
-use Rattle.ficus_serving.proofs.Serves.{texts_append}
+use Rattle.ficus_loop.specs.Puts.{PutsFront}
+use Rattle.ficus_loop.specs.Serving.{texts_of, IsCut, ServesFront, PutsAllButLast}
+use Rattle.ficus_loop.specs.Serving.IsCut.{Uncut, CutIn}
+use Rattle.ficus_loop.proofs.Serves.{texts_append}
 
 pub front_stays : (old bytes new : List ℕ) → PutsFront old bytes new → length old ≤ length new
 front_stays old bytes new puts = omega (arith, ap length puts.put, length-append old puts.front)

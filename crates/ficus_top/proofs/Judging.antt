@@ -11,12 +11,12 @@ use Rattle.ficus_ids.specs.Members.{IsMember}
 use Rattle.ficus_summary.specs.Keeper.{kept_in}
 use Rattle.ficus_run_laws.proofs.Numbers.{number_exists}
 use Rattle.ficus_runs.specs.Numbered.{IsNumbered}
-use Rattle.ficus_world.specs.Kills.{AllRest, RestsAt}
-use Rattle.ficus_world.specs.Opening.{IsAtFault, IsUnfailed, SeenSame, Steady}
-use Rattle.ficus_world.specs.declared.opening.WorldFault.{WorldFault}
-use Rattle.ficus_world.specs.declared.opening.WorldFault.TheVariants.{Image, Memory, Occupied, Store}
-use Rattle.ficus_world.proofs.Kills.{all_rest_none, all_rest_one, all_rest_then}
-use Rattle.ficus_world.proofs.Steadies.{fault_behind, set_at, steady_none, steady_trans}
+use Rattle.ficus_opening.specs.Rests.{AllRest, RestsAt}
+use Rattle.ficus_opening.specs.Opening.{IsAtFault, IsUnfailed, SeenSame, Steady}
+use Rattle.ficus_opening.specs.declared.fault.WorldFault.{WorldFault}
+use Rattle.ficus_opening.specs.declared.fault.WorldFault.TheVariants.{Image, Memory, Occupied, Store}
+use Rattle.ficus_opening.proofs.Rests.{all_rest_none, all_rest_one, all_rest_then}
+use Rattle.ficus_opening.proofs.Steadies.{fault_behind, set_at, steady_none, steady_trans}
 use Rattle.ficus_top.specs.Codes.{IsCode, IsIdleCode, IsUntouchedCode, NamesReplica}
 use Rattle.ficus_top.specs.Ends.{NoneFailed}
 use Rattle.ficus_top.specs.Modes.Check.{AreJudged, DoesCheck, FailsAs, IsCheckCode, PutsJudgements, PutsJudgementsFront, StaysUnwritten}

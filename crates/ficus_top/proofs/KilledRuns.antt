@@ -4,7 +4,7 @@ use Rattle.std.proofs.lemmas.List.{length-append}
 use Rattle.ficus_disk.specs.declared.disk.Disk.{Ghosts as Disk}
 use Rattle.ficus_disk.specs.declared.pair.Pair.{Pair}
 use Rattle.ficus_ids.specs.Members.{IsCount}
-use Rattle.ficus_keep.specs.Kept.{Kept}
+use Rattle.ficus_keeper.specs.Kept.{Kept}
 use Rattle.ficus_model.specs.Lawful.{IsLawful, Volume}
 use Rattle.ficus_model.specs.declared.event.Event.{Event}
 use Rattle.ficus_script.specs.declared.answer.Answer.{Answer}
@@ -13,11 +13,11 @@ use Rattle.ficus_runs.specs.ModelWorld.{ModelWorld}
 use Rattle.ficus_runs.specs.Outcome.{Outcome}
 use Rattle.ficus_run_laws.proofs.Extending.{Extends, as_it_was, further, step_extends}
 use Rattle.ficus_run_laws.proofs.Runs.{run_lawful, step_lawful}
-use Rattle.ficus_world.specs.Opening.{StandsOn}
-use Rattle.ficus_serving.specs.Trail.{AreKilled, DuringAt, KeepsBetween, KeepsFrom, Killed, Neighbours, Somewhere, Trail, whole}
-use Rattle.ficus_serving.specs.Trail.Trail.{Joined, Link, Still}
-use Rattle.ficus_serving.proofs.During.{during}
-use Rattle.ficus_serving.proofs.KilledDisks.{killed_disks}
+use Rattle.ficus_opening.specs.Opening.{StandsOn}
+use Rattle.ficus_loop.specs.Trail.{AreKilled, DuringAt, KeepsBetween, KeepsFrom, Killed, Neighbours, Somewhere, Trail, whole}
+use Rattle.ficus_loop.specs.Trail.Trail.{Joined, Link, Still}
+use Rattle.ficus_loop.proofs.During.{during}
+use Rattle.ficus_loop.proofs.KilledDisks.{killed_disks}
 use Rattle.ficus_top.proofs.Members.{run_count, step_count}
 
 module _ {D : Type 0} (kept : List ℕ → List ℕ → Option Kept) (seen : D → List ℕ) (volume : Volume) where

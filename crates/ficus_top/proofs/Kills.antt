@@ -2,12 +2,12 @@
 use Rattle.std.proofs.Common.{◌≡◌, ℕ, ◌≤◌, List, Option, sym, subst}
 use Rattle.ficus_disk.specs.declared.disk.Disk.{Ghosts as Disk}
 use Rattle.ficus_disk.specs.declared.pair.Pair.{Pair}
-use Rattle.ficus_keep.specs.Kept.{Kept}
+use Rattle.ficus_keeper.specs.Kept.{Kept}
 use Rattle.ficus_model.specs.Lawful.{Volume}
 use Rattle.ficus_model.specs.declared.event.Event.{Event}
-use Rattle.ficus_serving.specs.Trail.{FrontOn, Killed, KilledFront, Neighbours, RunOn, whole}
-use Rattle.ficus_serving.specs.Trail.Trail.{Still}
-use Rattle.ficus_serving.proofs.Covering.{covers}
+use Rattle.ficus_loop.specs.Trail.{FrontOn, Killed, KilledFront, Neighbours, RunOn, whole}
+use Rattle.ficus_loop.specs.Trail.Trail.{Still}
+use Rattle.ficus_loop.proofs.Covering.{covers}
 use Rattle.ficus_runs.specs.ModelWorld.{ModelWorld}
 use Rattle.ficus_runs.specs.Outcome.{Outcome}
 use Rattle.ficus_script.specs.declared.answer.Answer.{Answer}

@@ -2,15 +2,16 @@
 use Rattle.std.proofs.Common.{◌≡◌, ℕ, ◌<◌, ◌^◌, List, Option, length, sym, subst}
 use Rattle.ficus_disk.specs.declared.pair.Pair.{Pair}
 use Rattle.ficus_ids.specs.Members.{IsCount, IsMember}
-use Rattle.ficus_keep.specs.Kept.{Kept, found_in}
-use Rattle.ficus_keep.specs.Pairs.{PairLeft}
+use Rattle.ficus_keeper.specs.Kept.{Kept, found_in}
+use Rattle.ficus_keeper.specs.Pairs.{PairLeft}
 use Rattle.ficus_model.specs.Lawful.{IsLawful, Volume}
 use Rattle.ficus_runs.specs.ModelWorld.{ModelWorld, Standing}
 use Rattle.ficus_runs.specs.Numbered.{IsNumbered}
 use Rattle.ficus_run_laws.proofs.Numbers.{number_exists}
 use Rattle.ficus_summary.specs.Keeper.{kept_in}
-use Rattle.ficus_world.specs.Opening.{StandsOn}
-use Rattle.ficus_world.specs.Stand.{DisksOutlast, DisksStand, KeepsFor, KeepsOf}
+use Rattle.ficus_opening.specs.Opening.{StandsOn}
+use Rattle.ficus_world.specs.Stand.{DisksOutlast, DisksStand, KeepsFor}
+use Rattle.ficus_opening.specs.Stand.{KeepsOf}
 use Rattle.ficus_top.specs.Ends.{AllUp}
 
 module _ {D : Type 0} (seen : D → List ℕ) (volume : Volume) (after : ModelWorld) where

@@ -12,7 +12,7 @@ use Rattle.ficus_runs.specs.Start.{start}
 use Rattle.ficus_script.specs.declared.answer.Answer.{Answer}
 use Rattle.ficus_script.specs.declared.command.Command.{Command}
 use Rattle.ficus_script.proofs.ScriptLaws.{one_script}
-use Rattle.ficus_serving.specs.Serving.{texts_of}
+use Rattle.ficus_loop.specs.Serving.{texts_of}
 use Rattle.ficus_summary.specs.Keeper.{keeping}
 use Rattle.ficus_top.specs.Headline.{Answers, AreFusesAtRest, fuses_of}
 

@@ -4,7 +4,7 @@ use Rattle.std.specs.List.{range_with_len}
 use Rattle.std.proofs.lemmas.List.Sums.{sum_by-append, sum_by-cons}
 use Rattle.ficus_disk.specs.declared.disk.Disk.{Ghosts as Disk}
 use Rattle.ficus_disk.specs.declared.pair.Pair.{Pair}
-use Rattle.ficus_keep.specs.declared.keep.Keep.{Ghosts as Keep}
+use Rattle.ficus_keeper.specs.declared.keep.Keep.{Ghosts as Keep}
 use Rattle.ficus_model.specs.Events.{generation_of, is_saved}
 use Rattle.ficus_model.specs.Lawful.{Volume}
 use Rattle.ficus_model.specs.declared.event.Event.{Event}
@@ -13,10 +13,11 @@ use Rattle.ficus_run_laws.proofs.Numbers.{number_exists}
 use Rattle.ficus_runs.specs.Fuses.{FuseState}
 use Rattle.ficus_runs.specs.Start.{restarts, start}
 use Rattle.ficus_summary.specs.Keeper.{IsRegular}
-use Rattle.ficus_world.specs.Fuses.{AreAtRest, AreRegular, AreUnarmed, FusesStand, at_rest}
-use Rattle.ficus_world.specs.Opening.{Unfailing}
+use Rattle.ficus_world.specs.Fuses.{AreAtRest, FusesStand, at_rest}
+use Rattle.ficus_opening.specs.Fuses.{AreRegular, AreUnarmed}
+use Rattle.ficus_opening.specs.Opening.{Unfailing}
 use Rattle.ficus_world.specs.World.{Whole, WorldStandsFor}
-use Rattle.ficus_world.specs.declared.opening.WorldFault.{WorldFault}
+use Rattle.ficus_opening.specs.declared.fault.WorldFault.{WorldFault}
 use Rattle.ficus_top.specs.Ends.{StandNow}
 use Rattle.ficus_top.specs.Headline.{AreFusesAtRest}
 

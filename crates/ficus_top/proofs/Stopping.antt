@@ -6,7 +6,7 @@ use Rattle.std.proofs.lemmas.List.{take-append-drop}
 use Rattle.std.proofs.lemmas.List.Elements.{Contains-append_left}
 use Rattle.ficus_disk.specs.declared.disk.Disk.{Ghosts as Disk}
 use Rattle.ficus_disk.specs.declared.pair.Pair.{Pair}
-use Rattle.ficus_keep.specs.Pairs.{PairSame}
+use Rattle.ficus_keeper.specs.Pairs.{PairSame}
 use Rattle.ficus_model.specs.Lawful.{Volume}
 use Rattle.ficus_run_laws.proofs.Arming.{part_unarming, run_arms}
 use Rattle.ficus_run_laws.proofs.Outcomes.{count_append}
@@ -19,8 +19,8 @@ use Rattle.ficus_runs.specs.Run.{Run}
 use Rattle.ficus_script.specs.declared.answer.Answer.{Answer}
 use Rattle.ficus_script.specs.declared.command.Command.{Command}
 use Rattle.ficus_script.specs.declared.command.Command.TheVariants as command
-use Rattle.ficus_serving.specs.Serving.{IsCut}
-use Rattle.ficus_serving.specs.Serving.IsCut.{CutIn, Uncut}
+use Rattle.ficus_loop.specs.Serving.{IsCut}
+use Rattle.ficus_loop.specs.Serving.IsCut.{CutIn, Uncut}
 use Rattle.ficus_top.specs.Ends.{Ends, EndsFront}
 
 module _ (r : ℕ) where

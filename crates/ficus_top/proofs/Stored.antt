@@ -2,13 +2,13 @@
 use Rattle.std.proofs.Common.{◌≡◌, ◌⊎◌, ℕ, ◌≤◌, List, Result, Ok, Err, sym, ap, subst, ◌∙◌, inl, inr}
 use Rattle.std.specs.Prelude.{IfErr, IsErrAnd, OnOk}
 use Rattle.ficus_disk.specs.declared.pair.Pair.{Pair}
-use Rattle.ficus_serving.proofs.Places.{not_occupied}
+use Rattle.ficus_loop.proofs.Places.{not_occupied}
 use Rattle.ficus_top.specs.Ending.{IsIdle, IsInterruption}
 use Rattle.ficus_top.specs.declared.fault.Fault.{Fault}
 use Rattle.ficus_top.specs.declared.fault.Fault.TheVariants.{Storing}
-use Rattle.ficus_world.specs.Opening.{AreEmpty, IsFirstOccupied, IsStoreFault}
-use Rattle.ficus_world.specs.declared.opening.WorldFault.{WorldFault}
-use Rattle.ficus_world.specs.declared.opening.WorldFault.TheVariants.{Image, Memory, Occupied, Store}
+use Rattle.ficus_opening.specs.Opening.{AreEmpty, IsFirstOccupied, IsStoreFault}
+use Rattle.ficus_opening.specs.declared.fault.WorldFault.{WorldFault}
+use Rattle.ficus_opening.specs.declared.fault.WorldFault.TheVariants.{Image, Memory, Occupied, Store}
 
 -- making a volume where something is held says so, unless memory is refused or a disk fails before
 pub said_of : {D S : Type 0} {seen : D → List ℕ} {disks : List (Pair D)} {count r : ℕ} (made : Result S WorldFault)

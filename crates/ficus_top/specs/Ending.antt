@@ -4,7 +4,7 @@ use Rattle.ficus_top.specs.Grammar.{Grammar, of_commands}
 use Rattle.ficus_top.specs.Reading.{TakesAll, TakesUntilIn}
 use Rattle.ficus_top.specs.declared.fault.Fault.{Fault}
 use Rattle.ficus_top.specs.declared.fault.Fault.TheVariants.{Words, Reading, Storing, Answering}
-use Rattle.ficus_world.specs.declared.opening.WorldFault.TheVariants.{Memory, Store, Image, Occupied}
+use Rattle.ficus_opening.specs.declared.fault.WorldFault.TheVariants.{Memory, Store, Image, Occupied}
 
 -- all that the source had was taken, and it was a script of this grammar
 pub record TakesScriptIn (grammar : Grammar) (old new : List ℕ) : Type 0 where

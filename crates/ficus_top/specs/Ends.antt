@@ -2,7 +2,7 @@
 use Rattle.std.specs.Prelude.{◌≡◌, ◌<◌, ◌-◌, ◌^◌, ℕ, List, ◌++◌, length}
 use Rattle.ficus_disk.specs.declared.disk.Disk.{Ghosts as Disk}
 use Rattle.ficus_disk.specs.declared.pair.Pair.{Pair}
-use Rattle.ficus_keep.specs.declared.keep.Keep.{Ghosts as Keep}
+use Rattle.ficus_keeper.specs.declared.keep.Keep.{Ghosts as Keep}
 use Rattle.ficus_model.specs.Lawful.{Volume}
 use Rattle.ficus_script.specs.declared.command.Command.{Command}
 use Rattle.ficus_run_laws.specs.Outcomes.{all_outcomes}
@@ -15,9 +15,9 @@ use Rattle.ficus_summary.specs.Keeper.{keeping, kept_in}
 use Rattle.ficus_world.specs.Disks.{DisksFollow}
 use Rattle.ficus_world.specs.Fuses.{FusesStand}
 use Rattle.ficus_world.specs.World.{Whole}
-use Rattle.ficus_world.specs.Opening.{Steady}
+use Rattle.ficus_opening.specs.Opening.{Steady}
 use Rattle.ficus_world.specs.Stand.{ArePending, DisksOutlast, DisksStand}
-use Rattle.ficus_serving.specs.Serving.{Serves, ServesFront}
+use Rattle.ficus_loop.specs.Serving.{Serves, ServesFront}
 
 -- each member takes commands
 abbrev pub AllUp : ModelWorld → Type 0

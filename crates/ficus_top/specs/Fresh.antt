@@ -15,8 +15,8 @@ use Rattle.ficus_runs.specs.Numbered.{IsNumbered}
 use Rattle.ficus_runs.specs.Outcome.{Outcome, link_failures}
 use Rattle.ficus_runs.specs.Run.{Run}
 use Rattle.ficus_runs.specs.Start.{start}
-use Rattle.ficus_serving.specs.Puts.{PutsFront}
-use Rattle.ficus_serving.specs.Serving.{texts_of}
+use Rattle.ficus_loop.specs.Puts.{PutsFront}
+use Rattle.ficus_loop.specs.Serving.{texts_of}
 use Rattle.ficus_summary.specs.Keeper.{Keeper, keeper, keeping}
 use Rattle.ficus_world.specs.Fuses.{FusesStand, at_rest}
 use Rattle.ficus_world.specs.World.{Backed, WorldStandsFor}

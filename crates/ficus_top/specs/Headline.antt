@@ -13,8 +13,9 @@ use Rattle.ficus_script.specs.Script.{IsScript}
 use Rattle.ficus_runs.specs.Fuses.{FuseState}
 use Rattle.ficus_runs.specs.Start.{start}
 use Rattle.ficus_summary.specs.Keeper.{IsRegular}
-use Rattle.ficus_world.specs.Fuses.{AreRegular, AreUnarmed, at_rest}
-use Rattle.ficus_world.specs.Opening.{Steady, fuses_in}
+use Rattle.ficus_opening.specs.Fuses.{AreRegular, AreUnarmed}
+use Rattle.ficus_world.specs.Fuses.{at_rest}
+use Rattle.ficus_opening.specs.Opening.{Steady, fuses_in}
 use Rattle.ficus_top.specs.Ends.{Ends, EndsFront}
 
 -- what a replica knew to be removed after some first events of the history isn't alive there at its end

@@ -2,10 +2,10 @@
 use Rattle.std.specs.Prelude.{◌≡◌, ℕ, ◌≤◌}
 use Rattle.ficus_ids.specs.Members.{IsCount}
 use Rattle.ficus_model.specs.Lawful.{Volume}
-use Rattle.ficus_saved.specs.Limits.{byte_limit, update_limit}
+use Rattle.ficus_durable_state.specs.Limits.{byte_limit, update_limit}
 use Rattle.ficus_words.specs.declared.mode.Size.{Size}
-use Rattle.ficus_world.specs.Kills.{AllRest}
-use Rattle.ficus_world.specs.Opening.{IsFirstOccupied, SeenSame}
+use Rattle.ficus_opening.specs.Rests.{AllRest}
+use Rattle.ficus_opening.specs.Opening.{IsFirstOccupied, SeenSame}
 use Rattle.ficus_top.specs.Codes.{IsRefusalCode}
 use Rattle.ficus_top.specs.Seen.{Seen, disks_after, disks_before}
 use Rattle.ficus_top.specs.declared.status.Status.{Status}

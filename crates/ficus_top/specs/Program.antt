@@ -4,7 +4,7 @@ use Rattle.ficus_graft.specs.Crossing.{AreFew}
 use Rattle.ficus_ids.specs.Members.{IsCount}
 use Rattle.ficus_words.specs.declared.mode.Mode.{Mode}
 use Rattle.ficus_words.specs.declared.mode.Mode.TheVariants.{Init, Run, Check, Replay, Volumes, Gen}
-use Rattle.ficus_world.specs.Opening.{IsAtFault, Steady}
+use Rattle.ficus_opening.specs.Opening.{IsAtFault, Steady}
 use Rattle.ficus_top.specs.Making.{FitsSize}
 use Rattle.ficus_top.specs.Modes.Init.{DoesInit}
 use Rattle.ficus_top.specs.Modes.Run.{DoesRun}

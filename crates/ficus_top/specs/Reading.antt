@@ -1,6 +1,6 @@
 -- What the reading of the script takes, from a source that tells.
 use Rattle.std.specs.Prelude.{◌≡◌, ℕ, ◌+◌, ◌≤◌, List, [], length}
-use Rattle.ficus_serving.specs.Serving.{script_limit}
+use Rattle.ficus_loop.specs.Serving.{script_limit}
 use Rattle.ficus_top.specs.Grammar.{Grammar, of_commands}
 use Rattle.ficus_top.specs.Outside.{GivesCount, GivesBelow}
 use Rattle.ficus_top.specs.declared.fault.ReadingFault.{ReadingFault}

@@ -6,7 +6,7 @@ use Rattle.ficus_top.specs.Codes.{IsBadLineCode, IsReadCode}
 use Rattle.ficus_top.specs.Grammar.{Grammar, of_commands}
 use Rattle.ficus_top.specs.Headline.{Answers, AnswersFront, AreFusesAtRest, CarriesOutNothing}
 use Rattle.ficus_top.specs.Outside.{GivesCount}
-use Rattle.ficus_serving.specs.Serving.{script_limit}
+use Rattle.ficus_loop.specs.Serving.{script_limit}
 use Rattle.ficus_top.specs.Seen.{Seen, SinkFailed, SourceFailed, disks_after, disks_before, left_of, put_after, put_before, script_of}
 use Rattle.ficus_top.specs.declared.status.Status.{Status}
 

@@ -4,9 +4,9 @@ use Rattle.std.specs.Fmt.{decimal}
 use Rattle.ficus_top.specs.declared.fault.Fault.{Fault}
 use Rattle.ficus_top.specs.declared.fault.Fault.TheVariants.{Words, Reading, Storing, Answering}
 use Rattle.ficus_words.specs.declared.fault.WordsFault.TheVariants as words
-use Rattle.ficus_world.specs.declared.opening.WorldFault.TheVariants as world
+use Rattle.ficus_opening.specs.declared.fault.WorldFault.TheVariants as world
 use Rattle.ficus_top.specs.declared.fault.ReadingFault.TheVariants.{BadLine, Memory, Source, TooLong}
-use Rattle.ficus_serving.specs.declared.fault.AnsweringFault.TheVariants.{Memory as NoMemory, Sink}
+use Rattle.ficus_loop.specs.declared.fault.AnsweringFault.TheVariants.{Memory as NoMemory, Sink}
 
 -- the code of a run that answered every command, or ended with a fault
 abbrev pub code_of : {Done : Type 0} → Result Done Fault → ℕ

@@ -1,18 +1,19 @@
 ghost use Rattle.std.specs.Prelude.{◌≡◌, ◌≢◌, ◌⊎◌, ◌++◌, ◌<◌, ◌≤◌, length, IsErrOf, OnOk};
 ghost use Rattle.ficus_check.specs.Lines.{checked_text};
 ghost use Rattle.ficus_faults.specs.Faults.{Rose};
-ghost use Rattle.ficus_serving.specs.Puts.{PutsFront};
+ghost use Rattle.ficus_loop.specs.Puts.{PutsFront};
 ghost use Rattle.ficus_top.specs.Modes.Check.{AreJudged, FailsAs, IsCheckCode, PutsJudgements, PutsJudgementsFront, StaysUnwritten};
-ghost use Rattle.ficus_world.specs.Opening.{IsAtFault, Steady};
+ghost use Rattle.ficus_opening.specs.Opening.{IsAtFault, Steady};
 
 use crate::fault::Fault;
 use crate::status::Status;
 use ficus_check::{Checked, checked_text};
 use ficus_disk::{Disk, Pair};
+use ficus_loop::{AnsweringFault, put_all};
+use ficus_opening::WorldFault;
 use ficus_outside::{MemLink, Sink};
-use ficus_serving::{AnsweringFault, put_all};
 use ficus_summary::Keeper;
-use ficus_world::{World, WorldFault};
+use ficus_world::World;
 use std::alloc::Global;
 
 /// Judges what the disks of each replica hold, and then puts a line of each. Ends with code 0; 3, for want of memory;

@@ -1,7 +1,7 @@
-use ficus_outside::Failed;
-use ficus_serving::AnsweringFault;
+use ficus_faults::Failed;
+use ficus_loop::AnsweringFault;
+use ficus_opening::WorldFault;
 use ficus_words::WordsFault;
-use ficus_world::WorldFault;
 
 /// Why a run ended before all was done that the words ask for.
 #[derive(Clone, Copy)]

@@ -1,14 +1,14 @@
 ghost use Rattle.std.specs.Prelude.{◌≡◌, ◌≤◌, ◌+◌, ◌++◌, ◌∷◌, [], length, IfOk, OnOk};
 ghost use Rattle.ficus_disk.specs.contracts.mem_disk.MemDiskDisk;
 ghost use Rattle.ficus_ids.specs.Members.{IsCount};
-ghost use Rattle.ficus_saved.specs.Limits.{byte_limit, update_limit};
+ghost use Rattle.ficus_durable_state.specs.Limits.{byte_limit, update_limit};
 ghost use Rattle.ficus_top.specs.Fresh.{AreFresh};
 ghost use Rattle.ficus_summary.specs.Sized.{sized};
 
-use ficus_disk::{MemDisk, Pair};
+use ficus_disk::{MemDisk, Pair, fresh_disks};
 use ficus_ids::{Members, Memory};
 use ficus_outside::MemLink;
-use ficus_summary::{Keeper, fresh_disks, fresh_world};
+use ficus_summary::{Keeper, fresh_world};
 use ficus_world::World;
 use std::alloc::Global;
 

@@ -4,16 +4,16 @@ ghost use Rattle.ficus_graft.specs.Crossing.{AreFew};
 ghost use Rattle.ficus_graft.specs.Runs.{IsLineOf};
 ghost use Rattle.ficus_top.specs.Fresh.{AnswersFresh, AnswersFreshFront, AreUnfailed};
 ghost use Rattle.ficus_ids.specs.Members.{IsCount};
-ghost use Rattle.ficus_saved.specs.Limits.{byte_limit, update_limit};
-ghost use Rattle.ficus_serving.specs.Serving.{script_limit};
+ghost use Rattle.ficus_durable_state.specs.Limits.{byte_limit, update_limit};
+ghost use Rattle.ficus_loop.specs.Serving.{script_limit};
 ghost use Rattle.ficus_summary.specs.Sized.{sized};
 
 use crate::fresh::{Fresh, fresh_volumes};
 use ficus_graft::{Volumes, answer_lines};
 use ficus_ids::Members;
+use ficus_loop::AnsweringFault;
 use ficus_outside::{MemLink, Sink};
 use ficus_script::VolumeLine;
-use ficus_serving::AnsweringFault;
 use ficus_summary::Keeper;
 use std::alloc::Global;
 

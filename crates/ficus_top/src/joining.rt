@@ -9,8 +9,8 @@ ghost use Rattle.ficus_top.specs.Modes.Volumes.{AnswersVolumes, AnswersVolumesFr
 use crate::fault::{Fault, ReadingFault};
 use crate::fresh_lines::answer_fresh;
 use crate::read::read_volume_lines;
+use ficus_loop::AnsweringFault;
 use ficus_outside::{Sink, Source};
-use ficus_serving::AnsweringFault;
 use ficus_words::Size;
 use std::alloc::Global;
 

@@ -2,17 +2,18 @@ ghost use Rattle.std.specs.Prelude.{◌≡◌, ◌⊎◌, ◌≤◌, ℕ, [], le
 ghost use Rattle.ficus_summary.specs.Keeper.{IsRegular, kept_in};
 ghost use Rattle.ficus_top.specs.Ending.{IsInterruption, IsOfMaking};
 ghost use Rattle.ficus_top.specs.Making.{FitsSize, volume_of};
-ghost use Rattle.ficus_world.specs.Fuses.{AreRegular};
-ghost use Rattle.ficus_world.specs.declared.opening.WorldFault.{WorldFault as WorldFaultValue};
-ghost use Rattle.ficus_world.specs.Kills.{AllRest, OthersStay};
-ghost use Rattle.ficus_world.specs.Opening.{AreEmpty, AreMade, AreMadeInPart, AreSynced, IsAtFault, IsFirstOccupied, IsStoreFault, IsUnfailed, SeenSame, StandsOn, Steady, Unfailing};
+ghost use Rattle.ficus_opening.specs.Fuses.{AreRegular};
+ghost use Rattle.ficus_opening.specs.declared.fault.WorldFault.{WorldFault as WorldFaultValue};
+ghost use Rattle.ficus_opening.specs.Rests.{AllRest, OthersStay};
+ghost use Rattle.ficus_opening.specs.Opening.{AreEmpty, AreMade, AreMadeInPart, AreSynced, IsAtFault, IsFirstOccupied, IsStoreFault, IsUnfailed, SeenSame, StandsOn, Steady, Unfailing};
 
 use crate::fault::Fault;
 use ficus_disk::{Disk, Pair};
+use ficus_opening::{WorldFault, what_is_made_stands};
 use ficus_outside::MemLink;
 use ficus_summary::Keeper;
 use ficus_words::Size;
-use ficus_world::{World, WorldFault, what_is_made_stands};
+use ficus_world::World;
 use std::alloc::Global;
 
 /// Makes a fresh volume of this size.

@@ -2,7 +2,7 @@ ghost use Rattle.std.specs.Prelude.{◌≡◌, ◌≢◌, ◌⊎◌, ◌<◌, �
 ghost use Rattle.ficus_faults.specs.Faults.{Rose};
 ghost use Rattle.ficus_words.specs.Mode.{AreNoWords, AreWords};
 ghost use Rattle.ficus_words.specs.declared.mode.Mode.{Mode as ModeValue};
-ghost use Rattle.ficus_world.specs.Opening.{IsAtFault, Steady};
+ghost use Rattle.ficus_opening.specs.Opening.{IsAtFault, Steady};
 ghost use Rattle.ficus_top.specs.Codes.{IsCode, IsIdleCode, IsUntouchedCode, NamesReplica};
 ghost use Rattle.ficus_top.specs.Program.{Does, DoesIn, FitsMode};
 ghost use Rattle.ficus_top.specs.Words.{texts};

@@ -7,11 +7,12 @@ ghost use Rattle.ficus_script.specs.Script.{IsScript};
 ghost use Rattle.ficus_script.specs.VolumeLine.{IsVolumeScript};
 ghost use Rattle.ficus_top.specs.Grammar.{of_volumes};
 ghost use Rattle.ficus_top.specs.Outside.{Gives, GivesBelow};
-ghost use Rattle.ficus_serving.specs.Serving.{script_limit};
+ghost use Rattle.ficus_loop.specs.Serving.{script_limit};
 ghost use Rattle.ficus_top.specs.Reading.{TakesAll, TakesUntil, TakesUntilIn};
 
 use crate::fault::ReadingFault;
-use ficus_outside::{Failed, Source};
+use ficus_faults::Failed;
+use ficus_outside::Source;
 use ficus_script::{Command, ScriptFault, VolumeLine, read_script, read_volume_script};
 use std::alloc::Global;
 

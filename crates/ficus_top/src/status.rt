@@ -3,9 +3,9 @@ ghost use Rattle.ficus_top.specs.Status.{status_text_of};
 
 use crate::fault::{Fault, ReadingFault};
 use ficus_ids::Memory;
-use ficus_serving::AnsweringFault;
+use ficus_loop::AnsweringFault;
+use ficus_opening::WorldFault;
 use ficus_words::WordsFault;
-use ficus_world::WorldFault;
 use std::alloc::Global;
 
 /// How a run of the program ended: the code with which it ends, and, where the code names them, the line of

@@ -6,8 +6,8 @@ ghost use Rattle.ficus_top.specs.Modes.Gen.{IsGenCode, PutsSummary, PutsSummaryF
 use crate::fault::Fault;
 use crate::status::Status;
 use ficus_ids::Members;
+use ficus_loop::{AnsweringFault, put_all};
 use ficus_outside::Sink;
-use ficus_serving::{AnsweringFault, put_all};
 use ficus_summary::summarize;
 use std::alloc::Global;
 

@@ -5,15 +5,15 @@
 mod fault;
 
 ghost use Rattle.std.specs.Prelude.{◌-◌, ◌^◌, ◌<◌, IfOk, OnOk};
-ghost use Rattle.ficus_saved.specs.Saved.{FitsImage};
+ghost use Rattle.ficus_durable_state.specs.Saved.{FitsImage};
 ghost use Rattle.ficus_path.specs.Path.{IsNew};
 
 use fault::Fault;
+use ficus_durable_state::{BYTE_LIMIT, UPDATE_LIMIT};
 use ficus_ids::{Kind, Members, Refusal};
 use ficus_names::shown_text;
 use ficus_path::{Path, read_path};
 use ficus_replica::Replica;
-use ficus_saved::{BYTE_LIMIT, UPDATE_LIMIT};
 use std::alloc::Global;
 use std::io::Write;
 

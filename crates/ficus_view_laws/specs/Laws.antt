@@ -12,7 +12,7 @@ use Rattle.ficus_model.specs.Lawful.{Volume, IsLawful}
 use Rattle.ficus_model.specs.Live.{ModelEntry, IsBound, IsRemoved}
 use Rattle.ficus_model.specs.View.{IsDetached, IsOrphan}
 use Rattle.ficus_entry.specs.declared.entry.State.{State}
-use Rattle.ficus_recon_dir.specs.Table.{Merges}
+use Rattle.ficus_merge_entries.specs.Table.{Merges}
 use Rattle.ficus_removal_laws.specs.Laws.{IsAnswer}
 use Rattle.ficus_removal_laws.specs.Marks.{IsMarked, IsTwoFull}
 use Rattle.ficus_merge_laws.specs.States.{StandsAs}

@@ -6,21 +6,24 @@ use Rattle.ficus_disk.specs.declared.pair.Pair.{Pair}
 use Rattle.ficus_ids.specs.Members.{IsMember}
 use Rattle.ficus_ids.specs.declared.refusal.Refusal.{Refusal}
 use Rattle.ficus_ids.specs.declared.refusal.Refusal.TheVariants.{Memory}
-use Rattle.ficus_keep.specs.declared.keep.Keep.{Ghosts as Keep}
+use Rattle.ficus_keeper.specs.declared.keep.Keep.{Ghosts as Keep}
 use Rattle.ficus_runs.specs.Numbered.{IsNumbered}
-use Rattle.ficus_stable.specs.declared.stable.Stable.{Stable}
+use Rattle.ficus_stable_storage.specs.declared.stable.Stable.{Stable}
 use Rattle.ficus_world.specs.Acts.{Acts, ActsOn, StaysAt}
-use Rattle.ficus_world.specs.Disks.{AreDisksOf, IsBacked}
-use Rattle.ficus_world.specs.Kills.{IsSettled, OthersStay, Passes, WritesAt}
+use Rattle.ficus_opening.specs.Disks.{AreDisksOf}
+use Rattle.ficus_world.specs.Disks.{IsBacked}
+use Rattle.ficus_world.specs.Kills.{IsSettled, Passes, WritesAt}
+use Rattle.ficus_opening.specs.Rests.{OthersStay}
 use Rattle.ficus_world.specs.Kills.Passes.{Idles, Joins}
 use Rattle.ficus_world.specs.Kills.Touches.{TouchesNone, TouchesOne, WritesOne}
-use Rattle.ficus_world.specs.declared.member.Member.{Member}
+use Rattle.ficus_opening.specs.declared.member.Member.{Member}
 use Rattle.ficus_world.specs.World.{Backed, Whole, backed_by}
 use Rattle.ficus_world.proofs.Disks.{follows_none}
 use Rattle.ficus_world.proofs.Fuses.{fuses_none}
-use Rattle.ficus_world.proofs.Kills.{rests_count, rests_same, writes_count}
+use Rattle.ficus_opening.proofs.Rests.{rests_count}
+use Rattle.ficus_world.proofs.Kills.{rests_same, writes_count, touches_others}
 use Rattle.ficus_world.proofs.Moved.{same_refusal}
-use Rattle.ficus_world.proofs.Others.{others_none, others_then, touches_others}
+use Rattle.ficus_opening.proofs.Others.{others_none, others_then}
 use Rattle.ficus_world.proofs.Pulling.{stays}
 
 module _ {K D : Type 0} {keep : Keep K} {disk : Disk D} where

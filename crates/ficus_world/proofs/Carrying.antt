@@ -7,7 +7,7 @@ use Rattle.ficus_disk.specs.declared.disk.Disk.{Ghosts as Disk}
 use Rattle.ficus_disk.specs.declared.pair.Pair.{Pair}
 use Rattle.ficus_ids.specs.declared.refusal.Refusal.{Refusal}
 use Rattle.ficus_ids.specs.declared.refusal.Refusal.TheVariants as refusal
-use Rattle.ficus_keep.specs.declared.keep.Keep.{Ghosts as Keep}
+use Rattle.ficus_keeper.specs.declared.keep.Keep.{Ghosts as Keep}
 use Rattle.ficus_rules.specs.Rule.{UnlessMemoryWhere}
 use Rattle.ficus_script.specs.declared.answer.Answer.{Answer}
 use Rattle.ficus_script.specs.declared.command.Command.{Command}
@@ -16,8 +16,8 @@ use Rattle.ficus_runs.specs.Fuses.{FuseState, FusesAllowAll, Keeping, after_outc
 use Rattle.ficus_runs.specs.Outcome.{Outcome, IsDone, IsSaved, LinkFails, SaveFails, armings_in, is_arming, is_store_failure, store_failures}
 use Rattle.ficus_runs.specs.Sequence.{Effect, First, joined, unchanged}
 use Rattle.ficus_runs.specs.Sequence.First.{Ends, Goes}
-use Rattle.ficus_world.specs.declared.member.Member.{Member}
-use Rattle.ficus_world.specs.declared.member.Pending.{Pending}
+use Rattle.ficus_opening.specs.declared.member.Member.{Member}
+use Rattle.ficus_opening.specs.declared.member.Pending.{Pending}
 use Rattle.ficus_runs.specs.Numbered.{IsNumbered}
 use Rattle.ficus_world.specs.Acts.{SavesNext}
 use Rattle.ficus_world.specs.Disks.{Carried, CarriedOn, DisksComeTo, DisksFollow, StaysOn}

@@ -11,7 +11,7 @@ use Rattle.ficus_file.specs.declared.file.FileReplica.{FileReplica}
 use Rattle.ficus_ids.specs.Members.{IsMember}
 use Rattle.ficus_ids.specs.declared.refusal.Refusal.{Refusal}
 use Rattle.ficus_ids.specs.declared.refusal.Refusal.TheVariants as refusal
-use Rattle.ficus_keep.specs.declared.keep.Keep.{Ghosts as Keep}
+use Rattle.ficus_keeper.specs.declared.keep.Keep.{Ghosts as Keep}
 use Rattle.ficus_model.specs.declared.event.Event.{Event}
 use Rattle.ficus_model.specs.declared.event.Event.TheVariants.{Take}
 use Rattle.ficus_replica.specs.Accept.{AcceptGives}
@@ -22,21 +22,22 @@ use Rattle.ficus_runs.specs.Fuses.{FuseState}
 use Rattle.ficus_runs.specs.Numbered.{IsNumbered}
 use Rattle.ficus_runs.specs.Sequence.{Effect, unchanged}
 use Rattle.ficus_runs.specs.Sequence.First.{Ends, Goes}
-use Rattle.ficus_saved.specs.Tables.{FitsTables}
+use Rattle.ficus_durable_state.specs.Tables.{FitsTables}
 use Rattle.ficus_script.specs.declared.answer.Answer.{Answer}
 use Rattle.ficus_script.specs.declared.answer.Answer.TheVariants.{Part}
-use Rattle.ficus_stable.specs.declared.stable.Stable.{Stable}
+use Rattle.ficus_stable_storage.specs.declared.stable.Stable.{Stable}
 use Rattle.ficus_wire.specs.Parts.{HeldParts, joined as joined_parts, with_part}
 use Rattle.ficus_wire.specs.declared.message.PieceHead.{PieceHead}
 use Rattle.ficus_world.specs.declared.exchange.Delivery.{Delivery}
-use Rattle.ficus_world.specs.declared.member.Member.{Member}
-use Rattle.ficus_world.specs.declared.member.MemberState.TheVariants.{Up}
+use Rattle.ficus_opening.specs.declared.member.Member.{Member}
+use Rattle.ficus_opening.specs.declared.member.MemberState.TheVariants.{Up}
 use Rattle.ficus_world.specs.declared.post.Behind.{Behind}
 use Rattle.ficus_world.specs.declared.taking.Fitting.{Fitting}
 use Rattle.ficus_world.specs.declared.taking.Fitting.TheVariants as fitting
 use Rattle.ficus_world.specs.Acts.{Acts}
 use Rattle.ficus_world.specs.Kills.Touches.{TouchesNone}
-use Rattle.ficus_world.specs.Disks.{AreDisksOf, CarriedOn, IsBacked, IsPairOf}
+use Rattle.ficus_opening.specs.Disks.{AreDisksOf, IsPairOf}
+use Rattle.ficus_world.specs.Disks.{CarriedOn, IsBacked}
 use Rattle.ficus_world.specs.Fuses.{FuseStands, FusesFollow, FusesStand}
 use Rattle.ficus_world.specs.Moves.{FindsTaker, IsPlaced, IsWaiting, TakesFitting, TakesPiece, TakesSpelled, TakesTables, collected, parts_held}
 use Rattle.ficus_world.specs.Moves.FindsTaker.{AnswersNone, FindsIt, OfAnotherState, OfOtherPieces, TakerDown}

@@ -8,20 +8,21 @@ use Rattle.ficus_disk.specs.declared.disk.Disk.{Ghosts as Disk}
 use Rattle.ficus_disk.specs.Pair.{PairRose}
 use Rattle.ficus_disk.specs.declared.pair.Pair.{Pair}
 use Rattle.ficus_ids.specs.Members.{IsMember}
-use Rattle.ficus_keep.specs.declared.keep.Keep.{Ghosts as Keep}
-use Rattle.ficus_keep.specs.Kept.{found_in}
-use Rattle.ficus_keep.specs.Pairs.{PairSame, PairWithin}
-use Rattle.ficus_saved.specs.declared.saved.Saved.{Saved}
+use Rattle.ficus_keeper.specs.declared.keep.Keep.{Ghosts as Keep}
+use Rattle.ficus_keeper.specs.Kept.{found_in}
+use Rattle.ficus_keeper.specs.Pairs.{PairSame, PairWithin}
+use Rattle.ficus_durable_state.specs.declared.saved.Saved.{Saved}
 use Rattle.ficus_leads.proofs.Led.{held_at}
-use Rattle.ficus_stable.specs.Holds.{HoldsOneOf}
-use Rattle.ficus_stable.specs.Stable.{IsReady}
-use Rattle.ficus_stable.specs.declared.stable.Stable.{Stable}
+use Rattle.ficus_stable_storage.specs.Holds.{HoldsOneOf}
+use Rattle.ficus_stable_storage.specs.Stable.{IsReady}
+use Rattle.ficus_stable_storage.specs.declared.stable.Stable.{Stable}
 use Rattle.ficus_runs.specs.Numbered.{IsNumbered}
 use Rattle.ficus_runs.specs.Outcome.{Outcome, armings_in, is_arming, is_store_failure, store_failures}
-use Rattle.ficus_world.specs.declared.member.Member.{Member}
-use Rattle.ficus_world.specs.declared.member.MemberState.{MemberState}
-use Rattle.ficus_world.specs.declared.member.MemberState.TheVariants.{Up, Down}
-use Rattle.ficus_world.specs.Disks.{AreDisksOf, DisksFollow, HoldsFor, IsPairOf, PairFollows, are_fused}
+use Rattle.ficus_opening.specs.declared.member.Member.{Member}
+use Rattle.ficus_opening.specs.declared.member.MemberState.{MemberState}
+use Rattle.ficus_opening.specs.declared.member.MemberState.TheVariants.{Up, Down}
+use Rattle.ficus_opening.specs.Disks.{AreDisksOf, HoldsFor, IsPairOf, are_fused}
+use Rattle.ficus_world.specs.Disks.{DisksFollow, PairFollows}
 use Rattle.ficus_world.specs.Moves.{still_pending}
 use Rattle.ficus_run_laws.proofs.Numbers.{number_exists, number_once}
 use Rattle.ficus_run_laws.proofs.Replaced.{replaced}

@@ -25,7 +25,7 @@ use Rattle.ficus_replica.proofs.OpenAsks.{through_end, through_more}
 use Rattle.ficus_rules.specs.Rule.{Gives}
 use Rattle.ficus_script.specs.declared.answer.Answer.{Answer}
 use Rattle.ficus_script.specs.declared.answer.Answer.TheVariants.{Done}
-use Rattle.ficus_saved.specs.Tables.{FitsTables}
+use Rattle.ficus_durable_state.specs.Tables.{FitsTables}
 use Rattle.ficus_wire.specs.Message.{FitsMessage, message_bytes, messages_of_tables, piece_message, sizes_of}
 use Rattle.ficus_wire.specs.declared.message.Message.{Message}
 use Rattle.ficus_runs.specs.Actions.{ModelAction, Wants, with_event, with_post, with_standing}
@@ -46,7 +46,7 @@ use Rattle.ficus_runs.specs.Sequence.{Effect, First}
 use Rattle.ficus_runs.specs.Sequence.ByRule.{Says}
 use Rattle.ficus_runs.specs.Sequence.First.{Ends, Goes}
 use Rattle.ficus_world.specs.declared.exchange.Delivery.{Delivery}
-use Rattle.ficus_world.specs.declared.member.Member.{Member}
+use Rattle.ficus_opening.specs.declared.member.Member.{Member}
 use Rattle.ficus_world.specs.declared.post.Behind.{Behind as Place}
 use Rattle.ficus_world.specs.Causes.{AreCaused}
 use Rattle.ficus_world.specs.Follows.{FollowsIn}

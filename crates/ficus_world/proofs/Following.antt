@@ -10,7 +10,7 @@ use Rattle.ficus_model.specs.Lawful.{Volume, IsLawful}
 use Rattle.ficus_laws.specs.Updates.{next_number}
 use Rattle.ficus_commands.specs.declared.change.Change.{Change}
 use Rattle.ficus_commands.specs.declared.look.Look.{Look}
-use Rattle.ficus_answers.specs.View.{tables_view}
+use Rattle.ficus_deciding.specs.View.{tables_view}
 use Rattle.ficus_rules.specs.Change.{ChangeRule}
 use Rattle.ficus_rules.specs.Look.{LookRule}
 use Rattle.ficus_rules.specs.Rule.{RefusesNothing}
@@ -47,8 +47,8 @@ use Rattle.ficus_runs.specs.Sequence.{CutFirst, Effect, First, NothingDone, unch
 use Rattle.ficus_runs.specs.Sequence.CutFirst.{InFirst, InRest}
 use Rattle.ficus_runs.specs.Sequence.ByRule.{Says}
 use Rattle.ficus_runs.specs.Sequence.First.{Ends, Goes}
-use Rattle.ficus_world.specs.declared.member.Member.{Member}
-use Rattle.ficus_world.specs.declared.member.MemberState.TheVariants as state
+use Rattle.ficus_opening.specs.declared.member.Member.{Member}
+use Rattle.ficus_opening.specs.declared.member.MemberState.TheVariants as state
 use Rattle.ficus_world.specs.Follows.{FollowsIn, FollowsPart, Follows, TellsFor}
 use Rattle.ficus_world.specs.Moves.{TablesMayWantMemory, KeepsAsk, KeepsCollection, KeepsUpdate, GivesMessage, GivesMessages, GivesSomeMessages, Reopens, CarriesOut, CutShort, Moves}
 use Rattle.ficus_world.specs.Moves.ArmsDisks.{Arms as ArmsIn, ArmsNone}

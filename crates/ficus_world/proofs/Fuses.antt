@@ -6,21 +6,21 @@ use Rattle.ficus_disk.specs.Fuse.{armed, numbered, pick_of}
 use Rattle.ficus_disk.specs.declared.disk.Disk.{Ghosts as Disk}
 use Rattle.ficus_disk.specs.declared.pair.Pair.{Pair}
 use Rattle.ficus_ids.specs.Members.{IsMember}
-use Rattle.ficus_keep.specs.Fuses.{Fuses, Reopens, SameFuses, StaysRegular, IsRegularIn, found_again, fuses_of, lasts, on_side}
-use Rattle.ficus_keep.specs.Kept.{Kept, found_in}
-use Rattle.ficus_keep.specs.Pairs.{PairWithin}
-use Rattle.ficus_keep.specs.declared.keep.Keep.{Ghosts as Keep}
-use Rattle.ficus_saved.specs.declared.saved.Saved.{Saved}
-use Rattle.ficus_stable.specs.Fuses.{DecidedByFuses}
+use Rattle.ficus_keeper.specs.Fuses.{Fuses, Reopens, SameFuses, StaysRegular, IsRegularIn, found_again, fuses_of, lasts, on_side}
+use Rattle.ficus_keeper.specs.Kept.{Kept, found_in}
+use Rattle.ficus_keeper.specs.Pairs.{PairWithin}
+use Rattle.ficus_keeper.specs.declared.keep.Keep.{Ghosts as Keep}
+use Rattle.ficus_durable_state.specs.declared.saved.Saved.{Saved}
+use Rattle.ficus_stable_storage.specs.Fuses.{DecidedByFuses}
 use Rattle.ficus_leads.specs.Holds.{Holds, OneHeld}
 use Rattle.ficus_leads.proofs.Led.{held_generation}
 use Rattle.ficus_runs.specs.Fuses.{FuseState, FusesAllow, FusesAllowAll, Keeping, after_arming, after_failing, after_outcome, after_outcomes, after_saving, next_calls, next_fuse, with_fuses}
 use Rattle.ficus_runs.specs.Numbered.{IsNumbered}
 use Rattle.ficus_runs.specs.Outcome.{Outcome, IsArmed, IsFound, IsOpened, IsSaved, SaveFails}
-use Rattle.ficus_world.specs.declared.member.Member.{Member}
-use Rattle.ficus_world.specs.declared.member.MemberState.{MemberState}
-use Rattle.ficus_world.specs.declared.member.MemberState.TheVariants.{Up, Down}
-use Rattle.ficus_world.specs.declared.member.Pending.{Pending}
+use Rattle.ficus_opening.specs.declared.member.Member.{Member}
+use Rattle.ficus_opening.specs.declared.member.MemberState.{MemberState}
+use Rattle.ficus_opening.specs.declared.member.MemberState.TheVariants.{Up, Down}
+use Rattle.ficus_opening.specs.declared.member.Pending.{Pending}
 use Rattle.ficus_world.specs.Disks.{DisksComeTo, IsReadAt, SavesAt, save_outcome}
 use Rattle.ficus_world.specs.Fuses.{FuseStands, FusesFollow, FusesPermit, FusesStand, IsReadBy, StandsSo, at_rest, keeping_of}
 use Rattle.ficus_world.specs.Moves.{restarted}

@@ -8,7 +8,7 @@ use Rattle.ficus_entry.specs.declared.entry.Entry.{Entry}
 use Rattle.ficus_file.specs.declared.file.FileReplica.{FileReplica}
 use Rattle.ficus_ids.specs.declared.refusal.Refusal.{Refusal}
 use Rattle.ficus_ids.specs.declared.refusal.Refusal.TheVariants as refusal
-use Rattle.ficus_keep.specs.declared.keep.Keep.{Ghosts as Keep}
+use Rattle.ficus_keeper.specs.declared.keep.Keep.{Ghosts as Keep}
 use Rattle.ficus_model.specs.declared.event.Event.TheVariants as event
 use Rattle.ficus_model.specs.declared.event.Op.{Op}
 use Rattle.ficus_commands.specs.declared.change.Change.{Change}
@@ -28,7 +28,7 @@ use Rattle.ficus_runs.specs.Sequence.ByRule.{Says}
 use Rattle.ficus_runs.specs.Sequence.CutFirst.{InFirst, InRest}
 use Rattle.ficus_runs.specs.Sequence.First.{Ends, Goes}
 use Rattle.ficus_world.specs.declared.exchange.Delivery.{Delivery}
-use Rattle.ficus_world.specs.declared.member.Member.{Member}
+use Rattle.ficus_opening.specs.declared.member.Member.{Member}
 use Rattle.ficus_world.specs.Moves.{ArmsDisks, Compared, FindsMember, FindsPeers, FindsUp, GivesMessage, GivesMessages, GivesSomeMessages, HandlesMessage, KeepsAsk, KeepsCollection, KeepsUpdate, Reopens, SendsEach, ServesAsk, TakesFitting, TablesDecide, TakesPiece, TakesSpelled, TakesTables, WholeAction, answers_of, of_tables, serve_of, with_event}
 use Rattle.ficus_world.specs.Moves.ArmsDisks.{Arms, ArmsNone}
 use Rattle.ficus_world.specs.Moves.FetchesBytes.{Fetched, NoMail, NotFetched}

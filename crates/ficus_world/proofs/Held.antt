@@ -17,7 +17,7 @@ use Rattle.ficus_laws.proofs.Positions.{at_before, at_from_before, at_same}
 use Rattle.ficus_replica.specs.SavedOf.{IsSavedOf}
 use Rattle.ficus_replica.proofs.Saves.{saved_once}
 use Rattle.ficus_runs.specs.Exchange.{Have}
-use Rattle.ficus_saved.specs.declared.saved.Saved.{Saved}
+use Rattle.ficus_durable_state.specs.declared.saved.Saved.{Saved}
 use Rattle.ficus_version_laws.proofs.Counting.{counts_none, counts_same}
 use Rattle.ficus_wire.specs.Parts.{HasPart, HeldParts, RisesFrom, part_at}
 use Rattle.ficus_wire.proofs.Rising.{at}

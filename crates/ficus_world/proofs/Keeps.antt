@@ -7,14 +7,14 @@ use Rattle.ficus_disk.specs.declared.disk.Disk.{Ghosts as Disk}
 use Rattle.ficus_disk.specs.declared.pair.Pair.{Pair}
 use Rattle.ficus_ids.specs.declared.refusal.Refusal.{Refusal}
 use Rattle.ficus_ids.specs.declared.refusal.Refusal.TheVariants.{Memory, Store}
-use Rattle.ficus_keep.specs.declared.keep.Keep.{Ghosts as Keep}
+use Rattle.ficus_keeper.specs.declared.keep.Keep.{Ghosts as Keep}
 use Rattle.ficus_runs.specs.Outcome.{IsSaved, SaveFails}
 use Rattle.ficus_world.specs.Acts.{SavesNext}
 use Rattle.ficus_world.specs.Disks.{DisksComeTo}
 use Rattle.ficus_runs.specs.Numbered.{IsNumbered}
-use Rattle.ficus_world.specs.declared.member.Member.{Member}
-use Rattle.ficus_world.specs.declared.member.MemberState.TheVariants.{Up, Down}
-use Rattle.ficus_world.specs.declared.member.Pending.{Pending}
+use Rattle.ficus_opening.specs.declared.member.Member.{Member}
+use Rattle.ficus_opening.specs.declared.member.MemberState.TheVariants.{Up, Down}
+use Rattle.ficus_opening.specs.declared.member.Pending.{Pending}
 use Rattle.ficus_world.specs.Moves.{advanced, downed, parts_after}
 use Rattle.ficus_world.specs.World.{Whole, IsSoundMember, IsSoundNext, IsWorld, whole_of}
 use Rattle.ficus_world.proofs.SoundWorlds.{held_sound, put_down_sound, world_after}

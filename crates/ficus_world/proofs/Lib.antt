@@ -1,5 +1,3 @@
-pub mod Faults
-pub mod Steadies
 pub mod Sets
 pub mod Tests
 pub mod LastPart
@@ -28,15 +26,11 @@ pub mod Following
 pub mod Stepping
 pub mod OneWorld
 pub mod Stand
-pub mod Making
-pub mod Openings
 pub mod OpenedWorlds
-pub mod Unarmed
-pub mod Bad
+pub mod AtRest
 pub mod Kills
-pub mod Others
 pub mod Passing
 pub mod Growing
 pub mod Spelling
 pub mod Acting
-pub mod Asking
+pub mod Likeness

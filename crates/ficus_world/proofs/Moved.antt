@@ -8,7 +8,7 @@ use Rattle.ficus_ids.specs.declared.memory.Memory.{Memory as OutOfMemory}
 use Rattle.ficus_ids.specs.declared.refusal.Refusal.{Refusal}
 use Rattle.ficus_ids.specs.declared.refusal.Refusal.TheVariants.{Memory, Store}
 use Rattle.ficus_model.specs.declared.event.Event.TheVariants.{Update, Collect}
-use Rattle.ficus_keep.specs.declared.keep.Keep.{Ghosts as Keep}
+use Rattle.ficus_keeper.specs.declared.keep.Keep.{Ghosts as Keep}
 use Rattle.ficus_replica.specs.declared.replica.Next.{Next}
 use Rattle.ficus_commands.specs.declared.change.Change.{Change}
 use Rattle.ficus_rules.specs.Change.{ChangeRule}
@@ -17,7 +17,7 @@ use Rattle.ficus_rules.specs.Look.{LookRule}
 use Rattle.ficus_rules.specs.Alike.{AreAlike}
 use Rattle.ficus_rules.specs.Rule.{UnlessMemoryWhere}
 use Rattle.ficus_rules.proofs.Rules.{refusal_along}
-use Rattle.ficus_answers.specs.View.{tables_view}
+use Rattle.ficus_deciding.specs.View.{tables_view}
 use Rattle.ficus_commands.specs.declared.told.Told.{Told}
 use Rattle.ficus_script.specs.declared.answer.Answer.{Answer}
 use Rattle.ficus_script.specs.declared.answer.Answer.TheVariants.{Alike, Told as Tells, Collected as Counted}
@@ -34,8 +34,8 @@ use Rattle.ficus_runs.specs.Peers.{ArePeers}
 use Rattle.ficus_runs.specs.Sequence.{Effect, First, unchanged}
 use Rattle.ficus_runs.specs.Sequence.ByRule.{Says}
 use Rattle.ficus_runs.specs.Sequence.First.{Ends, Goes}
-use Rattle.ficus_world.specs.declared.member.Member.{Member}
-use Rattle.ficus_world.specs.declared.member.MemberState.TheVariants.{Up}
+use Rattle.ficus_opening.specs.declared.member.Member.{Member}
+use Rattle.ficus_opening.specs.declared.member.MemberState.TheVariants.{Up}
 use Rattle.ficus_world.specs.Moves.{CarriesOut, Compared, FindsPeers, FindsUp, TablesMayWantMemory, WholeAction, advanced, not_saved, pending_of, saved}
 use Rattle.ficus_world.specs.Moves.FindsPeers.{FindsBoth, FindsNoPeers, FindsOneDown}
 use Rattle.ficus_world.specs.Moves.FindsUp.{FindsAt, FindsNoneAt, FindsDown}

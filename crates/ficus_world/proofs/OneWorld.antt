@@ -15,10 +15,10 @@ use Rattle.ficus_runs.specs.Message.{IsMessageAt}
 use Rattle.ficus_runs.specs.ModelWorld.{ModelWorld, Posted, Standing}
 use Rattle.ficus_runs.specs.ModelWorld as model
 use Rattle.ficus_runs.specs.Numbered.{IsNumbered}
-use Rattle.ficus_world.specs.declared.member.Member.{Member}
-use Rattle.ficus_world.specs.declared.member.MemberState.{MemberState}
-use Rattle.ficus_world.specs.declared.member.MemberState.TheVariants as state
-use Rattle.ficus_world.specs.declared.member.Pending.{Pending}
+use Rattle.ficus_opening.specs.declared.member.Member.{Member}
+use Rattle.ficus_opening.specs.declared.member.MemberState.{MemberState}
+use Rattle.ficus_opening.specs.declared.member.MemberState.TheVariants as state
+use Rattle.ficus_opening.specs.declared.member.Pending.{Pending}
 use Rattle.ficus_world.specs.declared.post.Behind.{Behind}
 use Rattle.ficus_world.specs.World.{Whole, IsLastPart, IsPendingFor, IsPosted, StateStandsFor, WorldStandsFor}
 use Rattle.ficus_world.proofs.LastPart.{length_part}

@@ -13,9 +13,9 @@ use Rattle.ficus_replica.proofs.Events.{quiet_stands}
 use Rattle.ficus_runs.specs.Actions.{down_from}
 use Rattle.ficus_runs.specs.ModelWorld.{Standing}
 use Rattle.ficus_runs.specs.ModelWorld as model
-use Rattle.ficus_world.specs.declared.member.MemberState.{MemberState}
-use Rattle.ficus_world.specs.declared.member.MemberState.TheVariants as state
-use Rattle.ficus_world.specs.declared.member.Pending.{Pending}
+use Rattle.ficus_opening.specs.declared.member.MemberState.{MemberState}
+use Rattle.ficus_opening.specs.declared.member.MemberState.TheVariants as state
+use Rattle.ficus_opening.specs.declared.member.Pending.{Pending}
 use Rattle.ficus_world.specs.Moves.{still_pending}
 use Rattle.ficus_world.specs.World.{AreOthers, IsPendingFor, StateStandsFor}
 use Rattle.ficus_run_laws.proofs.Messages.{served_more}

@@ -36,8 +36,8 @@ use Rattle.ficus_runs.specs.Numbered.{IsNumbered}
 use Rattle.ficus_runs.specs.Sequence.{Effect, First, unchanged}
 use Rattle.ficus_runs.specs.Sequence.ByRule.{Says}
 use Rattle.ficus_runs.specs.Sequence.First.{Ends, Goes}
-use Rattle.ficus_saved.specs.Tables.{FitsTables}
-use Rattle.ficus_saved.specs.declared.saved.Saved.{Saved}
+use Rattle.ficus_durable_state.specs.Tables.{FitsTables}
+use Rattle.ficus_durable_state.specs.declared.saved.Saved.{Saved}
 use Rattle.ficus_script.specs.declared.answer.Answer.{Answer}
 use Rattle.ficus_script.specs.declared.answer.Answer.TheVariants.{Done, Part}
 use Rattle.ficus_version_laws.proofs.Counting.{counts_none, counts_once}
@@ -46,8 +46,8 @@ use Rattle.ficus_wire.specs.Parts.{HasAll, HasAllBut, HasPart, HeldParts, RisesF
 use Rattle.ficus_wire.specs.declared.message.PieceHead.{PieceHead}
 use Rattle.ficus_wire.proofs.Holding.{joined_pieces, part_elsewhere, part_here}
 use Rattle.ficus_world.specs.declared.exchange.Delivery.{Delivery}
-use Rattle.ficus_world.specs.declared.member.Member.{Member}
-use Rattle.ficus_world.specs.declared.member.MemberState.TheVariants as state
+use Rattle.ficus_opening.specs.declared.member.Member.{Member}
+use Rattle.ficus_opening.specs.declared.member.MemberState.TheVariants as state
 use Rattle.ficus_world.specs.declared.post.Behind.{Behind}
 use Rattle.ficus_world.specs.Follows.{FollowsIn}
 use Rattle.ficus_world.specs.Moves.{TakesFitting, TakesPiece, TakesSpelled, TakesTables, collected, parts_held}

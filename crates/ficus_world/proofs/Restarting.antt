@@ -8,22 +8,22 @@ use Rattle.ficus_disk.specs.declared.pair.Pair.{Pair}
 use Rattle.ficus_ids.specs.Members.{IsMember}
 use Rattle.ficus_ids.specs.declared.refusal.Refusal.{Refusal}
 use Rattle.ficus_ids.specs.declared.refusal.Refusal.TheVariants as refusal
-use Rattle.ficus_keep.specs.declared.fault.StoreFault.{StoreFault}
-use Rattle.ficus_keep.specs.declared.fault.StoreFault.TheVariants.{Failed, Memory, NoImage}
-use Rattle.ficus_keep.specs.declared.keep.Keep.{Ghosts as Keep}
+use Rattle.ficus_keeper.specs.declared.fault.StoreFault.{StoreFault}
+use Rattle.ficus_keeper.specs.declared.fault.StoreFault.TheVariants.{Failed, Memory, NoImage}
+use Rattle.ficus_keeper.specs.declared.keep.Keep.{Ghosts as Keep}
 use Rattle.ficus_model.specs.declared.event.Event.{Event}
 use Rattle.ficus_model.specs.declared.event.Event.TheVariants as event
-use Rattle.ficus_saved.specs.Saved.{FitsImage}
-use Rattle.ficus_saved.specs.declared.saved.Saved.{Saved}
+use Rattle.ficus_durable_state.specs.Saved.{FitsImage}
+use Rattle.ficus_durable_state.specs.declared.saved.Saved.{Saved}
 use Rattle.ficus_script.specs.declared.answer.Answer.{Answer}
 use Rattle.ficus_script.specs.declared.answer.Answer.TheVariants.{Done}
 use Rattle.ficus_script.specs.declared.command.Command.TheVariants.{Restart as Restarts}
 use Rattle.ficus_runs.specs.Numbered.{IsNumbered}
 use Rattle.ficus_runs.specs.Outcome.{IsFound, IsOpened, OpeningFails}
 use Rattle.ficus_runs.specs.Sequence.First.{Goes}
-use Rattle.ficus_world.specs.declared.member.Member.{Member}
-use Rattle.ficus_world.specs.declared.member.MemberState.TheVariants.{Down}
-use Rattle.ficus_world.specs.declared.member.Pending.{Pending}
+use Rattle.ficus_opening.specs.declared.member.Member.{Member}
+use Rattle.ficus_opening.specs.declared.member.MemberState.TheVariants.{Down}
+use Rattle.ficus_opening.specs.declared.member.Pending.{Pending}
 use Rattle.ficus_world.specs.declared.member.Rising.TheVariants.{AsPending, AsWas, Neither}
 use Rattle.ficus_world.specs.Disks.{CarriedOn, ComesBack, DisksFollow, IsAfterOpening, IsReadAt, IsRisen}
 use Rattle.ficus_world.specs.Disks.ComesBack.{BackAsPending, BackAsWas, NoMemory, NotOpened, NothingRead, OfAnother}

@@ -6,26 +6,27 @@ use Rattle.ficus_disk.specs.declared.disk.Disk.{Ghosts as Disk}
 use Rattle.ficus_disk.specs.Fuse.{Arms}
 use Rattle.ficus_disk.specs.Pair.{PairRose}
 use Rattle.ficus_disk.specs.declared.pair.Pair.{Pair}
-use Rattle.ficus_keep.specs.declared.keep.Keep.{Ghosts as Keep}
-use Rattle.ficus_keep.specs.Kept.{found_in}
-use Rattle.ficus_keep.specs.Pairs.{PairLeft, PairSame, PairWithin}
-use Rattle.ficus_keep.specs.declared.fault.StoreFault.{StoreFault}
-use Rattle.ficus_keep.specs.declared.fault.StoreFault.TheVariants.{Failed, Memory, NoImage}
-use Rattle.ficus_saved.specs.Saved.{FitsImage}
-use Rattle.ficus_saved.specs.declared.saved.Saved.{Saved}
+use Rattle.ficus_keeper.specs.declared.keep.Keep.{Ghosts as Keep}
+use Rattle.ficus_keeper.specs.Kept.{found_in}
+use Rattle.ficus_keeper.specs.Pairs.{PairLeft, PairSame, PairWithin}
+use Rattle.ficus_keeper.specs.declared.fault.StoreFault.{StoreFault}
+use Rattle.ficus_keeper.specs.declared.fault.StoreFault.TheVariants.{Failed, Memory, NoImage}
+use Rattle.ficus_durable_state.specs.Saved.{FitsImage}
+use Rattle.ficus_durable_state.specs.declared.saved.Saved.{Saved}
 use Rattle.ficus_leads.specs.Holds.{Holds, OneHeld}
 use Rattle.ficus_leads.proofs.Led.{held_at}
-use Rattle.ficus_stable.specs.Holds.{HoldsOneOf}
-use Rattle.ficus_stable.specs.Stable.{IsReady}
-use Rattle.ficus_stable.specs.declared.stable.Stable.{Stable}
-use Rattle.ficus_stable.proofs.Ready.{still_ready}
+use Rattle.ficus_stable_storage.specs.Holds.{HoldsOneOf}
+use Rattle.ficus_stable_storage.specs.Stable.{IsReady}
+use Rattle.ficus_stable_storage.specs.declared.stable.Stable.{Stable}
+use Rattle.ficus_stable_storage.proofs.Ready.{still_ready}
 use Rattle.ficus_runs.specs.Numbered.{IsNumbered}
 use Rattle.ficus_runs.specs.Outcome.{IsArmed, OpeningFails, SaveFails}
-use Rattle.ficus_world.specs.declared.member.Member.{Member}
-use Rattle.ficus_world.specs.declared.member.MemberState.{MemberState}
-use Rattle.ficus_world.specs.declared.member.MemberState.TheVariants.{Up, Down}
-use Rattle.ficus_world.specs.declared.member.Pending.{Pending}
-use Rattle.ficus_world.specs.Disks.{AreDisksOf, DisksFollow, DisksReopen, DisksStay, HoldsFor, IsAfterOpening, IsAfterSave, IsPairOf, IsReadAt, SavesAt, are_fused, save_outcome}
+use Rattle.ficus_opening.specs.declared.member.Member.{Member}
+use Rattle.ficus_opening.specs.declared.member.MemberState.{MemberState}
+use Rattle.ficus_opening.specs.declared.member.MemberState.TheVariants.{Up, Down}
+use Rattle.ficus_opening.specs.declared.member.Pending.{Pending}
+use Rattle.ficus_opening.specs.Disks.{AreDisksOf, HoldsFor, IsPairOf, are_fused}
+use Rattle.ficus_world.specs.Disks.{DisksFollow, DisksReopen, DisksStay, IsAfterOpening, IsAfterSave, IsReadAt, SavesAt, save_outcome}
 use Rattle.ficus_wire.specs.Parts.{HeldParts}
 use Rattle.ficus_world.specs.World.{IsPendingSound, IsSoundMember}
 use Rattle.ficus_world.proofs.Disks.{disks_set, disks_set_pair, follows_at, fused_same, holds_down, holds_still, others_as, set_as}

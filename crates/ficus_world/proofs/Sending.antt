@@ -10,7 +10,7 @@ use Rattle.std.proofs.lemmas.List.Sums.{sum_by-cons}
 use Rattle.ficus_ids.specs.Members.{IsMember}
 use Rattle.ficus_ids.specs.declared.refusal.Refusal.{Refusal}
 use Rattle.ficus_ids.specs.declared.refusal.Refusal.TheVariants as refusal
-use Rattle.ficus_keep.specs.declared.keep.Keep.{Ghosts as Keep}
+use Rattle.ficus_keeper.specs.declared.keep.Keep.{Ghosts as Keep}
 use Rattle.ficus_codec.specs.Formats.{tables_bytes}
 use Rattle.ficus_entry.specs.declared.entry.Entry.{Entry}
 use Rattle.ficus_file.specs.declared.file.FileReplica.{FileReplica}
@@ -19,7 +19,7 @@ use Rattle.ficus_formats.proofs.Joining.{has_size}
 use Rattle.ficus_model.specs.declared.event.Event.{Event}
 use Rattle.ficus_model.specs.declared.event.Event.TheVariants as event
 use Rattle.ficus_replica.specs.declared.replica.Replica.{Replica}
-use Rattle.ficus_saved.specs.Tables.{FitsTables}
+use Rattle.ficus_durable_state.specs.Tables.{FitsTables}
 use Rattle.ficus_script.specs.declared.answer.Answer.{Answer}
 use Rattle.ficus_script.specs.declared.answer.Answer.TheVariants.{Mail, Mails}
 use Rattle.ficus_wire.specs.Message.{FitsMessage, IsRoute, message_bytes, message_of, messages_of_tables, piece_limit, piece_message, piece_of, sizes_of, way}
@@ -30,7 +30,7 @@ use Rattle.ficus_wire.specs.declared.message.PieceHead.{PieceHead}
 use Rattle.ficus_wire.specs.declared.message.Route.{Route}
 use Rattle.ficus_wire.proofs.Sizes.{all_sizes}
 use Rattle.ficus_world.specs.declared.exchange.Delivery.{Delivery}
-use Rattle.ficus_world.specs.declared.member.Member.{Member}
+use Rattle.ficus_opening.specs.declared.member.Member.{Member}
 use Rattle.ficus_world.specs.declared.post.Behind.{Behind}
 use Rattle.ficus_runs.specs.Answers.{OrMemory}
 use Rattle.ficus_runs.specs.Message.{Reads}

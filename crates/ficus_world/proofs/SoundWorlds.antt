@@ -7,8 +7,8 @@ use Rattle.std.proofs.lemmas.List.Sums.{sum_by-cons}
 use Rattle.ficus_ids.specs.Members.{IsCount}
 use Rattle.ficus_ids.specs.declared.refusal.Refusal.{Refusal}
 use Rattle.ficus_model.specs.declared.event.Event.{Event}
-use Rattle.ficus_saved.specs.Saved.{FitsImage}
-use Rattle.ficus_saved.specs.declared.saved.Saved.{Saved}
+use Rattle.ficus_durable_state.specs.Saved.{FitsImage}
+use Rattle.ficus_durable_state.specs.declared.saved.Saved.{Saved}
 use Rattle.ficus_leads.specs.Holds.{Leads}
 use Rattle.ficus_leads.proofs.Led.{led_next}
 use Rattle.ficus_record.specs.declared.record.Record.{Record}
@@ -21,10 +21,10 @@ use Rattle.ficus_runs.specs.Sequence.{Effect}
 use Rattle.ficus_runs.specs.Sequence.ByRule.{Says}
 use Rattle.ficus_runs.specs.Sequence.First.{Ends, Goes}
 use Rattle.ficus_wire.specs.Parts.{HeldParts}
-use Rattle.ficus_world.specs.declared.member.Member.{Member}
-use Rattle.ficus_world.specs.declared.member.MemberState.{MemberState}
-use Rattle.ficus_world.specs.declared.member.MemberState.TheVariants.{Up, Down}
-use Rattle.ficus_world.specs.declared.member.Pending.{Pending}
+use Rattle.ficus_opening.specs.declared.member.Member.{Member}
+use Rattle.ficus_opening.specs.declared.member.MemberState.{MemberState}
+use Rattle.ficus_opening.specs.declared.member.MemberState.TheVariants.{Up, Down}
+use Rattle.ficus_opening.specs.declared.member.Pending.{Pending}
 use Rattle.ficus_world.specs.declared.post.Behind.{Behind}
 use Rattle.ficus_world.specs.Moves.{IsLike, SendsEach, restarted, still_pending}
 use Rattle.ficus_world.specs.Moves.Sends.{NotSent, Sent}

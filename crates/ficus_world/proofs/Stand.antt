@@ -3,23 +3,24 @@ use Rattle.std.proofs.Common.{◌≡◌, ℕ, List, length, Some, None, sym, sub
 use Rattle.ficus_disk.specs.declared.disk.Disk.{Ghosts as Disk}
 use Rattle.ficus_disk.specs.declared.pair.Pair.{Pair}
 use Rattle.ficus_ids.specs.Members.{IsMember}
-use Rattle.ficus_keep.specs.declared.keep.Keep.{Ghosts as Keep}
+use Rattle.ficus_keeper.specs.declared.keep.Keep.{Ghosts as Keep}
 use Rattle.ficus_model.specs.declared.event.Event.{Event}
 use Rattle.ficus_model.specs.Lawful.{Volume, IsLawful}
-use Rattle.ficus_saved.specs.Saved.{FitsImage}
+use Rattle.ficus_durable_state.specs.Saved.{FitsImage}
 use Rattle.ficus_replica.specs.declared.replica.Replica.{Replica}
 use Rattle.ficus_replica.specs.SavedOf.{StandsFor}
-use Rattle.ficus_stable.specs.declared.stable.Stable.{Stable}
+use Rattle.ficus_stable_storage.specs.declared.stable.Stable.{Stable}
 use Rattle.ficus_leads.specs.Holds.{Holds}
-use Rattle.ficus_stable.specs.Stable.{IsReady}
+use Rattle.ficus_stable_storage.specs.Stable.{IsReady}
 use Rattle.ficus_runs.specs.ModelWorld.{ModelWorld, Standing}
 use Rattle.ficus_runs.specs.ModelWorld as model
 use Rattle.ficus_runs.specs.Numbered.{IsNumbered}
-use Rattle.ficus_world.specs.declared.member.MemberState.{MemberState}
-use Rattle.ficus_world.specs.declared.member.MemberState.TheVariants as state
-use Rattle.ficus_world.specs.Disks.{AreDisksOf, HoldsFor}
-use Rattle.ficus_world.specs.Stand.{ArePending, DisksOutlast, DisksStand, KeepsFor, KeepsOf}
-use Rattle.ficus_world.specs.declared.member.Pending.{Pending}
+use Rattle.ficus_opening.specs.declared.member.MemberState.{MemberState}
+use Rattle.ficus_opening.specs.declared.member.MemberState.TheVariants as state
+use Rattle.ficus_opening.specs.Disks.{AreDisksOf, HoldsFor}
+use Rattle.ficus_world.specs.Stand.{ArePending, DisksOutlast, DisksStand, KeepsFor}
+use Rattle.ficus_opening.specs.Stand.{KeepsOf}
+use Rattle.ficus_opening.specs.declared.member.Pending.{Pending}
 use Rattle.ficus_world.specs.World.{Backed, Whole, IsPendingFor, IsPendingSound, IsWorld, StateStandsFor, WorldStandsFor}
 use Rattle.ficus_run_laws.proofs.Numbers.{number_exists}
 use Rattle.ficus_world.proofs.Standing.{member_from, member_stands, raise, replica_stands}

@@ -14,8 +14,8 @@ use Rattle.ficus_replica.specs.SavedOf.{IsSavedOf, StandsFor, StandsAfter}
 use Rattle.ficus_replica.proofs.Events.{quiet_stands, restart_stands}
 use Rattle.ficus_replica.proofs.OpenAsks.{through_end, through_more}
 use Rattle.ficus_replica.proofs.Saves.{saved_once}
-use Rattle.ficus_saved.specs.Tables.{FitsTables}
-use Rattle.ficus_saved.specs.declared.saved.Saved.{Saved}
+use Rattle.ficus_durable_state.specs.Tables.{FitsTables}
+use Rattle.ficus_durable_state.specs.declared.saved.Saved.{Saved}
 use Rattle.ficus_wire.specs.Parts.{HeldParts}
 use Rattle.ficus_wire.specs.declared.message.Message.{Message}
 use Rattle.ficus_runs.specs.Actions.{with_event, with_post, with_standing, down_from, restarted as restarted_model}
@@ -25,9 +25,9 @@ use Rattle.ficus_runs.specs.ModelWorld.{ModelWorld, Standing, IsUp}
 use Rattle.ficus_runs.specs.ModelWorld as model
 use Rattle.ficus_runs.specs.Numbered.{IsNumbered}
 use Rattle.ficus_runs.specs.RunWorld.{IsNoServe, IsRunWorld}
-use Rattle.ficus_world.specs.declared.member.Member.{Member}
-use Rattle.ficus_world.specs.declared.member.MemberState.TheVariants as state
-use Rattle.ficus_world.specs.declared.member.Pending.{Pending}
+use Rattle.ficus_opening.specs.declared.member.Member.{Member}
+use Rattle.ficus_opening.specs.declared.member.MemberState.TheVariants as state
+use Rattle.ficus_opening.specs.declared.member.Pending.{Pending}
 use Rattle.ficus_world.specs.Moves.{advanced, collected, downed, parts_after, pending_of, restarted, still_pending, with_event as event_in, with_member, with_post as post_in}
 use Rattle.ficus_world.specs.declared.post.Behind.{Behind}
 use Rattle.ficus_world.specs.Post.{Outbox, IsSent, HasFailed, lies_behind}

@@ -4,15 +4,16 @@ use Rattle.ficus_disk.specs.declared.disk.Disk.{Ghosts as Disk}
 use Rattle.ficus_disk.specs.declared.pair.Pair.{Pair}
 use Rattle.ficus_ids.specs.declared.refusal.Refusal.{Refusal}
 use Rattle.ficus_ids.specs.declared.refusal.Refusal.TheVariants.{Memory, Store}
-use Rattle.ficus_keep.specs.declared.keep.Keep.{Ghosts as Keep}
+use Rattle.ficus_keeper.specs.declared.keep.Keep.{Ghosts as Keep}
 use Rattle.ficus_runs.specs.Numbered.{IsNumbered}
 use Rattle.ficus_runs.specs.Outcome.{IsSaved, SaveFails}
-use Rattle.ficus_stable.specs.declared.stable.Stable.{Stable}
+use Rattle.ficus_stable_storage.specs.declared.stable.Stable.{Stable}
 use Rattle.ficus_world.specs.Disks.{DisksComeTo, DisksStay, IsBacked, StaysOn}
-use Rattle.ficus_world.specs.Kills.{IsSettled, OthersStay, Passes, RestsAt, Touches}
+use Rattle.ficus_world.specs.Kills.{IsSettled, Passes, Touches}
+use Rattle.ficus_opening.specs.Rests.{OthersStay, RestsAt}
 use Rattle.ficus_world.specs.Moves.{advanced, downed}
-use Rattle.ficus_world.specs.declared.member.Member.{Member}
-use Rattle.ficus_world.specs.declared.member.Pending.{Pending}
+use Rattle.ficus_opening.specs.declared.member.Member.{Member}
+use Rattle.ficus_opening.specs.declared.member.Pending.{Pending}
 use Rattle.ficus_world.specs.World.{Backed, Whole}
 
 -- One action on a world over its disks: it stores so many events at most, there are as many members, with a keeper

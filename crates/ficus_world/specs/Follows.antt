@@ -3,7 +3,7 @@ use Rattle.std.specs.Prelude.{◌≡◌, ◌+◌, List, Result, length}
 use Rattle.ficus_disk.specs.declared.disk.Disk.{Ghosts as Disk}
 use Rattle.ficus_disk.specs.declared.pair.Pair.{Pair}
 use Rattle.ficus_ids.specs.declared.refusal.Refusal.{Refusal}
-use Rattle.ficus_keep.specs.declared.keep.Keep.{Ghosts as Keep}
+use Rattle.ficus_keeper.specs.declared.keep.Keep.{Ghosts as Keep}
 use Rattle.ficus_model.specs.Lawful.{Volume}
 use Rattle.ficus_script.specs.declared.command.Command.{Command}
 use Rattle.ficus_script.specs.declared.answer.Answer.{Answer}

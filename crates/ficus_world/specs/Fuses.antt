@@ -1,20 +1,19 @@
 -- How the fuses of the members' disks stand, and what they make of saves and openings.
-use Rattle.std.specs.Prelude.{◌≡◌, ℕ, ◌≤◌, Bool, true, false, if◌then◌else◌, List, Option, Some, None}
+use Rattle.std.specs.Prelude.{◌≡◌, ℕ, Bool, true, false, if◌then◌else◌, List, Option, Some, None}
 use Rattle.ficus_disk.specs.declared.disk.Disk.{Ghosts as Disk}
-use Rattle.ficus_disk.specs.declared.fuse.Fuse.{Fuse}
 use Rattle.ficus_disk.specs.declared.pair.Pair.{Pair}
-use Rattle.ficus_keep.specs.Fuses.{Fuses, IsRegularIn, StaysRegular, both_unarmed, found_again, fuses_of}
-use Rattle.ficus_keep.specs.Kept.{Kept}
-use Rattle.ficus_keep.specs.declared.keep.Keep.{Ghosts as Keep}
-use Rattle.ficus_saved.specs.declared.saved.Saved.{Saved}
+use Rattle.ficus_keeper.specs.Fuses.{Fuses, StaysRegular, both_unarmed, found_again, fuses_of}
+use Rattle.ficus_keeper.specs.Kept.{Kept}
+use Rattle.ficus_keeper.specs.declared.keep.Keep.{Ghosts as Keep}
+use Rattle.ficus_durable_state.specs.declared.saved.Saved.{Saved}
 use Rattle.ficus_leads.specs.Holds.{Holds}
 use Rattle.ficus_runs.specs.Fuses.{FuseState, FusesAllowAll, Keeping, after_outcomes}
 use Rattle.ficus_runs.specs.Numbered.{IsNumbered}
 use Rattle.ficus_runs.specs.Outcome.{Outcome}
-use Rattle.ficus_world.specs.declared.member.Member.{Member}
-use Rattle.ficus_world.specs.declared.member.MemberState.{MemberState}
-use Rattle.ficus_world.specs.declared.member.MemberState.TheVariants.{Up, Down}
-use Rattle.ficus_world.specs.declared.member.Pending.{Pending}
+use Rattle.ficus_opening.specs.declared.member.Member.{Member}
+use Rattle.ficus_opening.specs.declared.member.MemberState.{MemberState}
+use Rattle.ficus_opening.specs.declared.member.MemberState.TheVariants.{Up, Down}
+use Rattle.ficus_opening.specs.declared.member.Pending.{Pending}
 
 -- how many calls a keeper's saves make, and on which disk
 abbrev pub keeping_of : {K : Type 0} → Keep K → Keeping
@@ -71,12 +70,3 @@ at_rest generation = record { fuses = both_unarmed; generation = generation; wil
 pub record AreAtRest (F : ℕ → FuseState) (members : List Member) : Type 0 where
   pub each : (r : ℕ) (member : Member) → IsNumbered members r member
       → F r ≡ at_rest member.replica.saved.generation
-
--- on no disk a number is armed
-pub record AreUnarmed {D : Type 0} (fuse : D → Fuse) (disks : List (Pair D)) : Type 0 where
-  pub each : (r : ℕ) (pair : Pair D) → IsNumbered disks r pair → fuses_of fuse pair ≡ both_unarmed
-
--- what the disks of the members up to this one hold is of volumes that this keeper alone wrote
-pub record AreRegular {D : Type 0} (Regular : List ℕ → List ℕ → Type 0) (seen : D → List ℕ) (disks : List (Pair D))
-    (count : ℕ) : Type 0 where
-  pub each : (r : ℕ) (pair : Pair D) → IsNumbered disks r pair → r ≤ count → IsRegularIn Regular seen pair

@@ -1,40 +1,26 @@
 -- What a command does to the disks of a world at each of its moments, so that a kill at any of them is known.
-use Rattle.std.specs.Prelude.{◌≡◌, ◌⊎◌, ℕ, ◌+◌, ◌-◌, ◌<◌, List, [], ◌∷◌, ◌++◌, length, Some, None, slice_set}
+use Rattle.std.specs.Prelude.{◌≡◌, ◌⊎◌, ℕ, ◌+◌, ◌-◌, List, [], ◌∷◌, ◌++◌, length, Some, None, slice_set}
 use Rattle.ficus_disk.specs.declared.disk.Disk.{Ghosts as Disk}
 use Rattle.ficus_disk.specs.declared.pair.Pair.{Pair}
 use Rattle.ficus_ids.specs.Members.{IsMember}
 use Rattle.ficus_model.specs.declared.event.Event.{Event}
-use Rattle.ficus_keep.specs.Kept.{found_in}
-use Rattle.ficus_keep.specs.Moments.{PairLeavesOld, PairSpans}
-use Rattle.ficus_keep.specs.Pairs.{PairLeft, PairWithin}
-use Rattle.ficus_keep.specs.declared.keep.Keep.{Ghosts as Keep}
-use Rattle.ficus_saved.specs.declared.saved.Saved.{Saved}
+use Rattle.ficus_keeper.specs.Kept.{found_in}
+use Rattle.ficus_keeper.specs.Moments.{PairSpans}
+use Rattle.ficus_keeper.specs.declared.keep.Keep.{Ghosts as Keep}
+use Rattle.ficus_durable_state.specs.declared.saved.Saved.{Saved}
 use Rattle.ficus_script.specs.declared.answer.Answer.{Answer}
 use Rattle.ficus_script.specs.declared.command.Command.{Command}
 use Rattle.ficus_leads.specs.Holds.{Holds}
-use Rattle.ficus_stable.specs.Holds.{HoldsOneBetween, HoldsOneOf}
+use Rattle.ficus_stable_storage.specs.Holds.{HoldsOneBetween, HoldsOneOf}
 use Rattle.ficus_runs.specs.Numbered.{IsNumbered}
 use Rattle.ficus_runs.specs.Outcome.{Outcome}
-use Rattle.ficus_world.specs.declared.member.Member.{Member}
-use Rattle.ficus_world.specs.declared.member.MemberState.{MemberState}
-use Rattle.ficus_world.specs.declared.member.MemberState.TheVariants.{Up, Down}
-use Rattle.ficus_world.specs.declared.member.Pending.{Pending}
+use Rattle.ficus_opening.specs.Rests.{RestsAt}
+use Rattle.ficus_opening.specs.declared.member.Member.{Member}
+use Rattle.ficus_opening.specs.declared.member.MemberState.{MemberState}
+use Rattle.ficus_opening.specs.declared.member.MemberState.TheVariants.{Up, Down}
+use Rattle.ficus_opening.specs.declared.member.Pending.{Pending}
 use Rattle.ficus_world.specs.Moves.{Moves}
 use Rattle.ficus_world.specs.World.{IsWorld, Whole}
-
--- Nothing is written on a pair: at no moment between these two states a crash leaves more than at the first of them.
-pub record PairRests {D : Type 0} (disk : Disk D) (old new : Pair D) : Type 0 where
-  pub within : PairWithin disk.may_leave old new
-  pub leaves : PairLeavesOld disk.moment disk.left_since disk.may_leave old new
-  pub spans : disk.tells_moments → PairSpans disk.moment disk.left_since old new
-
--- of all pairs that of this number is touched alone, and nothing is written on it
-pub record RestsAt {D : Type 0} (disk : Disk D) (by : ℕ) (old new : List (Pair D)) : Type 0 where
-  pub was : Pair D
-  pub is : IsNumbered old by was
-  pub now : Pair D
-  pub set : new ≡ slice_set old (by - 1) now
-  pub rests : PairRests disk was now
 
 -- of all pairs that of this number is written alone: whatever a crash since then leaves of it holds what it held, or
 -- this
@@ -112,26 +98,3 @@ pub data Passes {K D : Type 0} (tells : Type 0) (keep : Keep K) (disk : Disk D) 
       → Touches keep disk before after old new → Passes tells keep disk before after old new
   Joins : {before middle after : Whole} {old mid new : List (Pair D)} → Passes tells keep disk before middle old mid
       → Passes tells keep disk middle after mid new → Passes tells keep disk before after old new
-
--- nothing is written on any pair
-pub record AllRest {D : Type 0} (disk : Disk D) (old new : List (Pair D)) : Type 0 where
-  pub count : length new ≡ length old
-  pub each : (r : ℕ) (was now : Pair D) → IsNumbered old r was → IsNumbered new r now → PairRests disk was now
-
--- the pairs of no member stay as they are
-pub record OthersStay {D : Type 0} (count : ℕ) (old new : List (Pair D)) : Type 0 where
-  pub pairs : length new ≡ length old
-  pub each : (r : ℕ) (was now : Pair D) → count < r → IsNumbered old r was → IsNumbered new r now → now ≡ was
-
--- nothing is written on the pairs of no member
-pub record OthersRest {D : Type 0} (disk : Disk D) (count : ℕ) (old new : List (Pair D)) : Type 0 where
-  pub pairs : length new ≡ length old
-  pub each : (r : ℕ) (was now : Pair D) → count < r → IsNumbered old r was → IsNumbered new r now
-      → PairRests disk was now
-
--- what a read of each disk gives now, a crash might have left of it before
-pub record AreLeft {D : Type 0} (seen : D → List ℕ) (may_leave : D → List ℕ → Type 0) (old new : List (Pair D)) :
-    Type 0 where
-  pub count : length new ≡ length old
-  pub each : (r : ℕ) (was now : Pair D) → IsNumbered old r was → IsNumbered new r now
-      → PairLeft seen may_leave was now

@@ -9,4 +9,3 @@ pub mod Follows
 pub mod Stand
 pub mod Kills
 pub mod Acts
-pub mod Opening

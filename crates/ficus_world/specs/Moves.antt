@@ -11,9 +11,9 @@ use Rattle.ficus_model.specs.Events.{traits}
 use Rattle.ficus_codec.specs.Formats.{tables_bytes}
 use Rattle.ficus_entry.specs.declared.entry.Entry.{Entry}
 use Rattle.ficus_file.specs.declared.file.FileReplica.{FileReplica}
-use Rattle.ficus_saved.specs.declared.saved.Saved.{Saved}
-use Rattle.ficus_saved.specs.Saved.{FitsImage}
-use Rattle.ficus_saved.specs.Tables.{FitsTables}
+use Rattle.ficus_durable_state.specs.declared.saved.Saved.{Saved}
+use Rattle.ficus_durable_state.specs.Saved.{FitsImage}
+use Rattle.ficus_durable_state.specs.Tables.{FitsTables}
 use Rattle.ficus_replica.specs.declared.replica.Replica.{Replica}
 use Rattle.ficus_replica.specs.Accept.{AcceptGives, IsOpen}
 use Rattle.ficus_replica.specs.Ask.{AskGives}
@@ -25,7 +25,7 @@ use Rattle.ficus_rules.specs.Look.{LookRule}
 use Rattle.ficus_rules.specs.Rule.{RefusesNothing}
 use Rattle.ficus_replica.specs.Effect.{Applied, next_id}
 use Rattle.ficus_commands.specs.declared.look.Look.{Look}
-use Rattle.ficus_answers.specs.View.{tables_view}
+use Rattle.ficus_deciding.specs.View.{tables_view}
 use Rattle.ficus_script.specs.declared.command.Command.{Command}
 use Rattle.ficus_script.specs.declared.command.Command.TheVariants as command
 use Rattle.ficus_script.specs.declared.answer.Answer.{Answer}
@@ -49,10 +49,10 @@ use Rattle.ficus_runs.specs.Sequence.{Action, First, ByRule, Cut, Effect, unchan
 use Rattle.ficus_world.specs.declared.exchange.Delivery.{Delivery}
 use Rattle.ficus_world.specs.declared.taking.Fitting.{Fitting}
 use Rattle.ficus_world.specs.declared.taking.Fitting.TheVariants as fitting
-use Rattle.ficus_world.specs.declared.member.Member.{Member}
-use Rattle.ficus_world.specs.declared.member.MemberState.{MemberState}
-use Rattle.ficus_world.specs.declared.member.MemberState.TheVariants as state
-use Rattle.ficus_world.specs.declared.member.Pending.{Pending}
+use Rattle.ficus_opening.specs.declared.member.Member.{Member}
+use Rattle.ficus_opening.specs.declared.member.MemberState.{MemberState}
+use Rattle.ficus_opening.specs.declared.member.MemberState.TheVariants as state
+use Rattle.ficus_opening.specs.declared.member.Pending.{Pending}
 use Rattle.ficus_world.specs.declared.post.Behind.{Behind}
 use Rattle.ficus_world.specs.Post.{Outbox, IsSent, HasFailed, AreFetched, lies_behind}
 use Rattle.ficus_world.specs.World.{Whole, IsReplica, IsUpIn}

@@ -1,25 +1,18 @@
 -- What it means that disks stand for what has happened.
 use Rattle.std.specs.Prelude.{◌≡◌, ◌⊎◌, ℕ, ◌++◌, ◌∷◌, [], List, Option, Some, None}
 use Rattle.ficus_disk.specs.declared.pair.Pair.{Pair}
-use Rattle.ficus_keep.specs.Kept.{Kept, found_in}
-use Rattle.ficus_ids.specs.Members.{IsMember}
+use Rattle.ficus_keeper.specs.Kept.{Kept, found_in}
 use Rattle.ficus_model.specs.declared.event.Event.{Event}
 use Rattle.ficus_model.specs.Events.{actor}
 use Rattle.ficus_model.specs.Lawful.{IsLawful, MayCome, Volume}
 use Rattle.ficus_replica.specs.SavedOf.{IsSavedOf}
-use Rattle.ficus_saved.specs.Saved.{FitsImage}
-use Rattle.ficus_saved.specs.declared.saved.Saved.{Saved}
+use Rattle.ficus_durable_state.specs.Saved.{FitsImage}
+use Rattle.ficus_durable_state.specs.declared.saved.Saved.{Saved}
 use Rattle.ficus_leads.specs.Holds.{Holds}
 use Rattle.ficus_runs.specs.ModelWorld.{ModelWorld, Standing, Up, Down}
 use Rattle.ficus_runs.specs.Numbered.{IsNumbered}
+use Rattle.ficus_opening.specs.Stand.{KeepsOf}
 use Rattle.ficus_world.specs.World.{AreOthers}
-
--- what was found, an image and the records behind it, holds what the member saves after the history
-pub record KeepsOf (volume : Volume) (H : List Event) (r : ℕ) (found : Option Kept) : Type 0 where
-  pub saved : Saved
-  pub is : IsSavedOf volume H r saved
-  pub fits : FitsImage saved
-  pub holds : Holds found saved
 
 -- What was found, an image and the records behind it, holds what the member saves after the history with this event of
 -- its own, whatever others do between the two: the event may still come.
@@ -50,12 +43,6 @@ pub record DisksOutlast {D : Type 0} (kept : List ℕ → List ℕ → Option Ke
   pub each : (r : ℕ) (pair : Pair D) (standing : Standing) → IsNumbered disks r pair
       → IsNumbered W.standings r standing → (a b : List ℕ) → may_leave pair.a a → may_leave pair.b b
       → KeepsFor volume W.events r (kept a b) standing
-
--- the pairs of the members stand for the history
-pub record DisksKeep {D : Type 0} (kept : List ℕ → List ℕ → Option Kept) (seen : D → List ℕ) (volume : Volume)
-    (H : List Event) (disks : List (Pair D)) : Type 0 where
-  pub each : (r : ℕ) (pair : Pair D) → IsNumbered disks r pair → IsMember volume.members r
-      → KeepsOf volume H r (found_in kept seen pair)
 
 -- What is pending of a member that is down is an event of its own, and may still come, whatever others do meanwhile.
 pub record ArePending (volume : Volume) (W : ModelWorld) : Type 0 where

@@ -7,26 +7,26 @@ use Rattle.ficus_model.specs.declared.event.Event.{Event}
 use Rattle.ficus_model.specs.declared.event.Event.TheVariants.{Serve}
 use Rattle.ficus_model.specs.Events.{IsAt, actor, raised, through, traits}
 use Rattle.ficus_model.specs.Lawful.{Volume, IsLawful, HasTaken}
-use Rattle.ficus_saved.specs.Saved.{FitsImage}
-use Rattle.ficus_saved.specs.Tables.{FitsTables}
-use Rattle.ficus_saved.specs.declared.saved.Saved.{Saved}
+use Rattle.ficus_durable_state.specs.Saved.{FitsImage}
+use Rattle.ficus_durable_state.specs.Tables.{FitsTables}
+use Rattle.ficus_durable_state.specs.declared.saved.Saved.{Saved}
 use Rattle.ficus_leads.specs.Holds.{Leads}
 use Rattle.ficus_replica.specs.declared.replica.Replica.{Replica}
 use Rattle.ficus_replica.specs.SavedOf.{IsSavedOf, StandsFor, StandsAfter}
 use Rattle.ficus_wire.specs.declared.message.Message.{Message}
 use Rattle.ficus_wire.specs.Message.{piece_limit}
 use Rattle.ficus_wire.specs.Parts.{HasPart, HeldParts, RisesFrom, part_at}
-use Rattle.ficus_stable.specs.declared.stable.Stable.{Stable}
+use Rattle.ficus_stable_storage.specs.declared.stable.Stable.{Stable}
 use Rattle.ficus_runs.specs.Exchange.{behind, total_limit}
 use Rattle.ficus_runs.specs.Message.{IsMessageAt, IsSpelled}
 use Rattle.ficus_runs.specs.ModelWorld.{ModelWorld, Standing}
 use Rattle.ficus_runs.specs.ModelWorld as model
 use Rattle.ficus_runs.specs.Numbered.{IsNumbered}
 use Rattle.ficus_runs.specs.RunWorld.{IsRunWorld}
-use Rattle.ficus_world.specs.declared.member.Member.{Member}
-use Rattle.ficus_world.specs.declared.member.MemberState.{MemberState}
-use Rattle.ficus_world.specs.declared.member.MemberState.TheVariants as state
-use Rattle.ficus_world.specs.declared.member.Pending.{Pending}
+use Rattle.ficus_opening.specs.declared.member.Member.{Member}
+use Rattle.ficus_opening.specs.declared.member.MemberState.{MemberState}
+use Rattle.ficus_opening.specs.declared.member.MemberState.TheVariants as state
+use Rattle.ficus_opening.specs.declared.member.Pending.{Pending}
 use Rattle.ficus_world.specs.declared.post.Behind.{Behind}
 use Rattle.ficus_world.specs.Post.{Outbox}
 

@@ -1,21 +1,17 @@
-ghost use Rattle.std.specs.Prelude.{◌≡◌, ℕ, List, length, IfOk, IsErrOf, OnOk};
-ghost use Rattle.ficus_check.specs.Judged.{HoldsNoneOf, IsEmptyPair, IsJudged, IsOfVolume, IsSound};
-ghost use Rattle.ficus_check.specs.declared.checked.Checked.{Checked as CheckedValue};
+ghost use Rattle.std.specs.Prelude.{◌≡◌, ℕ, length, IfOk, IsErrOf, OnOk};
+ghost use Rattle.ficus_check.specs.Judged.{IsJudged};
 ghost use Rattle.ficus_disk.specs.declared.pair.Pair.{Pair as PairValue};
 ghost use Rattle.ficus_ids.specs.Members.{IsMember};
-ghost use Rattle.ficus_keep.specs.Kept.{found_in};
-ghost use Rattle.ficus_leads.specs.Holds.{Holds};
 ghost use Rattle.ficus_runs.specs.Numbered.{IsNumbered};
-ghost use Rattle.ficus_saved.specs.declared.saved.Saved.{Saved as SavedValue};
-ghost use Rattle.ficus_world.specs.Kills.{RestsAt};
-ghost use Rattle.ficus_world.specs.Opening.{IsAtFault, IsBad, IsUnfailed, Opens, PairLooked, SeenSame, Steady, Unfailing};
-ghost use Rattle.ficus_world.specs.declared.opening.WorldFault.{WorldFault as WorldFaultValue};
+ghost use Rattle.ficus_opening.specs.Rests.{RestsAt};
+ghost use Rattle.ficus_opening.specs.Opening.{IsAtFault, IsUnfailed, SeenSame, Steady, Unfailing};
+ghost use Rattle.ficus_opening.specs.declared.fault.WorldFault.{WorldFault as WorldFaultValue};
 
-use crate::opening::{look_at, open_one};
-use crate::{World, WorldFault};
-use ficus_check::{Checked, soundness_of};
+use crate::World;
+use ficus_check::Checked;
 use ficus_disk::{Disk, Pair};
-use ficus_keep::Keep;
+use ficus_keeper::Keep;
+use ficus_opening::{WorldFault, check_disks};
 use ficus_outside::Link;
 use std::alloc::Global;
 
@@ -51,55 +47,6 @@ impl<K: Keep + Drop, L: Link + Drop> World<K, L> {
         // On disks that tell their fuses, of which none is armed, none fails, and none is armed afterwards.
         ensures unfailing { D.tells_fuse → Unfailing D.fuse result disks.old.items disks.new.items }
     {
-        let index = usize::from(number) - 1;
-        check_one::<K, D>(alloc, &mut disks[index], number)
+        check_disks::<K, D>(alloc, disks, number)
     }
 }
-
-// Judges what the disks of one replica hold.
-fn check_one<K: Keep + Drop, D: Disk>(
-    alloc: Global,
-    pair: &mut Pair<D>,
-    number: u8,
-) -> Result<Checked, WorldFault>
-    ensures judged { D.tells → IfOk result (IsJudged K.kept D.seen number pair.old) }
-    ensures never_occupied { (r : ℕ) → IsErrOf result (WorldFault.Occupied r) → ⊥ }
-    ensures never_image { (r : ℕ) → IsErrOf result (WorldFault.Image r) → ⊥ }
-    ensures looked { PairLooked D.Disk number result pair.old pair.new }
-{
-    if look_at(pair, number)? {
-        return Ok(Checked::Empty);
-    }
-    judge::<K, D>(alloc, pair, number)
-}
-
-// Judges what the disks of one replica hold, of which one holds something.
-fn judge<K: Keep + Drop, D: Disk>(
-    alloc: Global,
-    pair: &mut Pair<D>,
-    number: u8,
-) -> Result<Checked, WorldFault>
-    ensures judged { D.tells → (IsEmptyPair D.seen pair.old → ⊥)
-        → IfOk result (IsJudged K.kept D.seen number pair.old) }
-    ensures never_occupied { (r : ℕ) → IsErrOf result (WorldFault.Occupied r) → ⊥ }
-    ensures never_image { (r : ℕ) → IsErrOf result (WorldFault.Image r) → ⊥ }
-    ensures looked { PairLooked D.Disk number result pair.old pair.new }
-{
-    match open_one::<K, D>(alloc, pair, number) {
-        Ok(found) => Ok(soundness_of(&found.saved)),
-        Err(WorldFault::Image(_)) => Ok(Checked::Damaged),
-        Err(fault) => Err(fault),
-    }
-}
-
-/// The law of what a check tells of an opening: with disks that it says are damaged no world is opened; and where it
-/// says that disks are sound, and no world is opened with them, though one may be with the first member's, they are of
-/// another volume than these. It does nothing when it runs.
-pub fn checks_tell_of_openings<K: Keep + Drop, D: Disk>()
-    ensures damaged { (disks : List (PairValue D)) (r : ℕ) (pair : PairValue D) → IsNumbered disks r pair
-        → HoldsNoneOf K.kept D.seen r pair → IsBad K.kept D.seen disks r }
-    ensures sound { (disks : List (PairValue D)) (first : SavedValue) (r : ℕ) (pair : PairValue D)
-        (told : CheckedValue) → Opens K.kept D.seen disks first first 1 → IsNumbered disks r pair
-        → IsSound K.kept D.seen r pair told → IsBad K.kept D.seen disks r
-        → (saved : SavedValue) × Holds (found_in K.kept D.seen pair) saved × (IsOfVolume first saved → ⊥) }
-{}

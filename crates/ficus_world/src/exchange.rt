@@ -1,7 +1,7 @@
 ghost use Rattle.std.specs.Prelude.{◌≡◌, ◌≢◌, ◌+◌, ◌^◌, ◌<◌, ◌≤◌, Err, length, IfErr, IfOk, OnErr, OnOk, IsErrOf};
 ghost use Rattle.ficus_ids.specs.Members.{IsMember};
 ghost use Rattle.ficus_ids.specs.declared.refusal.Refusal.TheVariants.{LinkFull as IsFull, Memory as OutOfMemory};
-ghost use Rattle.ficus_saved.specs.Saved.{FitsImage};
+ghost use Rattle.ficus_durable_state.specs.Saved.{FitsImage};
 ghost use Rattle.ficus_wire.specs.Message.{message_bytes, piece_limit};
 ghost use Rattle.ficus_runs.specs.Exchange.{mails_of, total_limit};
 ghost use Rattle.ficus_runs.specs.Message.{Reads};
@@ -13,24 +13,25 @@ ghost use Rattle.ficus_world.specs.Acts.{Acts, ActsOn, StaysAt};
 ghost use Rattle.ficus_world.specs.Post.{HasRoom};
 ghost use Rattle.ficus_world.specs.Moves.{FetchesBytes, GivesMessage, GivesMessages, GivesSomeMessages, IsAsking, KeepsAsk, ask_of, messages_read};
 ghost use Rattle.ficus_world.specs.World.{IsSoundNext, IsUpIn, backed_by, event_limit, most_events};
-ghost use Rattle.ficus_world.specs.declared.member.Member.{Member as MemberValue};
+ghost use Rattle.ficus_opening.specs.declared.member.Member.{Member as MemberValue};
 ghost use Rattle.ficus_world.specs.Stepped.{CutPart};
 
 use crate::World;
 use crate::group::Group;
 use crate::keeping::keep;
-use crate::member::{Pending, is_up};
+use crate::member::is_up;
 use crate::post::{Behind, Post};
 use crate::saving::prepare_at;
 use ficus_disk::{Disk, Pair};
 use ficus_ids::{Listed, Refusal};
-use ficus_keep::Keep;
+use ficus_keeper::Keep;
 use ficus_model::{Event, History};
+use ficus_opening::Pending;
 use ficus_outside::Link;
 use ficus_record::{Record, encode_record};
 use ficus_replica::Replica;
 use ficus_script::Answer;
-use ficus_stable::Stable;
+use ficus_stable_storage::Stable;
 use ficus_wire::{Letter, PieceHead, Route, encode_ask, read_letter};
 use std::alloc::Global;
 

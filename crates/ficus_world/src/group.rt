@@ -5,12 +5,13 @@ ghost use Rattle.ficus_runs.specs.Peers.{ArePeers};
 ghost use Rattle.ficus_runs.specs.Sequence.{unchanged};
 ghost use Rattle.ficus_world.specs.Moves.{ArePeersUp, FindsPeers, FindsUp};
 ghost use Rattle.ficus_world.specs.World.{IsSoundMember};
-ghost use Rattle.ficus_world.specs.declared.member.MemberState.TheVariants.{Up as IsUp};
+ghost use Rattle.ficus_opening.specs.declared.member.MemberState.TheVariants.{Up as IsUp};
 
-use crate::member::{Member, is_up};
+use crate::member::is_up;
 use crate::post::Post;
 use ficus_ids::{Members, Refusal};
 use ficus_model::History;
+use ficus_opening::Member;
 use ficus_outside::Link;
 use std::marker::Model;
 

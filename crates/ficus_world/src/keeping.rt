@@ -4,26 +4,28 @@ ghost use Rattle.ficus_leads.specs.Holds.{Leads};
 ghost use Rattle.ficus_ids.specs.declared.refusal.Refusal.TheVariants.{Store as StoreFailed};
 ghost use Rattle.ficus_runs.specs.Numbered.{IsNumbered};
 ghost use Rattle.ficus_runs.specs.Outcome.{IsSaved, SaveFails};
-ghost use Rattle.ficus_world.specs.Disks.{AreDisksOf, DisksComeTo, IsBacked, IsPreparedAt};
+ghost use Rattle.ficus_opening.specs.Disks.{AreDisksOf};
+ghost use Rattle.ficus_world.specs.Disks.{DisksComeTo, IsBacked, IsPreparedAt};
 ghost use Rattle.ficus_world.specs.Acts.{Acts, SavesNext};
 ghost use Rattle.ficus_world.specs.Moves.{parts_after};
 ghost use Rattle.ficus_world.specs.World.{IsSoundNext, IsUpIn, backed_by, event_limit, most_events, whole_of};
-ghost use Rattle.ficus_world.specs.declared.member.Member.{Member as MemberValue};
-ghost use Rattle.ficus_world.specs.declared.member.MemberState.TheVariants.{Down as IsDown, Up as IsUp};
+ghost use Rattle.ficus_opening.specs.declared.member.Member.{Member as MemberValue};
+ghost use Rattle.ficus_opening.specs.declared.member.MemberState.TheVariants.{Down as IsDown, Up as IsUp};
 ghost use Rattle.ficus_world.specs.Kills.{WritesAt};
 ghost use Rattle.ficus_world.specs.Post.{Outbox};
 
 use crate::World;
 use crate::group::Group;
-use crate::member::{Member, Pending, hold, put_down};
+use crate::member::{hold, put_down};
 use crate::saving::{commit_at, prepare_at};
 use ficus_disk::{Disk, Pair};
 use ficus_faults::Failed;
 use ficus_ids::Refusal;
-use ficus_keep::Keep;
+use ficus_keeper::Keep;
 use ficus_model::History;
+use ficus_opening::{Member, Pending};
 use ficus_outside::Link;
-use ficus_stable::Stable;
+use ficus_stable_storage::Stable;
 
 impl<K: Keep + Drop, L: Link + Drop> World<K, L> {
     /// Saves what a member that is up is after an event of its own, of which this is noted, and stores the event. All

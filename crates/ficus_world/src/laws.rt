@@ -1,20 +1,20 @@
 //! What worlds stand for.
 ghost use Rattle.std.specs.Prelude.{◌≡◌, ◌↔◌, ℕ, length, Contains};
-ghost use Rattle.ficus_answers.specs.View.{held_dead};
+ghost use Rattle.ficus_deciding.specs.View.{held_dead};
 ghost use Rattle.ficus_model.specs.Held.{IsHeldEntry};
 ghost use Rattle.ficus_model.specs.Lawful.{Volume};
 ghost use Rattle.ficus_model.specs.Live.{ModelEntry};
 ghost use Rattle.ficus_removal_laws.specs.Marks.{IsMarked};
 ghost use Rattle.ficus_runs.specs.ModelWorld.{ModelWorld};
 ghost use Rattle.ficus_runs.specs.Numbered.{IsNumbered};
-ghost use Rattle.ficus_world.specs.Disks.{AreDisksOf};
+ghost use Rattle.ficus_opening.specs.Disks.{AreDisksOf};
 ghost use Rattle.ficus_world.specs.Stand.{ArePending, DisksOutlast, DisksStand};
 ghost use Rattle.ficus_world.specs.World.{Whole, WorldStandsFor};
-ghost use Rattle.ficus_world.specs.declared.member.Member.{Member as MemberValue};
+ghost use Rattle.ficus_opening.specs.declared.member.Member.{Member as MemberValue};
 
 use crate::World;
 use ficus_disk::{Disk, Pair};
-use ficus_keep::Keep;
+use ficus_keeper::Keep;
 use ficus_outside::Link;
 
 /// A world of the model has one world that stands for it, has so many of its events stored, and whose link has failed

@@ -19,7 +19,5 @@ mod step;
 mod taking;
 mod world;
 
-pub use checking::checks_tell_of_openings;
 pub use laws::{disks_stand, knowledge_is_held, one_world, pending_events_may_come};
-pub use opening::{WorldFault, what_is_made_stands};
 pub use world::{DEFAULT_BYTES, DEFAULT_IDS, World};

@@ -1,48 +1,22 @@
 ghost use Rattle.std.specs.Prelude.{◌≡◌, ◌≢◌, ◌↔◌, ◌-◌, ◌<◌, IsTrue, OnErr, OnOk, Some, None, length, slice_set};
 ghost use Rattle.ficus_ids.specs.Members.{IsMember};
 ghost use Rattle.ficus_model.specs.Events.{traits};
-ghost use Rattle.ficus_saved.specs.declared.saved.Saved.{Saved as SavedValue};
 ghost use Rattle.ficus_runs.specs.Numbered.{IsNumbered};
 ghost use Rattle.ficus_wire.specs.Parts.{HasPart, with_part};
 ghost use Rattle.ficus_world.specs.Moves.{IsLike, parts_after, parts_held, still_pending};
 ghost use Rattle.ficus_world.specs.Disks.{IsRisen, IsStateAfter};
-ghost use Rattle.ficus_world.specs.declared.member.Member.{Member as MemberValue};
-ghost use Rattle.ficus_world.specs.declared.member.MemberState.TheVariants.{Down as IsDown, Up as IsUp};
+ghost use Rattle.ficus_opening.specs.declared.member.Member.{Member as MemberValue};
+ghost use Rattle.ficus_opening.specs.declared.member.MemberState.TheVariants.{Down as IsDown, Up as IsUp};
 ghost use Rattle.ficus_world.specs.declared.member.Rising.TheVariants.{AsPending as HasHappened, Neither as IsNeither};
 
+use ficus_durable_state::Saved;
 use ficus_ids::Memory;
 use ficus_model::Event;
+use ficus_opening::{Member, MemberState, Pending};
 use ficus_replica::Replica;
-use ficus_saved::Saved;
 use ficus_wire::{Parts, PieceHead};
 use std::alloc::Global;
 use std::mem;
-
-/// A replica after an event of its own that isn't saved yet, or whose save failed.
-#[derive(Drop)]
-pub struct Pending {
-    pub(crate) replica: Replica,
-    pub(crate) event: Event,
-}
-
-/// Whether a member takes commands.
-#[derive(Drop)]
-pub enum MemberState {
-    /// It takes commands.
-    Up,
-    /// Its disks have failed, in a save of what is pending or when they were opened. A restart brings it back.
-    Down(Option<Pending>),
-}
-
-/// A member of a volume: the replica that it holds, the pieces that it has of the answer to its open ask, its state,
-/// and whether both of its disks have a fuse.
-#[derive(Drop)]
-pub struct Member {
-    pub(crate) replica: Replica,
-    pub(crate) parts: Option<Parts>,
-    pub(crate) state: MemberState,
-    pub(crate) fused: bool,
-}
 
 /// What a member that is opened again comes to.
 #[derive(Drop)]

@@ -8,8 +8,9 @@ ghost use Rattle.ficus_world.specs.Moves.{SendsEach, with_post};
 ghost use Rattle.ficus_world.specs.Post.{AreFetched, HasFailed, HasRoom, IsSent};
 ghost use Rattle.ficus_world.specs.World.{Whole};
 
+use ficus_faults::Failed;
 use ficus_ids::{Listed, Memory, Refusal};
-use ficus_outside::{Failed, FetchFault, Link};
+use ficus_outside::{FetchFault, Link};
 use std::alloc::Global;
 use std::marker::Model;
 

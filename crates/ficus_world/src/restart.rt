@@ -2,23 +2,24 @@ ghost use Rattle.std.specs.Prelude.{◌≡◌, ◌+◌, ◌-◌, ◌<◌, ◌≤
 ghost use Rattle.ficus_ids.specs.Members.{IsMember};
 ghost use Rattle.ficus_model.specs.declared.event.Event.{Event as EventValue};
 ghost use Rattle.ficus_runs.specs.Numbered.{IsNumbered};
-ghost use Rattle.ficus_world.specs.declared.member.Member.{Member as MemberValue};
+ghost use Rattle.ficus_opening.specs.declared.member.Member.{Member as MemberValue};
 ghost use Rattle.ficus_script.specs.declared.command.Command.TheVariants.{Restart as Restarts};
 ghost use Rattle.ficus_world.specs.Disks.{ComesBack, IsBacked};
 ghost use Rattle.ficus_world.specs.Acts.{Acts};
 ghost use Rattle.ficus_world.specs.Stepped.{ComesTo};
 ghost use Rattle.ficus_world.specs.World.{event_limit};
-ghost use Rattle.ficus_world.specs.Kills.{AreLeft};
+ghost use Rattle.ficus_opening.specs.Rests.{AreLeft};
 
 use crate::World;
-use crate::member::{Member, Rising, keep_down, rise};
+use crate::member::{Rising, keep_down, rise};
 use crate::saving::reopen_at;
 use ficus_disk::{Disk, Pair};
+use ficus_durable_state::Saved;
 use ficus_ids::Refusal;
-use ficus_keep::{Keep, StoreFault};
+use ficus_keeper::{Keep, StoreFault};
 use ficus_model::{Event, History};
+use ficus_opening::Member;
 use ficus_outside::Link;
-use ficus_saved::Saved;
 use ficus_script::Answer;
 use std::alloc::Global;
 

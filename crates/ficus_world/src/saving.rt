@@ -2,10 +2,10 @@
 ghost use Rattle.std.specs.Prelude.{◌≡◌, ℕ, ◌<◌, ◌-◌, [], ◌∷◌, List, length, slice_set, IfOk, IsErrOf, OnOk};
 ghost use Rattle.ficus_disk.specs.declared.pair.Pair.{Pair as PairValue};
 ghost use Rattle.ficus_ids.specs.Members.{IsMember};
-ghost use Rattle.ficus_keep.specs.declared.fault.StoreFault.TheVariants.{Failed as StoreFailed};
-ghost use Rattle.ficus_saved.specs.Saved.{FitsImage};
-ghost use Rattle.ficus_stable.specs.Stable.{MayFollow};
-ghost use Rattle.ficus_stable.specs.declared.stable.Stable.{Stable as StableValue};
+ghost use Rattle.ficus_keeper.specs.declared.fault.StoreFault.TheVariants.{Failed as StoreFailed};
+ghost use Rattle.ficus_durable_state.specs.Saved.{FitsImage};
+ghost use Rattle.ficus_stable_storage.specs.Stable.{MayFollow};
+ghost use Rattle.ficus_stable_storage.specs.declared.stable.Stable.{Stable as StableValue};
 ghost use Rattle.ficus_runs.specs.Numbered.{IsNumbered};
 ghost use Rattle.ficus_runs.specs.Fuses.{FuseState, with_fuses};
 ghost use Rattle.ficus_runs.specs.Outcome.{IsArmed, IsOpened, OpeningFails};
@@ -13,16 +13,17 @@ ghost use Rattle.ficus_world.specs.Disks.{DisksComeTo, DisksFollow, DisksReopen,
 ghost use Rattle.ficus_world.specs.Acts.{StaysAt};
 ghost use Rattle.ficus_world.specs.Fuses.{FusesStand, IsReadBy, at_rest};
 ghost use Rattle.ficus_world.specs.Moves.{restarted};
-ghost use Rattle.ficus_world.specs.declared.member.Member.{Member as MemberValue};
-ghost use Rattle.ficus_world.specs.declared.member.MemberState.TheVariants.{Up as IsUp};
-ghost use Rattle.ficus_world.specs.Kills.{AreLeft, RestsAt, SavesOn};
+ghost use Rattle.ficus_opening.specs.declared.member.Member.{Member as MemberValue};
+ghost use Rattle.ficus_opening.specs.declared.member.MemberState.TheVariants.{Up as IsUp};
+ghost use Rattle.ficus_opening.specs.Rests.{AreLeft, RestsAt};
+ghost use Rattle.ficus_world.specs.Kills.{SavesOn};
 
 use ficus_disk::{Disk, Pair};
+use ficus_durable_state::Saved;
 use ficus_faults::Failed;
 use ficus_ids::Memory;
-use ficus_keep::{Keep, StoreFault};
-use ficus_saved::Saved;
-use ficus_stable::{Stable, one_saved};
+use ficus_keeper::{Keep, StoreFault};
+use ficus_stable_storage::{Stable, one_saved};
 use std::alloc::Global;
 
 /// Takes all memory for what a member saves next, by what is noted of its event. What the disks hold is as before,

@@ -1,9 +1,9 @@
-ghost use Rattle.ficus_world.specs.Disks.{AreDisksOf};
+ghost use Rattle.ficus_opening.specs.Disks.{AreDisksOf};
 ghost use Rattle.ficus_world.specs.Kills.{IsSettled};
 
 use crate::World;
 use ficus_disk::{Disk, Pair};
-use ficus_keep::Keep;
+use ficus_keeper::Keep;
 use ficus_outside::Link;
 
 impl<K: Keep + Drop, L: Link + Drop> World<K, L> {

@@ -1,13 +1,13 @@
 ghost use Rattle.std.specs.Prelude.{◌≡◌, ◌↔◌, length, IsSome, IfSome};
 
 use crate::group::Group;
+use ficus_durable_state::{BYTE_LIMIT, UPDATE_LIMIT};
 use ficus_ids::Members;
-use ficus_keep::Keep;
+use ficus_keeper::Keep;
 use ficus_model::History;
 use ficus_outside::Link;
 use ficus_replica::Replica;
-use ficus_saved::{BYTE_LIMIT, UPDATE_LIMIT};
-use ficus_stable::Stable;
+use ficus_stable_storage::Stable;
 use std::marker::Model;
 
 /// The most updates of one replica over its life, where nothing else is said.

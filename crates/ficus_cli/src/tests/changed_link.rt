@@ -3,8 +3,9 @@ ghost use Rattle.std.specs.Prelude.{◌≡◌, ◌+◌, ◌-◌, ◌^◌, ◌<�
 ghost use Rattle.ficus_faults.specs.Faults.{Rose};
 ghost use Rattle.ficus_outside.specs.Link.{LinkState, OnFailed, OnMemory};
 
+use ficus_faults::Failed;
 use ficus_ids::Memory;
-use ficus_outside::{Failed, FetchFault, Link, MemLink};
+use ficus_outside::{FetchFault, Link, MemLink};
 use std::alloc::Global;
 use std::marker::Model;
 

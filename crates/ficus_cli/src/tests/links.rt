@@ -9,7 +9,7 @@ use crate::tests::disks::pairs;
 use ficus_disk::{Disk, FailDisk, Pair};
 use ficus_ids::Members;
 use ficus_journal::Journal;
-use ficus_keep::Keep;
+use ficus_keeper::Keep;
 use ficus_outside::{FailLink, Link, MemLink, MemSink};
 use ficus_script::read_script;
 use ficus_top::serve;

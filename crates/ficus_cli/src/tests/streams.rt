@@ -1,9 +1,9 @@
 // Words and scripts that are refused, and sources and sinks that fail.
 use crate::tests::calls::{Call, DONE, Ended, answers_of, ended_where, ends_so};
 use crate::tests::disks::fused_pairs;
+use ficus_opening::WorldFault;
 use ficus_script::ScriptFault;
 use ficus_top::Status;
-use ficus_world::WorldFault;
 use std::alloc::{AllocError, Global};
 use std::test::Fail;
 

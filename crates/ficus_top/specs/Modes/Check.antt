@@ -7,11 +7,11 @@ use Rattle.ficus_disk.specs.declared.disk.Disk.{Ghosts as Disk}
 use Rattle.ficus_disk.specs.declared.pair.Pair.{Pair}
 use Rattle.ficus_summary.specs.Keeper.{kept_in}
 use Rattle.ficus_runs.specs.Numbered.{IsNumbered}
-use Rattle.ficus_serving.specs.Puts.{PutsFront}
-use Rattle.ficus_world.specs.Kills.{AllRest}
-use Rattle.ficus_world.specs.Opening.{IsAtFault, SeenSame, Steady}
-use Rattle.ficus_world.specs.declared.opening.WorldFault.{WorldFault}
-use Rattle.ficus_world.specs.declared.opening.WorldFault.TheVariants.{Image, Memory, Occupied, Store}
+use Rattle.ficus_loop.specs.Puts.{PutsFront}
+use Rattle.ficus_opening.specs.Rests.{AllRest}
+use Rattle.ficus_opening.specs.Opening.{IsAtFault, SeenSame, Steady}
+use Rattle.ficus_opening.specs.declared.fault.WorldFault.{WorldFault}
+use Rattle.ficus_opening.specs.declared.fault.WorldFault.TheVariants.{Image, Memory, Occupied, Store}
 use Rattle.ficus_top.specs.Ends.{NoneFailed}
 use Rattle.ficus_top.specs.Seen.{Seen, SinkFailed, disks_after, disks_before, put_after, put_before}
 use Rattle.ficus_top.specs.declared.status.Status.{Status}

@@ -2,8 +2,8 @@
 use Rattle.std.specs.Prelude.{◌≡◌, ◌≢◌, ◌⊎◌, ◌≤◌, ℕ, []}
 use Rattle.ficus_summary.specs.Keeper.{kept_in}
 use Rattle.ficus_words.specs.declared.mode.Size.{Size}
-use Rattle.ficus_world.specs.Kills.{OthersStay}
-use Rattle.ficus_world.specs.Opening.{AreEmpty, AreMadeInPart, AreSynced, StandsOn, Steady}
+use Rattle.ficus_opening.specs.Rests.{OthersStay}
+use Rattle.ficus_opening.specs.Opening.{AreEmpty, AreMadeInPart, AreSynced, StandsOn, Steady}
 use Rattle.ficus_top.specs.Ends.{NoneFailed}
 use Rattle.ficus_top.specs.Making.{MakesVolume, volume_of}
 use Rattle.ficus_top.specs.Seen.{Seen, disks_before, disks_after}

@@ -2,9 +2,9 @@
 use Rattle.std.specs.Prelude.{◌≡◌, ◌≢◌, ◌⊎◌, ◌≤◌, ℕ, []}
 use Rattle.ficus_summary.specs.Keeper.{kept_in}
 use Rattle.ficus_words.specs.declared.mode.Size.{Size}
-use Rattle.ficus_world.specs.Fuses.{AreUnarmed}
-use Rattle.ficus_world.specs.Kills.{OthersRest}
-use Rattle.ficus_world.specs.Opening.{AreEmpty, AreMadeInPart, AreSynced, Steady}
+use Rattle.ficus_opening.specs.Fuses.{AreUnarmed}
+use Rattle.ficus_opening.specs.Rests.{OthersRest}
+use Rattle.ficus_opening.specs.Opening.{AreEmpty, AreMadeInPart, AreSynced, Steady}
 use Rattle.ficus_top.specs.Ends.{NoneFailed}
 use Rattle.ficus_top.specs.Making.{MakesVolume, volume_of}
 use Rattle.ficus_top.specs.Script.{AnswersScript, HasScript, ReadsScript}

@@ -1,6 +1,6 @@
 use Rattle.std.proofs.Common.{◌≡◌, Err, ap}
 use Rattle.std.proofs.lemmas.Result.{err_from_is_err_and}
-use Rattle.ficus_keep.specs.declared.fault.StoreFault.TheVariants.{NoImage}
+use Rattle.ficus_keeper.specs.declared.fault.StoreFault.TheVariants.{NoImage}
 use Rattle.ficus_check.proofs.Owning.{none_own}
 use Rattle.ficus_check.proofs.own.open_own.Goals as goal
 

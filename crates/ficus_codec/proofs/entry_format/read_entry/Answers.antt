@@ -2,7 +2,7 @@ use Rattle.std.specs.Prelude.{IsTrue, false}
 use Rattle.ficus_formats.proofs.Reading.{passed, fails-meeting, fails-unmet}
 use Rattle.ficus_codec.specs.Formats.{entry, entry_fields}
 use Rattle.ficus_codec.specs.FormatsUnique.{entry_narrows, unique-entry_fields}
-use Rattle.ficus_saved.specs.Tables.{FitsEntry}
+use Rattle.ficus_durable_state.specs.Tables.{FitsEntry}
 use Rattle.ficus_codec.proofs.entry_format.read_entry.Goals as goal
 
 pub returns-in_err-entry-clause-reads : goal.returns-in_err-entry-clause-reads

@@ -1,6 +1,6 @@
 use Rattle.std.proofs.Common.{◌≡◌, ap, arith, rules}
-use Rattle.ficus_vv.specs.Vector.{count_of}
-use Rattle.ficus_vv.specs.VectorLaws.{count_of-none}
+use Rattle.ficus_vectors.specs.Vector.{count_of}
+use Rattle.ficus_vectors.specs.VectorLaws.{count_of-none}
 use Rattle.ficus_file.proofs.file.first.Goals as goal
 
 pub unreachable-requires : goal.unreachable-requires

@@ -1,6 +1,6 @@
 use Rattle.std.proofs.Common.{◌≡◌, sym, ap, ◌∙◌}
-use Rattle.ficus_vv.specs.Vector.{join}
-use Rattle.ficus_vv.specs.VectorLaws.{join_with_none}
+use Rattle.ficus_vectors.specs.Vector.{join}
+use Rattle.ficus_vectors.specs.VectorLaws.{join_with_none}
 use Rattle.ficus_file.proofs.Joined.{joined_step}
 use Rattle.ficus_file.proofs.versions.joined.Goals as goal
 

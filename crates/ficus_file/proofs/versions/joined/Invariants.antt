@@ -1,5 +1,5 @@
 use Rattle.std.proofs.Common.{◌≡◌, take}
-use Rattle.ficus_vv.specs.Vector.{join}
+use Rattle.ficus_vectors.specs.Vector.{join}
 use Rattle.ficus_file.specs.Version.{join_all}
 use Rattle.ficus_file.proofs.versions.joined.Given as goal
 

@@ -1,6 +1,6 @@
 use Rattle.std.proofs.Common.{refl, ◌∙◌, arith}
 use Rattle.std.proofs.lemmas.Result.{err_from_is_err_and}
-use Rattle.ficus_serving.proofs.Faults.{untold}
+use Rattle.ficus_loop.proofs.Faults.{untold}
 use Rattle.ficus_graft.proofs.LinesServed.{front_next, lines_more, lines_none, told_at}
 use Rattle.ficus_graft.proofs.answering.answer_lines.Goals as goal
 

@@ -6,7 +6,7 @@ use Rattle.std.proofs.lemmas.Bool.{false≢true}
 use Rattle.ficus_file.proofs.Changed.{contains_at}
 use Rattle.ficus_file.specs.declared.file.FileReplica.{FileReplica}
 use Rattle.ficus_ids.specs.declared.kind.Kind.TheVariants.{Symlink}
-use Rattle.ficus_saved.proofs.AllRows.{all_more}
+use Rattle.ficus_durable_state.proofs.AllRows.{all_more}
 use Rattle.ficus_image.proofs.decoding.are_no_links.Goals as goal
 
 -- it is no symbolic link

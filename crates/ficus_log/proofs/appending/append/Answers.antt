@@ -1,8 +1,8 @@
 use Rattle.std.proofs.Common.{◌≡◌, inl, sym, ◌∙◌, ap, length, true, false, arith}
 use Rattle.ficus_disk.specs.Fuse.{pick_of}
-use Rattle.ficus_keep.specs.Fuses.{is_found, lasts}
-use Rattle.ficus_keep.proofs.Moments.{joined, spans_join, weaker}
-use Rattle.ficus_keep.proofs.Results.{in_err, in_ok, on_err}
+use Rattle.ficus_keeper.specs.Fuses.{is_found, lasts}
+use Rattle.ficus_keeper.proofs.Moments.{joined, spans_join, weaker}
+use Rattle.ficus_keeper.proofs.Results.{in_err, in_ok, on_err}
 use Rattle.ficus_log.specs.Appending.{Appends}
 use Rattle.ficus_log.proofs.Burning.{four_calls}
 use Rattle.ficus_log.proofs.Behind.{early, first_done, first_step, late, reaches, second_done, second_pick, second_step, waits_at}

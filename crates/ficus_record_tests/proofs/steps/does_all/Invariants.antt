@@ -1,4 +1,4 @@
-use Rattle.ficus_saved.specs.Saved.{FitsImage}
+use Rattle.ficus_durable_state.specs.Saved.{FitsImage}
 use Rattle.ficus_record_tests.proofs.steps.does_all.Given as goal
 
 abbrev pub invariant-loop-command : goal.invariant-loop-command

@@ -1,6 +1,6 @@
 use Rattle.std.proofs.Common.{◌≡◌, ◌+◌, ◌++◌, ◌∷◌, arith, rules}
 use Rattle.std.specs.Fmt.{decimal}
-use Rattle.ficus_vv.specs.Vector.{count_of}
+use Rattle.ficus_vectors.specs.Vector.{count_of}
 use Rattle.ficus_script.proofs.VectorTexts.{count_text, more_written, all_written, more_counts}
 use Rattle.ficus_script.proofs.writing.append_vector.Goals as goal
 

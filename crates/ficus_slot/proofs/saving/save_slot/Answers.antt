@@ -1,8 +1,8 @@
 use Rattle.std.proofs.Common.{◌≡◌, inl, sym, ◌∙◌, ap, ◌^◌, ◌<◌, List, ℕ, length, true, false, arith}
 use Rattle.ficus_disk.specs.Fuse.{pick_of}
-use Rattle.ficus_keep.specs.Fuses.{after_calls, is_found, lasts}
-use Rattle.ficus_keep.proofs.Moments.{joined, spans_join}
-use Rattle.ficus_keep.proofs.Results.{in_err, in_ok, on_err}
+use Rattle.ficus_keeper.specs.Fuses.{after_calls, is_found, lasts}
+use Rattle.ficus_keeper.proofs.Moments.{joined, spans_join}
+use Rattle.ficus_keeper.proofs.Results.{in_err, in_ok, on_err}
 use Rattle.ficus_slot.specs.Slot.{Saved}
 use Rattle.ficus_slot.specs.Stays.{Stays}
 use Rattle.ficus_slot.proofs.Burning.{six_calls}

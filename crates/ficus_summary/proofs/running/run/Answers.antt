@@ -3,7 +3,7 @@ use Rattle.ficus_runs.specs.Start.{default_volume}
 use Rattle.ficus_summary.specs.Keeper.{keeper}
 use Rattle.ficus_summary.specs.Summary.{fresh_start}
 use Rattle.ficus_world.specs.Fuses.{at_rest}
-use Rattle.ficus_serving.proofs.Places.{tells_all}
+use Rattle.ficus_loop.proofs.Places.{tells_all}
 use Rattle.ficus_summary.proofs.Runs.{counted_as, fresh_few, stored_more}
 use Rattle.ficus_summary.proofs.running.run.Goals as goal
 

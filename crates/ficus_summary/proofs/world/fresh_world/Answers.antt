@@ -3,7 +3,7 @@ use Rattle.std.specs.Prelude.{IfOk}
 use Rattle.ficus_runs.specs.Start.{start}
 use Rattle.ficus_summary.specs.Sized.{sized}
 use Rattle.ficus_world.specs.World.{WorldStandsFor}
-use Rattle.ficus_serving.proofs.Places.{fuses_same}
+use Rattle.ficus_loop.proofs.Places.{fuses_same}
 use Rattle.ficus_summary.proofs.world.fresh_world.Goals as goal
 
 pub returns-clause-stands : goal.returns-clause-stands

@@ -1,5 +1,5 @@
 use Rattle.std.proofs.Common.{Err, ap}
-use Rattle.ficus_serving.proofs.Places.{not_occupied}
+use Rattle.ficus_loop.proofs.Places.{not_occupied}
 use Rattle.ficus_summary.proofs.Worlds.{memory_alone}
 use Rattle.ficus_summary.proofs.world.make.Goals as goal
 

@@ -2,8 +2,8 @@ use Rattle.std.proofs.Common.{◌≡◌, ℕ, [], Err, length, take, ap, arith, 
 use Rattle.ficus_runs.specs.Start.{start}
 use Rattle.ficus_summary.specs.Sized.{sized}
 use Rattle.ficus_summary.specs.Keeper.{IsRegular, keeper}
-use Rattle.ficus_world.specs.Fuses.{AreRegular}
-use Rattle.ficus_world.specs.Opening.{fuses_in}
+use Rattle.ficus_opening.specs.Fuses.{AreRegular}
+use Rattle.ficus_opening.specs.Opening.{fuses_in}
 use Rattle.ficus_world.specs.World.{WorldStandsFor}
 use Rattle.ficus_summary.proofs.Worlds.{fresh_at_rest, memory_alone}
 use Rattle.ficus_summary.proofs.world.open.Goals as goal

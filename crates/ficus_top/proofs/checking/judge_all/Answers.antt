@@ -2,7 +2,7 @@ use Rattle.std.proofs.Common.{ℕ, ◌+◌, sym, subst, ◌∙◌}
 use Rattle.std.specs.Prelude.{slice_set}
 use Rattle.std.proofs.lemmas.List.{length-set}
 use Rattle.std.proofs.lemmas.Result.{err_from_is_err_and}
-use Rattle.ficus_world.proofs.Steadies.{steady_trans}
+use Rattle.ficus_opening.proofs.Steadies.{steady_trans}
 use Rattle.ficus_top.proofs.Judging.{AreJudgedSo, fails_behind, fails_of, judged_more, unwritten_then}
 use Rattle.ficus_top.proofs.checking.judge_all.Goals as goal
 

@@ -1,5 +1,5 @@
 use Rattle.std.proofs.Common.{◌≡◌, ◌≤◌, length}
-use Rattle.ficus_world.specs.Opening.{Steady}
+use Rattle.ficus_opening.specs.Opening.{Steady}
 use Rattle.ficus_top.specs.Modes.Check.{StaysUnwritten}
 use Rattle.ficus_top.proofs.Judging.{AreJudgedSo}
 use Rattle.ficus_top.proofs.checking.judge_all.Given as goal

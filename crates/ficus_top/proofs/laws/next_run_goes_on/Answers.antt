@@ -1,4 +1,4 @@
-use Rattle.ficus_serving.proofs.KilledDisks.{left_disks}
+use Rattle.ficus_loop.proofs.KilledDisks.{left_disks}
 use Rattle.ficus_summary.specs.Keeper.{kept_in}
 use Rattle.ficus_top.proofs.KilledRuns.{kept_stands}
 use Rattle.ficus_top.proofs.NextRuns.{stands_left, stands_next}

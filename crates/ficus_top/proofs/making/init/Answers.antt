@@ -1,5 +1,5 @@
 use Rattle.std.proofs.lemmas.Result.{err_from_is_err_and}
-use Rattle.ficus_world.specs.declared.opening.WorldFault.TheVariants.{Occupied, Store}
+use Rattle.ficus_opening.specs.declared.fault.WorldFault.TheVariants.{Occupied, Store}
 use Rattle.ficus_top.proofs.Stored.{handed_on, told_on}
 use Rattle.ficus_top.proofs.making.init.Goals as goal
 

@@ -1,6 +1,6 @@
 use Rattle.std.proofs.Common.{refl, sym, arith}
 use Rattle.std.proofs.lemmas.Result.{on_ok_weaker, IfErr-weaker}
-use Rattle.ficus_serving.proofs.Places.{tells_all}
+use Rattle.ficus_loop.proofs.Places.{tells_all}
 use Rattle.ficus_top.proofs.Ends.{front_ends, front_on, served_ends, served_on}
 use Rattle.ficus_top.proofs.running.answer_on.Goals as goal
 

@@ -1,12 +1,12 @@
 use Rattle.std.proofs.Common.{[], subst, ◌∙◌, arith}
 use Rattle.std.proofs.lemmas.Result.{IfErr-weaker, err_from_is_err_and, on_ok_weaker}
-use Rattle.ficus_world.specs.declared.opening.WorldFault.TheVariants.{Occupied, Store}
-use Rattle.ficus_world.specs.Kills.{OthersRest}
-use Rattle.ficus_world.proofs.Kills.{all_rest_none}
-use Rattle.ficus_world.proofs.Making.{made_rests, none_in_part}
-use Rattle.ficus_world.proofs.OpenedWorlds.{first_opens}
-use Rattle.ficus_world.proofs.Others.{all_others_rest, others_rest_then, stay_rests}
-use Rattle.ficus_world.proofs.Steadies.{fault_behind, steady_none, steady_trans}
+use Rattle.ficus_opening.specs.declared.fault.WorldFault.TheVariants.{Occupied, Store}
+use Rattle.ficus_opening.specs.Rests.{OthersRest}
+use Rattle.ficus_opening.proofs.Rests.{all_rest_none}
+use Rattle.ficus_opening.proofs.Made.{made_rests, none_in_part}
+use Rattle.ficus_opening.proofs.Stand.{first_opens}
+use Rattle.ficus_opening.proofs.Others.{all_others_rest, others_rest_then, stay_rests}
+use Rattle.ficus_opening.proofs.Steadies.{fault_behind, steady_none, steady_trans}
 use Rattle.ficus_summary.specs.Keeper.{kept_in}
 use Rattle.ficus_top.specs.Making.{volume_of}
 use Rattle.ficus_top.proofs.Answering.{answers_of, front_of}

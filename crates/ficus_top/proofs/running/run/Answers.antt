@@ -1,6 +1,6 @@
 use Rattle.std.proofs.lemmas.Result.{IfErr-weaker, err_from_is_err_and, on_ok_weaker}
-use Rattle.ficus_world.proofs.Kills.{all_rest_none}
-use Rattle.ficus_world.proofs.Others.{all_others_rest}
+use Rattle.ficus_opening.proofs.Rests.{all_rest_none}
+use Rattle.ficus_opening.proofs.Others.{all_others_rest}
 use Rattle.ficus_top.proofs.Answering.{answers_of, front_of}
 use Rattle.ficus_top.proofs.Kills.{killed_answers, killed_front}
 use Rattle.ficus_top.proofs.running.run.Goals as goal

@@ -5,15 +5,15 @@ use Rattle.std.proofs.lemmas.List.FromFn.{length-range_with_len}
 use Rattle.std.proofs.lemmas.Result.{err_from_is_err_and}
 use Rattle.ficus_model.specs.declared.event.Event.TheVariants.{Restart}
 use Rattle.ficus_run_laws.proofs.Up.{up_first}
-use Rattle.ficus_serving.specs.declared.fault.AnsweringFault.{AnsweringFault}
+use Rattle.ficus_loop.specs.declared.fault.AnsweringFault.{AnsweringFault}
 use Rattle.ficus_top.specs.declared.fault.Fault.TheVariants.{Answering}
-use Rattle.ficus_world.specs.Kills.{OthersStay}
-use Rattle.ficus_world.specs.declared.opening.WorldFault.TheVariants.{Image, Store}
-use Rattle.ficus_world.proofs.Others.{all_others_rest, others_then, stay_rests}
+use Rattle.ficus_opening.specs.Rests.{OthersStay}
+use Rattle.ficus_opening.specs.declared.fault.WorldFault.TheVariants.{Image, Store}
+use Rattle.ficus_opening.proofs.Others.{all_others_rest, others_then, stay_rests}
 use Rattle.ficus_top.proofs.Ends.{ends_behind, front_ends_behind, front_ends_where, opened_stands}
 use Rattle.ficus_top.proofs.Resting.{rests_open}
 use Rattle.ficus_top.proofs.Stored.{handed_on, told_on}
-use Rattle.ficus_serving.proofs.Opening.{opened_neighbours}
+use Rattle.ficus_loop.proofs.Opening.{opened_neighbours}
 use Rattle.ficus_summary.specs.Keeper.{kept_in}
 use Rattle.ficus_top.specs.Headline.{fuses_of}
 use Rattle.ficus_top.proofs.Kills.{front_killed_from, killed_from}

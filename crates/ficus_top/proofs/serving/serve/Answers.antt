@@ -1,10 +1,10 @@
 use Rattle.std.proofs.Common.{◌≡◌, Err, ap, ◌∙◌}
 use Rattle.ficus_top.specs.Status.{code_of}
-use Rattle.ficus_serving.specs.declared.fault.AnsweringFault.{AnsweringFault}
-use Rattle.ficus_serving.specs.declared.fault.AnsweringFault.TheVariants.{Memory}
+use Rattle.ficus_loop.specs.declared.fault.AnsweringFault.{AnsweringFault}
+use Rattle.ficus_loop.specs.declared.fault.AnsweringFault.TheVariants.{Memory}
 use Rattle.ficus_top.specs.declared.fault.Fault.TheVariants.{Answering}
 use Rattle.ficus_top.specs.declared.status.Status.{Status}
-use Rattle.ficus_serving.proofs.Serves.{world_front_where}
+use Rattle.ficus_loop.proofs.Serves.{world_front_where}
 use Rattle.ficus_top.proofs.serving.serve.Goals as goal
 
 -- want of memory is told by its code

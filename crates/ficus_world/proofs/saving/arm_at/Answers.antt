@@ -1,10 +1,9 @@
-use Rattle.std.proofs.Common.{sym}
+use Rattle.std.proofs.Common.{sym, refl}
 use Rattle.ficus_run_laws.proofs.Numbers.{number_read}
 use Rattle.ficus_world.proofs.Disks.{rose_none}
 use Rattle.ficus_world.proofs.Fuses.{fuses_armed}
 use Rattle.ficus_world.proofs.Saves.{disks_armed, pair_armed}
-use Rattle.std.proofs.Common.{refl}
-use Rattle.ficus_world.proofs.Kills.{rests_calls}
+use Rattle.ficus_opening.proofs.Rests.{rests_calls}
 use Rattle.ficus_world.proofs.saving.arm_at.Goals as goal
 
 pub returns-clause-disks : goal.returns-clause-disks

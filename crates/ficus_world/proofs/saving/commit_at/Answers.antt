@@ -1,5 +1,5 @@
 use Rattle.std.proofs.Common.{◌+◌, sym, refl, ap, ◌∙◌}
-use Rattle.ficus_keep.specs.Kept.{found_in}
+use Rattle.ficus_keeper.specs.Kept.{found_in}
 use Rattle.ficus_leads.specs.Holds.{Holds}
 use Rattle.ficus_leads.proofs.Led.{led_next}
 use Rattle.ficus_run_laws.proofs.Numbers.{number_read}

@@ -1,12 +1,12 @@
 use Rattle.std.proofs.Common.{◌≡◌, ◌+◌, ◌-◌, Err, ap, sym, refl, subst, arith}
 use Rattle.ficus_runs.specs.Numbered.{IsNumbered}
-use Rattle.ficus_keep.specs.declared.fault.StoreFault.TheVariants.{Failed}
+use Rattle.ficus_keeper.specs.declared.fault.StoreFault.TheVariants.{Failed}
 use Rattle.ficus_world.proofs.Disks.{follows_at}
 use Rattle.ficus_run_laws.proofs.Numbers.{number_exists, number_read}
 use Rattle.ficus_world.proofs.Fuses.{fuses_read}
 use Rattle.ficus_world.proofs.Saves.{disks_not_read, disks_read, opening_failed, read_is, some_image}
-use Rattle.ficus_world.proofs.Others.{left_one}
-use Rattle.ficus_world.proofs.Kills.{rests_pair}
+use Rattle.ficus_opening.proofs.Others.{left_one}
+use Rattle.ficus_opening.proofs.Rests.{rests_pair}
 use Rattle.ficus_world.proofs.saving.reopen_at.Goals as goal
 
 pub returns-in-Ok-clause-read : goal.returns-in-Ok-clause-read

@@ -1,5 +1,5 @@
 use Rattle.std.proofs.Common.{◌≡◌, ap, arith, rules}
-use Rattle.ficus_vv.specs.Vector.{count_of, bump}
+use Rattle.ficus_vectors.specs.Vector.{count_of, bump}
 use Rattle.ficus_file.proofs.Joined.{joined_from_none}
 use Rattle.ficus_file.proofs.file.FileReplica.advanced.Goals as goal
 

@@ -1,5 +1,5 @@
 use Rattle.std.proofs.Common.{ℕ, ◌<◌, get_or}
-use Rattle.ficus_vv.specs.Vector.{Covers}
+use Rattle.ficus_vectors.specs.Vector.{Covers}
 use Rattle.ficus_file.specs.declared.version.Version.{Version}
 use Rattle.ficus_file.proofs.file.FileReplica.uncovered.Given as goal
 

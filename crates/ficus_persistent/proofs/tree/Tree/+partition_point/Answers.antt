@@ -1,53 +1,65 @@
-use Rattle.std.proofs.Common.{◌≡◌, ◌∷◌, ◌++◌, true, false, arith}
-use Rattle.ficus_persistent.proofs.Sides.{long, left_parted, right_parted, cut_left, cut_right}
+use Rattle.std.proofs.Common.{◌≡◌, ◌+◌, length, arith}
+use Rattle.std.proofs.lemmas.Grind.{common_steps}
+use Rattle.ficus_persistent.proofs.Cuts.{parted_in, cut_in_row}
+use Rattle.ficus_persistent.proofs.Rows.{below_at, length-joined_more, length_in_front}
+use Rattle.ficus_persistent.specs.Shape.{joined, AreBelow}
 use Rattle.ficus_persistent.proofs.tree.Tree.+partition_point.Goals as goal
+
+pub count_of-before-requires : goal.count_of-before-requires
+count_of-before-requires g t c =
+    let row = c.as_slice-below.result.now in
+    let is : c.args.self.now.items ≡ joined row = grind arith in
+    grind (arith, length_in_front row c.cut_through-child.result, is)
 
 pub partition_point-requires : goal.partition_point-requires
 partition_point-requires g t c κs within =
-    let b = c.as_ref-branch.result.now in
-    let e : c.args.self.now.items ≡ b.left.items ++ b.item ∷ b.right.items = grind arith in (
-      grind (arith, e, long b.left.items b.item b.right.items),
+    let row = c.as_slice-below.result.now in
+    let is : c.args.self.now.items ≡ joined row = grind arith in
+    let i = c.cut_through-child.result in (
+      grind (arith, common_steps),
       (
         within.0,
         (
           within.1,
-          right_parted b.left.items b.item b.right.items (g.C.Cut.is_before c.args.cut.now)
-              (rw e at c.requires),
+          rw c.index-below-child.is
+              (parted_in (g.C.Cut.is_before c.args.cut.now) row (rw is at c.requires) i c.index-below-child.result (omega arith)),
         ),
       ),
     )
 
-pub partition_point-requires-else-is_before : goal.partition_point-requires-else-is_before
-partition_point-requires-else-is_before g t c κs within =
-    let b = c.as_ref-branch.result.now in
-    let e : c.args.self.now.items ≡ b.left.items ++ b.item ∷ b.right.items = grind arith in (
-      grind (arith, e, long b.left.items b.item b.right.items),
-      (
-        within.0,
-        (
-          within.1,
-          left_parted b.left.items b.item b.right.items (g.C.Cut.is_before c.args.cut.now)
-              (rw e at c.requires),
-        ),
-      ),
+pub overflow_add-result : goal.overflow_add-result
+overflow_add-result g t c =
+    let row = c.as_slice-below.result.now in
+    let is : c.args.self.now.items ≡ joined row = grind arith in
+    let i = c.cut_through-child.result in
+    grind (
+      arith,
+      length-joined_more row i c.index-below-child.result c.cut_through-child.ensures.child,
+      length_in_front row (i + 1),
+      c.index-below-child.is,
+      is,
     )
 
-pub returns-then-is_before-clause-point : goal.returns-then-is_before-clause-point
-returns-then-is_before-clause-point g t c =
-    let b = c.as_ref-branch.result.now in
-    let e : c.args.self.now.items ≡ b.left.items ++ b.item ∷ b.right.items = grind arith in
-    let passes : g.C.Cut.is_before c.args.cut.now b.item ≡ true =
-    cc (c.is_before-in-Fork.ensures, c.if-is_before.true) in
-    rw (e, c.len.ensures)
-    (cut_right b.left.items b.item b.right.items (g.C.Cut.is_before c.args.cut.now)
-    (rw e at c.requires) c.partition_point.result passes c.partition_point.ensures.point)
+pub returns-in-Fork-clause-within : goal.returns-in-Fork-clause-within
+returns-in-Fork-clause-within g t c =
+    let row = c.as_slice-below.result.now in
+    let is : c.args.self.now.items ≡ joined row = grind arith in
+    let i = c.cut_through-child.result in
+    grind (
+      arith,
+      length-joined_more row i c.index-below-child.result c.cut_through-child.ensures.child,
+      length_in_front row (i + 1),
+      c.index-below-child.is,
+      is,
+    )
 
-pub returns-else-is_before-clause-point : goal.returns-else-is_before-clause-point
-returns-else-is_before-clause-point g t c =
-    let b = c.as_ref-branch.result.now in
-    let e : c.args.self.now.items ≡ b.left.items ++ b.item ∷ b.right.items = grind arith in
-    let i = c.partition_point-else-is_before in
-    let fails : g.C.Cut.is_before c.args.cut.now b.item ≡ false =
-    cc (c.is_before-in-Fork.ensures, c.if-is_before.false) in
-    rw e (cut_left b.left.items b.item b.right.items (g.C.Cut.is_before c.args.cut.now)
-    (rw e at c.requires) i.result i.ensures.within fails i.ensures.point)
+pub returns-in-Fork-clause-point : goal.returns-in-Fork-clause-point
+returns-in-Fork-clause-point g t c =
+    let row = c.as_slice-below.result.now in
+    let is : c.args.self.now.items ≡ joined row = grind arith in
+    let through = c.cut_through-child in
+    rw is
+    (cut_in_row (g.C.Cut.is_before c.args.cut.now) row (rw is at c.requires) through.result c.index-below-child.result
+    (omega arith) c.partition_point.result (c.count_of-before.result + c.partition_point.result) (grind arith)
+    (rw (← c.index-below-child.is) c.partition_point.ensures.within) through.ensures.front through.ensures.back
+    (rw (← c.index-below-child.is) c.partition_point.ensures.point))

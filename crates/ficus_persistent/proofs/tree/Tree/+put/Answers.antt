@@ -1,16 +1,15 @@
-use Rattle.std.proofs.Common.{arith}
+use Rattle.std.proofs.Common.{◌≡◌, ◌∙◌, length, arith, ap}
 use Rattle.std.proofs.lemmas.Result.{IfOk-weaker}
-use Rattle.ficus_persistent.proofs.Around.{set_in_left, set_in_middle, set_in_right}
+use Rattle.ficus_persistent.proofs.Rows.{set_in}
+use Rattle.ficus_persistent.specs.Shape.{joined}
 use Rattle.ficus_persistent.proofs.tree.Tree.+put.Goals as goal
 
-pub returns-in_ok-left-in-Fork-clause-items : goal.returns-in_ok-left-in-Fork-clause-items
-returns-in_ok-left-in-Fork-clause-items g t c =
-    IfOk-weaker c.with_left.result _ _ (λ tree is. grind (arith, set_in_left)) c.with_left.ensures.items
-
-pub returns-then-index-before-2-clause-items : goal.returns-then-index-before-2-clause-items
-returns-then-index-before-2-clause-items g t c =
-    IfOk-weaker c.with_item.result _ _ (λ tree is. grind (arith, set_in_middle)) c.with_item.ensures
-
-pub returns-in_ok-right-in-Fork-clause-items : goal.returns-in_ok-right-in-Fork-clause-items
-returns-in_ok-right-in-Fork-clause-items g t c =
-    IfOk-weaker c.with_right.result _ _ (λ tree is. grind (arith, set_in_right)) c.with_right.ensures.items
+pub returns-in_ok-row-in-Fork-clause-items : goal.returns-in_ok-row-in-Fork-clause-items
+returns-in_ok-row-in-Fork-clause-items g t c =
+    let row = c.as_slice-below.result.now in
+    let whole : c.args.self.now.items ≡ joined row = grind arith in
+    let place = c.locate-place in
+    IfOk-weaker c.fork.result _ _
+    (λ tree is. rw whole (is ∙ (ap joined c.in_ok-row-in-Fork.ensures ∙
+    set_in row place.result.child c.index-below-place.result (grind arith) place.result.index c.args.index (grind arith)
+    (grind arith) _ c.args.item (grind arith)))) c.fork.ensures.items

@@ -1,21 +1,15 @@
-use Rattle.std.proofs.Common.{arith, append-nil}
+use Rattle.std.proofs.Common.{◌≡◌, ◌∙◌, length, arith, ap}
 use Rattle.std.proofs.lemmas.Result.{IfOk-weaker}
-use Rattle.ficus_persistent.proofs.Around.{remove_in_left, remove_in_right, remove_in_middle}
+use Rattle.ficus_persistent.proofs.Rows.{remove_in}
+use Rattle.ficus_persistent.specs.Shape.{joined}
 use Rattle.ficus_persistent.proofs.tree.Tree.+remove.Goals as goal
 
-pub returns-in_ok-right-in-Fork-clause-items : goal.returns-in_ok-right-in-Fork-clause-items
-returns-in_ok-right-in-Fork-clause-items g t c =
-    IfOk-weaker c.with_right.result _ _ (λ tree is. grind (arith, remove_in_right)) c.with_right.ensures.items
-
-pub returns-in_ok-behind-in-Fork-clause-items : goal.returns-in_ok-behind-in-Fork-clause-items
-returns-in_ok-behind-in-Fork-clause-items g t c =
-    IfOk-weaker c.with_first_behind.result _ _ (λ tree is. grind (arith, remove_in_middle))
-    c.with_first_behind.ensures.items
-
-pub returns-in_ok-left-in-Fork-clause-items : goal.returns-in_ok-left-in-Fork-clause-items
-returns-in_ok-left-in-Fork-clause-items g t c =
-    IfOk-weaker c.with_left.result _ _ (λ tree is. grind (arith, remove_in_left)) c.with_left.ensures.items
-
-pub returns-then-is_empty-clause-items : goal.returns-then-is_empty-clause-items
-returns-then-is_empty-clause-items g t c =
-    IfOk-weaker c.copy.result _ _ (λ tree is. grind (arith, remove_in_middle, append-nil)) c.copy.ensures
+pub returns-in_ok-row-in-Fork-clause-items : goal.returns-in_ok-row-in-Fork-clause-items
+returns-in_ok-row-in-Fork-clause-items g t c =
+    let row = c.as_slice-below.result.now in
+    let whole : c.args.self.now.items ≡ joined row = grind arith in
+    let place = c.locate-place in
+    IfOk-weaker c.fork_or_one.result _ _
+    (λ tree is. rw whole (is ∙ c.in_ok-row-in-Fork.ensures.items ∙
+    remove_in row place.result.child c.index-below-place.result (grind arith) place.result.index c.args.index (grind arith)
+    (grind arith) _ (grind arith))) c.fork_or_one.ensures.items

@@ -1,8 +1,8 @@
 use Rattle.std.proofs.Common.{rules}
-use Rattle.ficus_saved.specs.Laws.{AreCountable}
-use Rattle.ficus_saved.specs.Saved.{FitsImage}
-use Rattle.ficus_saved.specs.declared.saved.Saved.{Saved}
-use Rattle.ficus_saved.proofs.Countable.{tables_countable}
+use Rattle.ficus_durable_state.specs.Laws.{AreCountable}
+use Rattle.ficus_durable_state.specs.Saved.{FitsImage}
+use Rattle.ficus_durable_state.specs.declared.saved.Saved.{Saved}
+use Rattle.ficus_durable_state.proofs.Countable.{tables_countable}
 use Rattle.ficus_replica.proofs.Collects.{collect_gives_stands}
 use Rattle.ficus_replica.proofs.Leaving.{collect_fits, collect_leaves, collect_noted}
 use Rattle.ficus_replica.proofs.replica.Replica.collect.Goals as goal

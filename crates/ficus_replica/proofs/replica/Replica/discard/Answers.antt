@@ -8,7 +8,7 @@ use Rattle.ficus_rules.specs.Change.{ChangeAnswer}
 use Rattle.ficus_rules.specs.Discard.{DiscardRule}
 use Rattle.ficus_rules.specs.View.{View}
 use Rattle.ficus_rules.proofs.Rules.{or_refused}
-use Rattle.ficus_answers.specs.View.{tables_view}
+use Rattle.ficus_deciding.specs.View.{tables_view}
 use Rattle.ficus_replica.proofs.replica.Replica.discard.Goals as goal
 
 discard_never : (view : View) (orphan : Id) → DiscardRule view orphan (Err Memory) → ⊥

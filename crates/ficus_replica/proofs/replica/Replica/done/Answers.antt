@@ -1,8 +1,8 @@
 use Rattle.std.proofs.Common.{subst}
 use Rattle.std.proofs.lemmas.Result.{err_from_is_err_and}
 use Rattle.ficus_rules.specs.Change.{ChangeAnswer}
-use Rattle.ficus_answers.specs.View.{tables_view}
-use Rattle.ficus_answers.proofs.Sound.{may_where_given}
+use Rattle.ficus_deciding.specs.View.{tables_view}
+use Rattle.ficus_deciding.proofs.Sound.{may_where_given}
 use Rattle.ficus_replica.proofs.Changing.{change_done}
 use Rattle.ficus_replica.proofs.Ready.{change_noted, change_ready}
 use Rattle.ficus_replica.proofs.replica.Replica.done.Goals as goal

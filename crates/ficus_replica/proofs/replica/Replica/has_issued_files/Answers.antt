@@ -4,10 +4,10 @@ use Rattle.std.proofs.lemmas.Bool.{both_ways}
 use Rattle.std.proofs.lemmas.List.{take_all}
 use Rattle.std.proofs.lemmas.List.Elements.{All-contains}
 use Rattle.ficus_file.specs.declared.file.FileReplica.{FileReplica}
-use Rattle.ficus_saved.specs.Saved.{IsFileOfPast}
+use Rattle.ficus_durable_state.specs.Saved.{IsFileOfPast}
 use Rattle.ficus_file.proofs.Changed.{contains_at}
-use Rattle.ficus_saved.proofs.AllRows.{all_more}
-use Rattle.ficus_recon_file.proofs.Taking.{all_of_theirs}
+use Rattle.ficus_durable_state.proofs.AllRows.{all_more}
+use Rattle.ficus_merge_files.proofs.Taking.{all_of_theirs}
 use Rattle.ficus_replica.proofs.replica.Replica.has_issued_files.Goals as goal
 
 pub loop-index-preserved : goal.loop-index-preserved

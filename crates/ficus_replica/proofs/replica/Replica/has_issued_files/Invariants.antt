@@ -1,6 +1,6 @@
 use Rattle.std.proofs.Common.{take}
 use Rattle.std.specs.Prelude.{All}
-use Rattle.ficus_saved.specs.Saved.{IsFileOfPast}
+use Rattle.ficus_durable_state.specs.Saved.{IsFileOfPast}
 use Rattle.ficus_replica.proofs.replica.Replica.has_issued_files.Given as goal
 
 abbrev pub invariant-loop-index : goal.invariant-loop-index

@@ -5,7 +5,7 @@ use Rattle.ficus_model.specs.declared.event.Event.TheVariants.{Ask}
 use Rattle.ficus_leads.specs.Holds.{Leads}
 use Rattle.ficus_runs.specs.Numbered.{IsNumbered}
 use Rattle.ficus_run_laws.proofs.Numbers.{number_once}
-use Rattle.ficus_world.specs.declared.member.Member.{Member}
+use Rattle.ficus_opening.specs.declared.member.Member.{Member}
 use Rattle.ficus_world.specs.Disks.{CarriedOn}
 use Rattle.ficus_world.specs.Moves.{HasRoomFor, IsAsking, KeepsAsk, advanced, ask_of, downed, parts_after, pending_of, with_post}
 use Rattle.ficus_world.specs.World.{Whole, IsSoundNext, IsWorld, backed_by, smallest_message, whole_of}

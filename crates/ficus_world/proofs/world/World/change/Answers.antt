@@ -1,14 +1,14 @@
 use Rattle.std.proofs.Common.{Err, length, subst, ◌∙◌}
 use Rattle.std.proofs.lemmas.Result.{err_from_is_err_and}
 use Rattle.ficus_model.specs.declared.event.Event.TheVariants.{Update}
-use Rattle.ficus_answers.proofs.Sound.{may_where_given}
+use Rattle.ficus_deciding.proofs.Sound.{may_where_given}
 use Rattle.ficus_record.specs.declared.record.Record.TheVariants.{Change}
 use Rattle.ficus_script.specs.declared.command.Command.TheVariants.{Change as Changes}
 use Rattle.ficus_runs.specs.Numbered.{IsNumbered}
 use Rattle.ficus_runs.specs.Sequence.{unchanged}
 use Rattle.ficus_world.specs.Moves.{CarriesOut, FindsUp, TablesMayWantMemory, pending_of}
 use Rattle.ficus_world.specs.World.{IsSoundMember, IsSoundNext, Whole}
-use Rattle.ficus_world.specs.declared.member.Member.{Member}
+use Rattle.ficus_opening.specs.declared.member.Member.{Member}
 use Rattle.ficus_run_laws.proofs.Numbers.{number_once}
 use Rattle.ficus_world.proofs.SoundWorlds.{noted_sound}
 use Rattle.ficus_world.proofs.Carrying.{comes_to, save_refused, saved_done, whole_is}

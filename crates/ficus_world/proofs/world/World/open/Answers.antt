@@ -1,22 +1,23 @@
-use Rattle.std.proofs.Common.{◌≡◌, ◌⊎◌, Err, subst, sym, ap, ◌∙◌, arith}
+use Rattle.std.proofs.Common.{◌≡◌, ◌⊎◌, subst, sym, ap, ◌∙◌, arith}
 use Rattle.std.specs.Prelude.{IsErrAnd}
 use Rattle.std.proofs.lemmas.Result.{err_from_is_err_and}
 use Rattle.ficus_ids.specs.Members.{IsMember}
 use Rattle.ficus_runs.specs.Start.{restarts}
 use Rattle.ficus_world.specs.World.{whole_of}
 use Rattle.ficus_world.specs.Post.{Outbox}
-use Rattle.ficus_world.specs.declared.opening.WorldFault.TheVariants.{Image, Memory, Store}
-use Rattle.ficus_world.specs.Opening.{IsStoreFault}
-use Rattle.ficus_world.specs.declared.opening.WorldFault.{WorldFault}
-use Rattle.ficus_world.proofs.Bad.{image_comes, none_bad_where_read}
-use Rattle.ficus_world.proofs.Faults.{handed_on}
+use Rattle.ficus_opening.specs.declared.fault.WorldFault.TheVariants.{Image, Memory, Store}
+use Rattle.ficus_opening.specs.Opening.{IsStoreFault}
+use Rattle.ficus_opening.proofs.Bad.{image_comes, none_bad_where_read}
+use Rattle.ficus_opening.proofs.Faults.{handed_on}
 use Rattle.ficus_run_laws.proofs.Numbers.{number_exists}
-use Rattle.ficus_world.proofs.OpenedWorlds.{empty_post, never_bad, opened_read, opened_stands, opened_world}
-use Rattle.ficus_saved.specs.declared.saved.Saved.{Saved}
-use Rattle.ficus_world.proofs.Openings.{first_is, held_of, opens_same}
-use Rattle.ficus_world.proofs.Steadies.{number_at}
-use Rattle.ficus_world.proofs.Unarmed.{fuses_at_rest, unfailing_behind, unfailing_none}
-use Rattle.ficus_world.proofs.Asking.{disks_err, never_store}
+use Rattle.ficus_world.proofs.OpenedWorlds.{empty_post, opened_read, opened_stands, opened_world}
+use Rattle.ficus_opening.proofs.Stand.{never_bad}
+use Rattle.ficus_durable_state.specs.declared.saved.Saved.{Saved}
+use Rattle.ficus_opening.proofs.Openings.{first_is, held_of, opens_same}
+use Rattle.ficus_opening.proofs.Steadies.{number_at}
+use Rattle.ficus_world.proofs.AtRest.{fuses_at_rest}
+use Rattle.ficus_opening.proofs.Unarmed.{unfailing_behind, unfailing_none}
+use Rattle.ficus_opening.proofs.Asking.{disks_err, never_store}
 use Rattle.ficus_world.proofs.world.World.open.Goals as goal
 
 pub returns-in_err-members-clause-never_image : goal.returns-in_err-members-clause-never_image

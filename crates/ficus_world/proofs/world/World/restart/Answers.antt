@@ -8,7 +8,7 @@ use Rattle.ficus_model.specs.declared.event.Event.{Event}
 use Rattle.ficus_script.specs.declared.command.Command.TheVariants.{Restart as Restarts}
 use Rattle.ficus_runs.specs.Sequence.First.{Ends}
 use Rattle.ficus_script.specs.declared.answer.Answer.{Answer}
-use Rattle.ficus_world.specs.declared.member.Member.{Member}
+use Rattle.ficus_opening.specs.declared.member.Member.{Member}
 use Rattle.ficus_world.specs.Disks.{CarriedOn, IsBacked}
 use Rattle.ficus_world.specs.Moves.{CarriesOut}
 use Rattle.ficus_world.specs.Moves.FindsMember.{FindsNone}
@@ -21,9 +21,9 @@ use Rattle.ficus_run_laws.proofs.Numbers.{number_exists}
 use Rattle.ficus_world.proofs.Restarting.{back_after, back_same, back_sound, back_stores, restart_carried, set_own}
 use Rattle.ficus_world.proofs.SoundWorlds.{world_after}
 use Rattle.ficus_world.specs.Kills.Touches.{TouchesOne}
-use Rattle.ficus_world.proofs.Others.{left_none}
+use Rattle.ficus_opening.proofs.Others.{left_none}
 use Rattle.ficus_world.specs.Acts.{Acts}
-use Rattle.ficus_world.proofs.Kills.{rests_count}
+use Rattle.ficus_opening.proofs.Rests.{rests_count}
 use Rattle.ficus_world.proofs.Acting.{acts_none}
 use Rattle.ficus_world.proofs.world.World.restart.Goals as goal
 

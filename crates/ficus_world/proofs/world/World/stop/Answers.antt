@@ -5,8 +5,8 @@ use Rattle.ficus_runs.specs.Numbered.{IsNumbered}
 use Rattle.ficus_runs.specs.Outcome.{IsArmed}
 use Rattle.ficus_runs.specs.Sequence.{unchanged}
 use Rattle.ficus_runs.specs.Sequence.First.{Goes}
-use Rattle.ficus_world.specs.declared.member.Member.{Member}
-use Rattle.ficus_world.specs.declared.member.MemberState.TheVariants.{Up}
+use Rattle.ficus_opening.specs.declared.member.Member.{Member}
+use Rattle.ficus_opening.specs.declared.member.MemberState.TheVariants.{Up}
 use Rattle.ficus_world.specs.Moves.{FindsUp}
 use Rattle.ficus_world.specs.Moves.ArmsDisks.{Arms, ArmsNone}
 use Rattle.ficus_world.specs.Moves.FindsUp.{FindsAt}
@@ -16,7 +16,7 @@ use Rattle.ficus_world.proofs.Carrying.{whole_is}
 use Rattle.ficus_world.proofs.Moved.{comes_to_none, up_ends}
 use Rattle.ficus_world.specs.Kills.Touches.{TouchesOne}
 use Rattle.ficus_world.proofs.Acting.{acts_none}
-use Rattle.ficus_world.proofs.Kills.{rests_count}
+use Rattle.ficus_opening.proofs.Rests.{rests_count}
 use Rattle.ficus_world.proofs.world.World.stop.Goals as goal
 
 pub returns-in_err-up-clause-moves : goal.returns-in_err-up-clause-moves

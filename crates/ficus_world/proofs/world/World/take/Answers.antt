@@ -9,8 +9,8 @@ use Rattle.ficus_runs.specs.Numbered.{IsNumbered}
 use Rattle.ficus_world.specs.Moves.{TakesTables, advanced, pending_of, saved}
 use Rattle.ficus_world.specs.Moves.TakesTables.{Takes, TakesNot}
 use Rattle.ficus_world.specs.World.{IsSoundMember, IsSoundNext, IsUpIn, Whole}
-use Rattle.ficus_world.specs.declared.member.Member.{Member}
-use Rattle.ficus_world.specs.declared.member.MemberState.TheVariants.{Up}
+use Rattle.ficus_opening.specs.declared.member.Member.{Member}
+use Rattle.ficus_opening.specs.declared.member.MemberState.TheVariants.{Up}
 use Rattle.ficus_run_laws.proofs.Numbers.{number_once}
 use Rattle.ficus_world.proofs.SoundWorlds.{noted_sound}
 use Rattle.ficus_world.proofs.Carrying.{carried_none, carried_saved, save_refused, whole_is}

@@ -4,7 +4,7 @@ use Rattle.ficus_codec.specs.Formats.{tables_bytes}
 use Rattle.ficus_entry.specs.declared.entry.Entry.{Entry}
 use Rattle.ficus_file.specs.declared.file.FileReplica.{FileReplica}
 use Rattle.ficus_ids.specs.declared.refusal.Refusal.TheVariants.{BadMessage, Memory}
-use Rattle.ficus_saved.specs.Tables.{FitsTables}
+use Rattle.ficus_durable_state.specs.Tables.{FitsTables}
 use Rattle.ficus_world.specs.Moves.{TakesSpelled}
 use Rattle.ficus_world.proofs.Carrying.{carried_none}
 use Rattle.ficus_world.proofs.Collected.{at_rows, spelled_refused, spelled_takes}

@@ -1,7 +1,0 @@
-use Rattle.ficus_rules.proofs.Changes.{change_once}
-use Rattle.ficus_answers.specs.View.{tables_view}
-use Rattle.ficus_answers.proofs.Sound.{tables_sound}
-use Rattle.ficus_answers.proofs.laws.one_change.Goals as goal
-
-pub returns : goal.returns
-returns c = λ saved change fits. change_once (tables_view saved) (tables_sound fits) change

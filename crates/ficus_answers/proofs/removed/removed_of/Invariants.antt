@@ -1,7 +1,0 @@
-use Rattle.std.proofs.Common.{◌≡◌, take}
-use Rattle.std.specs.Prelude.{filter}
-use Rattle.ficus_answers.specs.Entries.{is_removed}
-use Rattle.ficus_answers.proofs.removed.removed_of.Given as goal
-
-abbrev pub invariant-loop-index : goal.invariant-loop-index
-invariant-loop-index l = l.removed.items ≡ filter is_removed (take l.index l.entries)

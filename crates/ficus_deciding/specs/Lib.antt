@@ -1,0 +1,6 @@
+pub mod View
+pub mod Told
+pub mod Entries
+pub mod Files
+pub mod Chosen
+pub mod Alike

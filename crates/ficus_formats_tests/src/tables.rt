@@ -1,0 +1,207 @@
+// Tables that are written out, and what is no tables.
+use crate::variants::{Change, changed};
+use ficus_codec::{Known, TakeFault, put_tables, read_all_rows, take_tables};
+use ficus_entry::Entries;
+use ficus_file::Files;
+use ficus_formats::{ReadFault, Reader, take_id, take_u8, take_u16, take_u32, take_u64};
+use ficus_ids::{Id, Members, Memory};
+use std::alloc::Global;
+use std::test::Fail;
+
+// What replica 1 holds after `1 mkdir /a`: the entry 1.1 and the directory 1.1.
+const DIRECTORY: [u8; 41] = [
+    0, 0, 0, 1, 1, 0, 0, 0, 1, 0, 0, 0, 0, 0, 1, 97, 1, 0, 0, 0, 1, 0, 0, 0, 0, 1, 1, 0, 0, 0, 1,
+    0, 0, 0, 0, 0, 0, 0, 0, 0, 0,
+];
+
+// What replica 1 holds where it made a file and a directory: 1.1 is plain, with one empty version, and 1.2 a directory,
+// whose entry is removed.
+const REMOVED: [u8; 86] = [
+    0, 0, 0, 2, 1, 0, 0, 0, 1, 0, 0, 0, 0, 0, 1, 97, 1, 0, 0, 0, 1, 0, 1, 0, 0, 0, 2, 0, 0, 0, 0,
+    0, 1, 98, 1, 0, 0, 0, 2, 1, 3, 2, 0, 0, 0, 2, 1, 0, 0, 0, 1, 1, 1, 0, 0, 0, 1, 0, 0, 0, 0, 0,
+    0, 0, 0, 0, 0, 0, 0, 0, 0, 1, 0, 0, 0, 2, 0, 0, 0, 0, 0, 0, 0, 0, 0, 0,
+];
+
+// No entry, and a file with two versions: [0,1] has a byte, and [1,0] none.
+const APART: [u8; 44] = [
+    0, 0, 0, 0, 0, 0, 0, 1, 1, 0, 0, 0, 1, 1, 2, 0, 0, 0, 0, 0, 0, 0, 1, 0, 1, 120, 0, 0, 0, 1, 0,
+    0, 0, 0, 0, 0, 0, 0, 0, 0, 0, 0, 0, 0,
+];
+
+// Bytes of tables that are changed, so that they are no tables any more.
+//
+// Of the directory: a count that is too great; an identifier of no member and one of no update; a directory that is no
+// place; a live entry of the attic; a name of no byte, and one with `#`; a target that isn't there; a state that there
+// isn't; files that aren't there; another file; a file without a version; a kind that there isn't; a directory with a
+// version, and one with a cover.
+const NO_DIRECTORY: [Change; 15] = [
+    Change { place: 3, byte: 2 },
+    Change { place: 4, byte: 3 },
+    Change { place: 8, byte: 0 },
+    Change { place: 13, byte: 2 },
+    Change { place: 13, byte: 1 },
+    Change { place: 14, byte: 0 },
+    Change {
+        place: 15,
+        byte: b'#',
+    },
+    Change { place: 20, byte: 2 },
+    Change { place: 21, byte: 2 },
+    Change { place: 25, byte: 2 },
+    Change { place: 30, byte: 2 },
+    Change { place: 31, byte: 1 },
+    Change { place: 31, byte: 5 },
+    Change { place: 32, byte: 1 },
+    Change { place: 36, byte: 1 },
+];
+
+// Of the removed entry: two entries in the wrong order, and twice the same one; a first set that is empty, and one with
+// a replica that is no member; two files in the wrong order; a count above the greatest; a version longer than what
+// follows.
+const NOT_REMOVED: [Change; 7] = [
+    Change { place: 8, byte: 3 },
+    Change { place: 26, byte: 1 },
+    Change { place: 40, byte: 0 },
+    Change { place: 40, byte: 7 },
+    Change { place: 50, byte: 3 },
+    Change { place: 53, byte: 1 },
+    Change {
+        place: 61,
+        byte: 255,
+    },
+];
+
+// Of the file with two versions: the second over the first, the first over the second, and one version more than there
+// are.
+const NOT_APART: [Change; 3] = [
+    Change { place: 33, byte: 1 },
+    Change { place: 18, byte: 2 },
+    Change { place: 14, byte: 3 },
+];
+
+// Whether the bytes are tables from the first to the last, and are written again as they were read.
+fn stay_so(alloc: Global, bytes: &[u8], members: Members) -> Result<bool, Memory> {
+    match take_tables(alloc, bytes, 0, members) {
+        Ok((entries, files, end)) => {
+            let mut out = Vec::new(alloc);
+            put_tables(&mut out, &entries, &files, members)?;
+            Ok(end == bytes.len() && out.as_slice() == bytes)
+        }
+        Err(TakeFault::NotTables) => Ok(false),
+        Err(TakeFault::Memory) => Err(Memory),
+    }
+}
+
+// Whether there are tables at the place no more once the byte is changed.
+fn is_refused(
+    alloc: Global,
+    bytes: &[u8],
+    change: Change,
+    members: Members,
+) -> Result<bool, Memory> {
+    let changed = changed(alloc, bytes, change)?;
+    match take_tables(alloc, &changed, 0, members) {
+        Ok(_) => Ok(false),
+        Err(TakeFault::NotTables) => Ok(true),
+        Err(TakeFault::Memory) => Err(Memory),
+    }
+}
+
+// Whether that is so of each change.
+fn are_refused(
+    alloc: Global,
+    bytes: &[u8],
+    changes: &[Change],
+    members: Members,
+) -> Result<bool, Memory> {
+    for change in changes {
+        if !is_refused(alloc, bytes, *change, members)? {
+            return Ok(false);
+        }
+    }
+    Ok(true)
+}
+
+#[test]
+fn tables_have_one_spelling(rt: HostRuntime) -> Result<(), Fail> {
+    let alloc = rt.alloc();
+    let members = Members::new(2).ok_or("two")?;
+    assert!(rt; stay_so(alloc, &DIRECTORY, members)?);
+    assert!(rt; stay_so(alloc, &REMOVED, members)?);
+    assert!(rt; stay_so(alloc, &APART, members)?);
+    assert!(rt; stay_so(alloc, &[0; 8], members)?);
+    assert!(rt; are_refused(alloc, &DIRECTORY, &NO_DIRECTORY, members)?);
+    assert!(rt; are_refused(alloc, &REMOVED, &NOT_REMOVED, members)?);
+    assert!(rt; are_refused(alloc, &APART, &NOT_APART, members)?);
+    assert!(rt; !stay_so(alloc, &[0; 7], members)?);
+    Ok(())
+}
+
+// Whether the bytes are written again as they were read where the rows of other tables are known.
+fn stay_so_beside(
+    alloc: Global,
+    bytes: &[u8],
+    known: &[u8],
+    members: Members,
+) -> Result<bool, Memory> {
+    let Ok((entries, files, _)) = take_tables(alloc, known, 0, members) else {
+        return Ok(false);
+    };
+    let known = Known::of(&entries, &files)?;
+    match read_all_rows(alloc, Reader::new(bytes), members, &known) {
+        Ok((entries, files)) => {
+            let entries = Entries::of_rows(alloc, entries.items())?;
+            let files = Files::of_rows(alloc, files.items())?;
+            let mut out = Vec::new(alloc);
+            put_tables(&mut out, &entries, &files, members)?;
+            Ok(out.as_slice() == bytes)
+        }
+        Err(ReadFault::Unspelled) => Ok(false),
+        Err(ReadFault::Memory) => Err(Memory),
+    }
+}
+
+// Other tables with the same identifiers: the removed entry has another second set, and the file another cover.
+const OTHER_SET: Change = Change { place: 41, byte: 0 };
+
+const OTHER_COVER: Change = Change { place: 70, byte: 1 };
+
+#[test]
+fn what_is_known_changes_nothing_that_is_read(rt: HostRuntime) -> Result<(), Fail> {
+    let alloc = rt.alloc();
+    let members = Members::new(2).ok_or("two")?;
+    let other_set = changed(alloc, &REMOVED, OTHER_SET)?;
+    let other_cover = changed(alloc, &REMOVED, OTHER_COVER)?;
+    assert!(rt; stay_so_beside(alloc, &REMOVED, &REMOVED, members)?);
+    assert!(rt; stay_so_beside(alloc, &REMOVED, &other_set, members)?);
+    assert!(rt; stay_so_beside(alloc, &REMOVED, &other_cover, members)?);
+    assert!(rt; stay_so_beside(alloc, &other_set, &REMOVED, members)?);
+    assert!(rt; stay_so_beside(alloc, &DIRECTORY, &REMOVED, members)?);
+    assert!(rt; stay_so_beside(alloc, &APART, &APART, members)?);
+    assert!(rt; stay_so_beside(alloc, &APART, &REMOVED, members)?);
+    Ok(())
+}
+
+#[test]
+fn numbers_are_taken_at_their_places(rt: HostRuntime) -> Result<(), Fail> {
+    let bytes = [1, 2, 3, 4, 5, 6, 7, 8, 9];
+    assert_eq!(rt; (take_u8(&bytes, 8), take_u8(&bytes, 9)), (Some(9), None));
+    assert_eq!(rt;
+        (take_u16(&bytes, 7), take_u16(&bytes, 8)),
+        (Some(0x0809), None)
+    );
+    assert_eq!(rt;
+        (take_u32(&bytes, 5), take_u32(&bytes, 6)),
+        (Some(0x0607_0809), None)
+    );
+    assert_eq!(rt;
+        (take_u64(&bytes, 1), take_u64(&bytes, 2)),
+        (Some(0x0203_0405_0607_0809), None)
+    );
+    let id = Id {
+        replica: 5,
+        number: 0x0607_0809,
+    };
+    assert!(rt; take_id(&bytes, 4) == Some(id) && take_id(&bytes, 5).is_none());
+    Ok(())
+}

@@ -1,8 +1,0 @@
-use Rattle.ficus_touched.proofs.Kept.{AreKeptSoFar}
-use Rattle.ficus_entry.specs.declared.entry.Entry.{Entry}
-use Rattle.ficus_gc.proofs.Left.{HoldsKnown}
-use Rattle.ficus_gc.proofs.known.fully_known.Given as goal
-
-abbrev pub invariant-loop-index : goal.invariant-loop-index
-invariant-loop-index l =
-    AreKeptSoFar (λ (entry : Entry). entry.id) (HoldsKnown l.fn.members l.fn.entries) l.fn.entries l.index l.ids.items

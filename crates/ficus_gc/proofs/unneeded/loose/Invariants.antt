@@ -1,8 +1,0 @@
-use Rattle.ficus_touched.proofs.Kept.{AreKeptSoFar}
-use Rattle.ficus_file.specs.Files.{id_of}
-use Rattle.ficus_gc.specs.Chosen.{HoldsOrphan}
-use Rattle.ficus_gc.proofs.unneeded.loose.Given as goal
-
-abbrev pub invariant-loop-index : goal.invariant-loop-index
-invariant-loop-index l =
-    AreKeptSoFar id_of (λ id. HoldsOrphan l.fn.orphans id → ⊥) l.fn.files l.index l.ids.items

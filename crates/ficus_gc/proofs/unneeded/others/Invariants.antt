@@ -1,6 +1,0 @@
-use Rattle.std.specs.Prelude.{Contains}
-use Rattle.ficus_touched.proofs.Kept.{AreKeptSoFar}
-use Rattle.ficus_gc.proofs.unneeded.others.Given as goal
-
-abbrev pub invariant-loop-id : goal.invariant-loop-id
-invariant-loop-id l = AreKeptSoFar (λ id. id) (λ id. Contains l.others id → ⊥) l.ids l.id-index l.left.items

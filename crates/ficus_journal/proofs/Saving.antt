@@ -1,0 +1,99 @@
+-- What a commit promises of the disk that it writes and of the other.
+use Rattle.std.proofs.Common.{◌≡◌, inl, inr, ℕ, ◌+◌, ◌<◌, ◌^◌, Bool, true, false, not, Some, List, length, refl, sym, subst}
+use Rattle.ficus_keeper.specs.Kept.{Kept, after_commit, generation_of, image_alone}
+use Rattle.ficus_keeper.proofs.Sides.{KnownAt, Saves, kept_at}
+use Rattle.ficus_slot.specs.Slot.{Saved}
+use Rattle.ficus_slot.specs.Stays.{IsFound, Stays}
+use Rattle.ficus_two_slots.specs.Slots.{bound}
+use Rattle.ficus_log.specs.Appending.{Appends, IsAppended, IsShutAt}
+use Rattle.ficus_journal.specs.Journal.{Fits, FitsOn, FitsSide, IsShort, saves_image}
+use Rattle.ficus_journal.specs.Logs.{IsRegular, calls_of_journal, kept_in, lies_on_a}
+use Rattle.ficus_journal.specs.declared.journal.Journal.{Journal}
+use Rattle.ficus_journal.proofs.Regular.{image_calls, image_regular, image_side, of_side, record_calls, record_regular, record_short, record_side, to_side, turned, turned_back}
+use Rattle.ficus_journal.proofs.Sides.{MayAppend, image_fits, image_found, next_of, place, record_fits, record_found, saved_as, stays_at}
+
+-- what a save leaves of the disk that it writes, an image or a record
+abbrev pub LeavesImage : List ℕ → Saved → Bool → List ℕ → Type 0
+LeavesImage old saved is_found c = IsFound is_found old saved c
+
+abbrev pub LeavesRecord : ℕ → ℕ → List ℕ → List ℕ → Bool → List ℕ → Type 0
+LeavesRecord end generation body old is_found c = IsAppended is_found end generation body old c
+
+fits_side : (on_a : Bool) (keeper : Journal) (mine other : List ℕ)
+    → FitsSide keeper (bound on_a keeper.generation) mine other → KnownAt (FitsOn on_a keeper) on_a mine other
+fits_side true keeper mine other fits = fits
+fits_side false keeper mine other fits = fits
+
+fits_at : (on_a : Bool) (keeper : Journal) (mine other : List ℕ) → keeper.on_a ≡ on_a
+    → FitsSide keeper (bound on_a keeper.generation) mine other → KnownAt (Fits keeper) on_a mine other
+fits_at on_a keeper mine other side fits =
+    subst (λ (b : Bool). KnownAt (FitsOn b keeper) on_a mine other) (sym side) (fits_side on_a keeper mine other fits)
+
+stays_or : (old : List ℕ) (saved : Saved) (is_found : Bool) (c : List ℕ) → IsFound is_found old saved c → Stays old saved c
+stays_or old saved true c is = inr is
+stays_or old saved false c is = inl is
+
+appends_or : (end generation : ℕ) (body old : List ℕ) (is_found : Bool) (c : List ℕ)
+    → IsAppended is_found end generation body old c → Appends end generation body old c
+appends_or end generation body old true c is = inr is
+appends_or end generation body old false c is = inl is
+
+module _ (on_a : Bool) (keeper : Journal) (force other : List ℕ)
+    (fits : FitsSide keeper (bound on_a keeper.generation) force other) (new : ℕ) (body : List ℕ)
+    (follows : (k : Kept) → kept_at kept_in on_a force other ≡ Some k → new ≡ generation_of k + 1) where
+  next : new ≡ keeper.generation + keeper.count + 1
+  next = next_of on_a keeper force other fits new follows
+
+  -- an image, on the disk not in force
+  module _ (wants : saves_image keeper ≡ true) where
+    pub image_saves : (after : Journal) → after.on_a ≡ not on_a → after.generation ≡ new → after.shut ≡ false
+        → after.end ≡ length body + 17 → after.count ≡ 0 → after.stuck ≡ false
+        → Saves kept_in Fits IsRegular (LeavesImage other (saved_as new body)) (not on_a) (Some (image_alone new body)) after other
+        force
+    image_saves after side generation shut end count stuck = record {
+      unchanged = inr refl;
+      keeps = image_found on_a keeper force other fits new body next;
+      holds = λ c is. fits_at (not on_a) after c force side
+          (image_fits on_a keeper force other fits new body next c is after generation shut end count stuck);
+      regular = λ was is_found c is. turned_back on_a force c (of_side on_a force c
+          (image_regular on_a keeper force other fits (to_side on_a force other (turned on_a force other was)) new body
+          next wants c (stays_or other (saved_as new body) is_found c is)));
+    }
+
+    pub image_turns : KnownAt IsRegular on_a force other → (calls_of_journal new ≡ 6) × (lies_on_a new ≡ not on_a)
+    image_turns was =
+        let regular = to_side on_a force other was in (
+          image_calls on_a keeper force other fits regular new body next wants,
+          image_side on_a keeper force other fits regular new body next wants,
+        )
+
+  -- a record, on the disk in force
+  module _ (wants : saves_image keeper ≡ false) (small : new < 2 ^ 64)
+      (short : IsShort keeper (length body)) where
+    by : MayAppend keeper new body
+    by = record { wants = wants; next = next; small = small; few = (record_short keeper (length body) wants short).0 }
+
+    pub record_place : IsShutAt keeper.end force
+    record_place = place on_a keeper force other fits new body by
+
+    pub record_saves : (after : Journal) → after.on_a ≡ on_a → after.generation ≡ keeper.generation
+        → after.shut ≡ keeper.shut → after.end ≡ keeper.end + length body + 13 → after.count ≡ keeper.count + 1
+        → after.stuck ≡ keeper.stuck
+        → Saves kept_in Fits IsRegular (LeavesRecord keeper.end new body force) on_a
+        (after_commit false new body (kept_at kept_in on_a force other)) after force other
+    record_saves after side generation shut end count stuck = record {
+      unchanged = stays_at keeper.end force force record_place refl;
+      keeps = record_found on_a keeper force other fits new body by;
+      holds = λ c is. fits_at on_a after c other side
+          (record_fits on_a keeper force other fits new body by c is after generation shut end count stuck);
+      regular = λ was is_found c is. of_side on_a c other
+          (record_regular on_a keeper force other fits (to_side on_a force other was) new body by c
+          (appends_or keeper.end new body force is_found c is));
+    }
+
+    pub record_turns : KnownAt IsRegular on_a force other → (calls_of_journal new ≡ 4) × (lies_on_a new ≡ on_a)
+    record_turns was =
+        let regular = to_side on_a force other was in (
+          record_calls on_a keeper force other fits regular new body by,
+          record_side on_a keeper force other fits regular new body by,
+        )

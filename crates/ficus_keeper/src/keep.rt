@@ -1,0 +1,108 @@
+ghost use Rattle.std.specs.Prelude.{◌≡◌, ◌⊎◌, ◌+◌, Some, None, Bool, true, false, [], Option, is_ok, List, ℕ, length, OnOk};
+ghost use Rattle.ficus_keeper.specs.Calls.{Commits, Counts, CountsMaking, CountsOpening, Finds, HasRoom, Keeps, Makes, Spares, StaysUnarmed};
+ghost use Rattle.ficus_keeper.specs.Fuses.{FusedSave, IsRegularIn, both_unarmed, fuses_of};
+ghost use Rattle.ficus_keeper.specs.Kept.{Kept, Settled, after_commit, found_in, generation_of};
+ghost use Rattle.ficus_keeper.specs.Moments.{PairSpans};
+
+use crate::{MakeFault, Opened, StoreFault, Wants};
+use ficus_disk::{Disk, Pair};
+use ficus_faults::Failed;
+use ficus_ids::Memory;
+use std::alloc::Global;
+
+/// A rule by which a pair of disks keeps an image and the records behind it, so that a crash at any moment leaves what
+/// was kept before a commit, or what is kept after it.
+pub trait Keep {
+    /// What the rule finds in the bytes of two disks.
+    ghost kept: { List ℕ → List ℕ → Option Kept };
+
+    /// The keeper stands for these bytes.
+    ghost fits: { Self → List ℕ → List ℕ → Type 0 };
+
+    /// The next commit saves an image.
+    ghost wants_image: { Self → Bool };
+
+    /// A commit of so many bytes may be made, and the keeper's buffer has room for it.
+    ghost Takes: { Self → ℕ → Type 0 };
+
+    /// How many bytes a disk has after a commit of so many, at most.
+    ghost size_of: { Self → ℕ → ℕ };
+
+    /// How many calls of `write` and `sync` save this generation.
+    ghost calls: { ℕ → ℕ };
+
+    /// Whether it is saved on the disk `a`.
+    ghost is_on_a: { ℕ → Bool };
+
+    /// The bytes are those of a volume that this keeper alone wrote.
+    ghost Regular: { List ℕ → List ℕ → Type 0 };
+
+    /// Saves an image with generation 0 on `a`, and leaves `b` as it is.
+    fn make<D: Disk>(alloc: Global, disks: &mut Pair<D>, image: &[u8]) -> Result<(), MakeFault>
+        requires empty_a { D.tells → D.seen disks.old.a ≡ [] }
+        requires empty_b { D.tells → D.seen disks.old.b ≡ [] }
+        ensures told { D.tells → Makes kept Regular D.seen D.may_leave D.moment D.left_since image.now disks.old
+            disks.new result }
+        ensures other { disks.new.b ≡ disks.old.b }
+        ensures counts { CountsMaking D.faults D.armings disks.old disks.new result }
+
+        // Without an armed fuse nothing fails.
+        ensures by_fuse { D.tells_fuse → fuses_of D.fuse disks.old ≡ both_unarmed
+            → StaysUnarmed D.fuse MakeFault.Failed disks.new result };
+
+    /// Reads what is kept. It begins with a sync of both disks. `NoImage` comes exactly where nothing is kept.
+    fn open<D: Disk>(alloc: Global, disks: &mut Pair<D>) -> Result<(Self, Opened), StoreFault>
+    where
+        Self: Sized,
+        ensures told { D.tells → Finds kept fits D.seen D.may_leave disks.old disks.new result }
+        ensures keeps { Keeps D.tells D.tells_moments D.seen D.may_leave D.moment D.left_since disks.old disks.new }
+        ensures counts { CountsOpening D.faults D.armings disks.old disks.new result }
+
+        // Without an armed fuse nothing fails.
+        ensures by_fuse { D.tells_fuse → fuses_of D.fuse disks.old ≡ both_unarmed
+            → StaysUnarmed D.fuse StoreFault.Failed disks.new result };
+
+    /// What the next commit saves.
+    fn wants(&self) -> Wants
+        ensures image { wants_image self.now ≡ true → result ≡ Wants.Image }
+        ensures record_ { wants_image self.now ≡ false → result ≡ Wants.Record };
+
+    /// Reserves what a commit of so many bytes takes, on both disks and in the keeper's own buffer.
+    fn prepare<D: Disk>(&mut self, disks: &mut Pair<D>, length: u64) -> Result<(), Memory>
+        ensures room { OnOk result (HasRoom Takes size_of D.room self.new disks.new length) }
+        ensures settled { D.tells → Settled fits D.seen D.may_leave self.old disks.old
+            → Settled fits D.seen D.may_leave self.new disks.new }
+        ensures wants { wants_image self.new ≡ wants_image self.old }
+        ensures keeps { Keeps D.tells D.tells_moments D.seen D.may_leave D.moment D.left_since disks.old disks.new }
+        ensures spares { Spares D.faults D.armings D.tells_fuse D.image D.fuse disks.old disks.new };
+
+    /// Saves the bytes as the next generation: an image or a record, as the keeper wants. Takes no memory. After one
+    /// that fails nothing is promised of the keeper.
+    fn commit<D: Disk>(
+        &mut self,
+        disks: &mut Pair<D>,
+        generation: u64,
+        bytes: &[u8],
+    ) -> Result<(), Failed>
+        requires settled { D.tells → Settled fits D.seen D.may_leave self.old disks.old }
+        requires next { D.tells → (before : Kept) → found_in kept D.seen disks.old ≡ Some before
+            → generation ≡ generation_of before + 1 }
+        requires room { HasRoom Takes size_of D.room self.old disks.old (length bytes.now) }
+        ensures told { D.tells → Commits kept fits Regular D.seen D.may_leave D.moment D.left_since
+            (after_commit (wants_image self.old) generation bytes.now (found_in kept D.seen disks.old)) self.new
+            disks.old disks.new result }
+        ensures spans { D.tells_moments → PairSpans D.moment D.left_since disks.old disks.new }
+
+        // One of the disks is written, and the other stays.
+        ensures other { (disks.new.a ≡ disks.old.a) ⊎ (disks.new.b ≡ disks.old.b) }
+        ensures counts { Counts D.faults D.armings disks.old disks.new result }
+
+        // Where the disks tell their fuses, these alone decide.
+        ensures by_fuse { D.tells_fuse → D.tells → IsRegularIn Regular D.seen disks.old
+            → FusedSave kept D.seen D.image D.fuse (calls generation) (is_on_a generation) disks.old disks.new
+            (is_ok result)
+            (after_commit (wants_image self.old) generation bytes.now (found_in kept D.seen disks.old)) };
+
+    /// Nothing is kept on empty disks.
+    ghost none_at_first: { kept [] [] ≡ None };
+}

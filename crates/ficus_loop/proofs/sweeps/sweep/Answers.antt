@@ -1,0 +1,58 @@
+use Rattle.std.proofs.Common.{Err, length, map, sym, subst, ap, ◌∙◌}
+use Rattle.std.proofs.lemmas.Result.{err_from_is_err_and}
+use Rattle.ficus_ids.specs.Members.{IsCount}
+use Rattle.ficus_runs.specs.Sweep.{command_of, sweep_steps}
+use Rattle.ficus_loop.specs.SweepFollows.{FollowsSweep}
+use Rattle.ficus_loop.proofs.SweepCommands.{commands_of, few_commands, of_sweep}
+use Rattle.ficus_loop.proofs.SweepFollowing.{stops_first, swept_of_result}
+use Rattle.ficus_world.specs.Kills.Passes.{Idles}
+use Rattle.ficus_world.specs.Kills.Touches.{TouchesNone}
+use Rattle.ficus_opening.proofs.Others.{others_none}
+use Rattle.ficus_loop.proofs.sweeps.sweep.Goals as goal
+
+pub returns-in_err-steps-clause-follows : goal.returns-in_err-steps-clause-follows
+returns-in_err-steps-clause-follows g c = λ told volume W stands.
+    let p = err_from_is_err_and c.from_residual.result c.from_residual.ensures.1 in
+    subst (λ r. FollowsSweep g.K.Keep g.D.Disk volume W c.args.world.now.whole
+    (sweep_steps c.args.order volume.members) r c.args.world.now.whole c.args.disks.now.items c.args.disks.now.items)
+    (sym (p.1 ∙ ap Err p.2))
+    (stops_first (sweep_steps c.args.order volume.members) W c.args.world.now.whole c.args.disks.now.items stands)
+
+pub returns-in_err-steps-clause-passes : goal.returns-in_err-steps-clause-passes
+returns-in_err-steps-clause-passes g c = Idles c.settled.ensures TouchesNone
+
+pub take_steps-requires-clause-commands : goal.take_steps-requires-clause-commands
+take_steps-requires-clause-commands g c =
+    commands_of c.args.order c.count.result c.deref.result.now
+    (subst IsCount (sym c.count.ensures.value) c.count.ensures.valid) (c.deref.ensures.value ∙ c.in_ok-steps.ensures)
+
+pub take_steps-requires-clause-each : goal.take_steps-requires-clause-each
+take_steps-requires-clause-each g c =
+    of_sweep c.deref.result.now (sweep_steps c.args.order c.count.result)
+    (c.deref.ensures.value ∙ c.in_ok-steps.ensures)
+
+pub take_steps-requires-clause-count : goal.take_steps-requires-clause-count
+take_steps-requires-clause-count g c =
+    few_commands c.args.order c.count.result c.deref.result.now
+    (subst IsCount (sym c.count.ensures.value) c.count.ensures.valid) (c.deref.ensures.value ∙ c.in_ok-steps.ensures)
+
+pub returns-clause-follows : goal.returns-clause-follows
+returns-clause-follows g c = λ told volume W stands.
+    c.take_steps.ensures.follows told (sweep_steps c.args.order volume.members)
+    (c.deref.ensures.value ∙ c.in_ok-steps.ensures ∙ ap (λ n. map command_of (sweep_steps c.args.order n))
+    (c.count.ensures.value ∙ c.members.ensures ∙ stands.members)) volume W stands
+
+pub returns-clause-swept : goal.returns-clause-swept
+returns-clause-swept g c = λ told volume W stands.
+    swept_of_result g.K.Keep g.D.Disk volume c.args.order W c.args.world.now.whole c.take_steps.new.world.whole
+    c.args.disks.now.items c.take_steps.new.disks.items stands c.take_steps.result
+    (c.take_steps.ensures.follows told (sweep_steps c.args.order volume.members)
+    (c.deref.ensures.value ∙ c.in_ok-steps.ensures ∙ ap (λ n. map command_of (sweep_steps c.args.order n))
+    (c.count.ensures.value ∙ c.members.ensures ∙ stands.members)) volume W stands)
+
+pub returns-in_err-steps-clause-others : goal.returns-in_err-steps-clause-others
+returns-in_err-steps-clause-others g c =
+    others_none (length c.args.world.now.whole.members) c.args.disks.now.items
+
+pub settled-requires : goal.settled-requires
+settled-requires g c = c.requires.backed.disks

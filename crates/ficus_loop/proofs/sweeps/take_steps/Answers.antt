@@ -1,0 +1,89 @@
+use Rattle.std.proofs.Common.{List, length, get_or, Ok, Err, refl, sym, subst, ap, ◌∙◌, arith}
+use Rattle.std.proofs.lemmas.Result.{err_from_is_err_and}
+use Rattle.ficus_runs.specs.Sweep.{SweepStep, Collecting, Sweeps, none_swept}
+use Rattle.ficus_loop.specs.SweepFollows.{FollowsAction, FollowsSweep, IsSweepCommand, swept_of}
+use Rattle.ficus_loop.proofs.SweepFollowing.{all_taken, last_step, next_step, no_steps, step_is, within_steps}
+use Rattle.ficus_world.specs.Kills.Passes.{Idles, Joins}
+use Rattle.ficus_world.specs.Kills.Touches.{TouchesNone}
+use Rattle.ficus_opening.specs.Rests.{OthersStay}
+use Rattle.ficus_opening.proofs.Others.{others_none, others_then}
+use Rattle.ficus_loop.proofs.sweeps.take_steps.Goals as goal
+
+pub loop-step-init : goal.loop-step-init
+loop-step-init g c = record {
+  done = λ told some same volume W stands. no_steps W _ _ stands;
+  passes = Idles c.settled.ensures TouchesNone;
+  backed = c.requires.backed;
+  members = refl;
+  others = others_none (length c.args.world.now.whole.members) c.args.disks.now.items;
+  pairs = refl;
+  grows = omega arith;
+  few = record { pulls = omega arith; entries = omega arith; files = omega arith };
+}
+
+pub take_step-requires-clause-step : goal.take_step-requires-clause-step
+take_step-requires-clause-step g c =
+    subst IsSweepCommand (sym c.step-item.is)
+    (c.requires.each c.loop-step.step-index c.step-item.result c.loop-step-test.true)
+
+pub loop-step-preserved : goal.loop-step-preserved
+loop-step-preserved g c = record {
+  done = λ told some same volume W stands.
+      let first = c.loop-step.invariant.done told some same volume W stands in
+      let is = step_is c.args.steps.now some c.loop-step.step-index c.step-item.result same c.loop-step-test.true
+      c.step-item.is in
+      let within = within_steps c.args.steps.now some c.loop-step.step-index same c.loop-step-test.true in
+      next_step some c.loop-step.step-index (get_or some c.loop-step.step-index (Collecting 0)) within refl
+      c.loop-step.report first (Ok c.in_ok-report.report)
+      (c.in_ok-report.ensures.follows told (get_or some c.loop-step.step-index (Collecting 0)) is volume
+      first.follows.after first.follows.stands) c.in_ok-report.report refl;
+  passes = Joins c.loop-step.invariant.passes c.take_step.ensures.passes;
+  backed = c.take_step.ensures.backed;
+  members = c.take_step.ensures.members ∙ c.loop-step.invariant.members;
+  others =
+      others_then (length c.args.world.now.whole.members) c.args.disks.now.items c.loop-step.disks.items
+      c.take_step.new.disks.items c.loop-step.invariant.others
+      (subst (λ n. OthersStay n c.loop-step.disks.items c.take_step.new.disks.items) c.loop-step.invariant.members
+      c.take_step.ensures.others);
+  pairs = c.take_step.ensures.pairs ∙ c.loop-step.invariant.pairs;
+  grows = omega (arith, c.take_step.ensures.grows, c.loop-step.invariant.grows);
+  few = c.in_ok-report.ensures.few c.loop-step.step-index c.loop-step.invariant.few;
+}
+
+pub returns-in_err-report-clause-follows : goal.returns-in_err-report-clause-follows
+returns-in_err-report-clause-follows g c = λ told some same volume W stands.
+    let p = err_from_is_err_and c.from_residual.result c.from_residual.ensures.1 in
+    let first = c.loop-step.invariant.done told some same volume W stands in
+    let is = step_is c.args.steps.now some c.loop-step.step-index c.step-item.result same c.loop-step-test.true
+    c.step-item.is in
+    let within = within_steps c.args.steps.now some c.loop-step.step-index same c.loop-step-test.true in
+    subst (λ r. FollowsSweep g.K.Keep g.D.Disk volume W c.args.world.now.whole some r c.take_step.new.world.whole
+    c.args.disks.now.items c.take_step.new.disks.items) (sym (p.1 ∙ ap Err p.2))
+    (last_step W c.args.world.now.whole c.loop-step.world.whole c.take_step.new.world.whole c.args.disks.now.items
+    c.loop-step.disks.items c.take_step.new.disks.items some c.loop-step.step-index
+    (get_or some c.loop-step.step-index (Collecting 0)) within refl c.loop-step.report first _
+    (c.in_err-report.ensures.follows told (get_or some c.loop-step.step-index (Collecting 0)) is volume
+    first.follows.after first.follows.stands))
+
+pub returns-clause-follows : goal.returns-clause-follows
+returns-clause-follows g c = λ told some same volume W stands.
+    subst (λ (l : List SweepStep). FollowsAction g.K.Keep g.D.Disk volume W c.args.world.now.whole
+    (Sweeps volume l none_swept) (Ok (swept_of c.loop-step.report)) c.loop-step.world.whole c.args.disks.now.items
+    c.loop-step.disks.items) (all_taken c.args.steps.now some c.loop-step.step-index same c.loop-step-test.false)
+    (c.loop-step.invariant.done told some same volume W stands)
+
+pub returns-in_err-report-clause-passes : goal.returns-in_err-report-clause-passes
+returns-in_err-report-clause-passes g c = Joins c.loop-step.invariant.passes c.take_step.ensures.passes
+
+pub returns-in_err-report-clause-others : goal.returns-in_err-report-clause-others
+returns-in_err-report-clause-others g c =
+    others_then (length c.args.world.now.whole.members) c.args.disks.now.items c.loop-step.disks.items
+    c.take_step.new.disks.items c.loop-step.invariant.others
+    (subst (λ n. OthersStay n c.loop-step.disks.items c.take_step.new.disks.items) c.loop-step.invariant.members
+    c.take_step.ensures.others)
+
+pub returns-clause-others : goal.returns-clause-others
+returns-clause-others g c = c.loop-step.invariant.others
+
+pub settled-requires : goal.settled-requires
+settled-requires g c = c.requires.backed.disks

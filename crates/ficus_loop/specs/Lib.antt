@@ -1,0 +1,7 @@
+pub mod Trail
+pub mod Puts
+pub mod Serving
+pub mod Sweeping
+pub mod Tally
+pub mod Legs
+pub mod SweepFollows

@@ -1,0 +1,69 @@
+-- What becomes of the taker's entries, and what the table says of it.
+use Rattle.std.proofs.Common.{◌≡◌, ℕ, List, Option, Some, None, ◌∙◌, sym, ap, subst, refl}
+use Rattle.std.specs.Option.{option_or}
+use Rattle.ficus_ids.specs.declared.id.Id.{Id}
+use Rattle.ficus_ids.specs.RisingLaws.{held_or_not}
+use Rattle.ficus_table.specs.Made.{IsMadeBy, HasId}
+use Rattle.ficus_entry.specs.Entry.{ReplacesEntries}
+use Rattle.ficus_entry.specs.declared.entry.Entry.{Entry}
+use Rattle.ficus_entry.specs.declared.entry.State.{State}
+use Rattle.ficus_entry.specs.declared.entry.State.TheVariants.{Live}
+use Rattle.ficus_merge_entries.specs.Merge.{MergesEntries, Changes}
+use Rattle.ficus_merge_entries.specs.Table.{Merges, MergesEntry, state_of}
+
+abbrev pub id_of : Entry → Id
+id_of entry = entry.id
+
+module _ (r members : ℕ) where
+  -- of nothing the table makes nothing
+  pub nothing_merges : MergesEntry r members None None None
+  nothing_merges = record { state = refl; place = tt }
+
+  -- what the table makes of entries with an identifier has it too
+  pub after_has_id : (mine theirs after : Option Entry) (id : Id) → MergesEntry r members mine theirs after →
+      HasId id_of id mine → HasId id_of id theirs → HasId id_of id after
+  after_has_id mine theirs None id merges has_mine has_theirs = tt
+  after_has_id (Some mine) theirs (Some after) id merges has_mine has_theirs =
+      ap (λ (e : Entry). e.id) merges.place ∙ has_mine
+  after_has_id None (Some theirs) (Some after) id merges has_mine has_theirs =
+      ap (λ (e : Entry). e.id) merges.place ∙ has_theirs
+  after_has_id None None (Some after) id merges has_mine has_theirs = absurd merges.place
+
+  -- and so has a change
+  pub change_has_id : (mine theirs change : Option Entry) → Changes r members mine theirs change → (id : Id) →
+      HasId id_of id mine → HasId id_of id theirs → HasId id_of id change
+  change_has_id mine theirs None changes id has_mine has_theirs = tt
+  change_has_id mine theirs (Some change) changes id has_mine has_theirs =
+      after_has_id mine theirs (Some change) id changes has_mine has_theirs
+
+  -- what lives at both stays as it stands
+  pub live_stays : (mine theirs : Option Entry) → state_of mine ≡ Some Live → state_of theirs ≡ Some Live →
+      Changes r members mine theirs None
+  live_stays None theirs live also = cc
+  live_stays (Some mine) theirs live also = record {
+    state = subst (λ (s : Option State). Merges r members s (state_of theirs) s) (sym live)
+        (subst (λ (s : Option State). Merges r members (Some Live) s (Some Live)) (sym also) refl);
+    place = refl;
+  }
+
+  -- what lives at the peer alone is taken as it is
+  pub new_stays : (mine theirs : Option Entry) (entry : Entry) → mine ≡ None → theirs ≡ Some entry →
+      entry.state ≡ Live → Changes r members mine theirs (Some entry)
+  new_stays None (Some theirs) entry none is live = rw is (record {
+    state = subst (λ (s : State). Merges r members None (Some s) (Some s)) (sym live) refl;
+    place = refl;
+  })
+  new_stays None None entry none is live = cc
+  new_stays (Some mine) theirs entry none is live = cc
+
+  -- the changes in place of what stood there are what the table says
+  pub replaced_merges : (mine theirs changes merged : List Entry) →
+      IsMadeBy (λ (e : Entry). e.id) (Changes r members) mine theirs changes → ReplacesEntries mine changes merged →
+      MergesEntries r members mine theirs merged
+  replaced_merges mine theirs changes merged made replaces = record {
+    each = λ id at_r at_peer after mine_holds theirs_holds merged_holds.
+        let change = held_or_not (λ (e : Entry). e.id) changes id in
+        let is : after ≡ option_or change.0 at_r =
+        replaces.each id at_r change.0 after mine_holds change.1 merged_holds in
+        rw is (made.each id at_r at_peer change.0 mine_holds theirs_holds change.1);
+  }

@@ -1,0 +1,96 @@
+ghost use Rattle.std.specs.Prelude.{◌≡◌, [], ◌++◌, IfOk, OnOk};
+ghost use Rattle.ficus_ids.specs.Members.{IsMember};
+ghost use Rattle.ficus_table.specs.Made.{IsMadeBy};
+ghost use Rattle.ficus_table.specs.SideBySide.{as_list};
+ghost use Rattle.ficus_entry.specs.Entry.{IsRising};
+ghost use Rattle.ficus_merge_entries.specs.Merge.{Changes, MergesEntries};
+
+use crate::change::change;
+use crate::runs::merge_runs;
+use crate::table::Taker;
+use ficus_entry::{Entries, InOrder, SharedEntry};
+use ficus_ids::{Members, Memory};
+use ficus_table::SideBySide;
+use std::alloc::Global;
+
+/// What replica `me` holds after it has taken a peer's entries: the merge table, entry by entry. `me` is a
+/// member.
+pub fn merge_entries(
+    alloc: Global,
+    mine: &Entries,
+    theirs: &Entries,
+    me: u8,
+    members: Members,
+) -> Result<Entries, Memory>
+    requires { IsMember members me }
+    ensures merged { IfOk result (MergesEntries me members mine.now theirs.now) }
+    ensures rising { IfOk result IsRising }
+{
+    // Tells that the identifiers of both rise.
+    let _counts = (mine.len(), theirs.len());
+    merge_runs(alloc, &mut mine.run(), &mut theirs.run(), me, members)
+}
+
+/// The same, of a peer's entries that need not stand in a list. Where little changes, all else is shared with what it
+/// held, and a new entry with the peer's, where these were made of rows.
+pub fn merge_in_order(
+    alloc: Global,
+    mine: Entries,
+    theirs: &InOrder<'_>,
+    me: u8,
+    members: Members,
+) -> Result<Entries, Memory>
+    requires { IsMember members me }
+    ensures merged { IfOk result (MergesEntries me members mine theirs.now) }
+    ensures rising { IfOk result IsRising }
+{
+    let changes = changes(alloc, Taker::new(me, members), &mine, theirs)?;
+    mine.replaced(&changes)
+}
+
+// What becomes of the taker's entries, where it isn't what stands there.
+fn changes(
+    alloc: Global,
+    taker: Taker,
+    mine: &Entries,
+    theirs: &InOrder<'_>,
+) -> Result<Vec<SharedEntry>, Memory>
+    ensures made { IfOk result (λ changes.
+        IsMadeBy (λ entry. entry.id) (Changes taker.number taker.members) mine.now theirs.now changes.items) }
+    ensures rising { IfOk result (λ changes. IsRising changes.items) }
+{
+    let my_entries = mine.in_order()?;
+    let mut changes = Vec::new(alloc);
+    collect(&mut changes, taker, &my_entries, theirs)?;
+    Ok(changes)
+}
+
+// Puts these into an empty list.
+fn collect(
+    changes: &mut Vec<SharedEntry>,
+    taker: Taker,
+    my_entries: &InOrder<'_>,
+    their_entries: &InOrder<'_>,
+) -> Result<(), Memory>
+    requires { changes.old.items ≡ [] }
+    ensures made { OnOk result (IsMadeBy (λ entry. entry.id) (Changes taker.number taker.members)
+        my_entries.now their_entries.now changes.new.items) }
+    ensures rising { OnOk result (IsRising changes.new.items) }
+{
+    let alloc = *changes.allocator();
+    let mut walk = SideBySide::of(my_entries.rows(), their_entries.rows());
+    while let Some(next) = walk.next_row_pair() {
+        note(changes, change(alloc, taker, next)?)?;
+    }
+    Ok(())
+}
+
+/// Puts an entry, if there is one, behind the others.
+pub(crate) fn note(changes: &mut Vec<SharedEntry>, entry: Option<SharedEntry>) -> Result<(), Memory>
+    ensures { OnOk result (changes.new.items ≡ changes.old.items ++ as_list entry) }
+{
+    if let Some(entry) = entry {
+        changes.push(entry)?;
+    }
+    Ok(())
+}

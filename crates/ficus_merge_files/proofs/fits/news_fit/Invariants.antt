@@ -1,0 +1,6 @@
+use Rattle.std.proofs.Common.{take}
+use Rattle.ficus_merge_files.specs.Merge.{Fit}
+use Rattle.ficus_merge_files.proofs.fits.news_fit.Given as goal
+
+abbrev pub invariant-loop-index : goal.invariant-loop-index
+invariant-loop-index l = Fit l.news.mine (take l.index l.news.new)

@@ -1,0 +1,10 @@
+pub mod Faults
+pub mod Steadies
+pub mod Rests
+pub mod Others
+pub mod Unarmed
+pub mod Asking
+pub mod Made
+pub mod Openings
+pub mod Bad
+pub mod Stand

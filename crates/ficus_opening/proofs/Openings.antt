@@ -1,0 +1,296 @@
+-- The disks of one member after the other are opened.
+use Rattle.std.proofs.Common.{◌≡◌, ℕ, ◌+◌, ◌<◌, ◌≤◌, Bool, false, List, [], ◌∷◌, ◌++◌, length, Option, refl, sym, ap, ap₂, subst, ◌∙◌, inl, inr, ◌⊎◌, arith}
+use Rattle.std.specs.Prelude.{◌↔◌, slice_set, IsTrue}
+use Rattle.std.proofs.lemmas.Bool.{cases_lt}
+use Rattle.std.proofs.lemmas.List.{length_push}
+use Rattle.ficus_check.specs.Judged.{HoldsNoneOf, IsOfVolume, IsOwn, IsSound, MayOpen}
+use Rattle.ficus_check.specs.declared.checked.Checked.{Checked}
+use Rattle.ficus_check.proofs.Owning.{is_false}
+use Rattle.ficus_disk.specs.declared.disk.Disk.{Ghosts as Disk}
+use Rattle.ficus_disk.specs.declared.pair.Pair.{Pair}
+use Rattle.ficus_ids.specs.Members.{IsMember}
+use Rattle.ficus_keeper.specs.declared.keep.Keep.{Ghosts as Keep}
+use Rattle.ficus_keeper.specs.Kept.{Kept, found_in}
+use Rattle.ficus_durable_state.specs.Saved.{FitsImage}
+use Rattle.ficus_durable_state.specs.declared.saved.Saved.{Saved}
+use Rattle.ficus_leads.specs.Holds.{Holds, OneHeld}
+use Rattle.ficus_leads.proofs.Led.{held_at}
+use Rattle.ficus_stable_storage.specs.Stable.{IsReady}
+use Rattle.ficus_stable_storage.specs.declared.stable.Stable.{Stable}
+use Rattle.ficus_runs.specs.Numbered.{IsNumbered}
+use Rattle.ficus_opening.specs.Disks.{AreDisksOf, HoldsFor, are_fused}
+use Rattle.ficus_opening.specs.Opening.{AreOpened, IsBad, IsFirstBad, IsOneMore, IsOpened, Opens, Steady, opened_member}
+use Rattle.ficus_opening.specs.declared.member.Member.{Member}
+use Rattle.ficus_opening.specs.declared.member.MemberState.{MemberState}
+use Rattle.ficus_run_laws.proofs.Numbers.{number_once, number_read, number_exists, number_more, number_cases}
+use Rattle.ficus_opening.proofs.Steadies.{set_at, steady_back}
+
+-- the first of some
+pub first_of : (member : Member) (members : List Member) → IsNumbered (member ∷ members) 1 member
+first_of member members =
+    number_read (member ∷ members) 1 member member (record { at_least = omega arith; at_most = omega arith }) refl
+
+nothing_before : (members : List Member) → 1 ≡ length members + 1 → members ≡ []
+nothing_before [] one = refl
+nothing_before (member ∷ members) one = absurd (omega (arith, one))
+
+-- one member more is up, behind those that are
+module _ (members : List Member) (saved : Saved) (fused : Bool) (number : ℕ) (next : number ≡ length members + 1)
+    (opened : AreOpened members) (fits : FitsImage saved) (own : IsOwn saved number)
+    (behind : (first : Member) → IsNumbered members 1 first → IsOfVolume first.replica.saved saved) where
+  abbrev new : List Member
+  new = members ++ opened_member saved fused ∷ []
+
+  made : (first : Saved) → IsOfVolume first saved → IsOpened first number (opened_member saved fused)
+  made first same = record { up = refl; asks = refl; parts = refl; fits = fits; may = record { own = own; same = same } }
+
+  each : (r : ℕ) (first member : Member)
+      → IsNumbered members 1 first ⊎ ((1 ≡ length members + 1) × (first ≡ opened_member saved fused))
+      → IsNumbered members r member ⊎ ((r ≡ length members + 1) × (member ≡ opened_member saved fused))
+      → IsOpened first.replica.saved r member
+  each r first member (inl one) (inl here) = opened.each r first member one here
+  each r first member (inr one) (inl here) =
+      absurd (omega (arith, one.0, here.member.at_least, here.member.at_most))
+  each r first member (inl one) (inr last) =
+      subst (λ k. IsOpened first.replica.saved k member) (next ∙ sym last.0)
+      (subst (IsOpened first.replica.saved number) (sym last.1) (made first.replica.saved (behind first one)))
+  each r first member (inr one) (inr last) =
+      subst (λ k. IsOpened first.replica.saved k member) (next ∙ sym last.0)
+      (subst (IsOpened first.replica.saved number) (sym last.1)
+      (subst (λ (m : Member). IsOpened m.replica.saved number (opened_member saved fused)) (sym one.1)
+      (made saved (record { members = refl; ids = refl; bytes = refl }))))
+
+  pub opened_more : AreOpened new
+  opened_more = record {
+    each = λ r first member one at.
+        each r first member (number_cases members (opened_member saved fused) one)
+        (number_cases members (opened_member saved fused) at);
+  }
+
+pub one_more : (members : List Member) (next : Member) → IsOneMore members (members ++ next ∷ [])
+one_more members next = record { count = length_push members next; stays = λ r member at. number_more members next at }
+
+module _ {K D : Type 0} (keep : Keep K) (disk : Disk D) where
+  pub disks_none : (members : List Member) (stables : List (Stable K)) (disks : List (Pair D)) → members ≡ []
+      → AreDisksOf keep disk members stables disks
+  disks_none members stables disks none = record {
+    each = λ r member stable pair at at_stable at_pair.
+        absurd (omega (arith, at.member.at_least, at.member.at_most, ap (λ (l : List Member). length l) none));
+  }
+
+  -- the disks of one member more
+  module _ (members : List Member) (stables : List (Stable K)) (disks : List (Pair D)) (index : ℕ) (saved : Saved)
+      (fused : Bool) (stable : Stable K) (after : Pair D) (counted : length stables ≡ length members)
+      (next : index ≡ length members) (are : AreDisksOf keep disk members stables disks)
+      (is_fused : fused ≡ are_fused disk.armings after)
+      (ready : disk.tells → IsReady keep.kept keep.fits disk.seen disk.may_leave stable after saved) where
+    pub disks_more : AreDisksOf keep disk (members ++ opened_member saved fused ∷ [])
+        (stables ++ stable ∷ []) (slice_set disks index after)
+    disks_more = record {
+      each = λ r m s p at at_stable at_pair.
+          elim (set_at disks index r after p at_pair) [
+            | inl (number, is) ↦ elim (number_cases members (opened_member saved fused) at) [
+              | inl here ↦ absurd (omega (arith, here.member.at_most, number, next))
+              | inr (last, is_new) ↦ elim (number_cases stables stable at_stable) [
+                | inl there ↦ absurd (omega (arith, there.member.at_most, counted, number, next))
+                | inr (also, is_stable) ↦ record {
+                  fused =
+                      ap (λ (x : Member). x.fused) is_new ∙ is_fused
+                      ∙ ap (λ (x : Pair D). are_fused disk.armings x) (sym is);
+                  holds = λ told.
+                      subst (λ (x : Member). HoldsFor keep disk s p x.replica.saved x.state)
+                      (sym is_new)
+                      (subst (λ (x : Stable K). IsReady keep.kept keep.fits disk.seen disk.may_leave x p saved) (sym is_stable)
+                      (subst (λ (x : Pair D). IsReady keep.kept keep.fits disk.seen disk.may_leave stable x saved) (sym is)
+                      (ready told)));
+                }
+              ]
+            ]
+            | inr (differs, kept_pair) ↦ elim (number_cases members (opened_member saved fused) at) [
+              | inl here ↦ elim (number_cases stables stable at_stable) [
+                | inl there ↦ are.each r m s p here there kept_pair
+                | inr (also, is_stable) ↦ absurd (omega (arith, here.member.at_most, also, counted))
+              ]
+              | inr (last, is_new) ↦ absurd (differs (omega (arith, last, next)))
+            ]
+          ];
+    }
+
+  -- what the disks of a member hold that was opened
+  pub held_of : (members : List Member) (stables : List (Stable K)) (disks : List (Pair D))
+      → length stables ≡ length members → AreOpened members
+      → AreDisksOf keep disk members stables disks → disk.tells → (r : ℕ) (member : Member)
+      (pair : Pair D) → IsNumbered members r member → IsNumbered disks r pair
+      → Holds (found_in keep.kept disk.seen pair) member.replica.saved
+  held_of members stables disks counted opened are told r member pair at at_pair =
+      let first =
+      number_exists members 1
+      (record { at_least = omega arith; at_most = omega (arith, at.member.at_least, at.member.at_most) }) in
+      let stable = number_exists stables r (subst (λ n. IsMember n r) (sym counted) at.member) in
+      let up = (opened.each r first.0 member first.1 at).up in
+      (subst (λ (s : MemberState). HoldsFor keep disk stable.0 pair member.replica.saved s) up
+      ((are.each r member stable.0 pair at stable.1 at_pair).holds told)).holds
+
+module _ {D : Type 0} (kept : List ℕ → List ℕ → Option Kept) (seen : D → List ℕ) where
+  -- what holds in what is read holds while that stays
+  pub opens_same : (one two : List (Pair D)) (first saved : Saved) (r : ℕ) → Steady seen one two
+      → Opens kept seen one first saved r → Opens kept seen two first saved r
+  opens_same one two first saved r steady opens =
+      let now = number_exists two r (subst (λ n. IsMember n r) (sym steady.count) opens.is.member) in
+      let same = steady.each r opens.pair now.0 opens.is now.1 in
+      record {
+        pair = now.0;
+        is = now.1;
+        fits = opens.fits;
+        holds = held_at _ _ saved (ap₂ kept same.a same.b) opens.holds;
+        may = opens.may;
+      }
+
+  pub bad_same : (one two : List (Pair D)) (r : ℕ) → Steady seen one two → IsBad kept seen two r → IsBad kept seen one r
+  bad_same one two r steady bad = λ first saved opens_first opens.
+      bad first saved (opens_same one two first first 1 steady opens_first)
+      (opens_same one two first saved r steady opens)
+
+  -- of disks that hold nothing of their member's own no world is opened
+  pub none_held : (disks : List (Pair D)) (number : ℕ) (before : Pair D) → IsNumbered disks number before
+      → HoldsNoneOf kept seen number before → IsBad kept seen disks number
+  none_held disks number before at none = λ first saved opens_first opens.
+      none saved opens.fits
+      (subst (λ (p : Pair D). Holds (found_in kept seen p) saved) (number_once opens.is at) opens.holds) opens.may.own
+
+  -- disks that are sound, and with which no world is opened, are of another volume than the first member's
+  pub sound_bad : (disks : List (Pair D)) (first : Saved) (r : ℕ) (pair : Pair D) (told : Checked)
+      → Opens kept seen disks first first 1 → IsNumbered disks r pair → IsSound kept seen r pair told
+      → IsBad kept seen disks r → (saved : Saved) × Holds (found_in kept seen pair) saved × (IsOfVolume first saved → ⊥)
+  sound_bad disks first r pair told opens at sound bad = (
+    sound.saved,
+    sound.holds,
+    λ same. bad first sound.saved opens (record {
+      pair = pair;
+      is = at;
+      fits = sound.fits;
+      holds = sound.holds;
+      may = record { own = sound.own; same = same };
+    }),
+  )
+
+  -- the disks of members that were opened hold what these save
+  module _ (members : List Member) (disks : List (Pair D)) (opened : AreOpened members)
+      (held : (r : ℕ) (member : Member) (pair : Pair D) → IsNumbered members r member → IsNumbered disks r pair
+      → Holds (found_in kept seen pair) member.replica.saved) where
+    pub opens_of : (r : ℕ) (first member : Member) → IsNumbered members 1 first → IsNumbered members r member
+        → r ≤ length disks → Opens kept seen disks first.replica.saved member.replica.saved r
+    opens_of r first member one at within =
+        let pair = number_exists disks r (record { at_least = at.member.at_least; at_most = within }) in
+        let so = opened.each r first member one at in
+        record { pair = pair.0; is = pair.1; fits = so.fits; holds = held r member pair.0 at pair.1; may = so.may }
+
+    -- what the first disks hold is what the first member saves
+    pub first_is : OneHeld → (first : Saved) (member : Member) → IsNumbered members 1 member
+        → Opens kept seen disks first first 1 → first ≡ member.replica.saved
+    first_is held_once first member one opens =
+        held_once (found_in kept seen opens.pair) first member.replica.saved opens.holds
+        (held 1 member opens.pair one opens.is)
+
+    -- with what was read no world is opened
+    module _ (held_once : OneHeld) (number : ℕ) (before : Pair D) (read : Saved) (at : IsNumbered disks number before)
+        (holds : Holds (found_in kept seen before) read)
+        (next : number ≡ length members + 1) (answer : Bool) (refused : answer ≡ false)
+        (alone : members ≡ [] → IsTrue answer)
+        (behind : (first : Member) → IsNumbered members 1 first
+        → IsTrue answer ↔ IsOfVolume first.replica.saved read) where
+      read_is : (first saved : Saved) → Opens kept seen disks first saved number → saved ≡ read
+      read_is first saved opens =
+          held_once (found_in kept seen before) saved read
+          (subst (λ (p : Pair D). Holds (found_in kept seen p) saved) (number_once opens.is at) opens.holds) holds
+
+      pub none_may : IsBad kept seen disks number
+      none_may first saved opens_first opens = elim (cases_lt 0 (length members)) [
+        | inl some ↦
+            let one = number_exists members 1 (record { at_least = omega arith; at_most = omega (arith, some) }) in
+            let may =
+            subst (λ (f : Saved). MayOpen f saved number) (first_is held_once first one.0 one.1 opens_first) opens.may in
+            is_false answer _ refused (behind one.0 one.1)
+            (subst (λ (s : Saved). MayOpen one.0.replica.saved s number) (read_is first saved opens) may).same
+        | inr none ↦ let so = alone (nothing_before members (omega (arith, none))) in absurd (cc)
+      ]
+
+  -- the first disks are those of no world
+  pub first_bad_one : (disks : List (Pair D)) → IsBad kept seen disks 1 → IsFirstBad kept seen disks 1
+  first_bad_one disks bad = record {
+    some = omega arith;
+    member = λ first opens. absurd (bad first first opens opens);
+    bad = bad;
+    before = λ q one below. absurd (omega (arith, one, below));
+  }
+
+  -- the next ones are, behind those of members that were opened
+  pub first_bad_more : OneHeld → (old now : List (Pair D)) (members : List Member) (before count : ℕ) → Steady seen old now
+      → AreOpened members
+      → ((r : ℕ) (member : Member) (pair : Pair D) → IsNumbered members r member → IsNumbered now r pair
+      → Holds (found_in kept seen pair) member.replica.saved)
+      → length members ≡ before → 1 ≤ before → before < count → before ≤ length now
+      → ((first : Member) → IsNumbered members 1 first → first.replica.saved.members ≡ count)
+      → IsBad kept seen now (before + 1) → IsFirstBad kept seen old (before + 1)
+  first_bad_more held_once old now members before count steady opened held counted some below within says bad =
+      let one =
+      number_exists members 1 (record { at_least = omega arith; at_most = omega (arith, some, counted) }) in
+      let says_one = says one.0 one.1 in
+      let back = steady_back seen old now steady in
+      record {
+        some = omega arith;
+        member = λ first opens.
+            let is =
+            first_is members now opened held held_once first one.0 one.1 (opens_same old now first first 1 steady opens) in
+            let as_many = ap (λ (s : Saved). s.members) is in
+            omega (arith, as_many, says_one, below);
+        bad = bad_same old now (before + 1) steady bad;
+        before = λ q q_some q_below.
+            let at =
+            number_exists members q (record { at_least = q_some; at_most = omega (arith, q_below, counted) }) in (
+              one.0.replica.saved,
+              at.0.replica.saved,
+              opens_same now old one.0.replica.saved one.0.replica.saved 1 back
+                  (opens_of members now opened held 1 one.0 one.0 one.1 one.1 (omega (arith, some, within))),
+              opens_same now old one.0.replica.saved at.0.replica.saved q back
+                  (opens_of members now opened held q one.0 at.0 one.1 at.1 (omega (arith, q_below, within))),
+            );
+      }
+
+  -- the first is a member
+  pub one_named : (disks : List (Pair D)) (first : Saved) → Opens kept seen disks first first 1 → 1 ≤ first.members
+  one_named disks first opens = omega (arith, opens.fits.members.at_least)
+
+  -- the next one behind those that were opened is a member, and none of them is bad
+  module _ (old now : List (Pair D)) (members : List Member) (before count : ℕ) (steady : Steady seen old now)
+      (opened : AreOpened members)
+      (held : (r : ℕ) (member : Member) (pair : Pair D) → IsNumbered members r member → IsNumbered now r pair
+      → Holds (found_in kept seen pair) member.replica.saved)
+      (counted : length members ≡ before) (some : 1 ≤ before) (below : before < count) (within : before ≤ length now)
+      (says : (first : Member) → IsNumbered members 1 first → first.replica.saved.members ≡ count) where
+    pub next_named : OneHeld → (first : Saved) → Opens kept seen old first first 1 → before + 1 ≤ first.members
+    next_named held_once first opens =
+        let one =
+        number_exists members 1 (record { at_least = omega arith; at_most = omega (arith, some, counted) }) in
+        let says_one = says one.0 one.1 in
+        let is =
+        first_is members now opened held held_once first one.0 one.1 (opens_same old now first first 1 steady opens) in
+        let as_many = ap (λ (s : Saved). s.members) is in
+        omega (arith, as_many, says_one, below)
+
+    pub next_earlier : (r : ℕ) → IsFirstBad kept seen old r → before + 1 ≤ r
+    next_earlier r bad = elim (cases_lt before r) [
+      | inl past ↦ omega (arith, past)
+      | inr most ↦
+          let one =
+          number_exists members 1 (record { at_least = omega arith; at_most = omega (arith, some, counted) }) in
+          let at =
+          number_exists members r (record { at_least = bad.some; at_most = omega (arith, most, counted) }) in
+          let back = steady_back seen old now steady in
+          absurd
+          (bad.bad one.0.replica.saved at.0.replica.saved
+          (opens_same now old one.0.replica.saved one.0.replica.saved 1 back
+          (opens_of members now opened held 1 one.0 one.0 one.1 one.1 (omega (arith, some, within))))
+          (opens_same now old one.0.replica.saved at.0.replica.saved r back
+          (opens_of members now opened held r one.0 at.0 one.1 at.1 (omega (arith, most, within)))))
+    ]

@@ -1,0 +1,5 @@
+pub mod Rests
+pub mod Stand
+pub mod Fuses
+pub mod Disks
+pub mod Opening

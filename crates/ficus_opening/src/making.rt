@@ -1,0 +1,188 @@
+ghost use Rattle.std.specs.Prelude.{◌≡◌, ◌≤◌, ◌+◌, ◌<◌, ◌⊎◌, [], Err, None, Some, ℕ, List, true, false, length, IfErr, IsErrOf, OnErr, OnOk};
+ghost use Rattle.ficus_check.specs.Judged.{IsEmptyPair};
+ghost use Rattle.ficus_disk.specs.declared.pair.Pair.{Pair as PairValue};
+ghost use Rattle.ficus_ids.specs.Members.{IsCount, IsMember};
+ghost use Rattle.ficus_keeper.specs.Fuses.{IsRegularIn};
+ghost use Rattle.ficus_keeper.specs.Kept.{found_in};
+ghost use Rattle.ficus_model.specs.Lawful.{Volume};
+ghost use Rattle.ficus_replica.specs.SavedOf.{fresh_saved};
+ghost use Rattle.ficus_durable_state.specs.Limits.{byte_limit, update_limit};
+ghost use Rattle.ficus_leads.specs.Holds.{Holds};
+ghost use Rattle.ficus_stable_storage.specs.Holds.{HoldsOneOf};
+ghost use Rattle.ficus_opening.specs.Fuses.{AreRegular};
+ghost use Rattle.ficus_opening.specs.Opening.{AreEmpty, AreMade, AreMadeInPart, AreSynced, DisksAsked, DisksLooked, IsAtFault, IsFirstOccupied, IsFoundFault, IsStoreFault, IsSynced, IsUnfailed, PairAsked, SeenSame, StandsOn, Steady, Unfailing};
+ghost use Rattle.ficus_opening.specs.declared.fault.WorldFault.{WorldFault as WorldFaultValue};
+ghost use Rattle.ficus_opening.specs.Rests.{AllRest, OthersStay};
+
+use crate::WorldFault;
+use crate::looking::look_at;
+use ficus_disk::{Disk, Pair};
+use ficus_ids::Members;
+use ficus_keeper::{Keep, MakeFault};
+use ficus_replica::Replica;
+use ficus_stable_storage::Stable;
+use std::alloc::Global;
+
+/// Makes a fresh volume on the disks: for each member what it saves before anything has happened.
+///
+/// `Store` comes only where a disk of that replica failed; `Occupied` exactly where none failed when asked for its
+/// size and a disk of a member holds something. After `Store` and `Memory` some first members may be made, and the
+/// one at fault in part.
+pub fn make_volume<K: Keep + Drop, D: Disk>(
+    alloc: Global,
+    disks: &mut Vec<Pair<D>>,
+    members: Members,
+    ids: u32,
+    bytes: u32,
+) -> Result<(), WorldFault>
+    requires pairs { length disks.old.items ≡ 8 }
+    requires ids_at_least { 1 ≤ ids }
+    requires ids_at_most { ids ≤ update_limit }
+    requires bytes { bytes ≤ byte_limit }
+    ensures made { D.tells → OnOk result (AreMade K.kept D.seen
+        (record { members = members; ids = ids; bytes = bytes }) disks.new.items) }
+    ensures empty { D.tells → OnOk result (AreEmpty D.seen disks.old.items members) }
+    ensures occupied { D.tells → (r : ℕ) → IsErrOf result (WorldFault.Occupied r)
+        → IsFirstOccupied D.seen disks.old.items r × (r ≤ members) }
+    // Where a member's disks hold something, nothing is written, and what they hold stays.
+    ensures held { D.tells → (r : ℕ) → r ≤ members → IsFirstOccupied D.seen disks.old.items r
+        → SeenSame D.seen disks.old.items disks.new.items }
+    ensures rests { D.tells → (r : ℕ) → r ≤ members → IsFirstOccupied D.seen disks.old.items r
+        → AllRest D.Disk disks.old.items disks.new.items }
+    // Where nothing was there and nothing unsynced, nothing else is there after a fault than what is made: some
+    // first members, and one in part. The pairs of no member stay.
+    ensures partly { D.tells → AreEmpty D.seen disks.old.items members
+        → AreSynced D.seen D.may_leave disks.old.items members → OnErr result (AreMadeInPart K.kept D.may_leave
+        (record { members = members; ids = ids; bytes = bytes }) disks.new.items) }
+    ensures others { OthersStay members disks.old.items disks.new.items }
+    // No disk has failed where no such fault is told.
+    ensures spared { (fault : WorldFaultValue) → IsUnfailed fault → IsErrOf result fault
+        → Steady D.faults disks.old.items disks.new.items }
+    ensures comes { D.tells → (r : ℕ) → IsFirstOccupied D.seen disks.old.items r → r ≤ members
+        → (result ≡ Err (WorldFault.Occupied r)) ⊎ ((q : ℕ) × (result ≡ Err (WorldFault.Store q))) }
+    ensures failed { (r : ℕ) → IsErrOf result (WorldFault.Store r) → IsAtFault D.faults disks.old.items
+        disks.new.items r }
+    ensures member { (r : ℕ) → IsErrOf result (WorldFault.Store r) → r ≤ members }
+    ensures never { (r : ℕ) → IsErrOf result (WorldFault.Image r) → ⊥ }
+    // Where nothing was unsynced on the members' disks, nothing of what is made is.
+    ensures synced { D.tells → AreSynced D.seen D.may_leave disks.old.items members
+        → OnOk result (AreSynced D.seen D.may_leave disks.new.items members) }
+    ensures steady { OnOk result (Steady D.faults disks.old.items disks.new.items) }
+    ensures armings { Steady D.armings disks.old.items disks.new.items }
+    ensures pairs { length disks.new.items ≡ length disks.old.items }
+    // On disks that tell their fuses, of which none is armed, none fails, and none is armed afterwards.
+    ensures unfailing { D.tells_fuse → Unfailing D.fuse result disks.old.items disks.new.items }
+    ensures regular { D.tells → OnOk result (AreRegular K.Regular D.seen disks.new.items members) }
+{
+    look_for_empty(disks, members)?;
+    make_all::<K, D>(alloc, disks, members, ids, bytes)
+}
+
+// Looks whether the disks of all members are empty.
+fn look_for_empty<D: Disk>(disks: &mut Vec<Pair<D>>, members: Members) -> Result<(), WorldFault>
+    requires pairs { length disks.old.items ≡ 8 }
+    ensures empty { D.tells → OnOk result (AreEmpty D.seen disks.old.items members) }
+    ensures occupied { D.tells → (r : ℕ) → IsErrOf result (WorldFault.Occupied r)
+        → IsFirstOccupied D.seen disks.old.items r × (r ≤ members) }
+    ensures member { (r : ℕ) → IsErrOf result (WorldFault.Store r) → r ≤ members }
+    ensures refused { IfErr result IsFoundFault }
+    ensures others { OthersStay members disks.old.items disks.new.items }
+    ensures synced { D.tells → AreSynced D.seen D.may_leave disks.old.items members
+        → OnOk result (AreSynced D.seen D.may_leave disks.new.items members) }
+    ensures looked { DisksLooked D.Disk result disks.old.items disks.new.items }
+{
+    let mut occupied = None;
+    for before in 0..members.count() {
+        let number = before + 1;
+        let is_empty = look_at(&mut disks[usize::from(before)], number)?;
+        occupied = or_occupied(occupied, is_empty, number);
+    }
+    match occupied {
+        Some(number) => Err(WorldFault::Occupied(number)),
+        None => Ok(()),
+    }
+}
+
+// The first member whose disks hold something, with those of one more.
+fn or_occupied(occupied: Option<u8>, is_empty: bool, number: u8) -> Option<u8>
+    ensures earlier { (r : ℕ) → occupied ≡ Some r → result ≡ Some r }
+    ensures empty { is_empty ≡ true → result ≡ occupied }
+    ensures first { is_empty ≡ false → occupied ≡ None → result ≡ Some number }
+{
+    match occupied {
+        None if !is_empty => Some(number),
+        earlier => earlier,
+    }
+}
+
+// Makes each member.
+fn make_all<K: Keep + Drop, D: Disk>(
+    alloc: Global,
+    disks: &mut Vec<Pair<D>>,
+    members: Members,
+    ids: u32,
+    bytes: u32,
+) -> Result<(), WorldFault>
+    requires pairs { length disks.old.items ≡ 8 }
+    requires ids_at_least { 1 ≤ ids }
+    requires ids_at_most { ids ≤ update_limit }
+    requires bytes { bytes ≤ byte_limit }
+    requires empty { D.tells → AreEmpty D.seen disks.old.items members }
+    ensures made { D.tells → OnOk result (AreMade K.kept D.seen
+        (record { members = members; ids = ids; bytes = bytes }) disks.new.items) }
+    ensures member { (r : ℕ) → IsErrOf result (WorldFault.Store r) → r ≤ members }
+    ensures refused { IfErr result IsStoreFault }
+    ensures partly { D.tells → AreSynced D.seen D.may_leave disks.old.items members
+        → OnErr result (AreMadeInPart K.kept D.may_leave
+        (record { members = members; ids = ids; bytes = bytes }) disks.new.items) }
+    ensures others { OthersStay members disks.old.items disks.new.items }
+    ensures synced { D.tells → AreSynced D.seen D.may_leave disks.old.items members
+        → OnOk result (AreSynced D.seen D.may_leave disks.new.items members) }
+    ensures regular { D.tells → OnOk result (AreRegular K.Regular D.seen disks.new.items members) }
+    ensures asked { DisksAsked D.Disk result disks.old.items disks.new.items }
+{
+    for before in 0..members.count() {
+        let pair = &mut disks[usize::from(before)];
+        make_one::<K, D>(alloc, pair, before + 1, members, ids, bytes)?;
+    }
+    Ok(())
+}
+
+// Makes one member.
+fn make_one<K: Keep + Drop, D: Disk>(
+    alloc: Global,
+    pair: &mut Pair<D>,
+    me: u8,
+    members: Members,
+    ids: u32,
+    bytes: u32,
+) -> Result<(), WorldFault>
+    requires me { IsMember members me }
+    requires ids_at_least { 1 ≤ ids }
+    requires ids_at_most { ids ≤ update_limit }
+    requires bytes { bytes ≤ byte_limit }
+    requires empty { D.tells → IsEmptyPair D.seen pair.old }
+    ensures made { D.tells → OnOk result (Holds (found_in K.kept D.seen pair.new)
+        (fresh_saved (record { members = members; ids = ids; bytes = bytes }) me)) }
+    ensures refused { IfErr result IsStoreFault }
+    ensures partly { D.tells → IsSynced D.seen D.may_leave pair.old → HoldsOneOf K.kept D.may_leave pair.new None
+        (Some (fresh_saved (record { members = members; ids = ids; bytes = bytes }) me)) }
+    ensures synced { D.tells → IsSynced D.seen D.may_leave pair.old
+        → OnOk result (IsSynced D.seen D.may_leave pair.new) }
+    ensures regular { D.tells → OnOk result (IsRegularIn K.Regular D.seen pair.new) }
+    ensures asked { PairAsked D.Disk me result pair.old pair.new }
+{
+    let fresh = Replica::fresh(alloc, me, members, ids, bytes);
+    match Stable::<K>::make(alloc, pair, &fresh.saved) {
+        Ok(()) => Ok(()),
+        Err(MakeFault::Failed) => Err(WorldFault::Store(me)),
+        Err(MakeFault::Memory) => Err(WorldFault::Memory),
+    }
+}
+
+/// The law that what was made stands for the history without events. It does nothing when it runs.
+pub fn what_is_made_stands<K: Keep + Drop, D: Disk>()
+    ensures { (volume : Volume) (disks : List (PairValue D)) → IsCount volume.members → 1 ≤ volume.ids
+        → volume.ids ≤ update_limit → volume.bytes ≤ byte_limit → AreMade K.kept D.seen volume disks
+        → StandsOn K.kept D.seen volume [] disks }
+{}

@@ -1,0 +1,173 @@
+ghost use Rattle.std.specs.Prelude.{◌≡◌, ◌↔◌, ◌≤◌, ◌+◌, ◌<◌, [], ◌∷◌, ◌++◌, Err, None, ℕ, true, length, IfOk, IsErrOf, IsTrue, OnOk};
+ghost use Rattle.ficus_check.specs.Judged.{HoldsNoneOf, IsOfVolume, IsOwn};
+ghost use Rattle.ficus_ids.specs.Members.{IsCount, IsMember};
+ghost use Rattle.ficus_durable_state.specs.Saved.{FitsImage};
+ghost use Rattle.ficus_durable_state.specs.declared.saved.Saved.{Saved as SavedValue};
+ghost use Rattle.ficus_stable_storage.specs.Stable.{IsReady};
+ghost use Rattle.ficus_runs.specs.Numbered.{IsNumbered};
+ghost use Rattle.ficus_opening.specs.Disks.{AreDisksOf, are_fused};
+ghost use Rattle.ficus_opening.specs.Opening.{AreOpened, DisksLooked, IsBad, IsFirstBad, IsOneMore, Opens, PairLooked, opened_member};
+ghost use Rattle.ficus_opening.specs.declared.member.Member.{Member as MemberValue};
+ghost use Rattle.ficus_opening.specs.Rests.{OthersStay};
+
+use crate::WorldFault;
+use crate::member::{Member, MemberState};
+use ficus_check::{is_of_volume, open_own};
+use ficus_disk::{Disk, Pair};
+use ficus_durable_state::Saved;
+use ficus_ids::Memory;
+use ficus_keeper::{Keep, StoreFault};
+use ficus_replica::Replica;
+use ficus_stable_storage::{Recovered, Stable, one_saved};
+use std::alloc::Global;
+
+/// The members that were opened, and the keepers of what they save.
+#[derive(Drop)]
+pub struct Opened<K: Keep + Drop> {
+    pub members: Vec<Member>,
+    pub stables: Vec<Stable<K>>,
+}
+
+/// Opens the disks of each member, as many as the first one says. It writes no byte to a disk.
+pub fn open_all<K: Keep + Drop, D: Disk>(
+    alloc: Global,
+    disks: &mut Vec<Pair<D>>,
+) -> Result<Opened<K>, WorldFault>
+    requires pairs { length disks.old.items ≡ 8 }
+    ensures opened { IfOk result (λ opened. AreOpened opened.members.items) }
+    ensures counted { IfOk result (λ opened. (first : MemberValue) → IsNumbered opened.members.items 1 first
+        → first.replica.saved.members ≡ length opened.members.items) }
+    ensures count { IfOk result (λ opened. IsCount (length opened.members.items)) }
+    ensures stables { IfOk result (λ opened. length opened.stables.items ≡ length opened.members.items) }
+    ensures disks { IfOk result (λ opened. AreDisksOf K.Keep D.Disk
+        opened.members.items opened.stables.items disks.new.items) }
+    ensures image { D.tells → (r : ℕ) → IsErrOf result (WorldFault.Image r)
+        → IsFirstBad K.kept D.seen disks.old.items r }
+    ensures never { (r : ℕ) → IsErrOf result (WorldFault.Occupied r) → ⊥ }
+    ensures others { IfOk result (λ opened. OthersStay (length opened.members.items) disks.old.items
+        disks.new.items) }
+    ensures member { D.tells → (r : ℕ) → IsErrOf result (WorldFault.Store r) → (first : SavedValue)
+        → Opens K.kept D.seen disks.old.items first first 1 → r ≤ first.members }
+    ensures earlier { D.tells → (q r : ℕ) → IsErrOf result (WorldFault.Store q)
+        → IsFirstBad K.kept D.seen disks.old.items r → q ≤ r }
+    ensures looked { DisksLooked D.Disk result disks.old.items disks.new.items }
+{
+    one_saved();
+    let mut opened = none_opened(alloc)?;
+    open_next(alloc, &mut opened, disks, 1)?;
+    let count = opened.members[0].replica.saved.members.count();
+    for before in 1..count {
+        open_next(alloc, &mut opened, disks, before + 1)?;
+    }
+    Ok(opened)
+}
+
+// Room for all members.
+fn none_opened<K: Keep + Drop>(alloc: Global) -> Result<Opened<K>, Memory>
+    ensures members { IfOk result (λ opened. opened.members.items ≡ []) }
+    ensures stables { IfOk result (λ opened. opened.stables.items ≡ []) }
+{
+    Ok(Opened {
+        members: Vec::with_capacity(alloc, 8)?,
+        stables: Vec::with_capacity(alloc, 8)?,
+    })
+}
+
+// Opens the disks of the next member.
+fn open_next<K: Keep + Drop, D: Disk>(
+    alloc: Global,
+    opened: &mut Opened<K>,
+    disks: &mut Vec<Pair<D>>,
+    number: u8,
+) -> Result<(), WorldFault>
+    requires next { number ≡ length opened.old.members.items + 1 }
+    requires pair { IsMember (length disks.old.items) number }
+    requires stables { length opened.old.stables.items ≡ length opened.old.members.items }
+    requires opened { AreOpened opened.old.members.items }
+    requires disks { AreDisksOf K.Keep D.Disk opened.old.members.items
+        opened.old.stables.items disks.old.items }
+    ensures opened { OnOk result (AreOpened opened.new.members.items) }
+    ensures members { OnOk result (IsOneMore opened.old.members.items opened.new.members.items) }
+    ensures stables { OnOk result (length opened.new.stables.items ≡ number) }
+    ensures disks { OnOk result (AreDisksOf K.Keep D.Disk
+        opened.new.members.items opened.new.stables.items disks.new.items) }
+    ensures image { D.tells → (r : ℕ) → IsErrOf result (WorldFault.Image r)
+        → (r ≡ number) × IsBad K.kept D.seen disks.old.items r }
+    ensures never { (r : ℕ) → IsErrOf result (WorldFault.Occupied r) → ⊥ }
+    ensures others { OthersStay number disks.old.items disks.new.items }
+    ensures named { (r : ℕ) → IsErrOf result (WorldFault.Store r) → r ≡ number }
+    ensures looked { DisksLooked D.Disk result disks.old.items disks.new.items }
+{
+    let index = usize::from(number) - 1;
+    let Recovered { stable, saved } = open_one(alloc, &mut disks[index], number)?;
+    if !is_of_their_volume(&opened.members, &saved) {
+        one_saved();
+        return Err(WorldFault::Image(number));
+    }
+    let fused = is_fused(&disks[index]);
+    enter(opened, stable, saved, fused)?;
+    Ok(())
+}
+
+// Whether this is of the same volume as what these members saved, of which the first one says what it is.
+fn is_of_their_volume(members: &[Member], saved: &Saved) -> bool
+    ensures first { members.now ≡ [] → IsTrue result }
+    ensures behind { (first : MemberValue) → IsNumbered members.now 1 first
+        → IsTrue result ↔ IsOfVolume first.replica.saved saved.now }
+{
+    match members {
+        [first, ..] => is_of_volume(&first.replica.saved, saved),
+        [] => true,
+    }
+}
+
+/// What the disks of one member hold of its own.
+pub(crate) fn open_one<K: Keep + Drop, D: Disk>(
+    alloc: Global,
+    pair: &mut Pair<D>,
+    number: u8,
+) -> Result<Recovered<K>, WorldFault>
+    ensures fits { IfOk result (λ found. FitsImage found.saved) }
+    ensures own { IfOk result (λ found. IsOwn found.saved number) }
+    ensures ready { D.tells → IfOk result (λ found.
+        IsReady K.kept K.fits D.seen D.may_leave found.stable pair.new found.saved) }
+    ensures image { D.tells → (r : ℕ) → IsErrOf result (WorldFault.Image r)
+        → (r ≡ number) × HoldsNoneOf K.kept D.seen number pair.old }
+    ensures never { (r : ℕ) → IsErrOf result (WorldFault.Occupied r) → ⊥ }
+    ensures looked { PairLooked D.Disk number result pair.old pair.new }
+{
+    match open_own(alloc, pair, number) {
+        Ok(found) => Ok(found),
+        Err(StoreFault::Failed) => Err(WorldFault::Store(number)),
+        Err(StoreFault::NoImage) => Err(WorldFault::Image(number)),
+        Err(StoreFault::Memory) => Err(WorldFault::Memory),
+    }
+}
+
+// Whether both disks have a fuse.
+fn is_fused<D: Disk>(pair: &Pair<D>) -> bool
+    ensures { result ≡ are_fused D.armings pair.now }
+{
+    pair.a.fused() && pair.b.fused()
+}
+
+// Enters a member that is up.
+fn enter<K: Keep + Drop>(
+    opened: &mut Opened<K>,
+    stable: Stable<K>,
+    saved: Saved,
+    fused: bool,
+) -> Result<(), Memory>
+    ensures members { OnOk result (opened.new.members.items
+        ≡ opened.old.members.items ++ (opened_member saved fused) ∷ []) }
+    ensures stables { OnOk result (opened.new.stables.items ≡ opened.old.stables.items ++ stable ∷ []) }
+{
+    opened.members.push(Member {
+        replica: Replica::open(saved),
+        parts: None,
+        state: MemberState::Up,
+        fused,
+    })?;
+    opened.stables.push(stable)?;
+    Ok(())
+}

@@ -1,5 +1,0 @@
-use Rattle.std.proofs.Common.{length}
-use Rattle.ficus_persistent.proofs.tree.Tree.+of.Given as goal
-
-abbrev pub decreases-of : goal.decreases-of
-decreases-of g l = length l.items.now

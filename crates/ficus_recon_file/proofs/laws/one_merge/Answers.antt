@@ -1,5 +1,0 @@
-use Rattle.ficus_recon_file.proofs.Determined.{same_versions, same_merge}
-use Rattle.ficus_recon_file.proofs.laws.one_merge.Goals as goal
-
-pub returns : goal.returns
-returns c = record { versions = same_versions; files = same_merge }

@@ -1,5 +1,0 @@
-use Rattle.ficus_recon_file.proofs.Determined.{same_count, same_news}
-use Rattle.ficus_recon_file.proofs.laws.one_news.Goals as goal
-
-pub returns : goal.returns
-returns c = record { files = same_news; count = same_count }

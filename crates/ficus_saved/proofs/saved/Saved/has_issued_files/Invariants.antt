@@ -1,7 +1,0 @@
-use Rattle.std.proofs.Common.{take}
-use Rattle.std.specs.Prelude.{All}
-use Rattle.ficus_saved.specs.Saved.{IsFileOfPast}
-use Rattle.ficus_saved.proofs.saved.Saved.has_issued_files.Given as goal
-
-abbrev pub invariant-loop-index : goal.invariant-loop-index
-invariant-loop-index l = All (IsFileOfPast l.self.me l.self.next) (take l.index l.files)

@@ -1,6 +1,0 @@
-use Rattle.ficus_serving.proofs.Covering.{covers}
-use Rattle.ficus_serving.proofs.laws.killed_at_any_moment.Goals as goal
-
-pub returns : goal.returns
-returns g c = λ kept volume V U old new trail moments.
-    covers kept g.D.Disk volume g.met.D.Disk.left_earlier moments trail

@@ -1,8 +1,0 @@
-use Rattle.ficus_serving.proofs.Lifting.{lift}
-use Rattle.ficus_serving.proofs.laws.steps_leave_trails.Goals as goal
-
-pub returns : goal.returns
-returns g c = λ volume W old new disks now told disks_told stands passes.
-    let lifted = lift g.K.Keep g.D.Disk g.met.D.Disk.only_now volume g.L.Link.tells told disks_told W old new disks now
-    stands passes in
-    (lifted.after, lifted.stands, lifted.trail)

@@ -1,5 +1,0 @@
-pub mod Trail
-pub mod Puts
-pub mod Serving
-pub mod Sweeping
-pub mod Tally

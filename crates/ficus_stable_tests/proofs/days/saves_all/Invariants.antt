@@ -1,8 +1,0 @@
-use Rattle.ficus_saved.specs.Saved.{FitsImage}
-use Rattle.ficus_stable.specs.Stable.{IsReady}
-use Rattle.ficus_stable_tests.proofs.days.saves_all.Given as goal
-
-abbrev pub invariant-loop-body : goal.invariant-loop-body
-invariant-loop-body g l =
-    FitsImage l.now.saved
-    × (g.D.Disk.tells → IsReady g.K.Keep.kept g.K.Keep.fits g.D.Disk.seen g.D.Disk.may_leave l.stable l.disks l.now.saved)

@@ -1,4 +1,0 @@
-pub mod Answering
-pub mod Commands
-pub mod Few
-pub mod Following

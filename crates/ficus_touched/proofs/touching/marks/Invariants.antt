@@ -1,7 +1,0 @@
-use Rattle.std.proofs.Common.{take}
-use Rattle.ficus_touched.specs.Touched.{touched_by}
-use Rattle.ficus_touched.specs.Touched.{AreMarked}
-use Rattle.ficus_touched.proofs.touching.marks.Given as goal
-
-abbrev pub invariant-loop-index : goal.invariant-loop-index
-invariant-loop-index l = AreMarked (touched_by (take l.index l.entries)) l.ids l.marks.items

@@ -1,0 +1,121 @@
+ghost use Rattle.std.specs.Prelude.{◌≡◌, ◌+◌, ◌^◌, ◌≤◌, List, ℕ, OnOk, IfOk, vec_capacity};
+ghost use Rattle.ficus_keeper.specs.Kept.{image_alone, kept_of};
+ghost use Rattle.ficus_two_slots.specs.Slots.{StandsOn};
+ghost use Rattle.ficus_two_slots.specs.TwoSlot.{Fits};
+
+use crate::choosing::{Choice, choose};
+use ficus_disk::{Disk, Pair};
+use ficus_faults::Failed;
+use ficus_ids::{Listed, Memory};
+use ficus_keeper::{Keep, MakeFault, Opened, StoreFault, Wants};
+use ficus_slot::{read_all, reserve_range, save_slot};
+use std::alloc::Global;
+
+/// A keeper with one slot on each disk of a pair. It always wants an image, and keeps no records.
+#[derive(Drop)]
+pub struct TwoSlot {
+    // The slot in force, and on which disk it lies.
+    generation: u64,
+    on_a: bool,
+    // Whether the gate of the other disk is closed.
+    shut: bool,
+    // What goes to a disk as one range is joined here.
+    buffer: Vec<u8>,
+}
+
+impl Keep for TwoSlot {
+    ghost use Rattle.std.specs.Prelude.{◌+◌, ◌≤◌, true, refl};
+    ghost use Rattle.ficus_slot.specs.Slot.{range_size};
+    ghost use Rattle.ficus_two_slots.specs.Slots.{IsRegular, calls_of_slots, kept_in, lies_on_a};
+    ghost use Rattle.ficus_two_slots.specs.TwoSlot.{Fits, room_in};
+
+    ghost kept = { kept_in };
+
+    ghost fits = { Fits };
+
+    ghost wants_image = { λ _. true };
+
+    ghost Takes = { λ keeper length. range_size + length ≤ room_in keeper };
+
+    ghost size_of = { λ _ length. 1 + range_size + length };
+
+    ghost calls = { calls_of_slots };
+
+    ghost is_on_a = { lies_on_a };
+
+    ghost Regular = { IsRegular };
+
+    ghost none_at_first = { refl };
+
+    fn make<D: Disk>(alloc: Global, disks: &mut Pair<D>, image: &[u8]) -> Result<(), MakeFault> {
+        let mut buffer = Vec::new(alloc);
+        reserve_range(&mut buffer, image.len() as u64)?;
+        disks.a.reserve(image.len() as u64 + 18)?;
+        save_slot(&mut disks.a, &mut buffer, false, 0, image)?;
+        Ok(())
+    }
+
+    fn open<D: Disk>(alloc: Global, disks: &mut Pair<D>) -> Result<(TwoSlot, Opened), StoreFault> {
+        disks.a.sync()?;
+        disks.b.sync()?;
+        let a = read_all(alloc, &mut disks.a)?;
+        let b = read_all(alloc, &mut disks.b)?;
+        match choose(&a, &b) {
+            Some(choice) => Ok(opened(alloc, choice)?),
+            None => Err(StoreFault::NoImage),
+        }
+    }
+
+    fn wants(&self) -> Wants {
+        Wants::Image
+    }
+
+    fn prepare<D: Disk>(&mut self, disks: &mut Pair<D>, length: u64) -> Result<(), Memory> {
+        reserve_range(&mut self.buffer, length)?;
+        disks.a.reserve(length + 18)?;
+        disks.b.reserve(length + 18)
+    }
+
+    fn commit<D: Disk>(
+        &mut self,
+        disks: &mut Pair<D>,
+        generation: u64,
+        bytes: &[u8],
+    ) -> Result<(), Failed> {
+        // After a failure nothing is promised of the keeper.
+        let shut = self.shut;
+        self.generation = generation;
+        self.shut = false;
+        if self.on_a {
+            self.on_a = false;
+            save_slot(&mut disks.b, &mut self.buffer, shut, generation, bytes)
+        } else {
+            self.on_a = true;
+            save_slot(&mut disks.a, &mut self.buffer, shut, generation, bytes)
+        }
+    }
+}
+
+// The keeper of the slot in force, and what it keeps.
+fn opened(alloc: Global, choice: Choice) -> Result<(TwoSlot, Opened), Memory>
+    ensures opened { IfOk result (λ found. kept_of found.1
+        ≡ image_alone choice.entry.slot.generation choice.entry.slot.body.now) }
+    ensures keeper { IfOk result (λ found. (a b : List ℕ)
+        → StandsOn choice.entry.on_a choice.entry.slot.generation choice.entry.shut a b → Fits found.0 a b) }
+{
+    let generation = choice.slot.generation;
+    let image = choice.slot.body.to_vec(alloc)?;
+    Ok((
+        TwoSlot {
+            generation,
+            on_a: choice.on_a,
+            shut: choice.shut,
+            buffer: Vec::new(alloc),
+        },
+        Opened {
+            generation,
+            image: Listed::of(image),
+            records: Listed::of(Vec::new(alloc)),
+        },
+    ))
+}
