@@ -128,16 +128,17 @@ fn passes_fields(reader: &mut Reader<'_>, entry: &Entry, members: Members) -> bo
         && passes_state(reader, entry.state, members)
 }
 
-/// What is left behind the spelling of the entry, where that stands in front.
+/// What is left behind the spelling of an entry that may stand in tables, where that stands in front.
 pub(crate) fn entry_behind<'a>(
     value: &Entry,
     reader: &Reader<'a>,
     members: Members,
 ) -> Option<Reader<'a>>
+    requires { FitsEntry members value.now }
     ensures { IfSome result (Begins (entry members) reader.now value.now) }
 {
     let mut rest = reader.again();
-    if passes_fields(&mut rest, value, members) && fits_entry(value, members) {
+    if passes_fields(&mut rest, value, members) {
         Some(rest)
     } else {
         None

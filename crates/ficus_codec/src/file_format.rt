@@ -353,16 +353,17 @@ fn passes_fields(reader: &mut Reader<'_>, file: &FileReplica, members: Members) 
         && passes_counts(reader, file.covered, members)
 }
 
-/// What is left behind the spelling of the file, where that stands in front.
+/// What is left behind the spelling of a file that may stand in tables, where that stands in front.
 pub(crate) fn file_behind<'a>(
     value: &FileReplica,
     reader: &Reader<'a>,
     members: Members,
 ) -> Option<Reader<'a>>
+    requires { FitsFile members value.now }
     ensures { IfSome result (Begins (file members) reader.now value.now) }
 {
     let mut rest = reader.again();
-    if passes_fields(&mut rest, value, members) && fits_file(value, members) {
+    if passes_fields(&mut rest, value, members) {
         Some(rest)
     } else {
         None

@@ -1,7 +1,8 @@
-ghost use Rattle.std.specs.Prelude.{◌≡◌, IfOk, IfSome, IfNone};
+ghost use Rattle.std.specs.Prelude.{◌≡◌, map, All, IfOk, IfSome, IfNone};
 ghost use Rattle.ficus_formats.specs.Format.{Begins, Reads};
 ghost use Rattle.ficus_codec.specs.Formats.{entry, file};
 ghost use Rattle.ficus_codec.specs.FormatsUnique.{unique-entry, unique-file};
+ghost use Rattle.ficus_durable_state.specs.Tables.{FitsEntry, FitsFile, FitsTables};
 
 use crate::entry_format::{EntrySpelling, entry_behind, read_entry};
 use crate::file_format::{FileSpelling, file_behind};
@@ -13,35 +14,81 @@ use ficus_persistent::{Item, PersistentList};
 use ficus_table::Row;
 use std::alloc::Global;
 use std::cell::Cell;
+use std::marker::Model;
 
-/// Rows that are held where tables are read: a row of the tables that is spelled as one of them is, is that one, and is
-/// built of nothing. What is read depends on none of them.
+/// Rows of a volume that are held where tables are read: a row of the tables that is spelled as one of them is, is that
+/// one, and is built of nothing. What is read depends on none of them. Contracts see how many members the volume has.
 #[derive(Drop)]
 pub struct Known {
-    pub(crate) entries: PersistentList<SharedEntry>,
-    pub(crate) files: PersistentList<SharedFile>,
+    members: Members,
+    entries: PersistentList<SharedEntry>,
+    files: PersistentList<SharedFile>,
+}
+
+impl Model for Known {
+    ghost use Rattle.std.specs.Prelude.{ℕ, All};
+
+    ghost Value = { ℕ };
+
+    ghost view = { λ known. known.members };
+
+    ghost use Rattle.ficus_durable_state.specs.Tables.{FitsEntry, FitsFile};
+
+    // Each has been looked at, so none is looked at again where its spelling is passed.
+    ghost invariant = { λ known.
+        All (FitsEntry known.members) known.entries × All (FitsFile known.members) known.files };
 }
 
 impl Known {
     /// No rows. Takes no memory.
-    pub fn none(_: Global) -> Known {
+    pub fn none(members: Members) -> Known
+        ensures { result ≡ members }
+    {
         Known {
+            members,
             entries: PersistentList::new(),
             files: PersistentList::new(),
         }
     }
 
     /// The rows of tables, with which it shares them.
-    pub fn of(entries: &Entries, files: &Files) -> Result<Known, Memory> {
+    pub fn of(entries: &Entries, files: &Files, members: Members) -> Result<Known, Memory>
+        requires { FitsTables members entries.now files.now }
+        ensures { IfOk result (λ known. known ≡ members) }
+    {
         Ok(Known {
+            members,
             entries: entries.whole()?,
             files: files.whole()?,
         })
     }
+
+    /// How many members the volume has.
+    pub fn members(&self) -> Members
+        ensures { result ≡ self.now }
+    {
+        self.members
+    }
+
+    /// Each of the entries, in order.
+    pub(crate) fn each_entry(&self, alloc: Global) -> Result<Vec<&SharedEntry>, Memory>
+        ensures { IfOk result (λ each. All (λ row. FitsEntry self.now row.now) each.items) }
+    {
+        each_of(alloc, &self.entries)
+    }
+
+    /// Each of the files, in order.
+    pub(crate) fn each_file(&self, alloc: Global) -> Result<Vec<&SharedFile>, Memory>
+        ensures { IfOk result (λ each. All (λ row. FitsFile self.now row.now) each.items) }
+    {
+        each_of(alloc, &self.files)
+    }
 }
 
-/// Each of the rows, in order.
-pub(crate) fn each_of<R: Row>(alloc: Global, rows: &PersistentList<R>) -> Result<Vec<&R>, Memory> {
+// Each of the rows, in order.
+fn each_of<R: Row>(alloc: Global, rows: &PersistentList<R>) -> Result<Vec<&R>, Memory>
+    ensures { IfOk result (λ each. map (λ row. row.now) each.items ≡ rows.now) }
+{
     let mut each = Vec::with_capacity(alloc, rows.len())?;
     rows.gather(&mut each)?;
     Ok(each)
@@ -90,23 +137,44 @@ fn read_new_file(
     Ok(SharedFile::of(alloc, file)?)
 }
 
-/// How entries are spelled in a volume of so many members, where some are known.
+/// How entries are spelled in a volume of so many members, where some are known. Contracts see how many members there
+/// are.
 #[derive(Drop)]
 pub(crate) struct KnownEntries<'a> {
-    pub(crate) members: Members,
-    pub(crate) known: &'a [&'a SharedEntry],
-    /// The place of the row that is looked at first.
-    pub(crate) next: Cell<usize>,
+    members: Members,
+    known: &'a [&'a SharedEntry],
+    // The place of the row that is looked at first.
+    next: Cell<usize>,
+}
+
+impl<'a> Model for KnownEntries<'a> {
+    ghost use Rattle.std.specs.Prelude.{ℕ, All};
+
+    ghost Value = { ℕ };
+
+    ghost view = { λ s. s.members };
+
+    ghost use Rattle.ficus_durable_state.specs.Tables.{FitsEntry};
+
+    ghost invariant = { λ s. All (λ row. FitsEntry s.members row.now) s.known.now };
 }
 
 impl<'a> KnownEntries<'a> {
     /// None is known.
     pub(crate) fn none(members: Members) -> KnownEntries<'a>
-        ensures { result.members ≡ members }
+        ensures { result ≡ members }
+    {
+        KnownEntries::of(members, &[])
+    }
+
+    /// These are known, which may stand in tables.
+    pub(crate) fn of(members: Members, known: &'a [&'a SharedEntry]) -> KnownEntries<'a>
+        requires { All (λ row. FitsEntry members row.now) known.now }
+        ensures { result ≡ members }
     {
         KnownEntries {
             members,
-            known: &[],
+            known,
             next: Cell::new(0),
         }
     }
@@ -114,7 +182,7 @@ impl<'a> KnownEntries<'a> {
     // The known entry at the place, if its spelling stands in front, which it passes.
     #[inline(always)]
     fn pass_at(&self, place: usize, reader: &mut Reader<'_>) -> Option<&'a SharedEntry>
-        ensures passed { IfSome result (λ row. Begins (entry self.now.members) reader.old row.now reader.new) }
+        ensures passed { IfSome result (λ row. Begins (entry self.now) reader.old row.now reader.new) }
         ensures kept { IfNone result (reader.new ≡ reader.old) }
     {
         let row = *self.known.get(place)?;
@@ -126,7 +194,7 @@ impl<'a> KnownEntries<'a> {
     // The known entry whose spelling stands in front, which it passes, where it isn't the next one.
     #[inline(never)]
     fn pass_another(&self, reader: &mut Reader<'_>) -> Option<&'a SharedEntry>
-        ensures passed { IfSome result (λ row. Begins (entry self.now.members) reader.old row.now reader.new) }
+        ensures passed { IfSome result (λ row. Begins (entry self.now) reader.old row.now reader.new) }
         ensures kept { IfNone result (reader.new ≡ reader.old) }
     {
         let place = search(self.known, &self.next, reader)?;
@@ -135,7 +203,7 @@ impl<'a> KnownEntries<'a> {
 
     // The known entry whose spelling stands in front, which it passes: mostly the next one.
     fn pass(&self, reader: &mut Reader<'_>) -> Option<&'a SharedEntry>
-        ensures passed { IfSome result (λ row. Begins (entry self.now.members) reader.old row.now reader.new) }
+        ensures passed { IfSome result (λ row. Begins (entry self.now) reader.old row.now reader.new) }
         ensures kept { IfNone result (reader.new ≡ reader.old) }
     {
         match self.pass_at(self.next.get(), reader) {
@@ -148,9 +216,9 @@ impl<'a> KnownEntries<'a> {
 impl<'a> Spelling for KnownEntries<'a> {
     type Value = SharedEntry;
 
-    ghost format = { λ s. entry s.members };
+    ghost format = { λ s. entry s };
 
-    ghost unique = { λ s. unique-entry s.members };
+    ghost unique = { λ s. unique-entry s };
 
     fn read(&self, alloc: Global, reader: &mut Reader<'_>) -> Result<SharedEntry, ReadFault> {
         if let Some(row) = self.pass(reader) {
@@ -187,23 +255,44 @@ impl<'a> RowSpelling for KnownEntries<'a> {
     }
 }
 
-/// How files are spelled in a volume of so many members, where some are known.
+/// How files are spelled in a volume of so many members, where some are known. Contracts see how many members there
+/// are.
 #[derive(Drop)]
 pub(crate) struct KnownFiles<'a> {
-    pub(crate) members: Members,
-    pub(crate) known: &'a [&'a SharedFile],
-    /// The place of the row that is looked at first.
-    pub(crate) next: Cell<usize>,
+    members: Members,
+    known: &'a [&'a SharedFile],
+    // The place of the row that is looked at first.
+    next: Cell<usize>,
+}
+
+impl<'a> Model for KnownFiles<'a> {
+    ghost use Rattle.std.specs.Prelude.{ℕ, All};
+
+    ghost Value = { ℕ };
+
+    ghost view = { λ s. s.members };
+
+    ghost use Rattle.ficus_durable_state.specs.Tables.{FitsFile};
+
+    ghost invariant = { λ s. All (λ row. FitsFile s.members row.now) s.known.now };
 }
 
 impl<'a> KnownFiles<'a> {
     /// None is known.
     pub(crate) fn none(members: Members) -> KnownFiles<'a>
-        ensures { result.members ≡ members }
+        ensures { result ≡ members }
+    {
+        KnownFiles::of(members, &[])
+    }
+
+    /// These are known, which may stand in tables.
+    pub(crate) fn of(members: Members, known: &'a [&'a SharedFile]) -> KnownFiles<'a>
+        requires { All (λ row. FitsFile members row.now) known.now }
+        ensures { result ≡ members }
     {
         KnownFiles {
             members,
-            known: &[],
+            known,
             next: Cell::new(0),
         }
     }
@@ -211,7 +300,7 @@ impl<'a> KnownFiles<'a> {
     // The known file at the place, if its spelling stands in front, which it passes.
     #[inline(always)]
     fn pass_at(&self, place: usize, reader: &mut Reader<'_>) -> Option<&'a SharedFile>
-        ensures passed { IfSome result (λ row. Begins (file self.now.members) reader.old row.now reader.new) }
+        ensures passed { IfSome result (λ row. Begins (file self.now) reader.old row.now reader.new) }
         ensures kept { IfNone result (reader.new ≡ reader.old) }
     {
         let row = *self.known.get(place)?;
@@ -223,7 +312,7 @@ impl<'a> KnownFiles<'a> {
     // The known file whose spelling stands in front, which it passes, where it isn't the next one.
     #[inline(never)]
     fn pass_another(&self, reader: &mut Reader<'_>) -> Option<&'a SharedFile>
-        ensures passed { IfSome result (λ row. Begins (file self.now.members) reader.old row.now reader.new) }
+        ensures passed { IfSome result (λ row. Begins (file self.now) reader.old row.now reader.new) }
         ensures kept { IfNone result (reader.new ≡ reader.old) }
     {
         let place = search(self.known, &self.next, reader)?;
@@ -232,7 +321,7 @@ impl<'a> KnownFiles<'a> {
 
     // The known file whose spelling stands in front, which it passes: mostly the next one.
     fn pass(&self, reader: &mut Reader<'_>) -> Option<&'a SharedFile>
-        ensures passed { IfSome result (λ row. Begins (file self.now.members) reader.old row.now reader.new) }
+        ensures passed { IfSome result (λ row. Begins (file self.now) reader.old row.now reader.new) }
         ensures kept { IfNone result (reader.new ≡ reader.old) }
     {
         match self.pass_at(self.next.get(), reader) {
@@ -245,9 +334,9 @@ impl<'a> KnownFiles<'a> {
 impl<'a> Spelling for KnownFiles<'a> {
     type Value = SharedFile;
 
-    ghost format = { λ s. file s.members };
+    ghost format = { λ s. file s };
 
-    ghost unique = { λ s. unique-file s.members };
+    ghost unique = { λ s. unique-file s };
 
     fn read(&self, alloc: Global, reader: &mut Reader<'_>) -> Result<SharedFile, ReadFault> {
         if let Some(row) = self.pass(reader) {

@@ -63,7 +63,7 @@ clean_at from upto marks clean k (inr far) = clean_of (get_or marks k Clean) (cl
 -- what was marked is cleared
 module _ (from upto : ℕ) (marks : List Mark) (clean : IsCleanBut from upto marks) (rises : from ≤ upto)
     (within : upto ≤ length marks) where
-  cleared : patch marks from (replicate (upto - from) Clean) ≡ replicate (length marks) Clean
+  pub cleared : patch marks from (replicate (upto - from) Clean) ≡ replicate (length marks) Clean
   cleared =
       let le : from ≤ length marks = omega arith in
       let reps = length-replicate (upto - from) Clean in

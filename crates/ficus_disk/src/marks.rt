@@ -1,31 +1,37 @@
-ghost use Rattle.std.specs.Prelude.{◌≡◌, ◌+◌, ◌≤◌, [], length, replicate, vec_len, vec_capacity, OnOk};
+ghost use Rattle.std.specs.Prelude.{◌≡◌, ◌+◌, ◌≤◌, [], length, replicate, vec_capacity, OnOk};
 ghost use Rattle.ficus_disk.specs.Bytes.{patch};
 ghost use Rattle.ficus_disk.specs.Platter.{IsCleanBut, marks_of};
 ghost use Rattle.ficus_disk.specs.declared.mark.Mark.TheVariants.{Clean};
 
 use crate::mark::Mark;
-use crate::overwrite::{clean_over, clear_within, mark_over, reserve_upto};
+use crate::overwrite::{clean_upto, fill_over, mark_over, reserve_upto};
 use crate::span::Span;
 use ficus_ids::Memory;
 use std::alloc::Global;
 
 /// For each byte of a disk in memory whether it was written since the last sync. The latest range that was written is
-/// kept as such, and marked only when another is written: mostly a sync comes first, and nothing is to be marked.
+/// kept as such, and marked only when another is written: mostly a sync comes first, and nothing is to be marked. Clean
+/// marks behind all others needn't be spelled out: what is appended and synced mostly gets none.
 #[derive(Drop)]
 pub(crate) struct Marks {
+    // Those that are spelled out: behind them all are clean.
     marks: Vec<Mark>,
+    // There are marks of so many bytes, the latest range aside.
+    count: usize,
     // What is marked lies within this range.
     dirty: Span,
     // The latest range that was written since the last sync.
     latest: Span,
     ghost clean: { IsCleanBut dirty.from dirty.upto marks.items },
     ghost within: { dirty.upto ≤ length marks.items },
-    ghost near: { latest.from ≤ length marks.items },
+    ghost short: { length marks.items ≤ count },
+    ghost near: { latest.from ≤ count },
     ghost room: { latest.upto ≤ vec_capacity marks },
+    ghost counted: { count ≤ vec_capacity marks },
 }
 
 impl Marks {
-    ghost use Rattle.ficus_disk.specs.Marks.{marks_in, marks_room};
+    ghost use Rattle.ficus_disk.specs.Marks.{kept_in, marks_in, marks_room};
 
     /// Of no byte. Takes no memory.
     pub(crate) fn new(alloc: Global) -> Marks
@@ -33,6 +39,7 @@ impl Marks {
     {
         Marks {
             marks: Vec::new(alloc),
+            count: 0,
             dirty: Span::none(),
             latest: Span::none(),
         }
@@ -61,17 +68,31 @@ impl Marks {
         };
     }
 
-    /// Marks the latest range too.
-    pub(crate) fn settle(&mut self)
-        ensures settled { self.new.marks.items ≡ marks_in self.old }
+    /// Marks the latest range too, unless it is empty.
+    fn settle(&mut self)
+        ensures settled { kept_in self.new ≡ marks_in self.old }
         ensures marks { marks_in self.new ≡ marks_in self.old }
         ensures room { marks_room self.old ≤ marks_room self.new }
     {
         let Span { from, upto } = self.latest;
-        let dirty = self.dirty.with(from, upto);
-        mark_over(&mut self.marks, from, upto - from);
-        self.dirty = dirty;
-        self.latest = Span::none();
+        if from < upto {
+            let dirty = self.dirty.with(from, upto);
+            clean_upto(&mut self.marks, from);
+            mark_over(&mut self.marks, from, upto - from);
+            self.count = self.count.max(upto);
+            self.dirty = dirty;
+            self.latest = Span::none();
+        }
+    }
+
+    /// Spells out the mark of each byte.
+    pub(crate) fn spell(&mut self)
+        ensures spelled { self.new.marks.items ≡ marks_in self.old }
+        ensures marks { marks_in self.new ≡ marks_in self.old }
+        ensures room { marks_room self.old ≤ marks_room self.new }
+    {
+        self.settle();
+        clean_upto(&mut self.marks, self.count);
     }
 
     /// A range outside which nothing was written.
@@ -82,19 +103,21 @@ impl Marks {
         self.dirty.with(self.latest.from, self.latest.upto)
     }
 
-    /// All so many bytes are synced. It takes time for those alone that are marked, or new.
+    /// All so many bytes are synced. It takes time for those alone that are marked.
     pub(crate) fn clear(&mut self, count: usize)
         requires each { length (marks_in self.old) ≡ count }
         requires room { count ≤ marks_room self.old }
         ensures marks { marks_in self.new ≡ replicate count Clean }
         ensures room { marks_room self.old ≤ marks_room self.new }
     {
-        clear_within(&mut self.marks, self.dirty, count);
+        let Span { from, upto } = self.dirty;
+        fill_over(&mut self.marks, from, upto - from, Mark::Clean);
+        self.count = count;
         self.dirty = Span::none();
         self.latest = Span::none();
     }
 
-    /// What is marked.
+    /// The marks that are spelled out.
     pub(crate) fn items(&self) -> &[Mark]
         ensures { result.now ≡ self.now.marks.items }
     {
@@ -107,7 +130,8 @@ impl Marks {
         ensures marks { marks_in self.new ≡ replicate count Clean }
         ensures room { marks_room self.old ≤ marks_room self.new }
     {
-        clean_over(&mut self.marks, count);
+        self.marks.clear();
+        self.count = count;
         self.dirty = Span::none();
         self.latest = Span::none();
     }

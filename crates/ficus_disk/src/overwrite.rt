@@ -1,12 +1,11 @@
 // Changes in place, within the room that is there.
 ghost use Rattle.std.specs.Prelude.{◌≡◌, ◌+◌, ◌-◌, ◌≤◌, ◌++◌, [], length, replicate, vec_len, vec_capacity, IfOk, OnOk};
 ghost use Rattle.ficus_disk.specs.Bytes.{patch};
-ghost use Rattle.ficus_disk.specs.Platter.{IsCleanBut, image_of, marks_of, overlaid, picked_byte};
+ghost use Rattle.ficus_disk.specs.Platter.{image_of, marks_of, overlaid, picked_byte};
 ghost use Rattle.ficus_disk.specs.declared.mark.Mark.TheVariants.{Clean};
 
 use crate::fuse::Pick;
 use crate::mark::Mark;
-use crate::span::Span;
 use ficus_ids::Memory;
 use std::alloc::Global;
 
@@ -65,38 +64,15 @@ fn copy_over(to: &mut Vec<u8>, bytes: &[u8])
     let _all = to.extend_from_slice(bytes);
 }
 
-/// Puts so many clean marks in place of what is there.
-pub(crate) fn clean_over(to: &mut Vec<Mark>, count: usize)
+/// Appends clean marks where there are fewer than so many.
+pub(crate) fn clean_upto(to: &mut Vec<Mark>, count: usize)
     requires { count ≤ vec_capacity to.old }
-    ensures items { to.new.items ≡ replicate count Clean }
-    ensures room { vec_capacity to.old ≤ vec_capacity to.new }
-{
-    to.clear();
-    let _all = to.resize(count, Mark::Clean);
-}
-
-/// Makes so many marks of these, all clean, where they are clean outside a range.
-pub(crate) fn clear_within(to: &mut Vec<Mark>, dirty: Span, count: usize)
-    requires clean { IsCleanBut dirty.from dirty.upto to.old.items }
-    requires within { dirty.upto ≤ length to.old.items }
-    requires more { length to.old.items ≤ count }
-    requires room { count ≤ vec_capacity to.old }
-    ensures items { to.new.items ≡ replicate count Clean }
-    ensures room { vec_capacity to.old ≤ vec_capacity to.new }
-{
-    let Span { from, upto } = dirty;
-    fill_over(to, from, upto - from, Mark::Clean);
-    clean_behind(to, count);
-}
-
-/// Appends clean marks, so that there are so many.
-fn clean_behind(to: &mut Vec<Mark>, count: usize)
-    requires more { length to.old.items ≤ count }
-    requires room { count ≤ vec_capacity to.old }
     ensures items { to.new.items ≡ to.old.items ++ replicate (count - length to.old.items) Clean }
     ensures room { vec_capacity to.old ≤ vec_capacity to.new }
 {
-    let _all = to.resize(count, Mark::Clean);
+    if to.len() < count {
+        let _all = to.resize(count, Mark::Clean);
+    }
 }
 
 /// Makes both the image that the pick names.

@@ -147,8 +147,8 @@ fn stay_so_beside(
     let Ok((entries, files, _)) = take_tables(alloc, known, 0, members) else {
         return Ok(false);
     };
-    let known = Known::of(&entries, &files)?;
-    match read_all_rows(alloc, Reader::new(bytes), members, &known) {
+    let known = Known::of(&entries, &files, members)?;
+    match read_all_rows(alloc, Reader::new(bytes), &known) {
         Ok((entries, files)) => {
             let entries = Entries::of_rows(alloc, entries.items())?;
             let files = Files::of_rows(alloc, files.items())?;

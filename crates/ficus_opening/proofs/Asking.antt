@@ -21,7 +21,7 @@ err_as : {A B : Type 0} (one two : WorldFault) → IsErrOf {T = A} (Err one) two
 err_as one two is = ap (λ (f : WorldFault). Err f) (same_err one two is)
 
 -- what holds anyway holds where it was done
-on_ok : {A P : Type 0} (result : Result A WorldFault) → P → OnOk result P
+pub on_ok : {A P : Type 0} (result : Result A WorldFault) → P → OnOk result P
 on_ok (Ok done) fact = fact
 on_ok (Err failed) fact = tt
 

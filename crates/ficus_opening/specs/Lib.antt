@@ -3,3 +3,4 @@ pub mod Stand
 pub mod Fuses
 pub mod Disks
 pub mod Opening
+pub mod Calls

@@ -1,4 +1,4 @@
-ghost use Rattle.std.specs.Prelude.{◌≡◌, ℕ, List, length, IfOk, IsErrOf, OnOk};
+ghost use Rattle.std.specs.Prelude.{◌≡◌, ℕ, List, length, IfOk, IsErrOf};
 ghost use Rattle.ficus_check.specs.Judged.{HoldsNoneOf, IsEmptyPair, IsJudged, IsOfVolume, IsSound};
 ghost use Rattle.ficus_check.specs.declared.checked.Checked.{Checked as CheckedValue};
 ghost use Rattle.ficus_disk.specs.declared.pair.Pair.{Pair as PairValue};
@@ -7,9 +7,8 @@ ghost use Rattle.ficus_keeper.specs.Kept.{found_in};
 ghost use Rattle.ficus_leads.specs.Holds.{Holds};
 ghost use Rattle.ficus_runs.specs.Numbered.{IsNumbered};
 ghost use Rattle.ficus_durable_state.specs.declared.saved.Saved.{Saved as SavedValue};
-ghost use Rattle.ficus_opening.specs.Rests.{RestsAt};
-ghost use Rattle.ficus_opening.specs.Opening.{IsAtFault, IsBad, IsUnfailed, Opens, PairLooked, SeenSame, Steady, Unfailing};
-ghost use Rattle.ficus_opening.specs.declared.fault.WorldFault.{WorldFault as WorldFaultValue};
+ghost use Rattle.ficus_opening.specs.Calls.{ChecksDisks};
+ghost use Rattle.ficus_opening.specs.Opening.{IsBad, Opens, PairLooked};
 
 use crate::WorldFault;
 use crate::looking::look_at;
@@ -33,22 +32,7 @@ pub fn check_disks<K: Keep + Drop, D: Disk>(
 ) -> Result<Checked, WorldFault>
     requires pairs { length disks.old.items ≡ 8 }
     requires number { IsMember 8 number }
-    ensures judged { D.tells → (pair : PairValue D) → IsNumbered disks.old.items number pair
-        → IfOk result (IsJudged K.kept D.seen number pair) }
-    ensures failed { (r : ℕ) → IsErrOf result (WorldFault.Store r)
-        → (r ≡ number) × IsAtFault D.faults disks.old.items disks.new.items r }
-    ensures never_occupied { (r : ℕ) → IsErrOf result (WorldFault.Occupied r) → ⊥ }
-    ensures never_image { (r : ℕ) → IsErrOf result (WorldFault.Image r) → ⊥ }
-    ensures same { D.tells → SeenSame D.seen disks.old.items disks.new.items }
-    ensures rests { RestsAt D.Disk number disks.old.items disks.new.items }
-    // No disk has failed where no such fault is told.
-    ensures spared { (fault : WorldFaultValue) → IsUnfailed fault → IsErrOf result fault
-        → Steady D.faults disks.old.items disks.new.items }
-    ensures steady { OnOk result (Steady D.faults disks.old.items disks.new.items) }
-    ensures armings { Steady D.armings disks.old.items disks.new.items }
-    ensures pairs { length disks.new.items ≡ length disks.old.items }
-    // On disks that tell their fuses, of which none is armed, none fails, and none is armed afterwards.
-    ensures unfailing { D.tells_fuse → Unfailing D.fuse result disks.old.items disks.new.items }
+    ensures { ChecksDisks K.Keep D.Disk number result disks.old.items disks.new.items }
 {
     let index = usize::from(number) - 1;
     check_one::<K, D>(alloc, &mut disks[index], number)

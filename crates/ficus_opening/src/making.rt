@@ -1,4 +1,4 @@
-ghost use Rattle.std.specs.Prelude.{◌≡◌, ◌≤◌, ◌+◌, ◌<◌, ◌⊎◌, [], Err, None, Some, ℕ, List, true, false, length, IfErr, IsErrOf, OnErr, OnOk};
+ghost use Rattle.std.specs.Prelude.{◌≡◌, ◌≤◌, ◌+◌, ◌<◌, [], None, Some, ℕ, List, true, false, length, IfErr, IsErrOf, OnErr, OnOk};
 ghost use Rattle.ficus_check.specs.Judged.{IsEmptyPair};
 ghost use Rattle.ficus_disk.specs.declared.pair.Pair.{Pair as PairValue};
 ghost use Rattle.ficus_ids.specs.Members.{IsCount, IsMember};
@@ -9,10 +9,10 @@ ghost use Rattle.ficus_replica.specs.SavedOf.{fresh_saved};
 ghost use Rattle.ficus_durable_state.specs.Limits.{byte_limit, update_limit};
 ghost use Rattle.ficus_leads.specs.Holds.{Holds};
 ghost use Rattle.ficus_stable_storage.specs.Holds.{HoldsOneOf};
+ghost use Rattle.ficus_opening.specs.Calls.{MakesVolume};
 ghost use Rattle.ficus_opening.specs.Fuses.{AreRegular};
-ghost use Rattle.ficus_opening.specs.Opening.{AreEmpty, AreMade, AreMadeInPart, AreSynced, DisksAsked, DisksLooked, IsAtFault, IsFirstOccupied, IsFoundFault, IsStoreFault, IsSynced, IsUnfailed, PairAsked, SeenSame, StandsOn, Steady, Unfailing};
-ghost use Rattle.ficus_opening.specs.declared.fault.WorldFault.{WorldFault as WorldFaultValue};
-ghost use Rattle.ficus_opening.specs.Rests.{AllRest, OthersStay};
+ghost use Rattle.ficus_opening.specs.Opening.{AreEmpty, AreMade, AreMadeInPart, AreSynced, DisksAsked, DisksLooked, IsFirstOccupied, IsFoundFault, IsStoreFault, IsSynced, PairAsked, StandsOn};
+ghost use Rattle.ficus_opening.specs.Rests.{OthersStay};
 
 use crate::WorldFault;
 use crate::looking::look_at;
@@ -39,40 +39,7 @@ pub fn make_volume<K: Keep + Drop, D: Disk>(
     requires ids_at_least { 1 ≤ ids }
     requires ids_at_most { ids ≤ update_limit }
     requires bytes { bytes ≤ byte_limit }
-    ensures made { D.tells → OnOk result (AreMade K.kept D.seen
-        (record { members = members; ids = ids; bytes = bytes }) disks.new.items) }
-    ensures empty { D.tells → OnOk result (AreEmpty D.seen disks.old.items members) }
-    ensures occupied { D.tells → (r : ℕ) → IsErrOf result (WorldFault.Occupied r)
-        → IsFirstOccupied D.seen disks.old.items r × (r ≤ members) }
-    // Where a member's disks hold something, nothing is written, and what they hold stays.
-    ensures held { D.tells → (r : ℕ) → r ≤ members → IsFirstOccupied D.seen disks.old.items r
-        → SeenSame D.seen disks.old.items disks.new.items }
-    ensures rests { D.tells → (r : ℕ) → r ≤ members → IsFirstOccupied D.seen disks.old.items r
-        → AllRest D.Disk disks.old.items disks.new.items }
-    // Where nothing was there and nothing unsynced, nothing else is there after a fault than what is made: some
-    // first members, and one in part. The pairs of no member stay.
-    ensures partly { D.tells → AreEmpty D.seen disks.old.items members
-        → AreSynced D.seen D.may_leave disks.old.items members → OnErr result (AreMadeInPart K.kept D.may_leave
-        (record { members = members; ids = ids; bytes = bytes }) disks.new.items) }
-    ensures others { OthersStay members disks.old.items disks.new.items }
-    // No disk has failed where no such fault is told.
-    ensures spared { (fault : WorldFaultValue) → IsUnfailed fault → IsErrOf result fault
-        → Steady D.faults disks.old.items disks.new.items }
-    ensures comes { D.tells → (r : ℕ) → IsFirstOccupied D.seen disks.old.items r → r ≤ members
-        → (result ≡ Err (WorldFault.Occupied r)) ⊎ ((q : ℕ) × (result ≡ Err (WorldFault.Store q))) }
-    ensures failed { (r : ℕ) → IsErrOf result (WorldFault.Store r) → IsAtFault D.faults disks.old.items
-        disks.new.items r }
-    ensures member { (r : ℕ) → IsErrOf result (WorldFault.Store r) → r ≤ members }
-    ensures never { (r : ℕ) → IsErrOf result (WorldFault.Image r) → ⊥ }
-    // Where nothing was unsynced on the members' disks, nothing of what is made is.
-    ensures synced { D.tells → AreSynced D.seen D.may_leave disks.old.items members
-        → OnOk result (AreSynced D.seen D.may_leave disks.new.items members) }
-    ensures steady { OnOk result (Steady D.faults disks.old.items disks.new.items) }
-    ensures armings { Steady D.armings disks.old.items disks.new.items }
-    ensures pairs { length disks.new.items ≡ length disks.old.items }
-    // On disks that tell their fuses, of which none is armed, none fails, and none is armed afterwards.
-    ensures unfailing { D.tells_fuse → Unfailing D.fuse result disks.old.items disks.new.items }
-    ensures regular { D.tells → OnOk result (AreRegular K.Regular D.seen disks.new.items members) }
+    ensures { MakesVolume K.Keep D.Disk members ids bytes result disks.old.items disks.new.items }
 {
     look_for_empty(disks, members)?;
     make_all::<K, D>(alloc, disks, members, ids, bytes)

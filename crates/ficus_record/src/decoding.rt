@@ -91,7 +91,7 @@ fn read_fields(
     match tag {
         10 => Ok(Record::Ask),
         11 => {
-            let (entries, files) = read_rows(alloc, reader, members, &Known::none(alloc))?;
+            let (entries, files) = read_rows(alloc, reader, &Known::none(members))?;
             Ok(Record::Accept { entries, files })
         }
         12 => Ok(Record::Collect),

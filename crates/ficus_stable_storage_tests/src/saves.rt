@@ -107,13 +107,13 @@ fn saves<K: Keep + Drop, D: Disk>(
     stable: &mut Stable<K>,
     disks: &mut Pair<D>,
     next: &Replica,
-    body: &[u8],
+    body: Vec<u8>,
     stop: Option<Stop>,
 ) -> Result<bool, Memory>
     requires stop { IfSome stop (λ fuse. fuse.pick < 4) }
     requires fits { FitsImage next.now.saved }
     requires follows { D.tells
-        → MayFollow K.kept K.fits D.seen D.may_leave stable.old disks.old next.now.saved body.now }
+        → MayFollow K.kept K.fits D.seen D.may_leave stable.old disks.old next.now.saved body.items }
     ensures ready { D.tells → IfOk result (λ is_saved. IsTrue is_saved
         → IsReady K.kept K.fits D.seen D.may_leave stable.new disks.new next.now.saved) }
 {
@@ -139,7 +139,7 @@ pub(crate) fn saves_after<K: Keep + Drop, D: Disk>(
         → IsReady K.kept K.fits D.seen D.may_leave stable.new disks.new now.new.saved) }
 {
     let next = after(alloc, now, body)?;
-    let is_saved = saves(stable, disks, &next, body, stop)?;
+    let is_saved = saves(stable, disks, &next, body.to_vec(alloc)?, stop)?;
     *now = next;
     Ok(is_saved)
 }

@@ -14,7 +14,6 @@ use Rattle.ficus_ids.specs.declared.refusal.Refusal.TheVariants as refusal
 use Rattle.ficus_keeper.specs.declared.keep.Keep.{Ghosts as Keep}
 use Rattle.ficus_model.specs.declared.event.Event.{Event}
 use Rattle.ficus_model.specs.declared.event.Event.TheVariants.{Take}
-use Rattle.ficus_replica.specs.Accept.{AcceptGives}
 use Rattle.ficus_run_laws.proofs.Numbers.{number_exists, number_once}
 use Rattle.ficus_run_laws.proofs.Replaced.{replaced}
 use Rattle.ficus_runs.specs.Answers.{OrMemory}
@@ -24,13 +23,12 @@ use Rattle.ficus_runs.specs.Sequence.{Effect, unchanged}
 use Rattle.ficus_runs.specs.Sequence.First.{Ends, Goes}
 use Rattle.ficus_durable_state.specs.Tables.{FitsTables}
 use Rattle.ficus_script.specs.declared.answer.Answer.{Answer}
-use Rattle.ficus_script.specs.declared.answer.Answer.TheVariants.{Part}
+use Rattle.ficus_script.specs.declared.answer.Answer.TheVariants.{Done, Part}
 use Rattle.ficus_stable_storage.specs.declared.stable.Stable.{Stable}
 use Rattle.ficus_wire.specs.Parts.{HeldParts, joined as joined_parts, with_part}
 use Rattle.ficus_wire.specs.declared.message.PieceHead.{PieceHead}
 use Rattle.ficus_world.specs.declared.exchange.Delivery.{Delivery}
 use Rattle.ficus_opening.specs.declared.member.Member.{Member}
-use Rattle.ficus_opening.specs.declared.member.MemberState.TheVariants.{Up}
 use Rattle.ficus_world.specs.declared.post.Behind.{Behind}
 use Rattle.ficus_world.specs.declared.taking.Fitting.{Fitting}
 use Rattle.ficus_world.specs.declared.taking.Fitting.TheVariants as fitting
@@ -39,11 +37,12 @@ use Rattle.ficus_world.specs.Kills.Touches.{TouchesNone}
 use Rattle.ficus_opening.specs.Disks.{AreDisksOf, IsPairOf}
 use Rattle.ficus_world.specs.Disks.{CarriedOn, IsBacked}
 use Rattle.ficus_world.specs.Fuses.{FuseStands, FusesFollow, FusesStand}
-use Rattle.ficus_world.specs.Moves.{FindsTaker, IsPlaced, IsWaiting, TakesFitting, TakesPiece, TakesSpelled, TakesTables, collected, parts_held}
+use Rattle.ficus_opening.specs.declared.member.Pending.{Pending}
+use Rattle.ficus_world.specs.Moves.{FindsTaker, IsPlaced, IsTaking, IsWaiting, TakesFitting, TakesPiece, TakesSpelled, TakesTables, advanced, collected, not_saved, parts_held, pending_of, saved}
 use Rattle.ficus_world.specs.Moves.FindsTaker.{AnswersNone, FindsIt, OfAnotherState, OfOtherPieces, TakerDown}
 use Rattle.ficus_world.specs.Moves.TakesFitting.{IsHeld, IsOneMore, IsTheLast}
 use Rattle.ficus_world.specs.Moves.TakesSpelled.{SpellsNone, SpellsTables}
-use Rattle.ficus_world.specs.Moves.TakesTables.{Refuses}
+use Rattle.ficus_world.specs.Moves.TakesTables.{Takes, TakesNot}
 use Rattle.ficus_world.specs.Post.{Outbox}
 use Rattle.ficus_world.specs.World.{IsSoundMember, IsUpIn, IsWorld, Whole, backed_by, whole_of}
 use Rattle.ficus_world.proofs.Carrying.{carried_none, carried_then, or_refused}
@@ -355,46 +354,29 @@ module _ {K D : Type 0} (keep : Keep K) (disk : Disk D) (came : Delivery) (head 
         fits_last (Err refusal.Memory) does = tt
         fits_last (Err r) does = IsTheLast placed.0 placed.1 does
 
--- What taking tables does.
-module _ {K D : Type 0} (keep : Keep K) (disk : Disk D) (came : Delivery) (index : ℕ) (tables : List ℕ) (old : Whole)
-    (disks : List (Pair D)) where
-  pub spelled_refused : (r : Refusal) → (r ≢ refusal.Memory → (r ≡ refusal.BadMessage)
-      × ((entries : List Entry) (files : List FileReplica) → FitsTables (length old.members) entries files
-      → tables ≡ tables_bytes (length old.members) entries files → ⊥))
-      → CarriedOn keep disk (TakesSpelled came index tables) (Err r) old old disks disks
-  spelled_refused r refused =
-      carried_none (TakesSpelled came index tables) (Err r) old disks
-      (or_refused (λ given. TakesSpelled came index tables old given (unchanged old)) r (λ other.
-      subst (λ (given : Refusal). TakesSpelled came index tables old (Err given) (unchanged old))
-      (sym (refused other).0) (SpellsNone (refused other).1)))
+-- What becomes of a member that takes tables.
+module _ {came : Delivery} {index : ℕ} {bytes noted : List ℕ} {old : Whole} {next : Pending}
+    (taking : IsTaking came index bytes old next noted) where
+  pub taking_saved : TakesSpelled came index bytes old (Ok Done)
+      (saved came.to (advanced old came.to taking.was next.replica next.event))
+  taking_saved =
+      SpellsTables taking.fits taking.spelled
+      (subst (λ (happens : Event). TakesTables came index taking.entries taking.files old (Ok Done)
+      (saved came.to (advanced old came.to taking.was next.replica happens))) (sym taking.happens)
+      (Takes taking.is taking.up taking.is_place taking.gives))
 
-  pub spelled_takes : (entries : List Entry) (files : List FileReplica) → FitsTables (length old.members) entries files
-      → tables ≡ tables_bytes (length old.members) entries files → (result : Result Answer Refusal) (new : Whole)
-      (after : List (Pair D)) → CarriedOn keep disk (TakesTables came index entries files) result old new disks after
-      → CarriedOn keep disk (TakesSpelled came index tables) result old new disks after
-  spelled_takes entries files fits is result new after takes = record {
-    outcomes = takes.outcomes;
-    does = spells result takes.does;
-    disks = takes.disks;
-    fuses = takes.fuses;
-  }
-    where
-      left : Effect Whole
-      left = record { outcomes = takes.outcomes; after = new }
+  pub taking_unsaved : TakesSpelled came index bytes old (Err refusal.Store) (not_saved old came.to taking.was next)
+  taking_unsaved =
+      SpellsTables taking.fits taking.spelled
+      (subst (λ (happens : Event). TakesTables came index taking.entries taking.files old (Err refusal.Store)
+      (not_saved old came.to taking.was (pending_of next.replica happens))) (sym taking.happens)
+      (TakesNot taking.is taking.up taking.is_place taking.gives))
 
-      spells : (result : Result Answer Refusal)
-          → OrMemory (λ given. TakesTables came index entries files old given left) result
-          → OrMemory (λ given. TakesSpelled came index tables old given left) result
-      spells (Ok answer) does = SpellsTables fits is does
-      spells (Err refusal.Memory) does = tt
-      spells (Err r) does = SpellsTables fits is does
-
--- tables that aren't taken leave the world as it was
-pub tables_refused : (old : Whole) (came : Delivery) (index : ℕ) (entries : List Entry) (files : List FileReplica)
-    (was : Member) → IsNumbered old.members came.to was → was.state ≡ Up → (r : Refusal)
-    → AcceptGives was.replica came.from came.ask entries files (Err r)
-    → OrMemory (λ answer. TakesTables came index entries files old answer (unchanged old)) (Err r)
-tables_refused old came index entries files was is up refusal.Memory gives = tt
-tables_refused old came index entries files was is up refusal.Stale gives = Refuses is up (λ e. cc) gives
-tables_refused old came index entries files was is up refusal.BadMessage gives = Refuses is up (λ e. cc) gives
-tables_refused old came index entries files was is up r none = absurd none
+-- bytes that spell no tables aren't taken
+pub rows_refused : (came : Delivery) (index : ℕ) (tables : List ℕ) (old : Whole) (r : Refusal)
+    → (r ≢ refusal.Memory → (r ≡ refusal.BadMessage) × ((entries : List Entry) (files : List FileReplica)
+    → FitsTables (length old.members) entries files → tables ≡ tables_bytes (length old.members) entries files → ⊥))
+    → r ≢ refusal.Memory → TakesSpelled came index tables old (Err r) (unchanged old)
+rows_refused came index tables old r refused other =
+    subst (λ (given : Refusal). TakesSpelled came index tables old (Err given) (unchanged old))
+    (sym (refused other).0) (SpellsNone (refused other).1)

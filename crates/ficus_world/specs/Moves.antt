@@ -48,6 +48,7 @@ use Rattle.ficus_runs.specs.Plan.{Actions, Plan, plan}
 use Rattle.ficus_runs.specs.Sequence.{Action, First, ByRule, Cut, Effect, unchanged}
 use Rattle.ficus_world.specs.declared.exchange.Delivery.{Delivery}
 use Rattle.ficus_world.specs.declared.taking.Fitting.{Fitting}
+use Rattle.ficus_world.specs.declared.taking.Taking.{Taking}
 use Rattle.ficus_world.specs.declared.taking.Fitting.TheVariants as fitting
 use Rattle.ficus_opening.specs.declared.member.Member.{Member}
 use Rattle.ficus_opening.specs.declared.member.MemberState.{MemberState}
@@ -55,7 +56,7 @@ use Rattle.ficus_opening.specs.declared.member.MemberState.TheVariants as state
 use Rattle.ficus_opening.specs.declared.member.Pending.{Pending}
 use Rattle.ficus_world.specs.declared.post.Behind.{Behind}
 use Rattle.ficus_world.specs.Post.{Outbox, IsSent, HasFailed, AreFetched, lies_behind}
-use Rattle.ficus_world.specs.World.{Whole, IsReplica, IsUpIn}
+use Rattle.ficus_world.specs.World.{Whole, IsReplica, IsSoundNext, IsUpIn}
 
 -- an action on a world as contracts see it
 abbrev pub WholeAction : Type 0 → Type 1
@@ -285,6 +286,28 @@ pub data TakesSpelled (came : Delivery) (index : ℕ) (bytes : List ℕ) (old : 
   SpellsNone : ((entries : List Entry) (files : List FileReplica) → FitsTables (length old.members) entries files
       → bytes ≡ tables_bytes (length old.members) entries files → ⊥)
       → TakesSpelled came index bytes old (Err refusal.BadMessage) (unchanged old)
+
+-- what a member comes to that takes the tables which these bytes spell, and what is noted of that
+pub record IsTaking (came : Delivery) (index : ℕ) (bytes : List ℕ) (old : Whole) (next : Pending) (noted : List ℕ) :
+    Type 0 where
+  pub was : Member
+  pub is : IsNumbered old.members came.to was
+  pub up : was.state ≡ state.Up
+  pub place : Behind
+  pub is_place : IsNumbered old.post.behind came.number place
+  pub entries : List Entry
+  pub files : List FileReplica
+  pub fits : FitsTables (length old.members) entries files
+  pub spelled : bytes ≡ tables_bytes (length old.members) entries files
+  pub gives : AcceptGives was.replica came.from came.ask entries files (Ok next.replica)
+  pub happens : next.event ≡ event.Accept came.to place.position index
+  pub sound : IsSoundNext (length old.members) (length old.events) came.to noted was.replica next.replica
+
+-- the same, or why it takes none
+abbrev pub GivesTaking : Delivery → ℕ → List ℕ → Whole → Result Taking Refusal → Type 0
+GivesTaking came index bytes old (Ok taking) = IsTaking came index bytes old taking.next taking.noted.items
+GivesTaking came index bytes old (Err r) =
+    r ≢ refusal.Memory → TakesSpelled came index bytes old (Err r) (unchanged old)
 
 -- what a member holds of an answer before a piece of it: nothing, which is any number of pieces of any state, or what
 -- it holds already

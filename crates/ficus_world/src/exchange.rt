@@ -44,12 +44,11 @@ pub(crate) struct Delivery {
     pub(crate) ask: u64,
 }
 
-// What a member holds once it has asked, its message, and what is noted of its ask.
+// What a member holds once it has asked, and its message.
 #[derive(Drop)]
 struct Asking {
     replica: Replica,
     message: Vec<u8>,
-    noted: Vec<u8>,
 }
 
 impl<K: Keep + Drop, L: Link + Drop> World<K, L> {
@@ -70,9 +69,9 @@ impl<K: Keep + Drop, L: Link + Drop> World<K, L> {
             × IsUpIn self.old.whole by }
         ensures acts { Acts K.Keep D.Disk 1 result self.old self.new disks.old.items disks.new.items }
     {
-        let asking = self.group.asking(alloc, by, to)?;
+        let (asking, noted) = self.group.asking(alloc, by, to)?;
         self.group
-            .send_asking(&mut self.stables, disks, by, to, asking)
+            .send_asking(&mut self.stables, disks, by, to, asking, noted)
     }
 
     /// Gives a message to its receiver, who serves an ask and takes a piece of an answer.
@@ -141,13 +140,13 @@ impl<K: Keep + Drop, L: Link + Drop> World<K, L> {
 }
 
 impl<L: Link + Drop> Group<L> {
-    // What the member holds once it has asked another one, and its message.
-    fn asking(&self, alloc: Global, by: u8, to: u8) -> Result<Asking, Refusal>
+    // What the member holds once it has asked another one, and its message; and what is noted of its ask.
+    fn asking(&self, alloc: Global, by: u8, to: u8) -> Result<(Asking, Vec<u8>), Refusal>
         requires room { length self.now.events < event_limit }
-        ensures asks { IfOk result (λ asking. (was : MemberValue) × IsAsking self.now by to was asking.replica
-            × IsSoundNext (length self.now.members) (length self.now.events) by asking.noted.items was.replica
-            asking.replica) }
-        ensures message { IfOk result (λ asking. asking.message.items ≡ message_bytes (ask_of by to asking.replica)) }
+        ensures asks { IfOk result (λ asked. (was : MemberValue) × IsAsking self.now by to was asked.0.replica
+            × IsSoundNext (length self.now.members) (length self.now.events) by asked.1.items was.replica
+            asked.0.replica) }
+        ensures message { IfOk result (λ asked. asked.0.message.items ≡ message_bytes (ask_of by to asked.0.replica)) }
         ensures refused { IfErr result (λ refusal. refusal ≢ OutOfMemory
             → KeepsAsk L.tells by to self.now (Err refusal) (unchanged self.now)) }
         ensures wants { IsErrOf result OutOfMemory → ArePeers (length self.now.members) by to × IsUpIn self.now by }
@@ -170,11 +169,7 @@ impl<L: Link + Drop> Group<L> {
             },
         )?;
         let noted = encode_record(alloc, &Record::Ask, self.count())?;
-        Ok(Asking {
-            replica,
-            message,
-            noted,
-        })
+        Ok((Asking { replica, message }, noted))
     }
 
     // Saves a member that has asked, and posts its message. All memory is taken before anything changes.
@@ -185,12 +180,13 @@ impl<L: Link + Drop> Group<L> {
         by: u8,
         to: u8,
         asking: Asking,
+        noted: Vec<u8>,
     ) -> Result<u32, Refusal>
         requires room { length self.old.events < event_limit }
         requires stables { length stables.old.items ≡ length self.old.members }
         requires backed { IsBacked K.Keep D.Disk (backed_by self.old stables.old.items) disks.old.items }
         requires asking { (was : MemberValue) × IsAsking self.old by to was asking.replica
-            × IsSoundNext (length self.old.members) (length self.old.events) by asking.noted.items was.replica
+            × IsSoundNext (length self.old.members) (length self.old.events) by noted.items was.replica
             asking.replica }
         requires message { asking.message.items ≡ message_bytes (ask_of by to asking.replica) }
         ensures asks { CarriedOn K.Keep D.Disk (KeepsAsk L.tells by to) result self.old self.new disks.old.items
@@ -205,16 +201,13 @@ impl<L: Link + Drop> Group<L> {
             disks,
             by,
             &asking,
+            noted,
         )?;
         let behind = Behind {
             position: self.history.len(),
             index: 0,
         };
-        let Asking {
-            replica,
-            message,
-            ..
-        } = asking;
+        let Asking { replica, message } = asking;
         let next = Pending {
             replica,
             event: Event::Ask { by, to },
@@ -262,6 +255,7 @@ fn make_ready<K: Keep + Drop, L: Link + Drop, D: Disk>(
     disks: &mut Vec<Pair<D>>,
     by: u8,
     asking: &Asking,
+    noted: Vec<u8>,
 ) -> Result<(), Refusal>
     requires stable { IsMember (length stables.old.items) by }
     requires pair { IsMember (length disks.old.items) by }
@@ -269,7 +263,7 @@ fn make_ready<K: Keep + Drop, L: Link + Drop, D: Disk>(
     ensures room { OnOk result (1 ≤ history.new.room) }
     ensures post_room { OnOk result (HasRoom post.new 1) }
     ensures prepared { OnOk result (IsPreparedAt K.wants_image K.Takes K.size_of D.room stables.new.items
-        disks.new.items by asking.now.replica.saved asking.now.noted.items) }
+        disks.new.items by asking.now.replica.saved noted.items) }
     ensures small { OnOk result (post.old.now.total + length asking.now.message.items ≤ total_limit) }
     ensures full { OnErr result (result ≢ Err OutOfMemory → (result ≡ Err IsFull)
         × (post.old.now.total + length asking.now.message.items ≤ total_limit → ⊥)) }
@@ -282,6 +276,6 @@ fn make_ready<K: Keep + Drop, L: Link + Drop, D: Disk>(
     }
     history.reserve(1)?;
     post.make_room(1)?;
-    prepare_at(stables, disks, by, &asking.replica.saved, &asking.noted)?;
+    prepare_at(stables, disks, by, &asking.replica.saved, noted)?;
     Ok(())
 }

@@ -35,13 +35,13 @@ impl<K: Keep + Drop, L: Link + Drop> World<K, L> {
         disks: &mut Vec<Pair<D>>,
         by: u8,
         next: Pending,
-        noted: &[u8],
+        noted: Vec<u8>,
     ) -> Result<(), Refusal>
         requires room { length self.old.whole.events < event_limit + most_events }
         requires backed { IsBacked K.Keep D.Disk self.old disks.old.items }
         requires up { IsUpIn self.old.whole by }
         requires next { (was : MemberValue) → IsNumbered self.old.whole.members by was
-            → IsSoundNext (length self.old.whole.members) (length self.old.whole.events) by noted.now was.replica
+            → IsSoundNext (length self.old.whole.members) (length self.old.whole.events) by noted.items was.replica
             next.replica }
         ensures saves { SavesNext K.Keep D.Disk by next result self.old.whole self.new.whole disks.old.items
             disks.new.items }
@@ -59,14 +59,14 @@ impl<L: Link + Drop> Group<L> {
         disks: &mut Vec<Pair<D>>,
         by: u8,
         next: Pending,
-        noted: &[u8],
+        noted: Vec<u8>,
     ) -> Result<(), Refusal>
         requires room { length self.old.events < event_limit + most_events }
         requires stables { length stables.old.items ≡ length self.old.members }
         requires backed { IsBacked K.Keep D.Disk (backed_by self.old stables.old.items) disks.old.items }
         requires up { IsUpIn self.old by }
         requires next { (was : MemberValue) → IsNumbered self.old.members by was
-            → IsSoundNext (length self.old.members) (length self.old.events) by noted.now was.replica next.replica }
+            → IsSoundNext (length self.old.members) (length self.old.events) by noted.items was.replica next.replica }
         ensures saves { SavesNext K.Keep D.Disk by next result self.old self.new disks.old.items disks.new.items }
         ensures acts { Acts K.Keep D.Disk 1 result (backed_by self.old stables.old.items)
             (backed_by self.new stables.new.items) disks.old.items disks.new.items }

@@ -1,4 +1,4 @@
-ghost use Rattle.std.specs.Prelude.{◌≡◌, ◌≤◌, ◌+◌, ◌<◌, ◌⊎◌, [], Err, ℕ, List, length, take, IfOk, IsErrAnd, IsErrOf, OnErr, OnOk};
+ghost use Rattle.std.specs.Prelude.{◌≡◌, ◌≤◌, ◌+◌, ◌<◌, ◌⊎◌, [], ℕ, List, length, take, IfOk, IsErrAnd, IsErrOf, OnOk};
 ghost use Rattle.ficus_ids.specs.Members.{IsCount};
 ghost use Rattle.ficus_model.specs.Lawful.{Volume};
 ghost use Rattle.ficus_model.specs.declared.event.Event.{Event as EventValue};
@@ -8,8 +8,9 @@ ghost use Rattle.ficus_runs.specs.Start.{restarts, start};
 ghost use Rattle.ficus_runs.specs.Fuses.{FuseState};
 ghost use Rattle.ficus_world.specs.Disks.{IsBacked};
 ghost use Rattle.ficus_world.specs.Fuses.{AreAtRest, FusesStand};
+ghost use Rattle.ficus_opening.specs.Calls.{MakesVolume};
 ghost use Rattle.ficus_opening.specs.Fuses.{AreRegular, AreUnarmed};
-ghost use Rattle.ficus_opening.specs.Opening.{AreEmpty, AreMade, AreMadeInPart, AreRead, AreSynced, IsAtFault, IsFirstBad, IsFirstOccupied, IsStoreFault, IsUnfailed, Opens, SeenSame, StandsOn, Steady, Unfailing, fuses_in};
+ghost use Rattle.ficus_opening.specs.Opening.{AreRead, IsAtFault, IsFirstBad, IsStoreFault, IsUnfailed, Opens, SeenSame, StandsOn, Steady, Unfailing, fuses_in};
 ghost use Rattle.ficus_world.specs.World.{WorldStandsFor};
 ghost use Rattle.ficus_opening.specs.declared.fault.WorldFault.{WorldFault as WorldFaultValue};
 ghost use Rattle.ficus_opening.specs.Rests.{AllRest, OthersStay};
@@ -43,40 +44,7 @@ impl<K: Keep + Drop, L: Link + Drop> World<K, L> {
         requires ids_at_least { 1 ≤ ids }
         requires ids_at_most { ids ≤ update_limit }
         requires bytes { bytes ≤ byte_limit }
-        ensures made { D.tells → OnOk result (AreMade K.kept D.seen
-            (record { members = members; ids = ids; bytes = bytes }) disks.new.items) }
-        ensures empty { D.tells → OnOk result (AreEmpty D.seen disks.old.items members) }
-        ensures occupied { D.tells → (r : ℕ) → IsErrOf result (WorldFault.Occupied r)
-            → IsFirstOccupied D.seen disks.old.items r × (r ≤ members) }
-        // Where a member's disks hold something, nothing is written, and what they hold stays.
-        ensures held { D.tells → (r : ℕ) → r ≤ members → IsFirstOccupied D.seen disks.old.items r
-            → SeenSame D.seen disks.old.items disks.new.items }
-        ensures rests { D.tells → (r : ℕ) → r ≤ members → IsFirstOccupied D.seen disks.old.items r
-            → AllRest D.Disk disks.old.items disks.new.items }
-        // Where nothing was there and nothing unsynced, nothing else is there after a fault than what is made: some
-        // first members, and one in part. The pairs of no member stay.
-        ensures partly { D.tells → AreEmpty D.seen disks.old.items members
-            → AreSynced D.seen D.may_leave disks.old.items members → OnErr result (AreMadeInPart K.kept D.may_leave
-            (record { members = members; ids = ids; bytes = bytes }) disks.new.items) }
-        ensures others { OthersStay members disks.old.items disks.new.items }
-        // No disk has failed where no such fault is told.
-        ensures spared { (fault : WorldFaultValue) → IsUnfailed fault → IsErrOf result fault
-            → Steady D.faults disks.old.items disks.new.items }
-        ensures comes { D.tells → (r : ℕ) → IsFirstOccupied D.seen disks.old.items r → r ≤ members
-            → (result ≡ Err (WorldFault.Occupied r)) ⊎ ((q : ℕ) × (result ≡ Err (WorldFault.Store q))) }
-        ensures failed { (r : ℕ) → IsErrOf result (WorldFault.Store r) → IsAtFault D.faults disks.old.items
-            disks.new.items r }
-        ensures member { (r : ℕ) → IsErrOf result (WorldFault.Store r) → r ≤ members }
-        ensures never { (r : ℕ) → IsErrOf result (WorldFault.Image r) → ⊥ }
-        // Where nothing was unsynced on the members' disks, nothing of what is made is.
-        ensures synced { D.tells → AreSynced D.seen D.may_leave disks.old.items members
-            → OnOk result (AreSynced D.seen D.may_leave disks.new.items members) }
-        ensures steady { OnOk result (Steady D.faults disks.old.items disks.new.items) }
-        ensures armings { Steady D.armings disks.old.items disks.new.items }
-        ensures pairs { length disks.new.items ≡ length disks.old.items }
-        // On disks that tell their fuses, of which none is armed, none fails, and none is armed afterwards.
-        ensures unfailing { D.tells_fuse → Unfailing D.fuse result disks.old.items disks.new.items }
-        ensures regular { D.tells → OnOk result (AreRegular K.Regular D.seen disks.new.items members) }
+        ensures { MakesVolume K.Keep D.Disk members ids bytes result disks.old.items disks.new.items }
     {
         make_volume::<K, D>(alloc, disks, members, ids, bytes)
     }

@@ -33,13 +33,13 @@ pub(crate) fn prepare_at<K: Keep + Drop, D: Disk>(
     disks: &mut Vec<Pair<D>>,
     by: u8,
     next: &Saved,
-    noted: &[u8],
+    noted: Vec<u8>,
 ) -> Result<(), Memory>
     requires member { IsMember (length stables.old.items) by }
     requires pair { IsMember (length disks.old.items) by }
     requires fits { FitsImage next.now }
     ensures prepared { OnOk result (IsPreparedAt K.wants_image K.Takes K.size_of D.room stables.new.items
-        disks.new.items by next.now noted.now) }
+        disks.new.items by next.now noted.items) }
     ensures stays { StaysAt K.Keep D.Disk by stables.old.items stables.new.items disks.old.items disks.new.items }
 {
     let index = by as usize - 1;

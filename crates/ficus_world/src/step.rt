@@ -148,7 +148,7 @@ impl<K: Keep + Drop, L: Link + Drop> World<K, L> {
             replica: next.replica,
             event: Event::Update { by, op: next.op },
         };
-        self.save(disks, by, next, &noted)?;
+        self.save(disks, by, next, noted)?;
         Ok(answer)
     }
 
@@ -181,7 +181,7 @@ impl<K: Keep + Drop, L: Link + Drop> World<K, L> {
             replica: collected.replica,
             event: Event::Collect { by },
         };
-        self.save(disks, by, next, &noted)?;
+        self.save(disks, by, next, noted)?;
         Ok(answer)
     }
 

@@ -11,7 +11,7 @@ ghost use Rattle.ficus_runs.specs.Sequence.{unchanged};
 ghost use Rattle.ficus_world.specs.Disks.{CarriedOn, IsBacked};
 ghost use Rattle.ficus_world.specs.Acts.{Acts};
 ghost use Rattle.ficus_runs.specs.Numbered.{IsNumbered};
-ghost use Rattle.ficus_world.specs.Moves.{FindsTaker, IsPlaced, TakesPiece, TakesSpelled, TakesTables, collected, parts_held};
+ghost use Rattle.ficus_world.specs.Moves.{FindsTaker, GivesTaking, IsPlaced, TakesPiece, TakesSpelled, collected, parts_held};
 ghost use Rattle.ficus_world.specs.World.{IsUpIn, event_limit, most_events};
 ghost use Rattle.ficus_wire.specs.Message.{FitsMessage, piece_of};
 ghost use Rattle.ficus_wire.specs.Parts.{HasPart, HeldParts, joined as joined_parts, no_parts, with_part};
@@ -28,7 +28,7 @@ use ficus_disk::{Disk, Pair};
 use ficus_entry::SharedEntry;
 use ficus_file::SharedFile;
 use ficus_formats::{ReadFault, Reader};
-use ficus_ids::{Listed, Members, Memory, Refusal};
+use ficus_ids::{Listed, Memory, Refusal};
 use ficus_keeper::Keep;
 use ficus_model::Event;
 use ficus_opening::Pending;
@@ -37,6 +37,13 @@ use ficus_record::encode_accept;
 use ficus_script::Answer;
 use ficus_wire::{Parts, PieceHead};
 use std::alloc::Global;
+
+// What a member comes to that takes tables, and what is noted of that.
+#[derive(Drop)]
+struct Taking {
+    next: Pending,
+    noted: Vec<u8>,
+}
 
 /// What a piece is to what a member holds of the answer.
 #[derive(Clone, Copy)]
@@ -84,7 +91,8 @@ impl<K: Keep + Drop, L: Link + Drop> World<K, L> {
         }
     }
 
-    // Takes the tables that a piece and those that are held spell together, or refuses them.
+    // Takes the tables that a piece and those that are held spell together, or refuses them. All memory is taken before
+    // anything changes, and what was read is given up before it is saved.
     fn take_last<D: Disk>(
         &mut self,
         alloc: Global,
@@ -106,82 +114,77 @@ impl<K: Keep + Drop, L: Link + Drop> World<K, L> {
             self.new.whole disks.old.items disks.new.items }
         ensures acts { Acts K.Keep D.Disk 1 result self.old self.new disks.old.items disks.new.items }
     {
-        match self.group.joined(came.to, head.index, bytes)? {
-            Some(joined) => self.take_tables(alloc, disks, came, head.index, &joined),
-            None => self.take_tables(alloc, disks, came, head.index, bytes),
-        }
-    }
-
-    // Takes the tables that the bytes spell, or refuses them. What the taker holds already is shared.
-    fn take_tables<D: Disk>(
-        &mut self,
-        alloc: Global,
-        disks: &mut Vec<Pair<D>>,
-        came: Delivery,
-        index: u32,
-        tables: &[u8],
-    ) -> Result<Answer, Refusal>
-        requires room { length self.old.whole.events < event_limit + most_events }
-        requires backed { IsBacked K.Keep D.Disk self.old disks.old.items }
-        requires mail { IsMember (length self.old.whole.post.behind) came.number }
-        requires up { IsUpIn self.old.whole came.to }
-        ensures takes { CarriedOn K.Keep D.Disk (TakesSpelled came index tables.now) result self.old.whole
-            self.new.whole disks.old.items disks.new.items }
-        ensures acts { Acts K.Keep D.Disk 1 result self.old self.new disks.old.items disks.new.items }
-    {
-        let known = self.group.known_to(came.to)?;
-        let (entries, files) = rows(alloc, tables, self.members(), &known)?;
-        self.take(
-            alloc,
-            disks,
-            came,
-            index,
-            entries.items(),
-            files.items(),
-            tables,
-        )
-    }
-
-    // Takes what was served, in rows and as these are spelled, or refuses it. All memory is taken before anything
-    // changes.
-    fn take<D: Disk>(
-        &mut self,
-        alloc: Global,
-        disks: &mut Vec<Pair<D>>,
-        came: Delivery,
-        index: u32,
-        entries: &[SharedEntry],
-        files: &[SharedFile],
-        tables: &[u8],
-    ) -> Result<Answer, Refusal>
-        requires room { length self.old.whole.events < event_limit + most_events }
-        requires backed { IsBacked K.Keep D.Disk self.old disks.old.items }
-        requires mail { IsMember (length self.old.whole.post.behind) came.number }
-        requires up { IsUpIn self.old.whole came.to }
-        requires tables { FitsTables (length self.old.whole.members) entries.now files.now }
-        requires spelled { tables.now ≡ tables_bytes (length self.old.whole.members) entries.now files.now }
-        ensures takes { CarriedOn K.Keep D.Disk (TakesTables came index entries.now files.now) result self.old.whole
-            self.new.whole disks.old.items disks.new.items }
-        ensures acts { Acts K.Keep D.Disk 1 result self.old self.new disks.old.items disks.new.items }
-    {
-        let serve = self.group.post.behind(came.number).position;
-        let replica = &self.group.member(came.to).replica;
-        let taken = replica.accept_rows(alloc, came.from, came.ask, entries, files)?;
-        let noted = encode_accept(alloc, tables)?;
-        let next = Pending {
-            replica: taken,
-            event: Event::Accept {
-                by: came.to,
-                serve,
-                piece: index,
-            },
-        };
-        self.save(disks, came.to, next, &noted)?;
+        let Taking { next, noted } = self.group.taking_last(alloc, came, head, bytes)?;
+        self.save(disks, came.to, next, noted)?;
         Ok(Answer::Done)
     }
 }
 
 impl<L: Link + Drop> Group<L> {
+    // What a member comes to that takes the tables which a piece and those that it holds spell together, or why it
+    // takes none.
+    fn taking_last(
+        &self,
+        alloc: Global,
+        came: Delivery,
+        head: PieceHead,
+        bytes: &[u8],
+    ) -> Result<Taking, Refusal>
+        requires room { length self.now.events < event_limit + most_events }
+        requires up { IsUpIn self.now came.to }
+        requires mail { IsMember (length self.now.post.behind) came.number }
+        requires index { head.index < head.pieces }
+        requires last { (was : MemberValue) → IsNumbered self.now.members came.to was
+            → IsPlaced (parts_held was.parts head) head.index TheLast }
+        ensures { (was : MemberValue) → IsNumbered self.now.members came.to was → GivesTaking came head.index
+            (joined_parts (with_part (parts_held was.parts head) head.index bytes.now)) self.now result }
+    {
+        match self.joined(came.to, head.index, bytes)? {
+            Some(joined) => self.taking(alloc, came, head.index, &joined),
+            None => self.taking(alloc, came, head.index, bytes),
+        }
+    }
+
+    // What a member comes to that takes the tables which the bytes spell, or why it takes none. What it holds already
+    // is shared.
+    fn taking(
+        &self,
+        alloc: Global,
+        came: Delivery,
+        index: u32,
+        tables: &[u8],
+    ) -> Result<Taking, Refusal>
+        requires room { length self.now.events < event_limit + most_events }
+        requires up { IsUpIn self.now came.to }
+        requires mail { IsMember (length self.now.post.behind) came.number }
+        ensures { GivesTaking came index tables.now self.now result }
+    {
+        let known = self.known_to(came.to)?;
+        let (entries, files) = rows(alloc, tables, &known)?;
+        let replica = &self.member(came.to).replica;
+        let taken = replica.accept_rows(
+            alloc,
+            came.from,
+            came.ask,
+            entries.items(),
+            files.items(),
+        )?;
+        let noted = encode_accept(alloc, tables)?;
+        let serve = self.post.behind(came.number).position;
+        let event = Event::Accept {
+            by: came.to,
+            serve,
+            piece: index,
+        };
+        Ok(Taking {
+            next: Pending {
+                replica: taken,
+                event,
+            },
+            noted,
+        })
+    }
+
     // What a piece is to what its receiver holds of the answer, or why it isn't taken.
     fn fitting(&self, came: Delivery, head: PieceHead) -> Result<Fitting, Refusal>
         requires to { IsMember (length self.now.members) came.to }
@@ -252,9 +255,10 @@ impl<L: Link + Drop> Group<L> {
     // The rows of the member.
     fn known_to(&self, to: u8) -> Result<Known, Memory>
         requires { IsMember (length self.now.members) to }
+        ensures { IfOk result (λ known. known ≡ length self.now.members) }
     {
         let saved = &self.member(to).replica.saved;
-        Known::of(&saved.entries, &saved.files)
+        Known::of(&saved.entries, &saved.files, saved.members)
     }
 }
 
@@ -311,16 +315,15 @@ fn place_in(held: &Parts, index: u32) -> Fitting
 fn rows(
     alloc: Global,
     tables: &[u8],
-    members: Members,
     known: &Known,
 ) -> Result<(Listed<SharedEntry>, Listed<SharedFile>), Refusal>
-    ensures fits { IfOk result (λ rows. FitsTables members rows.0 rows.1) }
-    ensures spelled { IfOk result (λ rows. tables.now ≡ tables_bytes members rows.0 rows.1) }
+    ensures fits { IfOk result (λ rows. FitsTables known.now rows.0 rows.1) }
+    ensures spelled { IfOk result (λ rows. tables.now ≡ tables_bytes known.now rows.0 rows.1) }
     ensures refused { IfErr result (λ refusal. refusal ≢ OutOfMemory → (refusal ≡ IsBad)
-        × ((entries : List EntryValue) (files : List FileValue) → FitsTables members entries files
-        → tables.now ≡ tables_bytes members entries files → ⊥)) }
+        × ((entries : List EntryValue) (files : List FileValue) → FitsTables known.now entries files
+        → tables.now ≡ tables_bytes known.now entries files → ⊥)) }
 {
-    match read_all_rows(alloc, Reader::new(tables), members, known) {
+    match read_all_rows(alloc, Reader::new(tables), known) {
         Ok(rows) => Ok(rows),
         Err(ReadFault::Unspelled) => Err(Refusal::BadMessage),
         Err(ReadFault::Memory) => Err(Refusal::Memory),

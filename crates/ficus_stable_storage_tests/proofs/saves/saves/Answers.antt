@@ -5,7 +5,7 @@ use Rattle.ficus_stable_storage_tests.proofs.saves.saves.Goals as goal
 pub commit-requires : goal.commit-requires
 commit-requires g c =
     let prepared = c.in_ok-prepare.ensures.prepared in (
-      c.args.body.now,
+      c.args.body.items,
       record {
         image = prepared.image;
         noted = prepared.noted;

@@ -10,37 +10,35 @@ commit-requires-clause-next g c told before is =
     let follows = c.requires.2 told in
     next_generation _ follows.saved c.args.next.now c.requires.0 follows.ready.holds follows.leads before is
 
-pub returns-clause-ready : goal.returns-clause-ready
-returns-clause-ready g c told =
+pub returns : goal.returns
+returns g c =
     let next = c.args.next.now in
+    let done = c.commit.ensures in
     let kept = found_in g.K.Keep.kept g.D.Disk.seen c.commit.new.disks in
     let after = after_commit (g.K.Keep.wants_image c.args.self.now.keeper) next.generation c.deref.result.now
     (found_in g.K.Keep.kept g.D.Disk.seen c.args.disks.now) in
-    let held = held_prepared g.K.Keep.wants_image g.K.Keep.kept g.D.Disk.seen c.args.self.now c.args.disks.now next c.requires.0
-    c.deref.result.now c.deref.ensures.value c.requires.1 (c.requires.2 told) in
-    both_ok c.commit.result (λ is settled. record { holds = held_at kept after next is held; settled = settled })
-    (c.commit.ensures.told told).kept (c.commit.ensures.told told).settled
-
-pub returns-clause-crash : goal.returns-clause-crash
-returns-clause-crash g c told saved holds =
-    one_of g.K.Keep.kept g.D.Disk.may_leave c.commit.new.disks _ _ saved c.args.next.now holds
-    (held_prepared g.K.Keep.wants_image g.K.Keep.kept g.D.Disk.seen c.args.self.now c.args.disks.now c.args.next.now
-    c.requires.0 c.deref.result.now c.deref.ensures.value c.requires.1 (c.requires.2 told))
-    (c.commit.ensures.told told).crash
-
-pub returns-clause-between : goal.returns-clause-between
-returns-clause-between g c told saved holds =
-    one_between g.K.Keep.kept g.D.Disk.moment g.D.Disk.left_since c.args.disks.now c.commit.new.disks _ _ saved
-    c.args.next.now holds
-    (held_prepared g.K.Keep.wants_image g.K.Keep.kept g.D.Disk.seen c.args.self.now c.args.disks.now c.args.next.now
-    c.requires.0 c.deref.result.now c.deref.ensures.value c.requires.1 (c.requires.2 told))
-    (c.commit.ensures.told told).between
-
-pub returns-clause-by_fuse : goal.returns-clause-by_fuse
-returns-clause-by_fuse g c fused told regular saved holds =
-    let next = c.args.next.now in
-    let held = held_prepared g.K.Keep.wants_image g.K.Keep.kept g.D.Disk.seen c.args.self.now c.args.disks.now next c.requires.0
-    c.deref.result.now c.deref.ensures.value c.requires.1 (c.requires.2 told) in
-    decided g.K.Keep.kept g.D.Disk.seen g.D.Disk.image g.D.Disk.fuse (g.K.Keep.calls next.generation)
-    (g.K.Keep.is_on_a next.generation) c.args.disks.now c.commit.new.disks (is_ok c.commit.result) _ saved next held holds
-    (c.commit.ensures.by_fuse fused told regular)
+    let held = λ (told : g.D.Disk.tells). held_prepared g.K.Keep.wants_image g.K.Keep.kept g.D.Disk.seen
+    c.args.self.now c.args.disks.now next c.requires.0 c.deref.result.now c.deref.ensures.value c.requires.1
+    (c.requires.2 told) in
+    record {
+      ready = λ told. both_ok c.commit.result
+          (λ is settled. record { holds = held_at kept after next is (held told); settled = settled })
+          (done.told told).kept (done.told told).settled;
+      crash = λ told saved holds.
+          one_of g.K.Keep.kept g.D.Disk.may_leave c.commit.new.disks _ _ saved next holds (held told)
+          (done.told told).crash;
+      between = λ told saved holds.
+          one_between g.K.Keep.kept g.D.Disk.moment g.D.Disk.left_since c.args.disks.now c.commit.new.disks _ _ saved
+          next holds (held told) (done.told told).between;
+      spans = done.spans;
+      other = done.other;
+      armings = done.counts.armings;
+      failed = done.counts.failed;
+      steady = done.counts.steady;
+      risen = done.counts.risen;
+      regular = λ told. (done.told told).regular;
+      by_fuse = λ fused told regular saved holds.
+          decided g.K.Keep.kept g.D.Disk.seen g.D.Disk.image g.D.Disk.fuse (g.K.Keep.calls next.generation)
+          (g.K.Keep.is_on_a next.generation) c.args.disks.now c.commit.new.disks (is_ok c.commit.result) _ saved next
+          (held told) holds (done.by_fuse fused told regular);
+    }

@@ -35,7 +35,7 @@ keep-requires-clause-pair g c =
 
 pub keep-requires-clause-prepared : goal.keep-requires-clause-prepared
 keep-requires-clause-prepared g c = (
-  c.args.noted.now,
+  c.args.noted.items,
   c.in_ok-prepare_at.ensures.prepared,
   λ was is. (c.requires.next was (subst (λ (w : Whole). IsNumbered w.members c.args.by was) c.self.view_is is)).leads,
 )

@@ -47,7 +47,7 @@ returns-in_err-make_ready-clause-asks g c =
     let y = c.make_ready.new.disks.items in
     let old = whole_of c.self.inside.members.items c.self.inside.history.events c.self.inside.post.now in
     let asking = subst (λ (w : Whole). (was : Member) × IsAsking w by to was c.args.asking.replica
-    × IsSoundNext (length w.members) (length w.events) by c.args.asking.noted.items was.replica c.args.asking.replica) (sym c.self.view_is)
+    × IsSoundNext (length w.members) (length w.events) by c.args.noted.items was.replica c.args.asking.replica) (sym c.self.view_is)
     c.requires.asking in
     let message = c.requires.message in
     let moves = unready tells old by to asking.0 c.args.asking.replica asking.1 x y
@@ -63,7 +63,7 @@ invariant_of-self-in_err-keep g c =
     let by = c.args.by in
     let old = whole_of c.self.inside.members.items c.self.inside.history.events c.self.inside.post.now in
     let asking = subst (λ (w : Whole). (was : Member) × IsAsking w by c.args.to was c.args.asking.replica
-    × IsSoundNext (length w.members) (length w.events) by c.args.asking.noted.items was.replica c.args.asking.replica) (sym c.self.view_is)
+    × IsSoundNext (length w.members) (length w.events) by c.args.noted.items was.replica c.args.asking.replica) (sym c.self.view_is)
     c.requires.asking in
     let was = asking.0 in
     let world : IsWorld old = c.self.invariant in
@@ -84,7 +84,7 @@ returns-in_err-keep-clause-asks g c =
     let z = c.keep.new.disks.items in
     let old = whole_of c.self.inside.members.items c.self.inside.history.events c.self.inside.post.now in
     let asking = subst (λ (w : Whole). (was : Member) × IsAsking w by to was c.args.asking.replica
-    × IsSoundNext (length w.members) (length w.events) by c.args.asking.noted.items was.replica c.args.asking.replica) (sym c.self.view_is)
+    × IsSoundNext (length w.members) (length w.events) by c.args.noted.items was.replica c.args.asking.replica) (sym c.self.view_is)
     c.requires.asking in
     let message = c.requires.message in
     let was = asking.0 in
@@ -111,7 +111,7 @@ invariant_of-self-2 g c =
     let asked = c.args.asking.replica in
     let old = whole_of c.self.inside.members.items c.self.inside.history.events c.self.inside.post.now in
     let asking = subst (λ (w : Whole). (was : Member) × IsAsking w by to was asked
-    × IsSoundNext (length w.members) (length w.events) by c.args.asking.noted.items was.replica asked) (sym c.self.view_is)
+    × IsSoundNext (length w.members) (length w.events) by c.args.noted.items was.replica asked) (sym c.self.view_is)
     c.requires.asking in
     let message = c.requires.message in
     let was = asking.0 in
@@ -138,7 +138,7 @@ returns-clause-asks g c =
     let z = c.keep.new.disks.items in
     let old = whole_of c.self.inside.members.items c.self.inside.history.events c.self.inside.post.now in
     let asking = subst (λ (w : Whole). (was : Member) × IsAsking w by to was asked
-    × IsSoundNext (length w.members) (length w.events) by c.args.asking.noted.items was.replica asked) (sym c.self.view_is)
+    × IsSoundNext (length w.members) (length w.events) by c.args.noted.items was.replica asked) (sym c.self.view_is)
     c.requires.asking in
     let message = c.requires.message in
     let was = asking.0 in
@@ -164,11 +164,11 @@ keep-requires-clause-pair g c =
 pub keep-requires-clause-prepared : goal.keep-requires-clause-prepared
 keep-requires-clause-prepared g c =
     let asking = subst (λ (w : Whole). (was : Member) × IsAsking w c.args.by c.args.to was c.args.asking.replica
-    × IsSoundNext (length w.members) (length w.events) c.args.by c.args.asking.noted.items was.replica
+    × IsSoundNext (length w.members) (length w.events) c.args.by c.args.noted.items was.replica
     c.args.asking.replica) (sym c.self.view_is) c.requires.asking in (
-      c.args.asking.noted.items,
+      c.args.noted.items,
       c.in_ok-make_ready.ensures.prepared,
-      λ was is. subst (λ (m : Member). Leads c.args.asking.noted.items m.replica.saved c.args.asking.replica.saved)
+      λ was is. subst (λ (m : Member). Leads c.args.noted.items m.replica.saved c.args.asking.replica.saved)
           (number_once asking.1.is is) asking.2.leads,
     )
 

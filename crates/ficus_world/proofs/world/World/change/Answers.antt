@@ -1,4 +1,4 @@
-use Rattle.std.proofs.Common.{Err, length, subst, ◌∙◌}
+use Rattle.std.proofs.Common.{Err, length, subst}
 use Rattle.std.proofs.lemmas.Result.{err_from_is_err_and}
 use Rattle.ficus_model.specs.declared.event.Event.TheVariants.{Update}
 use Rattle.ficus_deciding.proofs.Sound.{may_where_given}
@@ -105,11 +105,11 @@ save-requires-clause-next g c = λ was is.
     c.in_ok-replica.ensures.is in
     let sound = subst (λ (w : Whole). IsSoundMember (length w.members) (length w.events) c.args.by found)
     (whole_is c.self.view_is) c.in_ok-replica.ensures.sound in
-    subst (λ (m : Member). IsSoundNext (length old.members) (length old.events) c.args.by c.deref.result.now m.replica
+    subst (λ (m : Member). IsSoundNext (length old.members) (length old.events) c.args.by c.in_ok-noted.noted.items m.replica
     next.replica) (number_once there is)
-    (noted_sound {noted = c.deref.result.now} sound.replica (record {
+    (noted_sound {noted = c.in_ok-noted.noted.items} sound.replica (record {
       noted = Change next.op;
-      is = c.deref.ensures.value ∙ c.in_ok-noted.ensures found.replica.saved.members;
+      is = c.in_ok-noted.ensures found.replica.saved.members;
       step = c.in_ok-next.ensures.noted;
     }))
 

@@ -1,45 +1,85 @@
-use Rattle.std.proofs.Common.{Err, Global, List, Vec, subst, sym, ◌∙◌, ℕ}
+use Rattle.std.proofs.Common.{Err, length, subst, sym, ◌≢◌}
 use Rattle.std.proofs.lemmas.Result.{err_from_is_err_and}
 use Rattle.ficus_ids.specs.declared.refusal.Refusal.TheVariants.{Memory}
 use Rattle.ficus_runs.specs.Numbered.{IsNumbered}
+use Rattle.ficus_runs.specs.Sequence.{unchanged}
+use Rattle.ficus_script.specs.declared.answer.Answer.TheVariants.{Done}
 use Rattle.ficus_wire.specs.Parts.{joined, with_part}
-use Rattle.ficus_world.specs.Disks.{CarriedOn}
-use Rattle.ficus_world.specs.Moves.{TakesSpelled, parts_held}
-use Rattle.ficus_world.specs.World.{Whole}
-use Rattle.ficus_world.proofs.Carrying.{carried_none, whole_is}
-use Rattle.ficus_world.proofs.Collected.{joined_none, joined_some}
-use Rattle.ficus_world.proofs.Acting.{acts_none}
+use Rattle.ficus_world.specs.Moves.{IsTaking, TakesSpelled, parts_held}
+use Rattle.ficus_world.specs.World.{IsSoundNext, Whole}
+use Rattle.ficus_opening.specs.declared.member.Member.{Member}
+use Rattle.ficus_run_laws.proofs.Numbers.{number_once}
+use Rattle.ficus_world.proofs.Carrying.{carried_none, carried_saved, or_refused, save_refused, whole_is}
+use Rattle.ficus_world.proofs.Collected.{taking_saved, taking_unsaved}
+use Rattle.ficus_world.proofs.Acting.{acts_done, acts_none, acts_refused}
 use Rattle.ficus_world.proofs.world.World.take_last.Goals as goal
 
-pub returns-in_err-joined-clause-takes : goal.returns-in_err-joined-clause-takes
-returns-in_err-joined-clause-takes g c = λ was is.
-    let wanted = err_from_is_err_and c.from_residual.result c.from_residual.ensures.1 in
-    let bytes = joined (with_part (parts_held was.parts c.args.head) c.args.head.index c.args.bytes.now) in
-    rw (wanted.1, wanted.2)
-    (carried_none (TakesSpelled c.args.came c.args.head.index bytes) (Err Memory) c.args.self.now.whole
-    c.args.disks.now.items tt)
+pub returns-in_err-next-clause-takes : goal.returns-in_err-next-clause-takes
+returns-in_err-next-clause-takes g c = λ was is.
+    let refused = err_from_is_err_and c.from_residual.result c.from_residual.ensures.1 in
+    let r = c.in_err-next.field-0.0 in
+    let old = c.args.self.now.whole in
+    let came = c.args.came in
+    let index = c.args.head.index in
+    let bytes = joined (with_part (parts_held was.parts c.args.head) index c.args.bytes.now) in
+    let there = subst (λ (w : Whole). IsNumbered w.members came.to was) (sym (whole_is c.self.view_is)) is in
+    let takes = subst (λ (w : Whole). r ≢ Memory → TakesSpelled came index bytes w (Err r) (unchanged w))
+    (whole_is c.self.view_is) (c.in_err-next.ensures was there) in
+    rw (refused.1, refused.2)
+    (carried_none (TakesSpelled came index bytes) (Err r) old c.args.disks.now.items
+    (or_refused (λ given. TakesSpelled came index bytes old given (unchanged old)) r takes))
 
-pub returns-in-Some-clause-takes : goal.returns-in-Some-clause-takes
-returns-in-Some-clause-takes g c = λ was is.
-    let head = c.args.head in
-    let there = subst (λ (w : Whole). IsNumbered w.members c.args.came.to was) (sym (whole_is c.self.view_is)) is in
-    let same = joined_some (λ (v : Vec ℕ Global). v.items) was.parts head c.args.bytes.now c.in-Some.joined
-    (λ held held_is. rw c.in-Some.is at (c.in_ok-joined.ensures.joined was held there held_is))
-    (λ none. rw c.in-Some.is at (c.in_ok-joined.ensures.none was there none)) in
-    subst (λ (bytes : List ℕ). CarriedOn g.K.Keep g.D.Disk (TakesSpelled c.args.came head.index bytes)
-    c.take_tables.result c.args.self.now.whole c.take_tables.new.self.whole c.args.disks.now.items
-    c.take_tables.new.disks.items) (c.deref.ensures.value ∙ same) c.take_tables.ensures.takes
+pub returns-in_err-save-clause-takes : goal.returns-in_err-save-clause-takes
+returns-in_err-save-clause-takes g c = λ was is.
+    let refused = err_from_is_err_and c.from_residual-in_err-save.result c.from_residual-in_err-save.ensures.1 in
+    let r = c.in_err-save.field-0.0 in
+    let old = c.args.self.now.whole in
+    let came = c.args.came in
+    let index = c.args.head.index in
+    let bytes = joined (with_part (parts_held was.parts c.args.head) index c.args.bytes.now) in
+    let there = subst (λ (w : Whole). IsNumbered w.members came.to was) (sym (whole_is c.self.view_is)) is in
+    let taking = subst (λ (w : Whole). IsTaking came index bytes w c.in_ok-next.field-0.next c.in_ok-next.field-0.noted.items)
+    (whole_is c.self.view_is) (c.in_ok-next.ensures was there) in
+    rw (refused.1, refused.2)
+    (save_refused (TakesSpelled came index bytes) old c.save.new.self.whole came.to taking.was c.in_ok-next.field-0.next
+    c.args.disks.now.items c.save.new.disks.items r taking.is c.in_err-save.ensures.saves
+    c.in_err-save.ensures.acts.memory (taking_unsaved taking))
 
-pub returns-in-None-clause-takes : goal.returns-in-None-clause-takes
-returns-in-None-clause-takes g c = λ was is.
-    let head = c.args.head in
-    let there = subst (λ (w : Whole). IsNumbered w.members c.args.came.to was) (sym (whole_is c.self.view_is)) is in
-    let same = joined_none (λ (v : Vec ℕ Global). v.items) was.parts head c.args.bytes.now c.requires.index
-    (c.requires.last was is)
-    (λ held held_is. rw c.in-None.is at (c.in_ok-joined.ensures.joined was held there held_is)) in
-    subst (λ (bytes : List ℕ). CarriedOn g.K.Keep g.D.Disk (TakesSpelled c.args.came head.index bytes)
-    c.take_tables-in-None.result c.args.self.now.whole c.take_tables-in-None.new.self.whole c.args.disks.now.items
-    c.take_tables-in-None.new.disks.items) same c.take_tables-in-None.ensures.takes
+pub returns-clause-takes : goal.returns-clause-takes
+returns-clause-takes g c = λ was is.
+    let old = c.args.self.now.whole in
+    let came = c.args.came in
+    let index = c.args.head.index in
+    let bytes = joined (with_part (parts_held was.parts c.args.head) index c.args.bytes.now) in
+    let there = subst (λ (w : Whole). IsNumbered w.members came.to was) (sym (whole_is c.self.view_is)) is in
+    let next = c.in_ok-next.field-0.next in
+    let taking = subst (λ (w : Whole). IsTaking came index bytes w next c.in_ok-next.field-0.noted.items)
+    (whole_is c.self.view_is) (c.in_ok-next.ensures was there) in
+    carried_saved (TakesSpelled came index bytes) Done old c.save.new.self.whole came.to taking.was next.replica
+    next.event c.args.disks.now.items c.save.new.disks.items (c.in_ok-save.ensures.saves.0 taking.was taking.is)
+    c.in_ok-save.ensures.saves.1 (taking_saved taking)
 
-pub returns-in_err-joined-clause-acts : goal.returns-in_err-joined-clause-acts
-returns-in_err-joined-clause-acts g c = acts_none c.requires.backed
+pub save-requires-clause-next : goal.save-requires-clause-next
+save-requires-clause-next g c = λ was is.
+    let old = c.args.self.now.whole in
+    let came = c.args.came in
+    let index = c.args.head.index in
+    let bytes = joined (with_part (parts_held was.parts c.args.head) index c.args.bytes.now) in
+    let there = subst (λ (w : Whole). IsNumbered w.members came.to was) (sym (whole_is c.self.view_is)) is in
+    let next = c.in_ok-next.field-0.next in
+    let noted = c.in_ok-next.field-0.noted.items in
+    let taking = subst (λ (w : Whole). IsTaking came index bytes w next noted) (whole_is c.self.view_is)
+    (c.in_ok-next.ensures was there) in
+    subst (λ (m : Member). IsSoundNext (length old.members) (length old.events) came.to noted m.replica next.replica)
+    (number_once taking.is is) taking.sound
+
+pub returns-in_err-next-clause-acts : goal.returns-in_err-next-clause-acts
+returns-in_err-next-clause-acts g c = acts_none c.requires.backed
+
+pub returns-in_err-save-clause-acts : goal.returns-in_err-save-clause-acts
+returns-in_err-save-clause-acts g c =
+    let refused = err_from_is_err_and c.from_residual-in_err-save.result c.from_residual-in_err-save.ensures.1 in
+    rw (refused.1, refused.2) (acts_refused c.in_err-save.field-0.0 c.in_err-save.ensures.acts)
+
+pub returns-clause-acts : goal.returns-clause-acts
+returns-clause-acts g c = acts_done c.in_ok-save.ensures.acts
