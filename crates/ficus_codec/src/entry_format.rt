@@ -1,18 +1,15 @@
-ghost use Rattle.std.specs.Prelude.{◌≡◌, ◌↔◌, ◌+◌, ◌≤◌, ◌++◌, length, IsTrue, IfErr, IfSome, OnErr, OnOk};
+ghost use Rattle.std.specs.Prelude.{◌≡◌, ◌↔◌, IsTrue, IfErr, IfSome};
 ghost use Rattle.ficus_ids.specs.Name.{IsName};
-ghost use Rattle.ficus_formats.specs.Format.{Begins, Keeps, Reads, byte, id as id_format};
-ghost use Rattle.ficus_codec.specs.Formats.{name, marks, dead, state, state_bytes, entry, entry_bytes, entry_fields};
+ghost use Rattle.ficus_formats.specs.Format.{Begins, Reads, id as id_format};
+ghost use Rattle.ficus_codec.specs.Formats.{name, marks, dead, state, entry, entry_fields};
 ghost use Rattle.ficus_codec.specs.FormatsUnique.{unique-entry};
 ghost use Rattle.ficus_durable_state.specs.Tables.{IsIssuable, MayHoldEntries, FitsState, FitsEntry};
 
 use ficus_durable_state::UPDATE_LIMIT;
 use ficus_entry::{Entry, State};
-use ficus_formats::{ReadFault, Reader, RowSpelling, Spelling, Window, WindowSpelling, put_bytes};
-use ficus_ids::{ATTIC, Id, Marks, Members, Memory, NAME_LIMIT, Name, NameFault, ROOT};
+use ficus_formats::{ReadFault, Reader, RowSpelling, Spelling};
+use ficus_ids::{ATTIC, Id, Marks, Members, Memory, Name, NameFault, ROOT};
 use std::alloc::Global;
-
-// The most bytes of an entry: 11 in front of its name, and 8 behind it.
-const ENTRY_ROOM: usize = 11 + NAME_LIMIT + 8;
 
 // Whether some member may have issued the identifier.
 pub(crate) fn is_issuable(id: Id, members: Members) -> bool
@@ -145,72 +142,6 @@ pub(crate) fn entry_behind<'a>(
     }
 }
 
-// What stands before the name's bytes: the identifier, the directory, and how long the name is.
-fn entry_head(entry: &Entry) -> [u8; 11]
-    ensures { result
-        ≡ id_format.spell entry.now.id ++ (id_format.spell entry.now.dir ++ byte.spell (length entry.now.name)) }
-{
-    let [id_1, id_2, id_3, id_4] = entry.id.number.to_be_bytes();
-    let [dir_1, dir_2, dir_3, dir_4] = entry.dir.number.to_be_bytes();
-    let length = entry.name.bytes().len() as u8;
-    [
-        entry.id.replica,
-        id_1,
-        id_2,
-        id_3,
-        id_4,
-        entry.dir.replica,
-        dir_1,
-        dir_2,
-        dir_3,
-        dir_4,
-        length,
-    ]
-}
-
-// Appends what stands behind the name.
-fn put_tail(out: &mut Vec<u8>, target: Id, state: State) -> Result<(), Memory>
-    ensures put { OnOk result (out.new.items ≡ out.old.items ++ (id_format.spell target ++ state_bytes state)) }
-    ensures kept { OnErr result (Keeps out.old.items out.new.items) }
-{
-    let [first, second, third, fourth] = target.number.to_be_bytes();
-    match state {
-        State::Live => put_bytes(out, &[target.replica, first, second, third, fourth, 0]),
-        State::Dead { one, two } => {
-            let (one, two) = (one.bits(), two.bits());
-            put_bytes(
-                out,
-                &[target.replica, first, second, third, fourth, 1, one, two],
-            )
-        }
-    }
-}
-
-// Puts what stands behind the name into the window.
-fn put_tail_in(window: &mut Window, target: Id, state: State)
-    requires { length window.old + 8 ≤ 2048 }
-    ensures { window.new ≡ window.old ++ (id_format.spell target ++ state_bytes state) }
-{
-    let [first, second, third, fourth] = target.number.to_be_bytes();
-    match state {
-        State::Live => window.put(&[target.replica, first, second, third, fourth, 0]),
-        State::Dead { one, two } => {
-            let (one, two) = (one.bits(), two.bits());
-            window.put(&[target.replica, first, second, third, fourth, 1, one, two])
-        }
-    }
-}
-
-// Puts an entry into the window.
-fn put_entry_in(window: &mut Window, entry: &Entry)
-    requires { length window.old + 83 ≤ 2048 }
-    ensures { window.new ≡ window.old ++ entry_bytes entry.now }
-{
-    window.put(&entry_head(entry));
-    window.put(entry.name.bytes());
-    put_tail_in(window, entry.target, entry.state);
-}
-
 // The fields of an entry, each by itself.
 fn read_fields(reader: &mut Reader<'_>, members: Members) -> Result<Entry, ReadFault>
     ensures reads { Reads (entry_fields members) reader.old result reader.new }
@@ -256,18 +187,7 @@ impl Spelling for EntrySpelling {
     }
 
     fn put(&self, out: &mut Vec<u8>, value: &Entry) -> Result<(), Memory> {
-        put_bytes(out, &entry_head(value))?;
-        put_bytes(out, value.name.bytes())?;
-        put_tail(out, value.target, value.state)?;
-        Ok(())
-    }
-}
-
-impl WindowSpelling for EntrySpelling {
-    fn put_in(&self, window: &mut Window, out: &mut Vec<u8>, value: &Entry) -> Result<(), Memory> {
-        window.make_room(out, ENTRY_ROOM)?;
-        put_entry_in(window, value);
-        Ok(())
+        value.put(out)
     }
 }
 

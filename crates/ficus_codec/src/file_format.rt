@@ -22,8 +22,11 @@ use ficus_vectors::{Standing, Vector};
 use std::alloc::Global;
 use std::cmp::Ordering;
 
+// The bytes in front of the versions.
+const HEAD_ROOM: usize = 7;
+
 // The bytes of what has no versions, with the counts of all eight.
-const BARE_ROOM: usize = 7 + 4 * 8;
+const BARE_ROOM: usize = HEAD_ROOM + 4 * 8;
 
 /// Reads a kind: its number in one byte.
 pub fn read_kind(reader: &mut Reader<'_>) -> Result<Kind, ReadFault>
@@ -371,7 +374,7 @@ pub(crate) fn file_behind<'a>(
 }
 
 // What stands before the versions: the identifier, the kind, and how many versions there are.
-fn file_head(id: Id, kind: Kind, count: u8) -> [u8; 7]
+fn file_head(id: Id, kind: Kind, count: u8) -> [u8; HEAD_ROOM]
     ensures { result ≡ id_format.spell id ++ (kind_format.spell kind ++ byte.spell count) }
 {
     let [first, second, third, fourth] = id.number.to_be_bytes();
@@ -430,7 +433,7 @@ fn put_bare_in(window: &mut Window, id: Id, kind: Kind, members: Members)
     ensures { window.new ≡ window.old
         ++ (id_format.spell id ++ (kind_format.spell kind ++ (byte.spell 0 ++ (counts members).spell no_counts))) }
 {
-    window.put(&file_head(id, kind, 0));
+    window.put_front(&file_head(id, kind, 0), HEAD_ROOM);
     window.put_front(&[0; 32], 4 * usize::from(members.count()));
 }
 
@@ -468,7 +471,25 @@ impl Spelling for FileSpelling {
     }
 }
 
+// Appends a file behind what is in the window. Mostly a file goes into it, so this stands apart.
+#[inline(never)]
+fn put_behind(
+    spelling: &FileSpelling,
+    window: &mut Window,
+    out: &mut Vec<u8>,
+    value: &FileReplica,
+) -> Result<(), Memory>
+    requires { FitsFile spelling.now.members value.now }
+    ensures put { OnOk result (out.new.items ++ window.new
+        ≡ (out.old.items ++ window.old) ++ (file spelling.now.members).spell value.now) }
+    ensures kept { Keeps out.old.items out.new.items }
+{
+    window.flush(out)?;
+    spelling.put(out, value)
+}
+
 impl WindowSpelling for FileSpelling {
+    #[inline(always)]
     fn put_in(
         &self,
         window: &mut Window,
@@ -480,8 +501,7 @@ impl WindowSpelling for FileSpelling {
             put_bare_in(window, value.id, value.kind, self.members);
             Ok(())
         } else {
-            window.flush(out)?;
-            self.put(out, value)
+            put_behind(self, window, out, value)
         }
     }
 }

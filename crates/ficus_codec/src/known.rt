@@ -233,18 +233,6 @@ impl<'a> Spelling for KnownEntries<'a> {
     }
 }
 
-impl<'a> WindowSpelling for KnownEntries<'a> {
-    fn put_in(
-        &self,
-        window: &mut Window,
-        out: &mut Vec<u8>,
-        value: &SharedEntry,
-    ) -> Result<(), Memory> {
-        let members = self.members;
-        EntrySpelling { members }.put_in(window, out, value.entry())
-    }
-}
-
 impl<'a> RowSpelling for KnownEntries<'a> {
     ghost id_of = { λ e. e.id };
 

@@ -1,6 +1,6 @@
 -- What lies outside the range that was written, and what a sync of that range makes.
-use Rattle.std.proofs.Common.{◌≡◌, ◌⊎◌, inl, inr, ℕ, ◌+◌, ◌-◌, ◌<◌, ◌≤◌, max, true, List, ◌++◌, length, get_or, take, drop, refl, sym, ◌∙◌, ap, subst, arith, length-take, length-drop, replicate}
-use Rattle.std.proofs.lemmas.List.{get_or-take, get_or-drop, get_or-replicate, length-replicate, replicate-append-replicate, get_or_past, ext_get_or}
+use Rattle.std.proofs.Common.{◌≡◌, ◌⊎◌, inl, inr, ℕ, ◌+◌, ◌-◌, ◌<◌, ◌≤◌, true, List, ◌++◌, length, get_or, refl, sym, ◌∙◌, ap, subst, arith, replicate}
+use Rattle.std.proofs.lemmas.List.{get_or-replicate, length-replicate, replicate-append-replicate, get_or_past, ext_get_or}
 use Rattle.std.proofs.lemmas.Bool.{cases_lt}
 use Rattle.ficus_disk.specs.Bytes.{patch}
 use Rattle.ficus_disk.specs.Crash.{Within}
@@ -106,64 +106,10 @@ module _ (from upto : ℕ) (marks : List Mark) (clean : IsCleanBut from upto mar
       ∙ replicate-append-replicate (length marks) (count - length marks) Clean
       ∙ ap (λ (n : ℕ). replicate n Clean) (omega arith)
 
--- the range is synced
-module _ (held : Held) (from upto : ℕ) (marked : IsMarked held) (clean : IsCleanBut from upto held.marks)
-    (rises : from ≤ upto) (within : upto ≤ length held.bytes) where
-  abbrev was_synced : (k : ℕ) → (k < from) ⊎ (upto ≤ k) → get_or held.marks k Clean ≡ Clean
-  was_synced = clean_at from upto held.marks clean
-
-  pub starts_within : from ≤ length held.synced
-  starts_within = elim (cases_lt (length held.synced) from) [
-    | inl less ↦
-        let at = marked.clean (length held.synced) (omega arith) (was_synced (length held.synced) (inl less)) in
-        absurd (omega (arith, at.0))
-    | inr far ↦ far
-  ]
-
-  ends_within : max (length held.synced) upto ≡ length held.bytes
-  ends_within = elim (cases_lt upto (length held.bytes)) [
-    | inl less ↦
-        let last = marked.clean (length held.bytes - 1) (omega arith) (was_synced (length held.bytes - 1) (inr (omega arith))) in
-        omega (arith, last.0, marked.no_shorter)
-    | inr far ↦ omega (arith, marked.no_shorter)
-  ]
-
-  abbrev slice : List ℕ
-  slice = take (upto - from) (drop from held.bytes)
-
-  length-slice : length slice ≡ upto - from
-  length-slice = omega (arith, length-take (upto - from) (drop from held.bytes), length-drop from held.bytes)
-
-  pub synced_is : patch held.synced from (take (upto - from) (drop from held.bytes)) ≡ held.bytes
-  synced_is =
-      let long = length-patch held.synced slice from starts_within in
-      let same : length (patch held.synced from slice) ≡ length held.bytes = omega (arith, long, length-slice, ends_within) in
-      ext_get_or 0 (patch held.synced from slice) held.bytes same (λ k less. at_place k (omega arith) (cases_lt k from))
-    where
-      behind : (k : ℕ) → k < length held.bytes → from ≤ k → (k < upto) ⊎ (upto ≤ k)
-          → get_or (patch held.synced from slice) k 0 ≡ get_or held.bytes k 0
-      behind k here far (inl inside) =
-          get_or-patch_inside held.synced slice from k 0 starts_within far (omega (arith, length-slice))
-          ∙ get_or-take (upto - from) (drop from held.bytes) (k - from) 0 (omega arith)
-          ∙ get_or-drop from held.bytes (k - from) 0
-          ∙ ap (λ (i : ℕ). get_or held.bytes i 0) (let e : from + (k - from) ≡ k = omega arith in e)
-      behind k here far (inr past) =
-          get_or-patch_after held.synced slice from k 0 starts_within (omega (arith, length-slice))
-          ∙ sym (marked.clean k here (was_synced k (inr past))).1
-
-      at_place : (k : ℕ) → k < length held.bytes → (k < from) ⊎ (from ≤ k)
-          → get_or (patch held.synced from slice) k 0 ≡ get_or held.bytes k 0
-      at_place k here (inl less) =
-          get_or-patch_before held.synced slice from k 0 starts_within less
-          ∙ sym (marked.clean k here (was_synced k (inl less))).1
-      at_place k here (inr far) = behind k here far (cases_lt k upto)
-
-  -- so all is synced
-  pub syncs : (synced : List ℕ) (marks : List Mark) → synced ≡ patch held.synced from slice
-      → marks ≡ replicate (length held.bytes) Clean
-      → (let new : Held = record { synced = synced; marks = marks; bytes = held.bytes } in new ≡ settled held.bytes)
-  syncs synced marks copied all_clear =
-      λ i. record { synced = (copied ∙ synced_is) i; marks = all_clear i; bytes = held.bytes }
+-- all is synced
+pub settles : (bytes synced : List ℕ) (marks : List Mark) → synced ≡ bytes → marks ≡ replicate (length bytes) Clean
+    → (let new : Held = record { synced = synced; marks = marks; bytes = bytes } in new ≡ settled bytes)
+settles bytes synced marks same all_clear = λ i. record { synced = same i; marks = all_clear i; bytes = bytes }
 
 -- what stands there might have been left before
 pub within_settled : (held : Held) → IsMarked held → Within (Leaves held) (Leaves (settled held.bytes))

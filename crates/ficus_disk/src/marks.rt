@@ -95,14 +95,6 @@ impl Marks {
         clean_upto(&mut self.marks, self.count);
     }
 
-    /// A range outside which nothing was written.
-    pub(crate) fn span(&self) -> Span
-        ensures clean { IsCleanBut result.from result.upto (marks_in self.now) }
-        ensures within { result.upto ≤ length (marks_in self.now) }
-    {
-        self.dirty.with(self.latest.from, self.latest.upto)
-    }
-
     /// All so many bytes are synced. It takes time for those alone that are marked.
     pub(crate) fn clear(&mut self, count: usize)
         requires each { length (marks_in self.old) ≡ count }

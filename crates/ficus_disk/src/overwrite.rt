@@ -2,10 +2,12 @@
 ghost use Rattle.std.specs.Prelude.{◌≡◌, ◌+◌, ◌-◌, ◌≤◌, ◌++◌, [], length, replicate, vec_len, vec_capacity, IfOk, OnOk};
 ghost use Rattle.ficus_disk.specs.Bytes.{patch};
 ghost use Rattle.ficus_disk.specs.Platter.{image_of, marks_of, overlaid, picked_byte};
+ghost use Rattle.ficus_disk.specs.Undo.{synced_in};
 ghost use Rattle.ficus_disk.specs.declared.mark.Mark.TheVariants.{Clean};
 
 use crate::fuse::Pick;
 use crate::mark::Mark;
+use crate::undo::Undo;
 use ficus_ids::Memory;
 use std::alloc::Global;
 
@@ -54,16 +56,6 @@ fn fill(marks: &mut [Mark], mark: Mark)
     }
 }
 
-/// Puts the bytes in place of what is there.
-fn copy_over(to: &mut Vec<u8>, bytes: &[u8])
-    requires { length bytes.now ≤ vec_capacity to.old }
-    ensures items { to.new.items ≡ bytes.now }
-    ensures room { vec_capacity to.old ≤ vec_capacity to.new }
-{
-    to.clear();
-    let _all = to.extend_from_slice(bytes);
-}
-
 /// Appends clean marks where there are fewer than so many.
 pub(crate) fn clean_upto(to: &mut Vec<Mark>, count: usize)
     requires { count ≤ vec_capacity to.old }
@@ -75,23 +67,17 @@ pub(crate) fn clean_upto(to: &mut Vec<Mark>, count: usize)
     }
 }
 
-/// Makes both the image that the pick names.
-pub(crate) fn become_image(bytes: &mut Vec<u8>, marks: &[Mark], synced: &mut Vec<u8>, pick: Pick)
+/// Makes the bytes the image that the pick names.
+pub(crate) fn become_image(bytes: &mut Vec<u8>, marks: &[Mark], undo: &Undo, pick: Pick)
     requires each { length marks.now ≡ length bytes.old.items }
-    requires short { vec_len synced.old ≤ vec_len bytes.old }
-    requires room { vec_len bytes.old ≤ vec_capacity synced.old }
+    requires counted { undo.now.count ≤ length bytes.old.items }
     ensures bytes { bytes.new.items ≡ image_of
-        (record { synced = synced.old.items; marks = marks.now; bytes = bytes.old.items }) pick }
-    ensures synced { synced.new.items ≡ bytes.new.items }
+        (record { synced = synced_in undo.now bytes.old.items; marks = marks.now; bytes = bytes.old.items }) pick }
     ensures room { vec_capacity bytes.old ≤ vec_capacity bytes.new }
-    ensures room_synced { vec_capacity synced.old ≤ vec_capacity synced.new }
 {
     match pick {
-        Pick::Synced => copy_over(bytes, synced),
-        _ => {
-            pick_over(bytes, marks, pick);
-            copy_over(synced, bytes);
-        }
+        Pick::Synced => undo.restore(bytes),
+        _ => pick_over(bytes, marks, pick),
     }
 }
 

@@ -9,3 +9,5 @@ mod fuses;
 mod steps;
 #[cfg(test)]
 mod traces;
+#[cfg(test)]
+mod undoing;

@@ -4,3 +4,4 @@ pub mod Kill
 pub mod Place
 pub mod SortLaws
 pub mod Run
+pub mod Spelled

@@ -12,6 +12,7 @@ mod note;
 mod replacing;
 mod row;
 mod run;
+mod spelling;
 
 pub use entries::Entries;
 pub use entry::{Entry, State};

@@ -1,8 +1,9 @@
 ghost use Rattle.std.specs.Prelude.{◌≡◌, IfOk};
+ghost use Rattle.ficus_entry.specs.Spelled.{entry_bytes};
 
 use crate::Entry;
 use ficus_ids::{Id, Memory};
-use ficus_persistent::Item;
+use ficus_persistent::{Item, Spelled};
 use ficus_table::Row;
 use std::alloc::Global;
 use std::marker::Model;
@@ -45,6 +46,18 @@ impl Item for SharedEntry {
     {
         let entry = self.entry.clone()?;
         Ok(SharedEntry { entry })
+    }
+}
+
+impl Spelled for SharedEntry {
+    ghost spell = { entry_bytes };
+
+    fn put(&self, out: &mut Vec<u8>) -> Result<(), Memory> {
+        self.entry().put(out)
+    }
+
+    fn spelled_len(&self) -> usize {
+        self.entry().spelled_len()
     }
 }
 

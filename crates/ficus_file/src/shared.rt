@@ -1,9 +1,9 @@
-ghost use Rattle.std.specs.Prelude.{◌≡◌, Ok, IfOk};
+ghost use Rattle.std.specs.Prelude.{◌≡◌, [], Ok, IfOk};
 ghost use Rattle.ficus_file.specs.File.{covered_file};
 
 use crate::FileReplica;
 use ficus_ids::{Id, Memory};
-use ficus_persistent::Item;
+use ficus_persistent::{Item, Spelled};
 use ficus_table::Row;
 use std::alloc::Global;
 use std::marker::Model;
@@ -148,5 +148,18 @@ impl Item for SharedFile {
             Twins::Differ(both) => Twins::Differ(both.clone()?),
         };
         Ok(SharedFile { twins })
+    }
+}
+
+// How a file is spelled hangs on how many members its volume has, so its list keeps nothing of it.
+impl Spelled for SharedFile {
+    ghost spell = { λ _. [] };
+
+    fn put(&self, _out: &mut Vec<u8>) -> Result<(), Memory> {
+        Ok(())
+    }
+
+    fn spelled_len(&self) -> usize {
+        0
     }
 }

@@ -43,16 +43,6 @@ impl Window {
         WINDOW - self.count
     }
 
-    /// Puts bytes behind the others.
-    pub fn put(&mut self, bytes: &[u8])
-        requires { length self.old + length bytes.now ≤ 2048 }
-        ensures { self.new ≡ self.old ++ bytes.now }
-    {
-        let end = self.count + bytes.len();
-        self.bytes[self.count..end].copy_from_slice(bytes);
-        self.count = end;
-    }
-
     /// Puts the first bytes of an array behind the others. There is room for all of it.
     pub fn put_front<const N: usize>(&mut self, array: &[u8; N], count: usize)
         requires room { length self.old + length array.now ≤ 2048 }

@@ -79,9 +79,16 @@ fn piece_of(bytes: &[u8], index: u32) -> &[u8] {
 }
 
 // Whether the parts with the piece are the bytes exactly where it is the last that was missing.
-fn comes_to(parts: &Parts, bytes: &[u8], index: u32, is_last: bool) -> Result<bool, Memory> {
+fn comes_to(
+    alloc: Global,
+    parts: &Parts,
+    bytes: &[u8],
+    index: u32,
+    is_last: bool,
+) -> Result<bool, Memory> {
     if is_last {
-        let whole = parts.whole_with(index, piece_of(bytes, index))?;
+        let mut whole = Vec::new(alloc);
+        parts.put_whole_with(&mut whole, index, piece_of(bytes, index))?;
         Ok(whole.as_slice() == bytes)
     } else {
         Ok(parts.whole()?.is_none())
@@ -100,7 +107,7 @@ fn takes(
         return Ok(false);
     }
     let is_alone = parts.lacks_only(index) == is_last;
-    let comes = comes_to(parts, bytes, index, is_last)?;
+    let comes = comes_to(alloc, parts, bytes, index, is_last)?;
     let held = parts.len();
     parts.add(index, piece_of(bytes, index).to_vec(alloc)?)?;
     Ok(is_alone && comes && parts.has(index) && parts.len() == held.saturating_add(1))

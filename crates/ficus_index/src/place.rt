@@ -1,8 +1,8 @@
-ghost use Rattle.std.specs.Prelude.{◌≡◌, Ok, nat_lt};
+ghost use Rattle.std.specs.Prelude.{◌≡◌, [], Ok, nat_lt};
 ghost use Rattle.ficus_index.specs.Place.{order_of};
 
 use ficus_ids::{Id, Memory};
-use ficus_persistent::{Cut, Item};
+use ficus_persistent::{Cut, Item, Spelled};
 
 /// Where an identifier is noted: by directory, and there by rank.
 #[derive(Clone, Copy, PartialEq, Eq)]
@@ -39,6 +39,19 @@ impl Item for Note {
         ensures { result ≡ Ok self.now }
     {
         Ok(*self)
+    }
+}
+
+// An index is never spelled: it follows from the entries.
+impl Spelled for Note {
+    ghost spell = { λ _. [] };
+
+    fn put(&self, _out: &mut Vec<u8>) -> Result<(), Memory> {
+        Ok(())
+    }
+
+    fn spelled_len(&self) -> usize {
+        0
     }
 }
 

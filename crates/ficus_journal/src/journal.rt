@@ -123,10 +123,13 @@ impl Keep for Journal {
         generation: u64,
         bytes: &[u8],
     ) -> Result<(), Failed> {
-        if self.saves_image() {
+        let committed = if self.saves_image() {
             self.commit_image(disks, generation, bytes)
         } else {
             self.commit_record(disks, generation, bytes)
-        }
+        };
+        // An image's room would stand unused behind the records until the next one.
+        self.buffer = Vec::new(*self.buffer.allocator());
+        committed
     }
 }

@@ -6,5 +6,6 @@ pub mod FitSoFar
 pub mod Inserted
 pub mod Kept
 pub mod New
+pub mod Places
 pub mod Walk
 pub mod Taking

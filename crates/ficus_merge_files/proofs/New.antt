@@ -1,5 +1,6 @@
 -- What is new of a peer's files tells all that a merge asks of them: what both hold alike changes nothing.
-use Rattle.std.proofs.Common.{◌≡◌, ℕ, ◌≤◌, List, length, get_or, slice_get, Contains, Option, Some, None, refl, sym, ap, subst, ◌∙◌, inl, inr, ◌⊎◌, ◌≢◌}
+use Rattle.std.proofs.Common.{◌≡◌, ℕ, ◌≤◌, List, [], ◌∷◌, length, get_or, slice_get, Contains, Option, Some, None, refl, sym, ap, subst, ◌∙◌, inl, inr, ◌⊎◌, ◌≢◌}
+use Rattle.std.specs.Option.{option_or}
 use Rattle.std.proofs.lemmas.Bool.{cases_order}
 use Rattle.std.proofs.lemmas.List.{get_or_default}
 use Rattle.ficus_ids.specs.Kind.{sort_of}
@@ -7,6 +8,7 @@ use Rattle.ficus_ids.specs.declared.id.Id.{Id}
 use Rattle.ficus_ids.specs.declared.kind.Kind.TheVariants.{Dir}
 use Rattle.ficus_ids.specs.KindLaws.{kind_sort}
 use Rattle.ficus_ids.specs.ListLaws.{not_inside_none}
+use Rattle.ficus_ids.specs.Rising.{ReplacesBy}
 use Rattle.ficus_ids.specs.RisingLaws.{one_item, one_held}
 use Rattle.ficus_vectors.specs.Vector.{IsOver}
 use Rattle.ficus_vectors.specs.VectorLaws.{covers_itself, join_covered}
@@ -21,6 +23,20 @@ use Rattle.ficus_merge_files.specs.Merge.{CanMerge, Fit, IsMergedFile, Merges, A
 use Rattle.ficus_merge_files.specs.News.{AreNew}
 use Rattle.ficus_merge_files.proofs.Current.{one_version, ordered_of, most_of}
 use Rattle.ficus_merge_files.proofs.Determined.{same_versions}
+
+-- in place of no files all of them stand
+pub all_in_place : (mine files : List FileReplica) → length mine ≡ 0 → AreFiles files → ReplacesBy id_of mine files files
+all_in_place [] files none are = record { each = each }
+  where
+    other_is : (other is : Option FileReplica) → is ≡ other → is ≡ option_or other None
+    other_is None is same = same
+    other_is (Some file) is same = same
+
+    each : (id : Id) (was other is : Option FileReplica) → HoldsUnder [] id was → HoldsUnder files id other →
+        HoldsUnder files id is → is ≡ option_or other was
+    each id None other is held here now = other_is other is (one_held id_of files id is other are.rising now here)
+    each id (Some was) other is held here now = absurd (not_inside_none was held.0)
+all_in_place (file ∷ mine) files none are = absurd (cc)
 
 -- no version of a file is over another one of it
 none_is_over : (file : FileReplica) → IsWellFormed file → (a b : Version) → Contains file.versions a →

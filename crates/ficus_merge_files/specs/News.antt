@@ -1,10 +1,12 @@
 -- What of the files of a peer is new to a replica.
-use Rattle.std.specs.Prelude.{◌≡◌, ◌⊎◌, List, [], ◌∷◌, ◌++◌, map, All, Contains, Option, Some, None, IfSome}
+use Rattle.std.specs.Prelude.{◌≡◌, ◌⊎◌, ◌<◌, ℕ, List, [], ◌∷◌, ◌++◌, length, slice_get, All, Contains, Option, Some, IfSome}
 use Rattle.std.specs.Borrow.{Bor}
+use Rattle.std.specs.List.{flat_map}
 use Rattle.std.specs.Option.{option_copied}
 use Rattle.ficus_file.specs.declared.file.FileReplica.{FileReplica}
 use Rattle.ficus_file.specs.Files.{AreFiles, HoldsUnder, IsRising}
 use Rattle.ficus_merge_files.specs.declared.news.NewFile.{NewFile}
+use Rattle.ficus_table.specs.SideBySide.{as_list}
 
 -- the files of the replica, those of the peer, and which of the latter are new to the replica
 pub record Sides : Type 0 where
@@ -19,9 +21,13 @@ pub record AreNew (mine theirs new : List FileReplica) : Type 0 where
   pub not_of_mine : (file : FileReplica) → Contains new file → Contains mine file → ⊥
   pub all : (file : FileReplica) → Contains theirs file → Contains new file ⊎ Contains mine file
 
--- of each the file of theirs
-abbrev pub theirs_of : List NewFile → List FileReplica
-theirs_of news = map (λ new. new.theirs.now) news
+-- the items at these places
+abbrev pub at_places : {X : Type 0} → List X → List ℕ → List X
+at_places items places = flat_map (λ place. as_list (slice_get items place)) places
+
+-- the items have each of these places
+abbrev pub AreInside : {X : Type 0} → List X → List ℕ → Type 0
+AreInside items places = All (λ place. place < length items) places
 
 -- beside the file of theirs stands what mine hold under its identifier
 abbrev pub IsBeside : List FileReplica → NewFile → Type 0
@@ -31,24 +37,18 @@ IsBeside mine new = HoldsUnder mine new.theirs.now.id (option_copied new.mine)
 abbrev pub HasRow : NewFile → Type 0
 HasRow new = IfSome new.row (λ row. row.now ≡ new.theirs.now)
 
--- both sides may be held, and these are those of theirs that are new, each beside that of mine and with
--- its row, if that is known
-pub record AreNews (mine theirs : List FileReplica) (news : List NewFile) : Type 0 where
+-- both sides may be held, and those of theirs that are new stand at these places
+pub record AreNews (mine theirs : List FileReplica) (places : List ℕ) : Type 0 where
   pub mine_held : AreFiles mine
   pub theirs_held : AreFiles theirs
-  pub are_new : AreNew mine theirs (theirs_of news)
-  pub each : All (IsBeside mine) news
-  pub rows : All HasRow news
+  pub are_new : AreNew mine theirs (at_places theirs places)
+  pub inside : AreInside theirs places
 
 -- mine hold the file of theirs as it is
-abbrev pub IsKnown : NewFile → Type 0
-IsKnown new = option_copied new.mine ≡ Some new.theirs.now
+abbrev pub IsKnown : Option (Bor FileReplica) → FileReplica → Type 0
+IsKnown mine theirs = option_copied mine ≡ Some theirs
 
--- the new list has the file of theirs at its end, if there is one, unless mine hold it as it is
-abbrev pub Notes : List NewFile → List NewFile → Option (Bor FileReplica) → Option (Bor FileReplica) →
-    Option (Bor FileReplica) → Type 0
-Notes old new mine None row = new ≡ old
-Notes old new mine (Some theirs) row =
-    (IsKnown (record { mine = mine; theirs = theirs; row = row }) × (new ≡ old)) ⊎
-    ((IsKnown (record { mine = mine; theirs = theirs; row = row }) → ⊥) ×
-    (new ≡ old ++ (record { mine = mine; theirs = theirs; row = row }) ∷ []))
+-- the place of the file of theirs stands behind the others, unless mine hold it as it is
+abbrev pub Notes : List ℕ → List ℕ → ℕ → Option (Bor FileReplica) → FileReplica → Type 0
+Notes old new place mine theirs =
+    (IsKnown mine theirs × (new ≡ old)) ⊎ ((IsKnown mine theirs → ⊥) × (new ≡ old ++ place ∷ []))

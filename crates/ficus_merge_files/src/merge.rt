@@ -1,7 +1,7 @@
 ghost use Rattle.std.specs.Prelude.{◌≡◌, ◌↔◌, unwrap_or, Some, Contains, IsTrue, IfOk, IfSome, OnOk};
-ghost use Rattle.ficus_ids.specs.Rising.{IsRisingBy};
+ghost use Rattle.ficus_ids.specs.Rising.{IsRisingBy, ReplacesBy};
 ghost use Rattle.ficus_file.specs.declared.file.FileReplica.{FileReplica as FileValue};
-ghost use Rattle.ficus_file.specs.Files.{AreFiles, IsSoundFile, Holds, HoldsUnder};
+ghost use Rattle.ficus_file.specs.Files.{id_of, AreFiles, IsSoundFile, Holds, HoldsUnder};
 ghost use Rattle.ficus_merge_files.specs.Merge.{CanMerge, Fit, IsMergedFile, IsTaken, AreMergedFiles};
 ghost use Rattle.ficus_merge_files.specs.News.{IsBeside, HasRow};
 ghost use Rattle.ficus_merge_files.specs.Changes.{IsChange, AddsChange, AreChanges};
@@ -169,7 +169,20 @@ fn merged_with(alloc: Global, news: &News<'_>, held: &[Id]) -> Result<Files, Mem
     // Tells that both sides may be held.
     let _count = news.len();
     let changes = changes(alloc, news, held)?;
-    let mut both = news.mine().copy()?;
-    both.replace(&changes)?;
+    changed(alloc, news.mine(), &changes)
+}
+
+// Mine with these, each in place of the one with its identifier. Where there are none of mine no walk along both is
+// made, which spares the memory for it.
+fn changed(alloc: Global, mine: &Files, changes: &[SharedFile]) -> Result<Files, Memory>
+    requires { AreFiles changes.now }
+    ensures replaced { IfOk result (ReplacesBy id_of mine.now changes.now) }
+    ensures files { IfOk result AreFiles }
+{
+    if mine.len() == 0 {
+        return Files::of_rows(alloc, changes);
+    }
+    let mut both = mine.copy()?;
+    both.replace(changes)?;
     Ok(both)
 }

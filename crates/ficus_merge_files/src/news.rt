@@ -1,11 +1,11 @@
-ghost use Rattle.std.specs.Prelude.{◌≡◌, ◌<◌, ◌==◌, ◌↔◌, length, slice_get, Some, All, IfOk, IfSome, OnOk, IsTrue};
+ghost use Rattle.std.specs.Prelude.{◌≡◌, ◌<◌, ◌==◌, ◌↔◌, length, slice_get, Some, IfOk, OnOk, IsTrue};
 ghost use Rattle.std.specs.Option.{option_copied};
 ghost use Rattle.ficus_file.specs.Files.{AreFiles, HoldsUnder};
-ghost use Rattle.ficus_merge_files.specs.News.{AreNew, theirs_of, IsBeside, HasRow, IsKnown, Notes};
+ghost use Rattle.ficus_merge_files.specs.News.{at_places, AreInside, AreNew, HasRow, IsKnown, Notes};
 
 use ficus_file::{FileReplica, Files, FilesInOrder, SharedFile};
 use ficus_ids::Memory;
-use ficus_table::{RowPair, SideBySide};
+use ficus_table::SideBySide;
 use std::alloc::Global;
 use std::marker::Model;
 
@@ -24,17 +24,18 @@ pub struct NewFile<'a> {
 pub struct News<'a> {
     mine: &'a Files,
     theirs: FilesInOrder<'a>,
-    files: Vec<NewFile<'a>>,
+    // Where among theirs those are that are new. There may be as many as objects, so of each no more is kept.
+    places: Vec<u32>,
 }
 
 impl<'a> Model for News<'a> {
-    ghost use Rattle.ficus_merge_files.specs.News.{Sides, theirs_of, AreNews};
+    ghost use Rattle.ficus_merge_files.specs.News.{Sides, at_places, AreNews};
 
     ghost Value = { Sides };
 
-    ghost view = { λ n. record { mine = n.mine.now; theirs = n.theirs; new = theirs_of n.files.items } };
+    ghost view = { λ n. record { mine = n.mine.now; theirs = n.theirs; new = at_places n.theirs n.places.items } };
 
-    ghost invariant = { λ n. AreNews n.mine.now n.theirs n.files.items };
+    ghost invariant = { λ n. AreNews n.mine.now n.theirs n.places.items };
 }
 
 impl<'a> News<'a> {
@@ -45,11 +46,11 @@ impl<'a> News<'a> {
         ensures theirs { IfOk result (λ news. news.theirs ≡ theirs.entry) }
     {
         let my_files = mine.in_order()?;
-        let files = found(alloc, &my_files, &theirs)?;
+        let places = places_of_new(alloc, &my_files, &theirs)?;
         Ok(News {
             mine,
             theirs,
-            files,
+            places,
         })
     }
 
@@ -60,25 +61,32 @@ impl<'a> News<'a> {
         ensures theirs { AreFiles self.now.theirs }
         ensures new { AreNew self.now.mine self.now.theirs self.now.new }
     {
-        self.files.len()
+        self.places.len()
     }
 
     /// Whether nothing is new.
     pub fn is_empty(&self) -> bool
         ensures { result ≡ (length self.now.new == 0) }
     {
-        self.files.is_empty()
+        self.len() == 0
     }
 
-    /// The new file of theirs at a place in the order of identifiers, from 0, and the one of mine beside it. The place
-    /// is below the length.
+    /// The new file of theirs at a place in the order of identifiers, from 0, and the one of mine beside it, which is
+    /// looked up. The place is below the length.
     pub fn at(&self, index: usize) -> NewFile<'a>
         requires { index < length self.now.new }
         ensures theirs { slice_get self.now.new index ≡ Some result.theirs.now }
         ensures mine { HoldsUnder self.now.mine result.theirs.now.id (option_copied result.mine) }
         ensures row { HasRow result }
     {
-        self.files[index]
+        let _count = self.len();
+        let place = self.places[index] as usize;
+        let theirs = self.theirs.at(place);
+        NewFile {
+            mine: self.mine.get(theirs.id),
+            theirs,
+            row: self.theirs.row(place),
+        }
     }
 
     /// All of mine.
@@ -89,48 +97,50 @@ impl<'a> News<'a> {
     }
 }
 
-// Of theirs what is new, each beside the one of mine with its identifier.
-fn found<'a>(
+// Where among theirs what is new stands. There is room for all of theirs from the beginning, which costs nothing where
+// it isn't filled: room that grew would leave half of what it had behind. Places that a `u32` can't count are want of
+// memory, as more files than that would be.
+fn places_of_new<'a>(
     alloc: Global,
     mine: &FilesInOrder<'a>,
     theirs: &FilesInOrder<'a>,
-) -> Result<Vec<NewFile<'a>>, Memory>
-    ensures new { IfOk result (λ news. AreNew mine.now theirs.now (theirs_of news.items)) }
-    ensures beside { IfOk result (λ news. All (IsBeside mine.now) news.items) }
-    ensures rows { IfOk result (λ news. All HasRow news.items) }
+) -> Result<Vec<u32>, Memory>
+    ensures new { IfOk result (λ places. AreNew mine.now theirs.now (at_places theirs.now places.items)) }
+    ensures inside { IfOk result (λ places. AreInside theirs.now places.items) }
 {
     let mut walk = SideBySide::of(mine, theirs);
-    let mut news = Vec::new(alloc);
-    while let Some(next) = walk.next_row_pair() {
-        note(&mut news, next)?;
+    let mut places = Vec::with_capacity(alloc, theirs.len())?;
+    let mut place: u32 = 0;
+    while let Some(next) = walk.next_pair() {
+        if let Some(file) = next.theirs {
+            note(&mut places, place, next.mine, file)?;
+            place = place.checked_add(1).ok_or(Memory)?;
+        }
     }
-    Ok(news)
+    Ok(places)
 }
 
-// Puts the file of theirs behind the others, if there is one, unless mine hold it as it is.
-fn note<'a>(news: &mut Vec<NewFile<'a>>, next: RowPair<'a, SharedFile>) -> Result<(), Memory>
-    ensures { OnOk result
-        (Notes news.old.items news.new.items next.entry.pair.mine next.entry.pair.theirs next.entry.their_row) }
+// Puts the place of the file of theirs behind the others, unless mine hold it as it is.
+fn note(
+    places: &mut Vec<u32>,
+    place: u32,
+    mine: Option<&FileReplica>,
+    theirs: &FileReplica,
+) -> Result<(), Memory>
+    ensures { OnOk result (Notes places.old.items places.new.items place mine.entry theirs.now) }
 {
-    if let Some(theirs) = next.pair.theirs {
-        let new = NewFile {
-            mine: next.pair.mine,
-            theirs,
-            row: next.their_row,
-        };
-        if !is_known(new) {
-            news.push(new)?;
-        }
+    if !is_known(mine, theirs) {
+        places.push(place)?;
     }
     Ok(())
 }
 
-// Whether mine hold the file as it is.
-fn is_known(new: NewFile<'_>) -> bool
-    ensures { IsTrue result ↔ IsKnown new.entry }
+// Whether mine hold the file of theirs as it is.
+fn is_known(mine: Option<&FileReplica>, theirs: &FileReplica) -> bool
+    ensures { IsTrue result ↔ IsKnown mine.entry theirs.now }
 {
-    match new.mine {
-        Some(file) => file.is_same_as(new.theirs),
+    match mine {
+        Some(file) => file.is_same_as(theirs),
         None => false,
     }
 }

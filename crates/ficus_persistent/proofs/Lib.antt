@@ -1,3 +1,4 @@
 pub mod Cuts
 pub mod Heights
 pub mod Rows
+pub mod Spellings

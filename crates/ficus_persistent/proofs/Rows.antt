@@ -1,6 +1,6 @@
 -- The items of trees that stand side by side.
 use Rattle.std.proofs.Common.{◌≡◌, ℕ, ◌+◌, ◌-◌, ◌<◌, ◌≤◌, List, [], ◌∷◌, ◌++◌, suc, zero, length, get_or, set, take, drop, slice_get, Some, refl, sym, ap, add-one, ◌∙◌, arith, length-append, append_assoc, append-nil}
-use Rattle.std.specs.List.{insert, remove, flat_map, AllByRecursion}
+use Rattle.std.specs.List.{insert, remove, AllByRecursion}
 use Rattle.std.proofs.lemmas.List.{take_more, take_all, take-take, drop-take, drop-drop, drop_at, take-append-le, length-take-le, drop_more, take-append-drop, set-append_left, set-append_right, set_split}
 use Rattle.std.proofs.lemmas.List.Concat.{flat_map-append}
 use Rattle.std.proofs.lemmas.List.Edits.{insert-append_left, insert-append_right, remove-append_left, remove-append_right}

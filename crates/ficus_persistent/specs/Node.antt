@@ -9,7 +9,7 @@ use Rattle.ficus_persistent.specs.Shape.{Shape, joined, AreBelow}
 -- the items in order
 abbrev pub items_of : {T : Type 0} → Node T → List T
 items_of Empty = []
-items_of (Leaf items) = items.value.items
+items_of (Leaf leaf) = leaf.value
 items_of (Fork below) = joined below.value.items
 
 -- a leaf has an item, and no more than fit
@@ -27,10 +27,10 @@ pub record IsFork {T : Type 0} (height : ℕ) (below : List (Shape T)) : Type 0 
 -- what a node of this height holds is right
 abbrev pub IsSound : {T : Type 0} → ℕ → Node T → Type 0
 IsSound height Empty = height ≡ 0
-IsSound height (Leaf items) = IsLeaf height items.value.items
+IsSound height (Leaf leaf) = IsLeaf height leaf.value
 IsSound height (Fork below) = IsFork height below.value.items
 
 -- one tree, or two side by side
-abbrev pub trees : {T : Type 0} → Grown T → List (Shape T)
+abbrev pub trees : {X : Type 0} → Grown X → List X
 trees (One tree) = tree ∷ []
 trees (Two first second) = first ∷ second ∷ []

@@ -1,11 +1,11 @@
 ghost use Rattle.std.specs.Prelude.{◌≡◌, ◌<◌, ◌≤◌, ◌+◌, ◌^◌, ℕ, true, false, ◌++◌, length, take, drop, get_or, IfSome, IfOk};
 ghost use Rattle.std.specs.List.Sorted.{IsPartitionedBy};
 ghost use Rattle.ficus_persistent.specs.Node.{trees};
-ghost use Rattle.ficus_persistent.specs.Shape.{Shape, joined, AreBelow};
+ghost use Rattle.ficus_persistent.specs.Shape.{joined, AreBelow};
 
 use crate::row::{copies, with_other};
 use crate::tree::{Grown, Tree};
-use crate::{Cut, Item};
+use crate::{Cut, Spelled};
 use ficus_ids::Memory;
 use std::alloc::Global;
 
@@ -17,7 +17,7 @@ pub(crate) struct Place {
 }
 
 /// Where the item at an index stands.
-pub(crate) fn locate<T: Item>(row: &[Tree<T>], index: usize) -> Place
+pub(crate) fn locate<T: Spelled>(row: &[Tree<T>], index: usize) -> Place
     requires { index < length (joined row.now) }
     ensures child { result.child < length row.now }
     ensures index { length (joined (take result.child row.now)) + result.index ≡ index }
@@ -33,7 +33,7 @@ pub(crate) fn locate<T: Item>(row: &[Tree<T>], index: usize) -> Place
 }
 
 /// Where an item goes that is to stand at an index: behind the one in front of it.
-pub(crate) fn locate_gap<T: Item>(row: &[Tree<T>], index: usize) -> Place
+pub(crate) fn locate_gap<T: Spelled>(row: &[Tree<T>], index: usize) -> Place
     requires some { 0 < length row.now }
     requires within { index ≤ length (joined row.now) }
     ensures child { result.child < length row.now }
@@ -51,7 +51,7 @@ pub(crate) fn locate_gap<T: Item>(row: &[Tree<T>], index: usize) -> Place
 }
 
 /// How many items there are, where a `u32` can tell.
-pub(crate) fn counted<T: Item>(row: &[Tree<T>]) -> Option<u32>
+pub(crate) fn counted<T: Spelled>(row: &[Tree<T>]) -> Option<u32>
     ensures { IfSome result (λ count. count ≡ length (joined row.now)) }
 {
     let mut count: u32 = 0;
@@ -62,7 +62,7 @@ pub(crate) fn counted<T: Item>(row: &[Tree<T>]) -> Option<u32>
 }
 
 /// The tree that a cut goes through, with all items before it passing and all behind it failing.
-pub(crate) fn cut_through<T: Item, C: Cut<T>>(row: &[Tree<T>], cut: &C, height: u8) -> usize
+pub(crate) fn cut_through<T: Spelled, C: Cut<T>>(row: &[Tree<T>], cut: &C, height: u8) -> usize
     requires some { 0 < length row.now }
     requires level { AreBelow height row.now }
     requires parted { IsPartitionedBy (C.is_before cut.now) (joined row.now) }
@@ -86,11 +86,11 @@ pub(crate) fn cut_through<T: Item, C: Cut<T>>(row: &[Tree<T>], cut: &C, height: 
 }
 
 /// The row with what one of its trees became.
-pub(crate) fn with_grown<T: Item>(
+pub(crate) fn with_grown<T: Spelled>(
     alloc: Global,
     row: &[Tree<T>],
     child: usize,
-    grown: Grown<T>,
+    grown: Grown<Tree<T>>,
 ) -> Result<Vec<Tree<T>>, Memory>
     requires { child < length row.now }
     ensures { IfOk result (λ new. new.items ≡ take child row.now ++ (trees grown ++ drop (child + 1) row.now)) }
@@ -107,7 +107,7 @@ pub(crate) fn with_grown<T: Item>(
 }
 
 /// How many items there are, where a `u32` can tell.
-pub(crate) fn count_of<T: Item>(row: &[Tree<T>]) -> usize
+pub(crate) fn count_of<T: Spelled>(row: &[Tree<T>]) -> usize
     requires { length (joined row.now) < 2 ^ 32 }
     ensures { result ≡ length (joined row.now) }
 {

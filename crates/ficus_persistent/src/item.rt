@@ -1,4 +1,5 @@
-ghost use Rattle.std.specs.Prelude.{◌≡◌, IfOk, Bool};
+ghost use Rattle.std.specs.Prelude.{◌≡◌, ◌++◌, length, IfOk, OnErr, OnOk, Bool, List, ℕ};
+ghost use Rattle.ficus_formats.specs.Format.{Keeps};
 
 use ficus_ids::Memory;
 
@@ -7,6 +8,20 @@ pub trait Item: Drop {
     /// The same once more.
     fn copied(&self) -> Result<Self, Memory>
         ensures { IfOk result (λ item. item ≡ self.now) };
+}
+
+/// An item with the bytes that stand for it where its list is spelled. An item that no list is asked to spell has none.
+pub trait Spelled: Item {
+    ghost spell: { Self → List ℕ };
+
+    /// Appends its bytes.
+    fn put(&self, out: &mut Vec<u8>) -> Result<(), Memory>
+        ensures put { OnOk result (out.new.items ≡ out.old.items ++ spell self.now) }
+        ensures kept { OnErr result (Keeps out.old.items out.new.items) };
+
+    /// How many bytes these are.
+    fn spelled_len(&self) -> usize
+        ensures { result ≡ length (spell self.now) };
 }
 
 /// A cut through a list in order: whether an item lies before it.

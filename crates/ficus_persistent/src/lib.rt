@@ -5,10 +5,11 @@
 mod below;
 mod item;
 mod laws;
+mod leaf;
 mod list;
 mod row;
 mod tree;
 
-pub use item::{Cut, Item};
+pub use item::{Cut, Item, Spelled};
 pub use laws::low_is_a_logarithm;
 pub use list::PersistentList;

@@ -6,7 +6,7 @@ ghost use Rattle.ficus_formats.specs.Format.{Keeps};
 ghost use Rattle.ficus_persistent.specs.Cut.{IsCutAt};
 
 use crate::tree::Tree;
-use crate::{Cut, Item};
+use crate::{Cut, Spelled};
 use ficus_formats::{Window, WindowSpelling};
 use ficus_ids::Memory;
 use std::alloc::Global;
@@ -16,11 +16,11 @@ use std::marker::Model;
 /// search tree by place, with up to 32 items in a leaf and up to 32 nodes below one, and all leaves at one height
 /// (Bayer and McCreight 1972), so no way down is longer than [`height`](PersistentList::height) says.
 #[derive(Drop)]
-pub struct PersistentList<T> {
+pub struct PersistentList<T: Spelled> {
     tree: Tree<T>,
 }
 
-impl<T> Model for PersistentList<T> {
+impl<T: Spelled> Model for PersistentList<T> {
     ghost use Rattle.std.specs.Prelude.{List};
 
     ghost Value = { List T };
@@ -28,7 +28,7 @@ impl<T> Model for PersistentList<T> {
     ghost view = { λ list. list.tree.items };
 }
 
-impl<T: Item> PersistentList<T> {
+impl<T: Spelled> PersistentList<T> {
     /// No items. Takes no memory.
     pub fn new() -> PersistentList<T>
         ensures { result ≡ [] }
@@ -90,8 +90,17 @@ impl<T: Item> PersistentList<T> {
         self.tree.gather(gathered)
     }
 
-    /// Appends the spellings of the items, one after the other, in one walk. After `Memory` part of them may stand
-    /// there.
+    /// Appends the spellings of the items, one after the other. What stands beside items that changes put in isn't
+    /// spelled anew. After `Memory` part of them may stand there.
+    pub fn put_spelled(&self, out: &mut Vec<u8>) -> Result<(), Memory>
+        ensures put { OnOk result (out.new.items ≡ out.old.items ++ flat_map T.spell self.now) }
+        ensures kept { OnErr result (Keeps out.old.items out.new.items) }
+    {
+        self.tree.put_spelled(out)
+    }
+
+    /// Appends spellings of the items that hang on more than the items, one after the other, in one walk. After
+    /// `Memory` part of them may stand there.
     pub fn put_each<S: WindowSpelling<Value = T>>(
         &self,
         spelling: &S,
@@ -133,7 +142,7 @@ impl<T: Item> PersistentList<T> {
         Ok(PersistentList { tree })
     }
 
-    /// The items of a slice, in nodes of the least height.
+    /// The items of a slice, in full nodes. It takes the least memory: no spelling stands beside them.
     pub fn of(alloc: Global, items: &[T]) -> Result<PersistentList<T>, Memory>
         ensures { IfOk result (λ list. list ≡ items.now) }
     {

@@ -1,5 +1,5 @@
 ghost use Rattle.std.specs.Prelude.{◌≡◌, ◌<◌, ◌≤◌, ◌+◌, ◌*◌, ◌^◌, ℕ, ◌≢◌, ◌-◌, [], ◌∷◌, ◌++◌, length, map, take, drop};
-ghost use Rattle.std.specs.Prelude.{slice_get, slice_set, Some, IfOk, IfSome, OnOk, IsTrue, ◌↔◌};
+ghost use Rattle.std.specs.Prelude.{slice_get, slice_set, Some, IfOk, OnErr, OnOk, IsTrue, ◌↔◌};
 ghost use Rattle.std.specs.List.{insert, remove, flat_map, AllByRecursion};
 ghost use Rattle.std.specs.List.Sorted.{IsPartitionedBy};
 ghost use Rattle.ficus_formats.specs.Format.{Keeps};
@@ -8,8 +8,9 @@ ghost use Rattle.ficus_persistent.specs.Shape.{nothing, joined, IsBelow, AreBelo
 ghost use Rattle.ficus_persistent.specs.Node.{trees};
 
 use crate::below::{count_of, counted, cut_through, locate, locate_gap, with_grown};
+use crate::leaf::Leaf;
 use crate::row::{copies, cut_in, cut_off, gather_all, put_all, with, with_other, without};
-use crate::{Cut, Item};
+use crate::{Cut, Item, Spelled};
 use ficus_formats::{Window, WindowSpelling};
 use ficus_ids::Memory;
 use std::alloc::Global;
@@ -23,7 +24,7 @@ const WIDTH: usize = 32;
 /// see its items in order and its height.
 #[cycle(tree)]
 #[derive(Drop)]
-pub(crate) struct Tree<T> {
+pub(crate) struct Tree<T: Spelled> {
     node: Node<T>,
     count: u32,
     height: u8,
@@ -31,20 +32,20 @@ pub(crate) struct Tree<T> {
 
 #[cycle(tree)]
 #[derive(Drop)]
-enum Node<T> {
+enum Node<T: Spelled> {
     Empty,
-    Leaf(Rc<Vec<T>>),
+    Leaf(Rc<Leaf<T>>),
     Fork(Rc<Vec<Tree<T>>>),
 }
 
 /// What a tree became that had an item put into it: one tree, or two of its height side by side.
 #[derive(Drop)]
-pub(crate) enum Grown<T> {
-    One(Tree<T>),
-    Two(Tree<T>, Tree<T>),
+pub(crate) enum Grown<X> {
+    One(X),
+    Two(X, X),
 }
 
-impl<T> Model for Tree<T> {
+impl<T: Spelled> Model for Tree<T> {
     ghost use Rattle.std.specs.Prelude.{◌≡◌, length};
     ghost use Rattle.ficus_persistent.specs.Shape.{Shape};
 
@@ -61,10 +62,10 @@ impl<T> Model for Tree<T> {
     ghost use Rattle.std.proofs.Common.{arith};
     ghost use Rattle.ficus_persistent.specs.Falls.{depth_le_height};
 
-    ghost size_decreases = { λ t h. Prim.omega (arith, depth_le_height t.height t.node h.1) };
+    ghost size_decreases = { λ t h. Prim.omega (arith, depth_le_height T.Spelled t.height t.node h.1) };
 }
 
-impl<T: Item> Item for Tree<T> {
+impl<T: Spelled> Item for Tree<T> {
     fn copied(&self) -> Result<Tree<T>, Memory>
         ensures { IfOk result (λ tree. tree ≡ self.now) }
     {
@@ -72,7 +73,7 @@ impl<T: Item> Item for Tree<T> {
     }
 }
 
-impl<T: Item> Tree<T> {
+impl<T: Spelled> Tree<T> {
     /// No items. Takes no memory.
     pub(crate) fn new() -> Tree<T>
         ensures { result ≡ nothing }
@@ -124,9 +125,9 @@ impl<T: Item> Tree<T> {
     {
         let node = match &self.node {
             Node::Empty => Node::Empty,
-            Node::Leaf(items) => {
-                let items = items.clone()?;
-                Node::Leaf(items)
+            Node::Leaf(leaf) => {
+                let leaf = leaf.clone()?;
+                Node::Leaf(leaf)
             }
             Node::Fork(below) => {
                 let below = below.clone()?;
@@ -147,8 +148,8 @@ impl<T: Item> Tree<T> {
     {
         match &self.node {
             Node::Empty => unreachable!(),
-            Node::Leaf(items) => {
-                let items = items.as_ref();
+            Node::Leaf(leaf) => {
+                let items = leaf.as_ref().items();
                 &items[index]
             }
             Node::Fork(below) => {
@@ -166,8 +167,8 @@ impl<T: Item> Tree<T> {
     {
         match &self.node {
             Node::Empty => unreachable!(),
-            Node::Leaf(items) => {
-                let items = items.as_ref();
+            Node::Leaf(leaf) => {
+                let items = leaf.as_ref().items();
                 &items[0]
             }
             Node::Fork(below) => {
@@ -186,7 +187,7 @@ impl<T: Item> Tree<T> {
         let _whole = self.count();
         match &self.node {
             Node::Empty => 0,
-            Node::Leaf(items) => cut_in(items.as_ref(), cut),
+            Node::Leaf(leaf) => cut_in(leaf.as_ref().items(), cut),
             Node::Fork(below) => {
                 let below = below.as_ref().as_slice();
                 let child = cut_through(below, cut, self.height);
@@ -203,7 +204,7 @@ impl<T: Item> Tree<T> {
     {
         match &self.node {
             Node::Empty => Ok(()),
-            Node::Leaf(items) => gather_all(items.as_ref(), gathered),
+            Node::Leaf(leaf) => gather_all(leaf.as_ref().items(), gathered),
             Node::Fork(below) => {
                 let below = below.as_ref().as_slice();
                 for tree in below {
@@ -228,11 +229,29 @@ impl<T: Item> Tree<T> {
     {
         match &self.node {
             Node::Empty => Ok(()),
-            Node::Leaf(items) => put_all(items.as_ref(), spelling, window, out),
+            Node::Leaf(leaf) => put_all(leaf.as_ref().items(), spelling, window, out),
             Node::Fork(below) => {
                 let below = below.as_ref().as_slice();
                 for tree in below {
                     tree.put_each(spelling, window, out)?;
+                }
+                Ok(())
+            }
+        }
+    }
+
+    /// Appends the spellings of the items in order.
+    pub(crate) fn put_spelled(&self, out: &mut Vec<u8>) -> Result<(), Memory>
+        ensures put { OnOk result (out.new.items ≡ out.old.items ++ flat_map T.spell self.now.items) }
+        ensures kept { OnErr result (Keeps out.old.items out.new.items) }
+    {
+        match &self.node {
+            Node::Empty => Ok(()),
+            Node::Leaf(leaf) => leaf.as_ref().put(out),
+            Node::Fork(below) => {
+                let below = below.as_ref().as_slice();
+                for tree in below {
+                    tree.put_spelled(out)?;
                 }
                 Ok(())
             }
@@ -255,7 +274,7 @@ impl<T: Item> Tree<T> {
     }
 
     // The same, or two trees of its height, one behind the other.
-    fn grown(&self, alloc: Global, index: usize, item: T) -> Result<Grown<T>, Memory>
+    fn grown(&self, alloc: Global, index: usize, item: T) -> Result<Grown<Tree<T>>, Memory>
         requires some { 0 < length self.now.items }
         requires within { index ≤ length self.now.items }
         ensures items { IfOk result (λ grown. joined (trees grown) ≡ insert self.now.items index item) }
@@ -263,9 +282,9 @@ impl<T: Item> Tree<T> {
     {
         match &self.node {
             Node::Empty => unreachable!(),
-            Node::Leaf(items) => {
-                let items = with(alloc, items.as_ref(), index, item)?;
-                Tree::leaves(alloc, items, index)
+            Node::Leaf(leaf) => {
+                let leaf = leaf.as_ref().with(alloc, index, item)?;
+                Tree::leaves(alloc, leaf, index)
             }
             Node::Fork(below) => {
                 let below = below.as_ref().as_slice();
@@ -287,9 +306,9 @@ impl<T: Item> Tree<T> {
         }
         match &self.node {
             Node::Empty => unreachable!(),
-            Node::Leaf(items) => {
-                let items = with_other(alloc, items.as_ref(), index, item)?;
-                Tree::leaf(alloc, items)
+            Node::Leaf(leaf) => {
+                let leaf = leaf.as_ref().with_other(alloc, index, item)?;
+                Tree::leaf(alloc, leaf)
             }
             Node::Fork(below) => {
                 let below = below.as_ref().as_slice();
@@ -309,9 +328,9 @@ impl<T: Item> Tree<T> {
     {
         match &self.node {
             Node::Empty => unreachable!(),
-            Node::Leaf(items) => {
-                let items = without(alloc, items.as_ref(), index)?;
-                Tree::leaf_or_none(alloc, items)
+            Node::Leaf(leaf) => {
+                let leaf = leaf.as_ref().without(alloc, index)?;
+                Tree::leaf_or_none(alloc, leaf)
             }
             Node::Fork(below) => {
                 let below = below.as_ref().as_slice();
@@ -323,7 +342,7 @@ impl<T: Item> Tree<T> {
         }
     }
 
-    /// The items of a slice, in nodes of the least height.
+    /// The items of a slice, in full nodes.
     pub(crate) fn of(alloc: Global, items: &[T]) -> Result<Tree<T>, Memory>
         ensures { IfOk result (λ tree. tree.items ≡ items.now) }
     {
@@ -349,7 +368,7 @@ impl<T: Item> Tree<T> {
         while from < items.len() {
             let end = from + WIDTH.min(items.len() - from);
             let part = copies(alloc, &items[from..end], 0)?;
-            let leaf = Tree::leaf(alloc, part)?;
+            let leaf = Tree::leaf(alloc, Leaf::of(part))?;
             row.push(leaf)?;
             from = end;
         }
@@ -382,54 +401,52 @@ impl<T: Item> Tree<T> {
     fn single(alloc: Global, item: T) -> Result<Tree<T>, Memory>
         ensures { IfOk result (λ tree. tree.items ≡ item ∷ []) }
     {
-        let mut items = Vec::with_capacity(alloc, 1)?;
-        items.push(item)?;
-        Tree::leaf(alloc, items)
+        let leaf = Leaf::of(Vec::new(alloc));
+        Tree::leaf(alloc, leaf.with(alloc, 0, item)?)
     }
 
-    // A leaf of these items.
-    fn leaf(alloc: Global, items: Vec<T>) -> Result<Tree<T>, Memory>
-        requires some { 1 ≤ length items.items }
-        requires few { length items.items ≤ 32 }
-        ensures items { IfOk result (λ tree. tree.items ≡ items.items) }
+    // The tree of a leaf.
+    fn leaf(alloc: Global, leaf: Leaf<T>) -> Result<Tree<T>, Memory>
+        requires some { 1 ≤ length leaf }
+        requires few { length leaf ≤ 32 }
+        ensures items { IfOk result (λ tree. tree.items ≡ leaf) }
         ensures height { IfOk result (λ tree. tree.height ≡ 1) }
     {
-        let count = items.len() as u32;
-        let items = Rc::new(alloc, items)?;
+        let count = leaf.len() as u32;
+        let leaf = Rc::new(alloc, leaf)?;
         Ok(Tree {
-            node: Node::Leaf(items),
+            node: Node::Leaf(leaf),
             count,
             height: 1,
         })
     }
 
     // The same, or no items.
-    fn leaf_or_none(alloc: Global, items: Vec<T>) -> Result<Tree<T>, Memory>
-        requires { length items.items ≤ 32 }
-        ensures items { IfOk result (λ tree. tree.items ≡ items.items) }
+    fn leaf_or_none(alloc: Global, leaf: Leaf<T>) -> Result<Tree<T>, Memory>
+        requires { length leaf ≤ 32 }
+        ensures items { IfOk result (λ tree. tree.items ≡ leaf) }
         ensures height { IfOk result (λ tree. tree.height ≤ 1) }
     {
-        if items.is_empty() {
+        if leaf.len() == 0 {
             Ok(Tree::new())
         } else {
-            Tree::leaf(alloc, items)
+            Tree::leaf(alloc, leaf)
         }
     }
 
-    // A leaf of these items, or two where they are one too many, of which the one at the index is new.
-    fn leaves(alloc: Global, items: Vec<T>, index: usize) -> Result<Grown<T>, Memory>
-        requires some { 1 ≤ length items.items }
-        requires few { length items.items ≤ 33 }
-        ensures items { IfOk result (λ grown. joined (trees grown) ≡ items.items) }
+    // The tree of a leaf, or two where it has an item too many, of which the one at the index is new.
+    fn leaves(alloc: Global, leaf: Leaf<T>, index: usize) -> Result<Grown<Tree<T>>, Memory>
+        requires some { 1 ≤ length leaf }
+        requires few { length leaf ≤ 33 }
+        ensures items { IfOk result (λ grown. joined (trees grown) ≡ leaf) }
         ensures level { IfOk result (λ grown. AreBelow 2 (trees grown)) }
     {
-        let mut items = items;
-        if items.len() <= WIDTH {
-            let leaf = Tree::leaf(alloc, items)?;
-            return Ok(Grown::One(leaf));
+        if leaf.len() <= WIDTH {
+            let tree = Tree::leaf(alloc, leaf)?;
+            return Ok(Grown::One(tree));
         }
-        let behind = cut_off(&mut items, index)?;
-        let first = Tree::leaf(alloc, items)?;
+        let (front, behind) = leaf.parted(index)?;
+        let first = Tree::leaf(alloc, front)?;
         let second = Tree::leaf(alloc, behind)?;
         Ok(Grown::Two(first, second))
     }
@@ -474,7 +491,7 @@ impl<T: Item> Tree<T> {
         below: Vec<Tree<T>>,
         height: u8,
         index: usize,
-    ) -> Result<Grown<T>, Memory>
+    ) -> Result<Grown<Tree<T>>, Memory>
         requires several { 2 ≤ length below.items }
         requires few { length below.items ≤ 33 }
         requires level { AreBelow height below.items }
@@ -537,7 +554,7 @@ impl<T: Item> Tree<T> {
     }
 
     // With one more tree below it, in front of the others.
-    fn with_front(&self, alloc: Global, front: Tree<T>) -> Result<Grown<T>, Memory>
+    fn with_front(&self, alloc: Global, front: Tree<T>) -> Result<Grown<Tree<T>>, Memory>
         requires { IsBelow self.now.height front }
         ensures items { IfOk result (λ grown. joined (trees grown) ≡ front.items ++ self.now.items) }
         ensures level { IfOk result (λ grown. AreBelow (self.now.height + 1) (trees grown)) }
@@ -552,7 +569,7 @@ impl<T: Item> Tree<T> {
     }
 
     // With one more tree below it, behind the others.
-    fn with_behind(&self, alloc: Global, behind: Tree<T>) -> Result<Grown<T>, Memory>
+    fn with_behind(&self, alloc: Global, behind: Tree<T>) -> Result<Grown<Tree<T>>, Memory>
         requires { IsBelow self.now.height behind }
         ensures items { IfOk result (λ grown. joined (trees grown) ≡ self.now.items ++ behind.items) }
         ensures level { IfOk result (λ grown. AreBelow (self.now.height + 1) (trees grown)) }

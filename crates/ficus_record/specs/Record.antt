@@ -130,5 +130,9 @@ record_under members tag = record { spell = record_body members; fits = IsRecord
 abbrev pub record_bytes : ℕ → Record → List ℕ
 record_bytes members noted = record_tag noted ∷ record_body members noted
 
+-- what stands in front of the tables in the record of their taking
+abbrev pub accept_front : List ℕ
+accept_front = record_tag (record_.Accept [] []) ∷ []
+
 abbrev pub record_format : ℕ → Format Record
 record_format members = record { spell = record_bytes members; fits = FitsRecord members }

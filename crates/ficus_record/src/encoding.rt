@@ -1,17 +1,12 @@
-ghost use Rattle.std.specs.Prelude.{◌≡◌, ◌++◌, ◌∷◌, ℕ, List, IfOk, OnOk};
-ghost use Rattle.ficus_codec.specs.Formats.{tables_bytes};
-ghost use Rattle.ficus_entry.specs.declared.entry.Entry.{Entry as EntryValue};
-ghost use Rattle.ficus_file.specs.declared.file.FileReplica.{FileReplica as FileValue};
+ghost use Rattle.std.specs.Prelude.{◌≡◌, ◌≤◌, ◌++◌, ◌∷◌, ℕ, List, IfOk, OnOk, length};
 ghost use Rattle.ficus_ids.specs.declared.id.Id.{Id as IdValue};
-ghost use Rattle.ficus_record.specs.Record.{FitsOp, FitsRecord, adopting, ids, linking, making, moving, making_layout, op_body, op_tag, placing, record_bytes, removing, symlinking, writing};
-ghost use Rattle.ficus_record.specs.declared.record.Record.TheVariants.{Change as Changes, Accept as Accepts};
+ghost use Rattle.ficus_record.specs.Record.{FitsOp, FitsRecord, accept_front, adopting, ids, linking, making, moving, making_layout, op_body, op_tag, placing, record_bytes, removing, symlinking, writing};
+ghost use Rattle.ficus_record.specs.declared.record.Record.TheVariants.{Change as Changes};
 
 use crate::Record;
 use crate::fields::IdSpelling;
 use ficus_codec::put_rows;
-use ficus_formats::{
-    put_bytes, put_id, put_long_string, put_run, put_short_string, put_u8, put_u32,
-};
+use ficus_formats::{put_id, put_long_string, put_run, put_short_string, put_u8, put_u32};
 use ficus_ids::{Id, Kind, Members, Memory, Name};
 use ficus_model::Op;
 use std::alloc::Global;
@@ -221,14 +216,20 @@ pub fn encode_change(alloc: Global, op: &Op) -> Result<Vec<u8>, Memory>
     Ok(out)
 }
 
-/// The spelling of the record of the taking of tables, from the spelling in which they came.
-pub fn encode_accept(alloc: Global, tables: &[u8]) -> Result<Vec<u8>, Memory>
-    ensures { (members : ℕ) (entries : List EntryValue) (files : List FileValue)
-        → tables.now ≡ tables_bytes members entries files
-        → IfOk result (λ bytes. bytes.items ≡ record_bytes members (Accepts entries files)) }
+/// The spelling of the record of the taking of tables, without the tables: who appends their spelling, as they came,
+/// has the whole.
+pub fn begin_accept(alloc: Global) -> Result<Vec<u8>, Memory>
+    ensures { IfOk result (λ front. front.items ≡ accept_front) }
 {
-    let mut out = Vec::new(alloc);
-    put_u8(&mut out, 11)?;
-    put_bytes(&mut out, tables)?;
-    Ok(out)
+    let mut front = Vec::new(alloc);
+    put_u8(&mut front, 11)?;
+    Ok(front)
+}
+
+/// The spelling of the tables in the record of their taking.
+pub fn accepted_tables(noted: &[u8]) -> &[u8]
+    requires { length accept_front ≤ length noted.now }
+    ensures { (tables : List ℕ) → noted.now ≡ accept_front ++ tables → result.now ≡ tables }
+{
+    &noted[1..]
 }

@@ -24,7 +24,7 @@ use Rattle.ficus_stable_storage.specs.declared.stable.Stable.{Stable}
 
 -- what a replica begins with is held, and durable on `a`, and `b` stays; where nothing was unsynced, a crash after the
 -- call and at each moment of it leaves nothing, or this; without an armed fuse nothing fails
-pub record Makes {K D A : Type 0} (keep : Keep K) (disk : Disk D) (first : Saved) (old new : Pair D)
+pub record MakesState {K D A : Type 0} (keep : Keep K) (disk : Disk D) (first : Saved) (old new : Pair D)
     (result : Result A MakeFault) : Type 0 where
   pub holds : disk.tells → OnOk result (Holds (found_in keep.kept disk.seen new) first)
   pub durable : disk.tells → OnOk result (Only (disk.seen new.a) (disk.may_leave new.a))
@@ -104,8 +104,8 @@ pub record Prepares {K D A E : Type 0} (keep : Keep K) (disk : Disk D) (next : S
 
 -- this is held in place of what was, on one of the disks, and the other stays; a crash after the call and at each
 -- moment of it leaves what was held, or this; where the disks tell their fuses, these alone decide
-pub record Commits {K D A E : Type 0} (keep : Keep K) (disk : Disk D) (next : Saved) (now : Stable K) (old new : Pair D)
-    (result : Result A E) : Type 0 where
+pub record CommitsState {K D A E : Type 0} (keep : Keep K) (disk : Disk D) (next : Saved) (now : Stable K)
+    (old new : Pair D) (result : Result A E) : Type 0 where
   pub ready : disk.tells → OnOk result (IsReady keep.kept keep.fits disk.seen disk.may_leave now new next)
   pub crash : disk.tells → (saved : Saved) → Holds (found_in keep.kept disk.seen old) saved
       → HoldsOneOf keep.kept disk.may_leave new (Some saved) (Some next)

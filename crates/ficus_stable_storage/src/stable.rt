@@ -2,7 +2,7 @@ ghost use Rattle.std.specs.Prelude.{◌≡◌, [], List, ℕ, Some, IfOk, IsErrO
 ghost use Rattle.ficus_keeper.specs.Kept.{kept_of};
 ghost use Rattle.ficus_durable_state.specs.Saved.{FitsImage};
 ghost use Rattle.ficus_durable_state.specs.declared.saved.Saved.{Saved as SavedValue};
-ghost use Rattle.ficus_stable_storage.specs.Calls.{Commits, Makes, Opens, OpensAnew, Prepares};
+ghost use Rattle.ficus_stable_storage.specs.Calls.{CommitsState, MakesState, Opens, OpensAnew, Prepares};
 ghost use Rattle.ficus_leads.specs.Holds.{Holds};
 ghost use Rattle.ficus_stable_storage.specs.Stable.{IsPrepared, MayFollow};
 
@@ -38,7 +38,7 @@ impl<K: Keep + Drop> Stable<K> {
         requires first { saved.now.generation ≡ 0 }
         requires empty_a { D.tells → D.seen disks.old.a ≡ [] }
         requires empty_b { D.tells → D.seen disks.old.b ≡ [] }
-        ensures { Makes K.Keep D.Disk saved.now disks.old disks.new result }
+        ensures { MakesState K.Keep D.Disk saved.now disks.old disks.new result }
     {
         let image = encode_image(alloc, saved)?;
         K::make(alloc, disks, &image)
@@ -88,7 +88,7 @@ impl<K: Keep + Drop> Stable<K> {
         requires { (body : List ℕ)
             × IsPrepared K.wants_image K.Takes K.size_of D.room self.old disks.old next.now body
             × (D.tells → MayFollow K.kept K.fits D.seen D.may_leave self.old disks.old next.now body) }
-        ensures { Commits K.Keep D.Disk next.now self.new disks.old disks.new result }
+        ensures { CommitsState K.Keep D.Disk next.now self.new disks.old disks.new result }
     {
         self.keeper.commit(disks, next.generation, &self.bytes)
     }

@@ -1,8 +1,8 @@
-ghost use Rattle.std.specs.Prelude.{◌≡◌, IfOk};
+ghost use Rattle.std.specs.Prelude.{◌≡◌, [], IfOk};
 
 use crate::Row;
 use ficus_ids::{Id, Memory};
-use ficus_persistent::Item;
+use ficus_persistent::{Item, Spelled};
 use std::alloc::Global;
 
 /// A row of which a look shows the whole, so that a walk along rows finds the rows themselves.
@@ -17,6 +17,19 @@ impl<R: Row> Item for Entire<R> {
     {
         let row = self.row.copied()?;
         Ok(Entire { row })
+    }
+}
+
+// It stands in walks alone, which nothing spells.
+impl<R: Row> Spelled for Entire<R> {
+    ghost spell = { λ _. [] };
+
+    fn put(&self, _out: &mut Vec<u8>) -> Result<(), Memory> {
+        Ok(())
+    }
+
+    fn spelled_len(&self) -> usize {
+        0
     }
 }
 

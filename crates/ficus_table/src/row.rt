@@ -1,11 +1,11 @@
 ghost use Rattle.std.specs.Prelude.{◌≡◌, IfOk};
 
 use ficus_ids::{Id, Memory};
-use ficus_persistent::Item;
+use ficus_persistent::Spelled;
 use std::alloc::Global;
 
 /// A row of a table: what a look at it shows, with its identifier, and what may become of it without memory.
-pub trait Row: Item {
+pub trait Row: Spelled {
     /// What a look shows.
     type Seen;
     /// What may become of a row without memory.

@@ -1,7 +1,9 @@
 ghost use Rattle.std.specs.Prelude.{◌≡◌, ◌≤◌, Ok};
+ghost use Rattle.std.specs.Int.{w32, to_be_bytes};
 
+use ficus_formats::put_u32;
 use ficus_ids::Memory;
-use ficus_persistent::{Item, PersistentList};
+use ficus_persistent::{Item, PersistentList, Spelled};
 use std::alloc::Global;
 use std::test::Fail;
 
@@ -15,6 +17,18 @@ impl Item for Number {
         ensures { result ≡ Ok self.now }
     {
         Ok(*self)
+    }
+}
+
+impl Spelled for Number {
+    ghost spell = { λ number. to_be_bytes w32 number.value };
+
+    fn put(&self, out: &mut Vec<u8>) -> Result<(), Memory> {
+        put_u32(out, self.value)
+    }
+
+    fn spelled_len(&self) -> usize {
+        4
     }
 }
 
@@ -127,6 +141,38 @@ fn emptied(
     Ok(list)
 }
 
+// Whether a list is spelled as the items of a vector are, one after the other.
+fn are_spelled_alike(
+    alloc: Global,
+    list: &PersistentList<Number>,
+    plain: &[Number],
+) -> Result<bool, Memory> {
+    let mut bytes = Vec::new(alloc);
+    list.put_spelled(&mut bytes)?;
+    let mut wanted = Vec::new(alloc);
+    for number in plain {
+        number.put(&mut wanted)?;
+    }
+    Ok(bytes == wanted)
+}
+
+// A list with another item at each seventh place, and a vector with the same.
+fn replaced(
+    alloc: Global,
+    list: PersistentList<Number>,
+    plain: &mut [Number],
+) -> Result<PersistentList<Number>, Memory> {
+    let mut list = list;
+    for index in 0..plain.len() {
+        if index % 7 == 0 {
+            let other = Number { value: u32::MAX };
+            list = list.put(alloc, index, other)?;
+            plain[index] = other;
+        }
+    }
+    Ok(list)
+}
+
 // The greatest height of a list after so many insertions in one of the orders.
 fn greatest_height(alloc: Global, count: u32) -> Result<u8, Memory> {
     let mut greatest = 0;
@@ -167,6 +213,27 @@ fn insertions_are_those_of_a_vector(rt: HostRuntime) -> Result<(), Fail> {
         let mut plain = Vec::new(rt.alloc());
         extend(&mut plain, order, 3_000)?;
         assert!(rt; agree(&list, &plain));
+    }
+    Ok(())
+}
+
+// Whichever leaves keep their spelling: those of a list that was built at once don't, and of one that was changed some.
+#[test]
+fn a_list_is_spelled_as_its_items(rt: HostRuntime) -> Result<(), Fail> {
+    let alloc = rt.alloc();
+    for order in [Order::Rising, Order::Falling, Order::Middle, Order::Random] {
+        let mut plain = Vec::new(alloc);
+        extend(&mut plain, Order::Rising, 1_000)?;
+        let list = built(alloc, 1_000)?;
+        assert!(rt; are_spelled_alike(alloc, &list, &plain)?);
+        let list = extended(alloc, list, order, 2_000)?;
+        extend(&mut plain, order, 2_000)?;
+        assert!(rt; are_spelled_alike(alloc, &list, &plain)?);
+        let list = replaced(alloc, list, &mut plain)?;
+        assert!(rt; are_spelled_alike(alloc, &list, &plain)?);
+        let list = shortened(alloc, list, 1_500)?;
+        let rest = &plain[plain.len().min(1_500)..];
+        assert!(rt; are_spelled_alike(alloc, &list, rest)?);
     }
     Ok(())
 }

@@ -1,4 +1,4 @@
-ghost use Rattle.std.specs.Prelude.{◌≡◌, ◌↔◌, ◌+◌, ◌<◌, ◌^◌, [], length, map, IsTrue, IfOk, OnErr, OnOk};
+ghost use Rattle.std.specs.Prelude.{◌≡◌, ◌↔◌, ◌+◌, ◌<◌, ◌^◌, ◌++◌, [], length, map, IsTrue, IfOk, OnErr, OnOk};
 ghost use Rattle.std.specs.Option.{option_map, unwrap_or};
 ghost use Rattle.ficus_wire.specs.Parts.{HasAll, HasAllBut, HasPart, HeldParts, IsWholeOf, joined, no_parts, part_at, with_part};
 ghost use Rattle.ficus_wire.specs.Parts.{RisesFrom};
@@ -129,15 +129,16 @@ impl Parts {
         if at == index { last } else { self.part(at) }
     }
 
-    /// The bytes of all pieces, in order, with this one as if it were held. Mostly it is the last that was missing.
+    /// Appends the bytes of all pieces, in order, with this one as if it were held. Mostly it is the last that was
+    /// missing. Room for all is taken once.
     #[tactic(auto, using(crate::proofs::Holding::front_more))]
-    pub fn whole_with(&self, index: u32, last: &[u8]) -> Result<Vec<u8>, Memory>
-        ensures { IfOk result (λ bytes. bytes.items ≡ joined (with_part self.now index last.now)) }
+    pub fn put_whole_with(&self, out: &mut Vec<u8>, index: u32, last: &[u8]) -> Result<(), Memory>
+        ensures { OnOk result (out.new.items ≡ out.old.items ++ joined (with_part self.now index last.now)) }
     {
-        let mut whole = Vec::with_capacity(self.alloc, self.size.saturating_add(last.len()))?;
+        out.reserve(self.size.saturating_add(last.len()))?;
         for at in 0..self.pieces {
-            whole.extend_from_slice(self.part_with(at, index, last))?;
+            out.extend_from_slice(self.part_with(at, index, last))?;
         }
-        Ok(whole)
+        Ok(())
     }
 }

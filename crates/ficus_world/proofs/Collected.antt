@@ -1,7 +1,6 @@
 -- What becomes of a world in which a member keeps a piece of an answer, and what taking a piece does to it.
 use Rattle.std.proofs.Common.{◌≡◌, ◌≢◌, ℕ, ◌+◌, ◌-◌, ◌<◌, ◌≤◌, List, [], ◌∷◌, ◌++◌, length, Option, Some, None, Result, Ok, Err, refl, sym, ap, subst, ◌∙◌, inl, inr, ◌⊎◌, arith}
 use Rattle.std.specs.Prelude.{slice_set, IfErr, IfOk, IsErrOf}
-use Rattle.std.specs.Option.{option_map}
 use Rattle.std.proofs.lemmas.List.{length-set, length_push}
 use Rattle.ficus_codec.specs.Formats.{tables_bytes}
 use Rattle.ficus_disk.specs.declared.disk.Disk.{Ghosts as Disk}
@@ -38,7 +37,7 @@ use Rattle.ficus_opening.specs.Disks.{AreDisksOf, IsPairOf}
 use Rattle.ficus_world.specs.Disks.{CarriedOn, IsBacked}
 use Rattle.ficus_world.specs.Fuses.{FuseStands, FusesFollow, FusesStand}
 use Rattle.ficus_opening.specs.declared.member.Pending.{Pending}
-use Rattle.ficus_world.specs.Moves.{FindsTaker, IsPlaced, IsTaking, IsWaiting, TakesFitting, TakesPiece, TakesSpelled, TakesTables, advanced, collected, not_saved, parts_held, pending_of, saved}
+use Rattle.ficus_world.specs.Moves.{FindsTaker, IsPlaced, IsTaking, IsWaiting, TakesFitting, TakesPiece, TakesSpelled, TakesTables, advanced, collected, not_saved, parts_held, pending_of, saved, spelled_with}
 use Rattle.ficus_world.specs.Moves.FindsTaker.{AnswersNone, FindsIt, OfAnotherState, OfOtherPieces, TakerDown}
 use Rattle.ficus_world.specs.Moves.TakesFitting.{IsHeld, IsOneMore, IsTheLast}
 use Rattle.ficus_world.specs.Moves.TakesSpelled.{SpellsNone, SpellsTables}
@@ -254,39 +253,20 @@ at_rows {count} {n} {es} {entries} {fs} {files} P counted entries_are files_are 
     (subst (λ (list : List Entry). P n list files) (sym entries_are)
     (subst (λ (list : List FileReplica). P n es list) (sym files_are) is))
 
--- the pieces that are held, joined with the last that was missing
-module _ {V : Type 0} (bytes_of : V → List ℕ) (parts : Option HeldParts) (head : PieceHead) (bytes : List ℕ) where
-  abbrev Joins : Option V → Type 0
-  Joins whole =
-      (held : HeldParts) → parts ≡ Some held
-      → option_map bytes_of whole ≡ Some (joined_parts (with_part held head.index bytes))
-
-  pub joined_some : (joined : V) → Joins (Some joined) → (parts ≡ None → Some joined ≡ None)
-      → bytes_of joined ≡ joined_parts (with_part (parts_held parts head) head.index bytes)
-  joined_some joined some none = go parts refl
-    where
-      go : (found : Option HeldParts) → parts ≡ found
-          → bytes_of joined ≡ joined_parts (with_part (parts_held parts head) head.index bytes)
-      go None is = absurd (let never : Some joined ≡ None = none is in cc)
-      go (Some held) is =
-          let same : Some (bytes_of joined) ≡ Some (joined_parts (with_part held head.index bytes)) = some held is in
-          let here : bytes_of joined ≡ joined_parts (with_part held head.index bytes) = cc in
-          subst (λ (p : Option HeldParts). bytes_of joined
-          ≡ joined_parts (with_part (parts_held p head) head.index bytes)) (sym is) here
+-- the pieces that are held, joined with the last that was missing, are all
+module _ (was : Member) (head : PieceHead) (bytes : List ℕ) where
+  pub joined_some : {held : HeldParts} → was.parts ≡ Some held
+      → joined_parts (with_part held head.index bytes) ≡ spelled_with was head bytes
+  joined_some is =
+      ap (λ (p : Option HeldParts). joined_parts (with_part (parts_held p head) head.index bytes)) (sym is)
 
   -- where none are held, the last is all
-  pub joined_none : head.index < head.pieces → IsPlaced (parts_held parts head) head.index fitting.TheLast
-      → Joins None → bytes ≡ joined_parts (with_part (parts_held parts head) head.index bytes)
-  joined_none below placed some = go parts refl
-    where
-      go : (found : Option HeldParts) → parts ≡ found
-          → bytes ≡ joined_parts (with_part (parts_held parts head) head.index bytes)
-      go None is =
-          let last = subst (λ (p : Option HeldParts). IsPlaced (parts_held p head) head.index fitting.TheLast) is placed
-          in subst (λ (p : Option HeldParts). bytes ≡ joined_parts (with_part (parts_held p head) head.index bytes))
-          (sym is) (sym (joined_one head.state head.pieces head.index below bytes last.1))
-      go (Some held) is =
-          absurd (let never : None ≡ Some (joined_parts (with_part held head.index bytes)) = some held is in cc)
+  pub joined_none : head.index < head.pieces → IsPlaced (parts_held was.parts head) head.index fitting.TheLast
+      → was.parts ≡ None → bytes ≡ spelled_with was head bytes
+  joined_none below placed is =
+      let last = subst (λ (p : Option HeldParts). IsPlaced (parts_held p head) head.index fitting.TheLast) is placed in
+      subst (λ (p : Option HeldParts). bytes ≡ joined_parts (with_part (parts_held p head) head.index bytes)) (sym is)
+      (sym (joined_one head.state head.pieces head.index below bytes last.1))
 
 -- What taking a piece does.
 module _ {K D : Type 0} (keep : Keep K) (disk : Disk D) (came : Delivery) (head : PieceHead) (bytes : List ℕ)

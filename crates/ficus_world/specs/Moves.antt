@@ -315,6 +315,10 @@ abbrev pub parts_held : Option HeldParts → PieceHead → HeldParts
 parts_held None head = no_parts head.state head.pieces
 parts_held (Some parts) head = parts
 
+-- what is spelled by all pieces of which one came, where the others are those that a member holds
+abbrev pub spelled_with : Member → PieceHead → List ℕ → List ℕ
+spelled_with was head bytes = joined_parts (with_part (parts_held was.parts head) head.index bytes)
+
 -- this is the member to whom a piece came, which is up, and waits for the answer
 pub record IsWaiting (old : Whole) (came : Delivery) (was : Member) : Type 0 where
   pub is : IsNumbered old.members came.to was
@@ -359,8 +363,7 @@ pub data TakesFitting (came : Delivery) (head : PieceHead) (bytes : List ℕ) (w
       })
   IsTheLast : {result : Result Answer Refusal} {left : Effect Whole}
       → (HasPart (parts_held was.parts head) head.index → ⊥) → HasAllBut (parts_held was.parts head) head.index
-      → TakesSpelled came head.index (joined_parts (with_part (parts_held was.parts head) head.index bytes)) old
-      result left
+      → TakesSpelled came head.index (spelled_with was head bytes) old result left
       → TakesFitting came head bytes was old result left
 
 -- a piece that came is taken, or refused

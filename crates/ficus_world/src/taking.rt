@@ -1,5 +1,4 @@
-ghost use Rattle.std.specs.Prelude.{◌≡◌, ◌≢◌, ◌⊎◌, ◌+◌, ◌<◌, ℕ, Ok, Err, None, Some, List, IfErr, IfOk, IsErrOf, OnErr, OnOk, length};
-ghost use Rattle.std.specs.Option.{option_map};
+ghost use Rattle.std.specs.Prelude.{◌≡◌, ◌≢◌, ◌⊎◌, ◌+◌, ◌<◌, ◌++◌, ℕ, Ok, Err, List, IfErr, IfOk, IsErrOf, OnErr, OnOk, length};
 ghost use Rattle.ficus_ids.specs.Members.{IsMember};
 ghost use Rattle.ficus_ids.specs.declared.refusal.Refusal.TheVariants.{BadMessage as IsBad, Memory as OutOfMemory, Mixed as IsMixed};
 ghost use Rattle.ficus_model.specs.declared.event.Event.TheVariants.{Take as Takes};
@@ -11,10 +10,11 @@ ghost use Rattle.ficus_runs.specs.Sequence.{unchanged};
 ghost use Rattle.ficus_world.specs.Disks.{CarriedOn, IsBacked};
 ghost use Rattle.ficus_world.specs.Acts.{Acts};
 ghost use Rattle.ficus_runs.specs.Numbered.{IsNumbered};
-ghost use Rattle.ficus_world.specs.Moves.{FindsTaker, GivesTaking, IsPlaced, TakesPiece, TakesSpelled, collected, parts_held};
+ghost use Rattle.ficus_world.specs.Moves.{FindsTaker, GivesTaking, IsPlaced, TakesPiece, TakesSpelled, collected, parts_held, spelled_with};
 ghost use Rattle.ficus_world.specs.World.{IsUpIn, event_limit, most_events};
 ghost use Rattle.ficus_wire.specs.Message.{FitsMessage, piece_of};
-ghost use Rattle.ficus_wire.specs.Parts.{HasPart, HeldParts, joined as joined_parts, no_parts, with_part};
+ghost use Rattle.ficus_wire.specs.Parts.{HasPart, no_parts, with_part};
+ghost use Rattle.ficus_record.specs.Record.{accept_front};
 ghost use Rattle.ficus_opening.specs.declared.member.Member.{Member as MemberValue};
 ghost use Rattle.ficus_world.specs.declared.post.Behind.{Behind as BehindValue};
 ghost use Rattle.ficus_world.specs.declared.taking.Fitting.TheVariants.{TheLast};
@@ -27,13 +27,13 @@ use ficus_codec::{Known, read_all_rows};
 use ficus_disk::{Disk, Pair};
 use ficus_entry::SharedEntry;
 use ficus_file::SharedFile;
-use ficus_formats::{ReadFault, Reader};
+use ficus_formats::{ReadFault, Reader, put_bytes};
 use ficus_ids::{Listed, Memory, Refusal};
 use ficus_keeper::Keep;
 use ficus_model::Event;
 use ficus_opening::Pending;
 use ficus_outside::Link;
-use ficus_record::encode_accept;
+use ficus_record::{accepted_tables, begin_accept};
 use ficus_script::Answer;
 use ficus_wire::{Parts, PieceHead};
 use std::alloc::Global;
@@ -109,12 +109,11 @@ impl<K: Keep + Drop, L: Link + Drop> World<K, L> {
         requires last { (was : MemberValue) → IsNumbered self.old.whole.members came.to was
             → IsPlaced (parts_held was.parts head) head.index TheLast }
         ensures takes { (was : MemberValue) → IsNumbered self.old.whole.members came.to was
-            → CarriedOn K.Keep D.Disk (TakesSpelled came head.index
-            (joined_parts (with_part (parts_held was.parts head) head.index bytes.now))) result self.old.whole
-            self.new.whole disks.old.items disks.new.items }
+            → CarriedOn K.Keep D.Disk (TakesSpelled came head.index (spelled_with was head bytes.now)) result
+            self.old.whole self.new.whole disks.old.items disks.new.items }
         ensures acts { Acts K.Keep D.Disk 1 result self.old self.new disks.old.items disks.new.items }
     {
-        let Taking { next, noted } = self.group.taking_last(alloc, came, head, bytes)?;
+        let Taking { next, noted } = self.group.taking(alloc, came, head, bytes)?;
         self.save(disks, came.to, next, noted)?;
         Ok(Answer::Done)
     }
@@ -122,8 +121,8 @@ impl<K: Keep + Drop, L: Link + Drop> World<K, L> {
 
 impl<L: Link + Drop> Group<L> {
     // What a member comes to that takes the tables which a piece and those that it holds spell together, or why it
-    // takes none.
-    fn taking_last(
+    // takes none. What it holds already is shared. They are read out of what is noted of their taking.
+    fn taking(
         &self,
         alloc: Global,
         came: Delivery,
@@ -136,31 +135,12 @@ impl<L: Link + Drop> Group<L> {
         requires index { head.index < head.pieces }
         requires last { (was : MemberValue) → IsNumbered self.now.members came.to was
             → IsPlaced (parts_held was.parts head) head.index TheLast }
-        ensures { (was : MemberValue) → IsNumbered self.now.members came.to was → GivesTaking came head.index
-            (joined_parts (with_part (parts_held was.parts head) head.index bytes.now)) self.now result }
+        ensures { (was : MemberValue) → IsNumbered self.now.members came.to was
+            → GivesTaking came head.index (spelled_with was head bytes.now) self.now result }
     {
-        match self.joined(came.to, head.index, bytes)? {
-            Some(joined) => self.taking(alloc, came, head.index, &joined),
-            None => self.taking(alloc, came, head.index, bytes),
-        }
-    }
-
-    // What a member comes to that takes the tables which the bytes spell, or why it takes none. What it holds already
-    // is shared.
-    fn taking(
-        &self,
-        alloc: Global,
-        came: Delivery,
-        index: u32,
-        tables: &[u8],
-    ) -> Result<Taking, Refusal>
-        requires room { length self.now.events < event_limit + most_events }
-        requires up { IsUpIn self.now came.to }
-        requires mail { IsMember (length self.now.post.behind) came.number }
-        ensures { GivesTaking came index tables.now self.now result }
-    {
+        let noted = self.joined(alloc, came.to, head, bytes)?;
         let known = self.known_to(came.to)?;
-        let (entries, files) = rows(alloc, tables, &known)?;
+        let (entries, files) = rows(alloc, accepted_tables(&noted), &known)?;
         let replica = &self.member(came.to).replica;
         let taken = replica.accept_rows(
             alloc,
@@ -169,12 +149,11 @@ impl<L: Link + Drop> Group<L> {
             entries.items(),
             files.items(),
         )?;
-        let noted = encode_accept(alloc, tables)?;
         let serve = self.post.behind(came.number).position;
         let event = Event::Accept {
             by: came.to,
             serve,
-            piece: index,
+            piece: head.index,
         };
         Ok(Taking {
             next: Pending {
@@ -183,6 +162,29 @@ impl<L: Link + Drop> Group<L> {
             },
             noted,
         })
+    }
+
+    // What is noted of the taking of the tables which a piece and those that a member holds spell together.
+    fn joined(
+        &self,
+        alloc: Global,
+        to: u8,
+        head: PieceHead,
+        bytes: &[u8],
+    ) -> Result<Vec<u8>, Memory>
+        requires to { IsMember (length self.now.members) to }
+        requires index { head.index < head.pieces }
+        requires last { (was : MemberValue) → IsNumbered self.now.members to was
+            → IsPlaced (parts_held was.parts head) head.index TheLast }
+        ensures { (was : MemberValue) → IsNumbered self.now.members to was
+            → IfOk result (λ noted. noted.items ≡ accept_front ++ spelled_with was head bytes.now) }
+    {
+        let mut noted = begin_accept(alloc)?;
+        match &self.member(to).parts {
+            Some(held) => held.put_whole_with(&mut noted, head.index, bytes)?,
+            None => put_bytes(&mut noted, bytes)?,
+        }
+        Ok(noted)
     }
 
     // What a piece is to what its receiver holds of the answer, or why it isn't taken.
@@ -235,21 +237,6 @@ impl<L: Link + Drop> Group<L> {
             piece: head.index,
         });
         Ok(())
-    }
-
-    // The pieces that a member holds joined with the one that was missing, where it holds any.
-    fn joined(&self, to: u8, index: u32, bytes: &[u8]) -> Result<Option<Vec<u8>>, Memory>
-        requires to { IsMember (length self.now.members) to }
-        ensures joined { (was : MemberValue) (held : HeldParts) → IsNumbered self.now.members to was
-            → was.parts ≡ Some held → IfOk result (λ whole. option_map (λ bytes. bytes.items) whole
-            ≡ Some (joined_parts (with_part held index bytes.now))) }
-        ensures none { (was : MemberValue) → IsNumbered self.now.members to was → was.parts ≡ None
-            → IfOk result (λ whole. whole ≡ None) }
-    {
-        match &self.member(to).parts {
-            Some(held) => Ok(Some(held.whole_with(index, bytes)?)),
-            None => Ok(None),
-        }
     }
 
     // The rows of the member.

@@ -1,4 +1,4 @@
-use Rattle.std.proofs.Common.{◌≡◌, true, false, length, arith, sym, ◌∙◌}
+use Rattle.std.proofs.Common.{arith, sym, ◌∙◌}
 use Rattle.ficus_persistent.proofs.Cuts.{front_passes, back_fails}
 use Rattle.ficus_persistent.proofs.below.cut_through.Goals as goal
 

@@ -2,6 +2,9 @@ use Rattle.ficus_entry.specs.Entry.{PutsEntry}
 use Rattle.ficus_entry.proofs.Noted.{noted_whole}
 use Rattle.ficus_entry.proofs.entries.Entries.put_shared.Goals as goal
 
+pub invariant_of-self : goal.invariant_of-self
+invariant_of-self c = rw c.in_err-put.ensures.kept c.self.invariant
+
 pub invariant_of-self-2 : goal.invariant_of-self-2
 invariant_of-self-2 c =
     let new = c.put.new.self.items in

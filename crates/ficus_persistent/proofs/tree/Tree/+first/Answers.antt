@@ -1,4 +1,4 @@
-use Rattle.std.proofs.Common.{◌≡◌, length, arith, refl}
+use Rattle.std.proofs.Common.{◌≡◌, arith, refl}
 use Rattle.ficus_persistent.proofs.Rows.{at_in}
 use Rattle.ficus_persistent.specs.Node.{IsSound}
 use Rattle.ficus_persistent.specs.declared.tree.Node.TheVariants.{Fork}

@@ -1,8 +1,8 @@
-use Rattle.std.proofs.Common.{◌≡◌, ◌+◌, length, arith}
+use Rattle.std.proofs.Common.{◌≡◌, ◌+◌, arith}
 use Rattle.std.proofs.lemmas.Grind.{common_steps}
 use Rattle.ficus_persistent.proofs.Cuts.{parted_in, cut_in_row}
-use Rattle.ficus_persistent.proofs.Rows.{below_at, length-joined_more, length_in_front}
-use Rattle.ficus_persistent.specs.Shape.{joined, AreBelow}
+use Rattle.ficus_persistent.proofs.Rows.{length-joined_more, length_in_front}
+use Rattle.ficus_persistent.specs.Shape.{joined}
 use Rattle.ficus_persistent.proofs.tree.Tree.+partition_point.Goals as goal
 
 pub count_of-before-requires : goal.count_of-before-requires

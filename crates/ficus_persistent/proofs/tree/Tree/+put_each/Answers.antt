@@ -1,9 +1,9 @@
-use Rattle.std.proofs.Common.{◌≡◌, ◌+◌, ◌++◌, ◌∙◌, ap, length, take, arith, append_assoc}
+use Rattle.std.proofs.Common.{◌≡◌, ◌+◌, ◌++◌, ◌∙◌, ap, take, arith, append_assoc}
 use Rattle.std.proofs.lemmas.List.Concat.{flat_map-append}
 use Rattle.std.proofs.lemmas.Grind.{common_steps}
 use Rattle.std.specs.List.{flat_map}
-use Rattle.ficus_persistent.proofs.Rows.{all_in, joined_more, below_at}
-use Rattle.ficus_persistent.specs.Shape.{joined, AreBelow}
+use Rattle.ficus_persistent.proofs.Rows.{all_in, joined_more}
+use Rattle.ficus_persistent.specs.Shape.{joined}
 use Rattle.ficus_persistent.proofs.tree.Tree.+put_each.Goals as goal
 
 pub put_each-requires : goal.put_each-requires

@@ -1,4 +1,4 @@
-use Rattle.std.proofs.Common.{◌≤◌, ◌<◌, ◌*◌, ◌^◌, length, arith}
+use Rattle.std.proofs.Common.{length, arith}
 use Rattle.ficus_persistent.proofs.Heights.{node_filled, low_where_filled, low_fits}
 use Rattle.ficus_persistent.specs.Node.{items_of}
 use Rattle.ficus_persistent.specs.Shape.{IsLow}

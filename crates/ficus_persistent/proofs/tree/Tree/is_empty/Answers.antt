@@ -1,6 +1,5 @@
-use Rattle.std.proofs.Common.{◌≡◌, length, arith}
+use Rattle.std.proofs.Common.{arith}
 use Rattle.ficus_persistent.proofs.Heights.{node_stands, node_lies}
-use Rattle.ficus_persistent.specs.Node.{items_of}
 use Rattle.ficus_persistent.proofs.tree.Tree.is_empty.Goals as goal
 
 pub returns-clause-height : goal.returns-clause-height

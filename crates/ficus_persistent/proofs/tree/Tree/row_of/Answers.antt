@@ -1,4 +1,4 @@
-use Rattle.std.proofs.Common.{◌≡◌, ◌+◌, [], ◌∷◌, ◌++◌, length, take, arith, ap, sym, ◌∙◌, append-nil}
+use Rattle.std.proofs.Common.{◌≡◌, ◌+◌, [], ◌∷◌, ◌++◌, arith, ap, ◌∙◌, append-nil}
 use Rattle.ficus_persistent.proofs.Heights.{leaf_below}
 use Rattle.ficus_persistent.proofs.Rows.{joined-append, take_part, below-append}
 use Rattle.ficus_persistent.specs.Shape.{joined}
@@ -18,7 +18,7 @@ loop-from-preserved g c =
           ∙ joined-append row (leaf ∷ [])
           ∙ ap (λ rest. joined row ++ rest) (append-nil leaf.items)
           ∙ ap (λ front. front ++ leaf.items) c.loop-from.invariant.items
-          ∙ take_part c.args.items.now leaf.items c.loop-from.from to (omega arith) (c.in_ok-leaf.ensures.items ∙ c.in_ok-part.ensures);
+          ∙ take_part c.args.items.now leaf.items c.loop-from.from to (omega arith) (c.in_ok-leaf.ensures.items ∙ c.of.ensures ∙ c.in_ok-part.ensures);
       level =
           rw pushed
           (below-append 2 row (leaf ∷ []) c.loop-from.invariant.level

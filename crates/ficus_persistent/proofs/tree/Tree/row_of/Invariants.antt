@@ -1,4 +1,4 @@
-use Rattle.std.proofs.Common.{◌≡◌, ℕ, ◌-◌, ◌<◌, ◌≤◌, length, take}
+use Rattle.std.proofs.Common.{◌≡◌, ◌-◌, ◌<◌, ◌≤◌, length, take}
 use Rattle.ficus_persistent.specs.Shape.{joined, AreBelow}
 use Rattle.ficus_persistent.proofs.tree.Tree.row_of.Given as goal
 

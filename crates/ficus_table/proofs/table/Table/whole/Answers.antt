@@ -44,3 +44,6 @@ returns-clause-rising g c =
     rising_whole g.R.Row.id_of g.R.Row.seen g.R.Row.formed edits c.self.inside.list c.loop-left.list _ c.self.invariant
     (c.loop-left.invariant.1 ∙
     ap (λ n. overlaid g.R.Row.formed g.R.Row.seen (drop n edits) c.self.inside.list) none)
+
+pub loop-left-smaller : goal.loop-left-smaller
+loop-left-smaller g c = omega (arith, c.loop-left-test.true)

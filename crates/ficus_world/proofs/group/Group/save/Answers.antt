@@ -1,4 +1,4 @@
-use Rattle.std.proofs.Common.{refl, sym, ap, ◌∙◌, arith}
+use Rattle.std.proofs.Common.{rules, refl, sym, ap, ◌∙◌, arith}
 use Rattle.std.proofs.lemmas.Result.{err_from_is_err_and, on_err_weaker, on_ok_weaker}
 use Rattle.ficus_runs.specs.Numbered.{IsNumbered}
 use Rattle.ficus_world.specs.World.{Whole, backed_by, whole_of}
@@ -130,3 +130,9 @@ pub prepare_at-requires-clause-pair : goal.prepare_at-requires-clause-pair
 prepare_at-requires-clause-pair g c =
     let member = c.requires.up.is.member in
     record { at_least = member.at_least; at_most = omega (arith, member.at_most, c.requires.backed.pairs) }
+
+pub invariant_of-self : goal.invariant_of-self
+invariant_of-self g c = search rules
+
+pub invariant_of-self-in_err-prepare_at : goal.invariant_of-self-in_err-prepare_at
+invariant_of-self-in_err-prepare_at g c = search rules

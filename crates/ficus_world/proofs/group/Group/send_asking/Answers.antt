@@ -1,4 +1,4 @@
-use Rattle.std.proofs.Common.{◌-◌, ◌≤◌, Err, Some, List, ℕ, length, sym, ap, subst, ◌∙◌, arith}
+use Rattle.std.proofs.Common.{rules, ◌-◌, ◌≤◌, Err, Some, List, ℕ, length, sym, ap, subst, ◌∙◌, arith}
 use Rattle.std.proofs.lemmas.List.{length-set, length_push}
 use Rattle.std.proofs.lemmas.Result.{err_from_is_err_and}
 use Rattle.ficus_model.specs.declared.event.Event.TheVariants.{Ask}
@@ -243,3 +243,6 @@ keep-requires-clause-stable g c =
       at_least = member.at_least;
       at_most = omega (arith, member.at_most, c.requires.stables, c.make_ready.ensures.stays.count);
     }
+
+pub invariant_of-self : goal.invariant_of-self
+invariant_of-self g c = search rules

@@ -1,4 +1,4 @@
-use Rattle.std.proofs.Common.{Err, length, subst}
+use Rattle.std.proofs.Common.{refl, Err, length, subst}
 use Rattle.std.proofs.lemmas.Result.{err_from_is_err_and}
 use Rattle.ficus_model.specs.declared.event.Event.TheVariants.{Update}
 use Rattle.ficus_deciding.proofs.Sound.{may_where_given}
@@ -129,3 +129,6 @@ returns-in_err-save-clause-acts g c =
 
 pub returns-clause-acts : goal.returns-clause-acts
 returns-clause-acts g c = acts_done c.in_ok-save.ensures.acts
+
+pub same-self-in_err-noted : goal.same-self-in_err-noted
+same-self-in_err-noted g c = refl

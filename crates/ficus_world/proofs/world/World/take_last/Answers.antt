@@ -4,8 +4,7 @@ use Rattle.ficus_ids.specs.declared.refusal.Refusal.TheVariants.{Memory}
 use Rattle.ficus_runs.specs.Numbered.{IsNumbered}
 use Rattle.ficus_runs.specs.Sequence.{unchanged}
 use Rattle.ficus_script.specs.declared.answer.Answer.TheVariants.{Done}
-use Rattle.ficus_wire.specs.Parts.{joined, with_part}
-use Rattle.ficus_world.specs.Moves.{IsTaking, TakesSpelled, parts_held}
+use Rattle.ficus_world.specs.Moves.{IsTaking, TakesSpelled, spelled_with}
 use Rattle.ficus_world.specs.World.{IsSoundNext, Whole}
 use Rattle.ficus_opening.specs.declared.member.Member.{Member}
 use Rattle.ficus_run_laws.proofs.Numbers.{number_once}
@@ -21,7 +20,7 @@ returns-in_err-next-clause-takes g c = λ was is.
     let old = c.args.self.now.whole in
     let came = c.args.came in
     let index = c.args.head.index in
-    let bytes = joined (with_part (parts_held was.parts c.args.head) index c.args.bytes.now) in
+    let bytes = spelled_with was c.args.head c.args.bytes.now in
     let there = subst (λ (w : Whole). IsNumbered w.members came.to was) (sym (whole_is c.self.view_is)) is in
     let takes = subst (λ (w : Whole). r ≢ Memory → TakesSpelled came index bytes w (Err r) (unchanged w))
     (whole_is c.self.view_is) (c.in_err-next.ensures was there) in
@@ -36,7 +35,7 @@ returns-in_err-save-clause-takes g c = λ was is.
     let old = c.args.self.now.whole in
     let came = c.args.came in
     let index = c.args.head.index in
-    let bytes = joined (with_part (parts_held was.parts c.args.head) index c.args.bytes.now) in
+    let bytes = spelled_with was c.args.head c.args.bytes.now in
     let there = subst (λ (w : Whole). IsNumbered w.members came.to was) (sym (whole_is c.self.view_is)) is in
     let taking = subst (λ (w : Whole). IsTaking came index bytes w c.in_ok-next.field-0.next c.in_ok-next.field-0.noted.items)
     (whole_is c.self.view_is) (c.in_ok-next.ensures was there) in
@@ -50,7 +49,7 @@ returns-clause-takes g c = λ was is.
     let old = c.args.self.now.whole in
     let came = c.args.came in
     let index = c.args.head.index in
-    let bytes = joined (with_part (parts_held was.parts c.args.head) index c.args.bytes.now) in
+    let bytes = spelled_with was c.args.head c.args.bytes.now in
     let there = subst (λ (w : Whole). IsNumbered w.members came.to was) (sym (whole_is c.self.view_is)) is in
     let next = c.in_ok-next.field-0.next in
     let taking = subst (λ (w : Whole). IsTaking came index bytes w next c.in_ok-next.field-0.noted.items)
@@ -64,7 +63,7 @@ save-requires-clause-next g c = λ was is.
     let old = c.args.self.now.whole in
     let came = c.args.came in
     let index = c.args.head.index in
-    let bytes = joined (with_part (parts_held was.parts c.args.head) index c.args.bytes.now) in
+    let bytes = spelled_with was c.args.head c.args.bytes.now in
     let there = subst (λ (w : Whole). IsNumbered w.members came.to was) (sym (whole_is c.self.view_is)) is in
     let next = c.in_ok-next.field-0.next in
     let noted = c.in_ok-next.field-0.noted.items in
