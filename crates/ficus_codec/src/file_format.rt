@@ -6,7 +6,7 @@ ghost use Rattle.std.specs.Int.{w32, to_be_bytes};
 ghost use Rattle.ficus_vectors.specs.Vector.{in_order, no_counts};
 ghost use Rattle.ficus_formats.specs.Format.{Begins, Keeps, Reads, byte, number32, number64, id as id_format, times};
 ghost use Rattle.ficus_codec.specs.Checks.{MayPrecede, IsBare, IsWhole};
-ghost use Rattle.ficus_codec.specs.Formats.{kind, kind as kind_format, kind_number, count, counts, content, version, version_fields, versions, file, file_fields};
+ghost use Rattle.ficus_codec.specs.Formats.{kind, kind as kind_format, kind_number, count, counts, content, version, versions, file, file_fields};
 ghost use Rattle.ficus_codec.specs.FormatsUnique.{unique-version, unique-file};
 ghost use Rattle.ficus_durable_state.specs.Tables.{FitsCounts, FitsVersion, FitsFile};
 
@@ -14,8 +14,8 @@ use crate::entry_format::{is_issuable, passes_id};
 use ficus_durable_state::{FILE_LIMIT, UPDATE_LIMIT};
 use ficus_file::{FileReplica, Version, Versions};
 use ficus_formats::{
-    ReadFault, Reader, RowSpelling, Spelling, Window, WindowSpelling, put_bytes, put_long_string,
-    put_run, read_run,
+    ReadFault, Reader, RowSpelling, Spelling, Window, WindowSpelling, id_and, put_bytes,
+    put_long_string, put_run, read_run,
 };
 use ficus_ids::{FIXED_LIMIT, Id, Kind, Listed, Members, Memory, Sort};
 use ficus_vectors::{Standing, Vector};
@@ -373,20 +373,12 @@ pub(crate) fn file_behind<'a>(
     }
 }
 
-// What stands before the versions: the identifier, the kind, and how many versions there are.
-fn file_head(id: Id, kind: Kind, count: u8) -> [u8; HEAD_ROOM]
-    ensures { result ≡ id_format.spell id ++ (kind_format.spell kind ++ byte.spell count) }
+// What stands before the versions: the identifier, the kind, and how many versions there are. Behind it is a zero.
+#[inline(always)]
+fn file_head(id: Id, kind: Kind, count: u8) -> [u8; 8]
+    ensures { result ≡ id_format.spell id ++ (kind_format.spell kind ++ (byte.spell count ++ byte.spell 0)) }
 {
-    let [first, second, third, fourth] = id.number.to_be_bytes();
-    [
-        id.replica,
-        first,
-        second,
-        third,
-        fourth,
-        number_of(kind),
-        count,
-    ]
+    id_and(id, number_of(kind), count)
 }
 
 // What has no versions, with the counts of all eight, in rows of four bytes behind a zero.
@@ -465,7 +457,8 @@ impl Spelling for FileSpelling {
         if versions.is_empty() {
             return put_bare(out, value.id, value.kind, value.covered, members);
         }
-        put_bytes(out, &file_head(value.id, value.kind, versions.len() as u8))?;
+        let head = file_head(value.id, value.kind, versions.len() as u8);
+        put_bytes(out, &head[..HEAD_ROOM])?;
         put_run(&VersionSpelling { members }, out, versions)?;
         put_counts(out, value.covered, members)
     }

@@ -11,7 +11,7 @@ use crate::{Entry, SharedEntry, State};
 use ficus_ids::{Id, Marks, Memory};
 use ficus_index::Index;
 use ficus_persistent::PersistentList;
-use ficus_table::Table;
+use ficus_table::{InOrder, Table};
 use std::alloc::Global;
 use std::marker::Model;
 
@@ -62,8 +62,10 @@ impl Entries {
         requires { IsRising rows.now }
         ensures { IfOk result (λ built. built ≡ rows.now) }
     {
+        let notes = notes(alloc, &InOrder::of_rows(rows))?;
+        let index = Index::of(alloc, notes)?;
         let table = Table::of(alloc, rows)?;
-        Entries::indexed(table)
+        Ok(Entries { table, index })
     }
 
     /// How many entries there are.

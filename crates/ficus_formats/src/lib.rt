@@ -20,5 +20,5 @@ pub use spelling::{Spelling, WindowSpelling, put_run, read_run};
 pub use taking::{take_id, take_u8, take_u16, take_u32, take_u64};
 pub use window::Window;
 pub use writing::{
-    put_bytes, put_id, put_long_string, put_short_string, put_u8, put_u16, put_u32, put_u64,
+    id_and, put_bytes, put_id, put_long_string, put_short_string, put_u8, put_u16, put_u32, put_u64,
 };

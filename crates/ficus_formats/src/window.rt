@@ -50,7 +50,7 @@ impl Window {
         ensures { self.new ≡ self.old ++ take count array.now }
     {
         let from = self.count;
-        self.bytes[from..from + N].copy_from_slice(array);
+        put_over(&mut self.bytes[from..from + N], array);
         self.count = from + count;
     }
 
@@ -77,4 +77,17 @@ impl Window {
         self.count = 0;
         Ok(())
     }
+}
+
+// Puts an array in place of as many bytes. It is assigned, not copied, so none looks whether the two lie apart, and one
+// of eight bytes is moved as a number.
+#[inline(always)]
+fn put_over<const N: usize>(bytes: &mut [u8], array: &[u8; N])
+    requires { length bytes.old ≡ N }
+    ensures { bytes.new ≡ array.now }
+{
+    let Some(place) = bytes.as_mut_array() else {
+        unreachable!()
+    };
+    *place = *array;
 }

@@ -1,4 +1,4 @@
-ghost use Rattle.std.specs.Prelude.{◌≡◌, ◌<◌, ◌++◌, ◌^◌, length, OnErr, OnOk};
+ghost use Rattle.std.specs.Prelude.{◌≡◌, ◌<◌, ◌++◌, ◌^◌, [], ◌∷◌, length, OnErr, OnOk};
 ghost use Rattle.ficus_formats.specs.Format.{byte, number16, number32, number64, string, id, Keeps};
 
 use ficus_ids::{Id, Memory};
@@ -52,6 +52,17 @@ pub fn put_id(out: &mut Vec<u8>, value: Id) -> Result<(), Memory>
 {
     let [first, second, third, fourth] = value.number.to_be_bytes();
     put_bytes(out, &[value.replica, first, second, third, fourth])
+}
+
+/// The bytes of an identifier, of two more behind it, and a zero. They are those of one number, which is put at once.
+#[inline(always)]
+pub fn id_and(value: Id, first: u8, second: u8) -> [u8; 8]
+    ensures { result ≡ id.spell value ++ (first ∷ second ∷ 0 ∷ []) }
+{
+    let replica = u64::from(value.replica) * (1 << 56);
+    let number = u64::from(value.number) * (1 << 24);
+    let behind = u64::from(first) * (1 << 16) + u64::from(second) * (1 << 8);
+    (replica + number + behind).to_be_bytes()
 }
 
 /// Appends bytes, fewer than 2^8, behind their length in one byte.

@@ -40,10 +40,10 @@ one_within notes start n here id at noted =
           inr (sym (noted.at.1 any) ∙ rw same (at.1 any))
     ]
 
-fold_small : (digest : ℕ) (name : List ℕ) → digest < 4294967296 → fold mixed digest name < 4294967296
+fold_small : (digest : ℕ) (name : List ℕ) → digest < 2147483648 → fold mixed digest name < 2147483648
 fold_small digest [] small = small
 fold_small digest (byte ∷ name) small = fold_small (mixed digest byte) name (omega arith)
 
--- a digest has 32 bits
-pub digest_small : (name : List ℕ) → digest_of name < 4294967296
-digest_small name = fold_small 2166136261 name (omega arith)
+-- a digest has 31 bits
+pub digest_small : (name : List ℕ) → digest_of name < 2147483648
+digest_small name = fold_small 18652613 name (omega arith)

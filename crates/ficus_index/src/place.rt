@@ -8,7 +8,7 @@ use ficus_persistent::{Cut, Item, Spelled};
 #[derive(Clone, Copy, PartialEq, Eq)]
 pub struct Place {
     pub dir: Id,
-    pub rank: u64,
+    pub rank: u32,
 }
 
 /// That an identifier is noted at a place.

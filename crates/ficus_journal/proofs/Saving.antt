@@ -12,13 +12,6 @@ use Rattle.ficus_journal.specs.declared.journal.Journal.{Journal}
 use Rattle.ficus_journal.proofs.Regular.{image_calls, image_regular, image_side, of_side, record_calls, record_regular, record_short, record_side, to_side, turned, turned_back}
 use Rattle.ficus_journal.proofs.Sides.{MayAppend, image_fits, image_found, next_of, place, record_fits, record_found, saved_as, stays_at}
 
--- what a save leaves of the disk that it writes, an image or a record
-abbrev pub LeavesImage : List ℕ → Saved → Bool → List ℕ → Type 0
-LeavesImage old saved is_found c = IsFound is_found old saved c
-
-abbrev pub LeavesRecord : ℕ → ℕ → List ℕ → List ℕ → Bool → List ℕ → Type 0
-LeavesRecord end generation body old is_found c = IsAppended is_found end generation body old c
-
 fits_side : (on_a : Bool) (keeper : Journal) (mine other : List ℕ)
     → FitsSide keeper (bound on_a keeper.generation) mine other → KnownAt (FitsOn on_a keeper) on_a mine other
 fits_side true keeper mine other fits = fits
@@ -38,6 +31,11 @@ appends_or : (end generation : ℕ) (body old : List ℕ) (is_found : Bool) (c :
 appends_or end generation body old true c is = inr is
 appends_or end generation body old false c is = inl is
 
+-- what is known of the disks, by the side of the keeper
+pub fits_on : (on_a : Bool) (keeper : Journal) (a b : List ℕ) → keeper.on_a ≡ on_a → Fits keeper a b
+    → FitsOn on_a keeper a b
+fits_on on_a keeper a b side fits = subst (λ (v : Bool). FitsOn v keeper a b) side fits
+
 module _ (on_a : Bool) (keeper : Journal) (force other : List ℕ)
     (fits : FitsSide keeper (bound on_a keeper.generation) force other) (new : ℕ) (body : List ℕ)
     (follows : (k : Kept) → kept_at kept_in on_a force other ≡ Some k → new ≡ generation_of k + 1) where
@@ -48,8 +46,8 @@ module _ (on_a : Bool) (keeper : Journal) (force other : List ℕ)
   module _ (wants : saves_image keeper ≡ true) where
     pub image_saves : (after : Journal) → after.on_a ≡ not on_a → after.generation ≡ new → after.shut ≡ false
         → after.end ≡ length body + 17 → after.count ≡ 0 → after.stuck ≡ false
-        → Saves kept_in Fits IsRegular (LeavesImage other (saved_as new body)) (not on_a) (Some (image_alone new body)) after other
-        force
+        → Saves kept_in Fits IsRegular (λ is_found c. IsFound is_found other (saved_as new body) c) (not on_a)
+        (Some (image_alone new body)) after other force
     image_saves after side generation shut end count stuck = record {
       unchanged = inr refl;
       keeps = image_found on_a keeper force other fits new body next;
@@ -79,7 +77,7 @@ module _ (on_a : Bool) (keeper : Journal) (force other : List ℕ)
     pub record_saves : (after : Journal) → after.on_a ≡ on_a → after.generation ≡ keeper.generation
         → after.shut ≡ keeper.shut → after.end ≡ keeper.end + length body + 13 → after.count ≡ keeper.count + 1
         → after.stuck ≡ keeper.stuck
-        → Saves kept_in Fits IsRegular (LeavesRecord keeper.end new body force) on_a
+        → Saves kept_in Fits IsRegular (λ is_found c. IsAppended is_found keeper.end new body force c) on_a
         (after_commit false new body (kept_at kept_in on_a force other)) after force other
     record_saves after side generation shut end count stuck = record {
       unchanged = stays_at keeper.end force force record_place refl;

@@ -1,12 +1,12 @@
-ghost use Rattle.std.specs.Prelude.{◌≡◌, ◌+◌, ◌^◌, ◌≤◌, IfOk, OnOk, vec_capacity};
+ghost use Rattle.std.specs.Prelude.{◌≡◌, ◌+◌, ◌^◌, ◌≤◌, IfOk, OnOk};
 
 use crate::opening::opened;
 use ficus_disk::{Disk, Pair};
 use ficus_faults::Failed;
 use ficus_ids::Memory;
 use ficus_keeper::{Keep, MakeFault, Opened, StoreFault, Wants};
-use ficus_slot::{read_all, reserve_range, save_slot};
-use ficus_two_slots::choose;
+use ficus_slot::{reserve_range, save_slot};
+use ficus_two_slots::{choose, read_both};
 use std::alloc::Global;
 
 /// How many records stand behind an image at most.
@@ -92,10 +92,7 @@ impl Keep for Journal {
     }
 
     fn open<D: Disk>(alloc: Global, disks: &mut Pair<D>) -> Result<(Journal, Opened), StoreFault> {
-        disks.a.sync()?;
-        disks.b.sync()?;
-        let a = read_all(alloc, &mut disks.a)?;
-        let b = read_all(alloc, &mut disks.b)?;
+        let (a, b) = read_both(alloc, disks)?;
         match choose(&a, &b) {
             Some(choice) => Ok(opened(alloc, choice, &a, &b)?),
             None => Err(StoreFault::NoImage),

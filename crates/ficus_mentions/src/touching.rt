@@ -88,7 +88,7 @@ fn marked(alloc: Global, ids: &[Id], marks: &[bool]) -> Result<Vec<Id>, Memory>
     ensures rising { IfOk result (λ kept. IsRisingBy (λ id. id) kept.items) }
     ensures marked { IfOk result (λ kept. (id : IdValue) → Contains kept.items id ↔ HasMark ids.now marks.now id) }
 {
-    let mut kept = Vec::new(alloc);
+    let mut kept = Vec::with_capacity(alloc, ids.len())?;
     for index in 0..ids.len() {
         if marks[index] {
             kept.push(ids[index])?;

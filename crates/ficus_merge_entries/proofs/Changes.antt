@@ -1,10 +1,13 @@
 -- What becomes of the taker's entries, and what the table says of it.
-use Rattle.std.proofs.Common.{◌≡◌, ℕ, List, Option, Some, None, ◌∙◌, sym, ap, subst, refl}
+use Rattle.std.specs.Prelude.{All, length}
+use Rattle.std.proofs.Common.{◌≡◌, ℕ, List, [], ◌∷◌, Option, Some, None, ◌∙◌, sym, ap, subst, refl}
 use Rattle.std.specs.Option.{option_or}
+use Rattle.std.proofs.lemmas.List.Elements.{All-contains}
 use Rattle.ficus_ids.specs.declared.id.Id.{Id}
-use Rattle.ficus_ids.specs.RisingLaws.{held_or_not}
+use Rattle.ficus_ids.specs.ListLaws.{not_inside_none}
+use Rattle.ficus_ids.specs.RisingLaws.{held_or_not, one_held}
 use Rattle.ficus_table.specs.Made.{IsMadeBy, HasId}
-use Rattle.ficus_entry.specs.Entry.{ReplacesEntries}
+use Rattle.ficus_entry.specs.Entry.{IsRising, HoldsUnder, ReplacesEntries}
 use Rattle.ficus_entry.specs.declared.entry.Entry.{Entry}
 use Rattle.ficus_entry.specs.declared.entry.State.{State}
 use Rattle.ficus_entry.specs.declared.entry.State.TheVariants.{Live}
@@ -55,6 +58,33 @@ module _ (r members : ℕ) where
   })
   new_stays None None entry none is live = cc
   new_stays (Some mine) theirs entry none is live = cc
+
+  -- where nothing stands at r and none of the peer's is removed, these are taken as they are
+  pub all_new_merges : (mine theirs : List Entry) → length mine ≡ 0 → IsRising theirs →
+      All (λ entry. entry.state ≡ Live) theirs → MergesEntries r members mine theirs theirs
+  all_new_merges [] theirs none rising live = record { each = each }
+    where
+      taken : (at_peer after : Option Entry) → after ≡ at_peer →
+          ((entry : Entry) → at_peer ≡ Some entry → entry.state ≡ Live) → MergesEntry r members None at_peer after
+      taken None after same lives = subst (MergesEntry r members None None) (sym same) nothing_merges
+      taken (Some entry) after same lives =
+          subst (MergesEntry r members None (Some entry)) (sym same)
+          (new_stays None (Some entry) entry refl refl (lives entry refl))
+
+      lives : (id : Id) (at_peer : Option Entry) → HoldsUnder theirs id at_peer → (entry : Entry) →
+          at_peer ≡ Some entry → entry.state ≡ Live
+      lives id (Some item) there entry same =
+          let is : item ≡ entry = cc same in
+          subst (λ (e : Entry). e.state ≡ Live) is
+          (All-contains (λ (e : Entry). e.state ≡ Live) theirs item live there.0)
+      lives id None there entry same = absurd (cc same)
+
+      each : (id : Id) (at_r at_peer after : Option Entry) → HoldsUnder [] id at_r → HoldsUnder theirs id at_peer →
+          HoldsUnder theirs id after → MergesEntry r members at_r at_peer after
+      each id None at_peer after here there now =
+          taken at_peer after (one_held id_of theirs id after at_peer rising now there) (lives id at_peer there)
+      each id (Some item) at_peer after here there now = absurd (not_inside_none item here.0)
+  all_new_merges (entry ∷ mine) theirs none rising live = absurd (cc)
 
   -- the changes in place of what stood there are what the table says
   pub replaced_merges : (mine theirs changes merged : List Entry) →

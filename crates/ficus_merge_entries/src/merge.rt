@@ -1,8 +1,9 @@
-ghost use Rattle.std.specs.Prelude.{◌≡◌, [], ◌++◌, IfOk, OnOk};
+ghost use Rattle.std.specs.Prelude.{◌≡◌, [], ◌++◌, length, All, IfOk, IfSome, IsTrue, OnOk};
 ghost use Rattle.ficus_ids.specs.Members.{IsMember};
 ghost use Rattle.ficus_table.specs.Made.{IsMadeBy};
 ghost use Rattle.ficus_table.specs.SideBySide.{as_list};
 ghost use Rattle.ficus_entry.specs.Entry.{IsRising};
+ghost use Rattle.ficus_entry.specs.declared.entry.State.{State};
 ghost use Rattle.ficus_merge_entries.specs.Merge.{Changes, MergesEntries};
 
 use crate::change::change;
@@ -44,8 +45,41 @@ pub fn merge_in_order(
     ensures merged { IfOk result (MergesEntries me members mine theirs.now) }
     ensures rising { IfOk result IsRising }
 {
+    if let Some(rows) = all_new(&mine, theirs) {
+        return Entries::of_rows(alloc, rows);
+    }
     let changes = changes(alloc, Taker::new(me, members), &mine, theirs)?;
     mine.replaced(&changes)
+}
+
+// The peer's entries, by their rows, where these are known, none of them is removed, and the taker has none: then the
+// table takes them as they are.
+fn all_new<'a>(mine: &Entries, theirs: &InOrder<'a>) -> Option<&'a [SharedEntry]>
+    ensures none { IfSome result (λ _. length mine.now ≡ 0) }
+    ensures theirs { IfSome result (λ rows. rows.now ≡ theirs.now) }
+    ensures rising { IfSome result (λ rows. IsRising rows.now) }
+    ensures live { IfSome result (λ rows. All (λ entry. entry.state ≡ State.Live) rows.now) }
+{
+    // Tells that the identifiers rise.
+    let _count = theirs.len();
+    let rows = theirs.rows().all_rows()?;
+    if mine.is_empty() && are_live(rows) {
+        Some(rows)
+    } else {
+        None
+    }
+}
+
+// Whether none of the entries is removed.
+fn are_live(rows: &[SharedEntry]) -> bool
+    ensures { IsTrue result → All (λ entry. entry.state ≡ State.Live) rows.now }
+{
+    for row in rows {
+        if !row.entry().is_live() {
+            return false;
+        }
+    }
+    true
 }
 
 // What becomes of the taker's entries, where it isn't what stands there.
@@ -60,7 +94,8 @@ fn changes(
     ensures rising { IfOk result (λ changes. IsRising changes.items) }
 {
     let my_entries = mine.in_order()?;
-    let mut changes = Vec::new(alloc);
+    // Room for all of theirs costs nothing where it isn't filled.
+    let mut changes = Vec::with_capacity(alloc, theirs.len())?;
     collect(&mut changes, taker, &my_entries, theirs)?;
     Ok(changes)
 }

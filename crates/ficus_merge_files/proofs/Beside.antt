@@ -1,8 +1,7 @@
 -- A walk along the files of two sides, which finds beside each of theirs the one of mine with its identifier.
 use Rattle.std.proofs.Common.{◌≡◌, ◌⊎◌, ◌<◌, ℕ, ◌+◌, List, [], ◌∷◌, ◌++◌, length, get_or, Contains, Option, Some, None, Bor, option_copied, refl, sym, ◌∙◌, subst, inl, inr, arith}
-use Rattle.std.specs.Prelude.{All}
 use Rattle.std.specs.declared.cmp.Ordering.TheVariants.{Less}
-use Rattle.std.proofs.lemmas.List.{append-nil, length_push}
+use Rattle.std.proofs.lemmas.List.{length_push}
 use Rattle.std.proofs.lemmas.List.Elements.{All-push, Contains-append_left, Contains-push, Contains-push_cases, Contains-get_or}
 use Rattle.std.proofs.lemmas.List.Quantifiers.{all_pairs_push}
 use Rattle.ficus_ids.specs.Id.{id_cmp}
@@ -87,21 +86,7 @@ module _ (mine passed news : List FileReplica) (their : FileReplica) (my : Optio
     ];
   }
 
--- the walk passes one identifier more, under which theirs have nothing
-pub none_more : (mine theirs : List FileReplica) (old new : Sides FileReplica) (places : List ℕ) (place : ℕ)
-    (my : Option (Bor FileReplica)) → AreNewsSoFar mine theirs old places place →
-    Passes id_of old new (option_copied my) None → AreNewsSoFar mine theirs new places place
-none_more mine theirs old new places place my so_far passes =
-    rw (passes.is, append-nil old.theirs_passed) (record {
-      mine_is = so_far.mine_is;
-      theirs_is = so_far.theirs_is;
-      rising = so_far.rising;
-      are_new = so_far.are_new;
-      inside = so_far.inside;
-      next = so_far.next;
-    })
-
--- or something
+-- the walk passes one file of theirs more
 pub news_more : (mine theirs : List FileReplica) (old new : Sides FileReplica) (places more : List ℕ) (place : ℕ)
     (my : Option (Bor FileReplica)) (their : Bor FileReplica) → AreNewsSoFar mine theirs old places place →
     Passes id_of old new (option_copied my) (Some their.now) → Notes places more place my their.now →

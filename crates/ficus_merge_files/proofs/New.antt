@@ -1,14 +1,14 @@
 -- What is new of a peer's files tells all that a merge asks of them: what both hold alike changes nothing.
 use Rattle.std.proofs.Common.{◌≡◌, ℕ, ◌≤◌, List, [], ◌∷◌, length, get_or, slice_get, Contains, Option, Some, None, refl, sym, ap, subst, ◌∙◌, inl, inr, ◌⊎◌, ◌≢◌}
-use Rattle.std.specs.Option.{option_or}
+use Rattle.std.specs.Prelude.{All}
 use Rattle.std.proofs.lemmas.Bool.{cases_order}
 use Rattle.std.proofs.lemmas.List.{get_or_default}
+use Rattle.std.proofs.lemmas.List.Elements.{All-contains}
 use Rattle.ficus_ids.specs.Kind.{sort_of}
 use Rattle.ficus_ids.specs.declared.id.Id.{Id}
 use Rattle.ficus_ids.specs.declared.kind.Kind.TheVariants.{Dir}
 use Rattle.ficus_ids.specs.KindLaws.{kind_sort}
 use Rattle.ficus_ids.specs.ListLaws.{not_inside_none}
-use Rattle.ficus_ids.specs.Rising.{ReplacesBy}
 use Rattle.ficus_ids.specs.RisingLaws.{one_item, one_held}
 use Rattle.ficus_vectors.specs.Vector.{IsOver}
 use Rattle.ficus_vectors.specs.VectorLaws.{covers_itself, join_covered}
@@ -24,19 +24,28 @@ use Rattle.ficus_merge_files.specs.News.{AreNew}
 use Rattle.ficus_merge_files.proofs.Current.{one_version, ordered_of, most_of}
 use Rattle.ficus_merge_files.proofs.Determined.{same_versions}
 
--- in place of no files all of them stand
-pub all_in_place : (mine files : List FileReplica) → length mine ≡ 0 → AreFiles files → ReplacesBy id_of mine files files
-all_in_place [] files none are = record { each = each }
+-- where mine are none and all of theirs are held, these are what both make
+pub all_theirs : (held : List Id) (mine theirs : List FileReplica) → length mine ≡ 0 → AreFiles theirs →
+    All (λ file. Contains held file.id) theirs → AreMergedFiles held mine theirs theirs
+all_theirs held [] theirs none are all = record { each = each }
   where
-    other_is : (other is : Option FileReplica) → is ≡ other → is ≡ option_or other None
-    other_is None is same = same
-    other_is (Some file) is same = same
+    both_is : (t b : Option FileReplica) → b ≡ t → ((file : FileReplica) → t ≡ Some file → Contains held file.id) →
+        Merges held None t b
+    both_is None b same taken = same
+    both_is (Some file) b same taken = record { named = λ _. same; unnamed = λ no. absurd (no (taken file refl)) }
 
-    each : (id : Id) (was other is : Option FileReplica) → HoldsUnder [] id was → HoldsUnder files id other →
-        HoldsUnder files id is → is ≡ option_or other was
-    each id None other is held here now = other_is other is (one_held id_of files id is other are.rising now here)
-    each id (Some was) other is held here now = absurd (not_inside_none was held.0)
-all_in_place (file ∷ mine) files none are = absurd (cc)
+    is_held : (id : Id) (t : Option FileReplica) → HoldsUnder theirs id t → (file : FileReplica) → t ≡ Some file →
+        Contains held file.id
+    is_held id (Some item) there file same =
+        subst (λ (f : FileReplica). Contains held f.id) (let is : item ≡ file = cc same in is)
+        (All-contains (λ (f : FileReplica). Contains held f.id) theirs item all there.0)
+    is_held id None there file same = absurd (cc same)
+
+    each : (id : Id) (m t b : Option FileReplica) → HoldsUnder [] id m → HoldsUnder theirs id t →
+        HoldsUnder theirs id b → Merges held m t b
+    each id None t b here there now = both_is t b (one_held id_of theirs id b t are.rising now there) (is_held id t there)
+    each id (Some m) t b here there now = absurd (not_inside_none m here.0)
+all_theirs held (file ∷ mine) theirs none are all = absurd (cc)
 
 -- no version of a file is over another one of it
 none_is_over : (file : FileReplica) → IsWellFormed file → (a b : Version) → Contains file.versions a →

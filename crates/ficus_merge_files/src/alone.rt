@@ -29,7 +29,7 @@ fn theirs_alone(alloc: Global, news: &News<'_>) -> Result<Vec<Id>, Memory>
     ensures alone { IfOk result (λ ids. (id : IdValue) → Contains ids.items id ↔
         IsAlone news.now.mine news.now.theirs id) }
 {
-    let mut ids = Vec::new(alloc);
+    let mut ids = Vec::with_capacity(alloc, news.len())?;
     for index in 0..news.len() {
         let new = news.at(index);
         if new.mine.is_none() {

@@ -1,7 +1,7 @@
-ghost use Rattle.std.specs.Prelude.{◌≡◌, ◌↔◌, unwrap_or, Some, Contains, IsTrue, IfOk, IfSome, OnOk};
-ghost use Rattle.ficus_ids.specs.Rising.{IsRisingBy, ReplacesBy};
+ghost use Rattle.std.specs.Prelude.{◌≡◌, ◌↔◌, length, unwrap_or, Some, All, Contains, IsTrue, IfOk, IfSome, OnOk};
+ghost use Rattle.ficus_ids.specs.Rising.{IsRisingBy};
 ghost use Rattle.ficus_file.specs.declared.file.FileReplica.{FileReplica as FileValue};
-ghost use Rattle.ficus_file.specs.Files.{id_of, AreFiles, IsSoundFile, Holds, HoldsUnder};
+ghost use Rattle.ficus_file.specs.Files.{AreFiles, IsSoundFile};
 ghost use Rattle.ficus_merge_files.specs.Merge.{CanMerge, Fit, IsMergedFile, IsTaken, AreMergedFiles};
 ghost use Rattle.ficus_merge_files.specs.News.{IsBeside, HasRow};
 ghost use Rattle.ficus_merge_files.specs.Changes.{IsChange, AddsChange, AreChanges};
@@ -142,11 +142,40 @@ fn changes(alloc: Global, news: &News<'_>, held: &[Id]) -> Result<Vec<SharedFile
     ensures changes { IfOk result (λ changes. AreChanges held.now news.now.mine news.now.new changes.items) }
     ensures files { IfOk result (λ changes. AreFiles changes.items) }
 {
-    let mut changes = Vec::new(alloc);
+    let mut changes = Vec::with_capacity(alloc, news.len())?;
     for index in 0..news.len() {
         add_change(&mut changes, alloc, news, news.at(index), held)?;
     }
     Ok(changes)
+}
+
+// Whether all of the files are held, by rising identifiers.
+fn are_held(held: &[Id], files: &[SharedFile]) -> bool
+    requires { IsRisingBy (λ id. id) held.now }
+    ensures { IsTrue result → All (λ file. Contains held.now file.id) files.now }
+{
+    for file in files {
+        if !is_among(held, file.file().id) {
+            return false;
+        }
+    }
+    true
+}
+
+// All of theirs, by their rows, where these are known, all of them are held, and mine are none: then they are what both
+// make.
+fn all_taken<'a>(news: &News<'a>, held: &[Id]) -> Option<&'a [SharedFile]>
+    requires { IsRisingBy (λ id. id) held.now }
+    ensures theirs { IfSome result (λ rows. rows.now ≡ news.now.theirs) }
+    ensures none { IfSome result (λ _. length news.now.mine ≡ 0) }
+    ensures held { IfSome result (λ rows. All (λ file. Contains held.now file.id) rows.now) }
+{
+    let rows = news.their_rows()?;
+    if news.mine().len() == 0 && are_held(held, rows) {
+        Some(rows)
+    } else {
+        None
+    }
 }
 
 /// What the files make together, as `merge_files` says of the two lists. All that stays is shared with mine.
@@ -156,33 +185,25 @@ pub fn merge_news(alloc: Global, news: &News<'_>, held: &Entries) -> Result<File
     ensures files { IfOk result AreFiles }
 {
     let taken = alone::taken(alloc, held, news)?;
-    merged_with(alloc, news, &taken)
+    merged_with(alloc, news, taken)
 }
 
-// The same where these alone of theirs are held, by rising identifiers.
-fn merged_with(alloc: Global, news: &News<'_>, held: &[Id]) -> Result<Files, Memory>
+// The same where these alone of theirs are held, by rising identifiers. They are given up before the list is made.
+fn merged_with(alloc: Global, news: &News<'_>, held: Vec<Id>) -> Result<Files, Memory>
     requires fit { Fit news.now.mine news.now.theirs }
-    requires rising { IsRisingBy (λ id. id) held.now }
-    ensures merged { IfOk result (AreMergedFiles held.now news.now.mine news.now.theirs) }
+    requires rising { IsRisingBy (λ id. id) held.items }
+    ensures merged { IfOk result (AreMergedFiles held.items news.now.mine news.now.theirs) }
     ensures files { IfOk result AreFiles }
 {
     // Tells that both sides may be held.
     let _count = news.len();
-    let changes = changes(alloc, news, held)?;
-    changed(alloc, news.mine(), &changes)
-}
-
-// Mine with these, each in place of the one with its identifier. Where there are none of mine no walk along both is
-// made, which spares the memory for it.
-fn changed(alloc: Global, mine: &Files, changes: &[SharedFile]) -> Result<Files, Memory>
-    requires { AreFiles changes.now }
-    ensures replaced { IfOk result (ReplacesBy id_of mine.now changes.now) }
-    ensures files { IfOk result AreFiles }
-{
-    if mine.len() == 0 {
-        return Files::of_rows(alloc, changes);
+    if let Some(rows) = all_taken(news, &held) {
+        drop(held);
+        return Files::of_rows(alloc, rows);
     }
-    let mut both = mine.copy()?;
-    both.replace(changes)?;
+    let changes = changes(alloc, news, &held)?;
+    drop(held);
+    let mut both = news.mine().copy()?;
+    both.replace(&changes)?;
     Ok(both)
 }

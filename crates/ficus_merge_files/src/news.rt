@@ -1,4 +1,4 @@
-ghost use Rattle.std.specs.Prelude.{◌≡◌, ◌<◌, ◌==◌, ◌↔◌, length, slice_get, Some, IfOk, OnOk, IsTrue};
+ghost use Rattle.std.specs.Prelude.{◌≡◌, ◌<◌, ◌==◌, ◌↔◌, length, slice_get, Some, IfOk, IfSome, OnOk, IsTrue};
 ghost use Rattle.std.specs.Option.{option_copied};
 ghost use Rattle.ficus_file.specs.Files.{AreFiles, HoldsUnder};
 ghost use Rattle.ficus_merge_files.specs.News.{at_places, AreInside, AreNew, HasRow, IsKnown, Notes};
@@ -87,6 +87,13 @@ impl<'a> News<'a> {
             theirs,
             row: self.theirs.row(place),
         }
+    }
+
+    /// All of theirs, by their rows, where these are known.
+    pub(crate) fn their_rows(&self) -> Option<&'a [SharedFile]>
+        ensures { IfSome result (λ rows. rows.now ≡ self.now.theirs) }
+    {
+        self.theirs.all_rows()
     }
 
     /// All of mine.

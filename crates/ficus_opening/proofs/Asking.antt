@@ -1,23 +1,25 @@
 -- What calls do to the disks of members, while one pair after the other is asked.
-use Rattle.std.proofs.Common.{◌≡◌, ℕ, ◌+◌, ◌<◌, List, length, get_or, Result, Ok, Err, sym, ap, subst}
+use Rattle.std.proofs.Common.{◌≡◌, ℕ, ◌+◌, ◌<◌, ◌≤◌, List, length, get_or, Result, Ok, Err, sym, ap, subst}
 use Rattle.std.specs.Prelude.{slice_set, IsErrOf, OnOk}
 use Rattle.ficus_disk.specs.Pair.{PairRose}
 use Rattle.ficus_disk.specs.declared.disk.Disk.{Ghosts as Disk}
 use Rattle.ficus_disk.specs.declared.pair.Pair.{Pair}
 use Rattle.ficus_keeper.specs.Fuses.{both_unarmed, fuses_of}
-use Rattle.ficus_keeper.specs.Pairs.{PairSame}
+use Rattle.ficus_keeper.specs.Moments.{PairLeavesOld, PairSpans}
+use Rattle.ficus_keeper.specs.Pairs.{PairSame, PairWithin}
 use Rattle.ficus_runs.specs.Numbered.{IsNumbered}
 use Rattle.ficus_opening.specs.Fuses.{AreUnarmed}
+use Rattle.ficus_opening.specs.Rests.{AllRest}
 use Rattle.ficus_opening.specs.Opening.{DisksAsked, DisksLooked, IsAtFault, IsUnfailed, PairAsked, PairLooked, Steady}
 use Rattle.ficus_opening.specs.declared.fault.WorldFault.{WorldFault}
 use Rattle.ficus_opening.specs.declared.fault.WorldFault.TheVariants.{Store}
 use Rattle.ficus_opening.proofs.Faults.{same_err, same_store, where_ok}
 use Rattle.ficus_opening.proofs.Steadies.{fault_behind, fault_set, number_at, rose_from, same_trans, steady_none, steady_one, steady_set, steady_trans}
-use Rattle.ficus_opening.proofs.Rests.{all_rest_one}
+use Rattle.ficus_opening.proofs.Rests.{all_rest_none, all_rest_one, all_rest_then}
 use Rattle.ficus_opening.proofs.Unarmed.{unfailing_behind, unfailing_none, unfailing_set}
 
 -- a fault is the same, whatever would have been given
-err_as : {A B : Type 0} (one two : WorldFault) → IsErrOf {T = A} (Err one) two → IsErrOf {T = B} (Err one) two
+pub err_as : {A B : Type 0} (one two : WorldFault) → IsErrOf {T = A} (Err one) two → IsErrOf {T = B} (Err one) two
 err_as one two is = ap (λ (f : WorldFault). Err f) (same_err one two is)
 
 -- what holds anyway holds where it was done
@@ -122,27 +124,17 @@ module _ {D : Type 0} {disk : Disk D} where
     unfailing = λ fused. unfailing_none disk.fuse result old new (unarmed fused) never;
   }
 
-  -- nothing was asked
-  pub disks_none : {A : Type 0} (result : Result A WorldFault) (disks : List (Pair D))
-      → ((r : ℕ) → IsErrOf result (Store r) → ⊥) → DisksAsked disk result disks disks
-  disks_none result disks never =
-      disks_steady result disks disks (steady_none disk.faults disks) (steady_none disk.armings disks)
-      (λ fused none. none) never
-
   -- a fault is handed on
   pub disks_err : {A B : Type 0} (fault : WorldFault) {old new : List (Pair D)}
       → DisksAsked {A = A} disk (Err fault) old new → DisksAsked {A = B} disk (Err fault) old new
-  disks_err fault asked = record {
+  disks_err fault {old = old} {new = new} asked = record {
     failed = λ r is. asked.failed r (err_as fault (Store r) is);
     spared = λ other so is. asked.spared other so (err_as fault other is);
     steady = tt;
     armings = asked.armings;
     unfailing = λ fused.
-        let was = asked.unfailing fused in
-        record {
-          unarmed = was.unarmed;
-          unfailing = λ none r is. was.unfailing none r (err_as fault (Store r) is);
-        };
+        unfailing_behind disk.fuse (Err fault) (Err fault) old old new (λ none. none) (asked.unfailing fused)
+        (λ r is. err_as fault (Store r) is);
   }
 
   module _ {A : Type 0} {result : Result A WorldFault} (old mid : List (Pair D)) (steady : Steady disk.faults old mid)
@@ -177,6 +169,16 @@ module _ {D : Type 0} {disk : Disk D} where
 
 -- the same where nothing is written
 module _ {D : Type 0} {disk : Disk D} where
+  pub looked_so : {A : Type 0} {number : ℕ} {result : Result A WorldFault} {old new : Pair D}
+      → PairAsked disk number result old new → (disk.tells → PairSame disk.seen old new)
+      → PairWithin disk.may_leave old new → PairLeavesOld disk.moment disk.left_since disk.may_leave old new
+      → (disk.tells_moments → PairSpans disk.moment disk.left_since old new) → PairLooked disk number result old new
+  looked_so asked same within leaves spans = record {
+    asked = asked;
+    same = same;
+    rests = record { within = within; leaves = leaves; spans = spans };
+  }
+
   pub looked_then : {A B : Type 0} {number : ℕ} {given : A} (result : Result B WorldFault) {old new : Pair D}
       → ((r : ℕ) → IsErrOf result (Store r) → ⊥) → PairLooked disk number (Ok given) old new
       → PairLooked disk number result old new
@@ -221,4 +223,35 @@ module _ {D : Type 0} {disk : Disk D} where
         (subst (λ n. PairAsked disk n result before after) (sym place) looked.asked);
     same = λ told. steady_one disk.seen disks index before after within is (looked.same told);
     rests = all_rest_one disk disks index before after within is looked.rests;
+  }
+
+  -- no disk failed
+  pub looks_steady : {A : Type 0} (result : Result A WorldFault) (old new : List (Pair D)) → Steady disk.faults old new
+      → Steady disk.armings old new → (disk.tells_fuse → AreUnarmed disk.fuse old → AreUnarmed disk.fuse new)
+      → (disk.tells → Steady disk.seen old new) → AllRest disk old new → ((r : ℕ) → IsErrOf result (Store r) → ⊥)
+      → DisksLooked disk result old new
+  looks_steady result old new steady armings unarmed same rests never = record {
+    asked = disks_steady result old new steady armings unarmed never;
+    same = same;
+    rests = rests;
+  }
+
+  -- nothing was asked
+  pub looks_none : {A : Type 0} {result : Result A WorldFault} (disks : List (Pair D))
+      → ((r : ℕ) → IsErrOf result (Store r) → ⊥) → DisksLooked disk result disks disks
+  looks_none {result = result} disks never =
+      looks_steady result disks disks (steady_none disk.faults disks) (steady_none disk.armings disks)
+      (λ fused none. none) (λ told. steady_none disk.seen disks) (all_rest_none disk disks) never
+
+  -- all are, behind others
+  pub looks_behind : {A : Type 0} {result : Result A WorldFault}
+      → ((d : D) (t u : ℕ) (c : List ℕ) → t ≤ u → disk.left_since d u c → disk.left_since d t c)
+      → (old mid new : List (Pair D)) → Steady disk.faults old mid → Steady disk.armings old mid
+      → (disk.tells_fuse → AreUnarmed disk.fuse old → AreUnarmed disk.fuse mid)
+      → (disk.tells → Steady disk.seen old mid) → AllRest disk old mid → DisksLooked disk result mid new
+      → DisksLooked disk result old new
+  looks_behind earlier old mid new steady armings unarmed same rests then = record {
+    asked = disks_behind old mid steady armings unarmed then.asked;
+    same = λ told. steady_trans disk.seen old mid new (same told) (then.same told);
+    rests = all_rest_then disk earlier old mid new rests then.rests;
   }

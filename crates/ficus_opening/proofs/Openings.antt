@@ -1,5 +1,5 @@
 -- The disks of one member after the other are opened.
-use Rattle.std.proofs.Common.{◌≡◌, ℕ, ◌+◌, ◌<◌, ◌≤◌, Bool, false, List, [], ◌∷◌, ◌++◌, length, Option, refl, sym, ap, ap₂, subst, ◌∙◌, inl, inr, ◌⊎◌, arith}
+use Rattle.std.proofs.Common.{◌≡◌, ℕ, ◌+◌, ◌<◌, ◌≤◌, Bool, false, List, [], ◌∷◌, ◌++◌, length, Option, Err, refl, sym, ap, ap₂, subst, ◌∙◌, inl, inr, ◌⊎◌, arith}
 use Rattle.std.specs.Prelude.{◌↔◌, slice_set, IsTrue}
 use Rattle.std.proofs.lemmas.Bool.{cases_lt}
 use Rattle.std.proofs.lemmas.List.{length_push}
@@ -19,10 +19,15 @@ use Rattle.ficus_stable_storage.specs.Stable.{IsReady}
 use Rattle.ficus_stable_storage.specs.declared.stable.Stable.{Stable}
 use Rattle.ficus_runs.specs.Numbered.{IsNumbered}
 use Rattle.ficus_opening.specs.Disks.{AreDisksOf, HoldsFor, are_fused}
-use Rattle.ficus_opening.specs.Opening.{AreOpened, IsBad, IsFirstBad, IsOneMore, IsOpened, Opens, Steady, opened_member}
+use Rattle.ficus_opening.specs.Calls.{OpensMembers, OpensNext}
+use Rattle.ficus_opening.specs.Opening.{AreOpened, DisksLooked, IsBad, IsFirstBad, IsOneMore, IsOpened, Opens, Steady, opened_member}
+use Rattle.ficus_opening.specs.declared.fault.WorldFault.{WorldFault}
+use Rattle.ficus_opening.specs.declared.fault.WorldFault.TheVariants.{Image, Occupied, Store}
 use Rattle.ficus_opening.specs.declared.member.Member.{Member}
 use Rattle.ficus_opening.specs.declared.member.MemberState.{MemberState}
+use Rattle.ficus_opening.specs.declared.opening.Opened.{Opened}
 use Rattle.ficus_run_laws.proofs.Numbers.{number_once, number_read, number_exists, number_more, number_cases}
+use Rattle.ficus_opening.proofs.Asking.{err_as}
 use Rattle.ficus_opening.proofs.Steadies.{set_at, steady_back}
 
 -- the first of some
@@ -131,6 +136,14 @@ module _ {K D : Type 0} (keep : Keep K) (disk : Disk D) where
       (subst (λ (s : MemberState). HoldsFor keep disk stable.0 pair member.replica.saved s) up
       ((are.each r member stable.0 pair at stable.1 at_pair).holds told)).holds
 
+-- The disks of this member are the next to be opened: it is a member, and those of none before it are bad; so its own
+-- are the first that are, where what is read now is.
+pub record IsNextOf {D : Type 0} (kept : List ℕ → List ℕ → Option Kept) (seen : D → List ℕ) (old now : List (Pair D))
+    (number : ℕ) : Type 0 where
+  pub named : (first : Saved) → Opens kept seen old first first 1 → number ≤ first.members
+  pub earlier : (r : ℕ) → IsFirstBad kept seen old r → number ≤ r
+  pub bad : IsBad kept seen now number → IsFirstBad kept seen old number
+
 module _ {D : Type 0} (kept : List ℕ → List ℕ → Option Kept) (seen : D → List ℕ) where
   -- what holds in what is read holds while that stays
   pub opens_same : (one two : List (Pair D)) (first saved : Saved) (r : ℕ) → Steady seen one two
@@ -216,7 +229,7 @@ module _ {D : Type 0} (kept : List ℕ → List ℕ → Option Kept) (seen : D �
       ]
 
   -- the first disks are those of no world
-  pub first_bad_one : (disks : List (Pair D)) → IsBad kept seen disks 1 → IsFirstBad kept seen disks 1
+  first_bad_one : (disks : List (Pair D)) → IsBad kept seen disks 1 → IsFirstBad kept seen disks 1
   first_bad_one disks bad = record {
     some = omega arith;
     member = λ first opens. absurd (bad first first opens opens);
@@ -224,73 +237,89 @@ module _ {D : Type 0} (kept : List ℕ → List ℕ → Option Kept) (seen : D �
     before = λ q one below. absurd (omega (arith, one, below));
   }
 
-  -- the next ones are, behind those of members that were opened
-  pub first_bad_more : OneHeld → (old now : List (Pair D)) (members : List Member) (before count : ℕ) → Steady seen old now
-      → AreOpened members
-      → ((r : ℕ) (member : Member) (pair : Pair D) → IsNumbered members r member → IsNumbered now r pair
-      → Holds (found_in kept seen pair) member.replica.saved)
-      → length members ≡ before → 1 ≤ before → before < count → before ≤ length now
-      → ((first : Member) → IsNumbered members 1 first → first.replica.saved.members ≡ count)
-      → IsBad kept seen now (before + 1) → IsFirstBad kept seen old (before + 1)
-  first_bad_more held_once old now members before count steady opened held counted some below within says bad =
-      let one =
-      number_exists members 1 (record { at_least = omega arith; at_most = omega (arith, some, counted) }) in
-      let says_one = says one.0 one.1 in
-      let back = steady_back seen old now steady in
-      record {
-        some = omega arith;
-        member = λ first opens.
-            let is =
-            first_is members now opened held held_once first one.0 one.1 (opens_same old now first first 1 steady opens) in
-            let as_many = ap (λ (s : Saved). s.members) is in
-            omega (arith, as_many, says_one, below);
-        bad = bad_same old now (before + 1) steady bad;
-        before = λ q q_some q_below.
-            let at =
-            number_exists members q (record { at_least = q_some; at_most = omega (arith, q_below, counted) }) in (
-              one.0.replica.saved,
-              at.0.replica.saved,
-              opens_same now old one.0.replica.saved one.0.replica.saved 1 back
-                  (opens_of members now opened held 1 one.0 one.0 one.1 one.1 (omega (arith, some, within))),
-              opens_same now old one.0.replica.saved at.0.replica.saved q back
-                  (opens_of members now opened held q one.0 at.0 one.1 at.1 (omega (arith, q_below, within))),
-            );
-      }
+  -- it is a member
+  pub one_next : (disks : List (Pair D)) → IsNextOf kept seen disks disks 1
+  one_next disks = record {
+    named = λ first opens. omega (arith, opens.fits.members.at_least);
+    earlier = λ r bad. bad.some;
+    bad = first_bad_one disks;
+  }
 
-  -- the first is a member
-  pub one_named : (disks : List (Pair D)) (first : Saved) → Opens kept seen disks first first 1 → 1 ≤ first.members
-  one_named disks first opens = omega (arith, opens.fits.members.at_least)
-
-  -- the next one behind those that were opened is a member, and none of them is bad
-  module _ (old now : List (Pair D)) (members : List Member) (before count : ℕ) (steady : Steady seen old now)
-      (opened : AreOpened members)
+  -- so is the next one behind those that were opened, and none of them is bad
+  module _ (held_once : OneHeld) (old now : List (Pair D)) (members : List Member) (before count : ℕ)
+      (steady : Steady seen old now) (opened : AreOpened members)
       (held : (r : ℕ) (member : Member) (pair : Pair D) → IsNumbered members r member → IsNumbered now r pair
       → Holds (found_in kept seen pair) member.replica.saved)
       (counted : length members ≡ before) (some : 1 ≤ before) (below : before < count) (within : before ≤ length now)
       (says : (first : Member) → IsNumbered members 1 first → first.replica.saved.members ≡ count) where
-    pub next_named : OneHeld → (first : Saved) → Opens kept seen old first first 1 → before + 1 ≤ first.members
-    next_named held_once first opens =
-        let one =
-        number_exists members 1 (record { at_least = omega arith; at_most = omega (arith, some, counted) }) in
+    one_of : (one : Member) × IsNumbered members 1 one
+    one_of = number_exists members 1 (record { at_least = omega arith; at_most = omega (arith, some, counted) })
+
+    one_opens : (r : ℕ) → 1 ≤ r → r ≤ before
+        → (saved : Saved) × Opens kept seen old one_of.0.replica.saved one_of.0.replica.saved 1
+        × Opens kept seen old one_of.0.replica.saved saved r
+    one_opens r least most =
+        let one = one_of in
+        let at = number_exists members r (record { at_least = least; at_most = omega (arith, most, counted) }) in
+        let back = steady_back seen old now steady in (
+          at.0.replica.saved,
+          opens_same now old one.0.replica.saved one.0.replica.saved 1 back
+              (opens_of members now opened held 1 one.0 one.0 one.1 one.1 (omega (arith, some, within))),
+          opens_same now old one.0.replica.saved at.0.replica.saved r back
+              (opens_of members now opened held r one.0 at.0 one.1 at.1 (omega (arith, most, within))),
+        )
+
+    is_named : (first : Saved) → Opens kept seen old first first 1 → before + 1 ≤ first.members
+    is_named first opens =
+        let one = one_of in
         let says_one = says one.0 one.1 in
         let is =
         first_is members now opened held held_once first one.0 one.1 (opens_same old now first first 1 steady opens) in
         let as_many = ap (λ (s : Saved). s.members) is in
         omega (arith, as_many, says_one, below)
 
-    pub next_earlier : (r : ℕ) → IsFirstBad kept seen old r → before + 1 ≤ r
-    next_earlier r bad = elim (cases_lt before r) [
+    is_earlier : (r : ℕ) → IsFirstBad kept seen old r → before + 1 ≤ r
+    is_earlier r bad = elim (cases_lt before r) [
       | inl past ↦ omega (arith, past)
       | inr most ↦
-          let one =
-          number_exists members 1 (record { at_least = omega arith; at_most = omega (arith, some, counted) }) in
-          let at =
-          number_exists members r (record { at_least = bad.some; at_most = omega (arith, most, counted) }) in
-          let back = steady_back seen old now steady in
-          absurd
-          (bad.bad one.0.replica.saved at.0.replica.saved
-          (opens_same now old one.0.replica.saved one.0.replica.saved 1 back
-          (opens_of members now opened held 1 one.0 one.0 one.1 one.1 (omega (arith, some, within))))
-          (opens_same now old one.0.replica.saved at.0.replica.saved r back
-          (opens_of members now opened held r one.0 at.0 one.1 at.1 (omega (arith, most, within)))))
+          let opens = one_opens r bad.some most in
+          absurd (bad.bad one_of.0.replica.saved opens.0 opens.1 opens.2)
     ]
+
+    pub more_next : IsNextOf kept seen old now (before + 1)
+    more_next = record {
+      named = is_named;
+      earlier = is_earlier;
+      bad = λ bad. record {
+        some = omega arith;
+        member = is_named;
+        bad = bad_same old now (before + 1) steady bad;
+        before = λ q least below.
+            let opens = one_opens q least (omega (arith, below)) in
+            (one_of.0.replica.saved, opens.0, opens.1, opens.2);
+      };
+    }
+
+-- opening the disks of the next member fails
+pub next_fails : {K D : Type 0} {keep : Keep K} {disk : Disk D} {number : ℕ} {was now : Opened K}
+    {old mid new : List (Pair D)} (fault : WorldFault) → (disk.tells → IsNextOf keep.kept disk.seen old mid number)
+    → OpensNext {A = Unit {0}} keep disk number (Err fault) was now mid new
+    → DisksLooked {A = Opened K} disk (Err fault) old new → OpensMembers keep disk (Err fault) old new
+next_fails {keep = keep} {disk = disk} {old = old} {mid = mid} fault next fails looked = record {
+  opened = tt;
+  counted = tt;
+  count = tt;
+  stables = tt;
+  disks = tt;
+  image = λ told r is.
+      let bad = fails.image told r (err_as fault (Image r) is) in
+      subst (IsFirstBad keep.kept disk.seen old) (sym bad.0)
+      ((next told).bad (subst (IsBad keep.kept disk.seen mid) bad.0 bad.1));
+  never = λ r is. fails.never r (err_as fault (Occupied r) is);
+  others = tt;
+  member = λ told r is first opens.
+      subst (λ q. q ≤ first.members) (sym (fails.named r (err_as fault (Store r) is))) ((next told).named first opens);
+  earlier = λ told q r is bad.
+      subst (λ k. k ≤ r) (sym (fails.named q (err_as fault (Store q) is))) ((next told).earlier r bad);
+  looked = looked;
+}

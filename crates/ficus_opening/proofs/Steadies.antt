@@ -1,5 +1,5 @@
 -- What stays of the disks of all pairs, while one pair after the other is asked.
-use Rattle.std.proofs.Common.{◌≡◌, ◌≢◌, ℕ, ◌+◌, ◌-◌, ◌<◌, List, length, get_or, refl, sym, ap, subst, ◌∙◌, inl, inr, ◌⊎◌, arith}
+use Rattle.std.proofs.Common.{◌≡◌, ◌≢◌, ℕ, ◌+◌, ◌-◌, ◌<◌, ◌≤◌, List, length, get_or, refl, sym, ap, subst, ◌∙◌, inl, inr, ◌⊎◌, arith}
 use Rattle.std.specs.Prelude.{slice_set, ◌==◌, if◌then◌else◌}
 use Rattle.std.proofs.lemmas.List.{length-set}
 use Rattle.ficus_disk.specs.Pair.{PairRose}
@@ -18,6 +18,13 @@ number_at list index x within is =
     let place : index ≡ index + 1 - 1 = omega arith in
     number_read list (index + 1) x x (record { at_least = omega arith; at_most = omega (arith, within) })
     (sym (is ∙ ap (λ k. get_or list k x) place))
+
+-- of eight pairs the next one belongs to the member behind those before it
+pub next_at : {D : Type 0} {disks : List (Pair D)} {count end before index : ℕ} {pair : Pair D} → length disks ≡ 8
+    → before < end → end ≡ count → count ≤ 8 → index ≡ before → pair ≡ get_or disks index pair
+    → IsNumbered disks (index + 1) pair
+next_at {disks = disks} {index = index} {pair = pair} pairs below is most at found =
+    number_at disks index pair (omega (arith, pairs, below, is, most, at)) found
 
 -- one is set at an index, and the others stay
 pub set_at : {A : Type 0} (list : List A) (index q : ℕ) (next found : A)

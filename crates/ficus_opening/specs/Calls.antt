@@ -1,17 +1,76 @@
--- What a volume that is made on disks, and a check of the disks of one replica, say of what they do. The world's calls
--- of the same names say it too.
-use Rattle.std.specs.Prelude.{◌≡◌, ◌≤◌, ◌⊎◌, ℕ, List, length, Result, Err, IfOk, IsErrOf, OnErr, OnOk}
-use Rattle.ficus_check.specs.Judged.{IsJudged}
+-- What each call on the disks of a volume's members promises, by name. The world's calls of the same names say it too.
+use Rattle.std.specs.Prelude.{◌≡◌, ◌↔◌, ◌≤◌, ◌⊎◌, ℕ, Bool, List, length, Some, None, Result, Err, IfErr, IfOk, IsErrOf, IsTrue, OnErr, OnOk}
+use Rattle.ficus_check.specs.Judged.{HoldsNoneOf, IsEmptyPair, IsJudged, IsOwn}
 use Rattle.ficus_check.specs.declared.checked.Checked.{Checked}
 use Rattle.ficus_disk.specs.declared.disk.Disk.{Ghosts as Disk}
 use Rattle.ficus_disk.specs.declared.pair.Pair.{Pair}
+use Rattle.ficus_durable_state.specs.Saved.{FitsImage}
+use Rattle.ficus_durable_state.specs.declared.saved.Saved.{Saved}
+use Rattle.ficus_ids.specs.Members.{IsCount}
+use Rattle.ficus_keeper.specs.Fuses.{IsRegularIn}
+use Rattle.ficus_keeper.specs.Kept.{found_in}
 use Rattle.ficus_keeper.specs.declared.keep.Keep.{Ghosts as Keep}
+use Rattle.ficus_leads.specs.Holds.{Holds}
+use Rattle.ficus_model.specs.Lawful.{Volume}
+use Rattle.ficus_replica.specs.SavedOf.{fresh_saved}
 use Rattle.ficus_runs.specs.Numbered.{IsNumbered}
+use Rattle.ficus_stable_storage.specs.Holds.{HoldsOneOf}
+use Rattle.ficus_stable_storage.specs.Stable.{IsReady}
+use Rattle.ficus_stable_storage.specs.declared.stable.Recovered.{Recovered}
+use Rattle.ficus_opening.specs.Disks.{AreDisksOf}
 use Rattle.ficus_opening.specs.Fuses.{AreRegular}
-use Rattle.ficus_opening.specs.Opening.{AreEmpty, AreMade, AreMadeInPart, AreSynced, IsAtFault, IsFirstOccupied, IsUnfailed, SeenSame, Steady, Unfailing}
+use Rattle.ficus_opening.specs.Opening.{AreEmpty, AreMade, AreMadeInPart, AreOpened, AreSynced, DisksAsked, DisksLooked, IsAtFault, IsBad, IsFirstBad, IsFirstOccupied, IsFoundFault, IsOneMore, IsStoreFault, IsSynced, IsUnfailed, Opens, PairAsked, PairLooked, SeenSame, Steady, Unfailing}
 use Rattle.ficus_opening.specs.Rests.{AllRest, OthersStay, RestsAt}
 use Rattle.ficus_opening.specs.declared.fault.WorldFault.{WorldFault}
 use Rattle.ficus_opening.specs.declared.fault.WorldFault.TheVariants.{Image, Occupied, Store}
+use Rattle.ficus_opening.specs.declared.member.Member.{Member}
+use Rattle.ficus_opening.specs.declared.opening.Opened.{Opened}
+
+-- whether both disks of member `number` hold nothing is told, and nothing is written on them
+pub record LooksAt {D : Type 0} (disk : Disk D) (number : ℕ) (result : Result Bool WorldFault) (old new : Pair D)
+    : Type 0 where
+  pub empty : disk.tells → IfOk result (λ is. IsTrue is ↔ IsEmptyPair disk.seen old)
+  pub synced : disk.tells → IsSynced disk.seen disk.may_leave old → IsSynced disk.seen disk.may_leave new
+  pub failed : IfErr result (λ fault. fault ≡ Store number)
+  pub looked : PairLooked disk number result old new
+
+-- whether the disks of all members hold nothing is told, and nothing is written on any
+pub record LooksForEmpty {A D : Type 0} (disk : Disk D) (members : ℕ) (result : Result A WorldFault)
+    (old new : List (Pair D)) : Type 0 where
+  pub empty : disk.tells → OnOk result (AreEmpty disk.seen old members)
+  pub occupied : disk.tells → (r : ℕ) → IsErrOf result (Occupied r) → IsFirstOccupied disk.seen old r × (r ≤ members)
+  pub member : (r : ℕ) → IsErrOf result (Store r) → r ≤ members
+  pub refused : IfErr result IsFoundFault
+  pub others : OthersStay members old new
+  pub synced : disk.tells → AreSynced disk.seen disk.may_leave old members
+      → OnOk result (AreSynced disk.seen disk.may_leave new members)
+  pub looked : DisksLooked disk result old new
+
+-- a member is made on disks that hold nothing
+pub record MakesMember {A K D : Type 0} (keep : Keep K) (disk : Disk D) (volume : Volume) (me : ℕ)
+    (result : Result A WorldFault) (old new : Pair D) : Type 0 where
+  pub made : disk.tells → OnOk result (Holds (found_in keep.kept disk.seen new) (fresh_saved volume me))
+  pub refused : IfErr result IsStoreFault
+  pub partly : disk.tells → IsSynced disk.seen disk.may_leave old
+      → HoldsOneOf keep.kept disk.may_leave new None (Some (fresh_saved volume me))
+  pub synced : disk.tells → IsSynced disk.seen disk.may_leave old
+      → OnOk result (IsSynced disk.seen disk.may_leave new)
+  pub regular : disk.tells → OnOk result (IsRegularIn keep.Regular disk.seen new)
+  pub asked : PairAsked disk me result old new
+
+-- each member is, one after the other
+pub record MakesMembers {A K D : Type 0} (keep : Keep K) (disk : Disk D) (volume : Volume)
+    (result : Result A WorldFault) (old new : List (Pair D)) : Type 0 where
+  pub made : disk.tells → OnOk result (AreMade keep.kept disk.seen volume new)
+  pub member : (r : ℕ) → IsErrOf result (Store r) → r ≤ volume.members
+  pub refused : IfErr result IsStoreFault
+  pub partly : disk.tells → AreSynced disk.seen disk.may_leave old volume.members
+      → OnErr result (AreMadeInPart keep.kept disk.may_leave volume new)
+  pub others : OthersStay volume.members old new
+  pub synced : disk.tells → AreSynced disk.seen disk.may_leave old volume.members
+      → OnOk result (AreSynced disk.seen disk.may_leave new volume.members)
+  pub regular : disk.tells → OnOk result (AreRegular keep.Regular disk.seen new volume.members)
+  pub asked : DisksAsked disk result old new
 
 -- a fresh volume is made on the disks, or nothing is where a member's disks hold something
 pub record MakesVolume {K D : Type 0} (keep : Keep K) (disk : Disk D) (members ids bytes : ℕ)
@@ -46,6 +105,14 @@ pub record MakesVolume {K D : Type 0} (keep : Keep K) (disk : Disk D) (members i
   pub unfailing : disk.tells_fuse → Unfailing disk.fuse result old new
   pub regular : disk.tells → OnOk result (AreRegular keep.Regular disk.seen new members)
 
+-- what the disks of member `number` hold is judged, where this holds of them, and nothing is written on them
+pub record JudgesPair {K D : Type 0} (keep : Keep K) (disk : Disk D) (number : ℕ) (Where : Type 0)
+    (result : Result Checked WorldFault) (old new : Pair D) : Type 0 where
+  pub judged : disk.tells → Where → IfOk result (IsJudged keep.kept disk.seen number old)
+  pub never_occupied : (r : ℕ) → IsErrOf result (Occupied r) → ⊥
+  pub never_image : (r : ℕ) → IsErrOf result (Image r) → ⊥
+  pub looked : PairLooked disk number result old new
+
 -- what the disks of one replica hold is judged, and nothing is written
 pub record ChecksDisks {K D : Type 0} (keep : Keep K) (disk : Disk D) (number : ℕ) (result : Result Checked WorldFault)
     (old new : List (Pair D)) : Type 0 where
@@ -63,3 +130,45 @@ pub record ChecksDisks {K D : Type 0} (keep : Keep K) (disk : Disk D) (number : 
   pub pairs : length new ≡ length old
   -- On disks that tell their fuses, of which none is armed, none fails, and none is armed afterwards.
   pub unfailing : disk.tells_fuse → Unfailing disk.fuse result old new
+
+-- what the disks of member `number` hold of its own is opened, and nothing is written on them
+pub record OpensMember {K D : Type 0} (keep : Keep K) (disk : Disk D) (number : ℕ)
+    (result : Result (Recovered K) WorldFault) (old new : Pair D) : Type 0 where
+  pub fits : IfOk result (λ found. FitsImage found.saved)
+  pub own : IfOk result (λ found. IsOwn found.saved number)
+  pub ready : disk.tells → IfOk result (λ found. IsReady keep.kept keep.fits disk.seen disk.may_leave found.stable new
+      found.saved)
+  pub image : disk.tells → (r : ℕ) → IsErrOf result (Image r)
+      → (r ≡ number) × HoldsNoneOf keep.kept disk.seen number old
+  pub never : (r : ℕ) → IsErrOf result (Occupied r) → ⊥
+  pub looked : PairLooked disk number result old new
+
+-- the same of the next member's, which is entered behind those that were opened
+pub record OpensNext {A K D : Type 0} (keep : Keep K) (disk : Disk D) (number : ℕ) (result : Result A WorldFault)
+    (was now : Opened K) (old new : List (Pair D)) : Type 0 where
+  pub opened : OnOk result (AreOpened now.members.items)
+  pub members : OnOk result (IsOneMore was.members.items now.members.items)
+  pub stables : OnOk result (length now.stables.items ≡ number)
+  pub disks : OnOk result (AreDisksOf keep disk now.members.items now.stables.items new)
+  pub image : disk.tells → (r : ℕ) → IsErrOf result (Image r) → (r ≡ number) × IsBad keep.kept disk.seen old r
+  pub never : (r : ℕ) → IsErrOf result (Occupied r) → ⊥
+  pub others : OthersStay number old new
+  pub named : (r : ℕ) → IsErrOf result (Store r) → r ≡ number
+  pub looked : DisksLooked disk result old new
+
+-- and of each member's, of which there are as many as the first one says
+pub record OpensMembers {K D : Type 0} (keep : Keep K) (disk : Disk D) (result : Result (Opened K) WorldFault)
+    (old new : List (Pair D)) : Type 0 where
+  pub opened : IfOk result (λ opened. AreOpened opened.members.items)
+  pub counted : IfOk result (λ opened. (first : Member) → IsNumbered opened.members.items 1 first
+      → first.replica.saved.members ≡ length opened.members.items)
+  pub count : IfOk result (λ opened. IsCount (length opened.members.items))
+  pub stables : IfOk result (λ opened. length opened.stables.items ≡ length opened.members.items)
+  pub disks : IfOk result (λ opened. AreDisksOf keep disk opened.members.items opened.stables.items new)
+  pub image : disk.tells → (r : ℕ) → IsErrOf result (Image r) → IsFirstBad keep.kept disk.seen old r
+  pub never : (r : ℕ) → IsErrOf result (Occupied r) → ⊥
+  pub others : IfOk result (λ opened. OthersStay (length opened.members.items) old new)
+  pub member : disk.tells → (r : ℕ) → IsErrOf result (Store r) → (first : Saved)
+      → Opens keep.kept disk.seen old first first 1 → r ≤ first.members
+  pub earlier : disk.tells → (q r : ℕ) → IsErrOf result (Store q) → IsFirstBad keep.kept disk.seen old r → q ≤ r
+  pub looked : DisksLooked disk result old new

@@ -1,5 +1,5 @@
-ghost use Rattle.std.specs.Prelude.{◌≡◌, ℕ, List, length, IfOk, IsErrOf};
-ghost use Rattle.ficus_check.specs.Judged.{HoldsNoneOf, IsEmptyPair, IsJudged, IsOfVolume, IsSound};
+ghost use Rattle.std.specs.Prelude.{◌≡◌, ℕ, ⊤, List, length};
+ghost use Rattle.ficus_check.specs.Judged.{HoldsNoneOf, IsEmptyPair, IsOfVolume, IsSound};
 ghost use Rattle.ficus_check.specs.declared.checked.Checked.{Checked as CheckedValue};
 ghost use Rattle.ficus_disk.specs.declared.pair.Pair.{Pair as PairValue};
 ghost use Rattle.ficus_ids.specs.Members.{IsMember};
@@ -7,8 +7,8 @@ ghost use Rattle.ficus_keeper.specs.Kept.{found_in};
 ghost use Rattle.ficus_leads.specs.Holds.{Holds};
 ghost use Rattle.ficus_runs.specs.Numbered.{IsNumbered};
 ghost use Rattle.ficus_durable_state.specs.declared.saved.Saved.{Saved as SavedValue};
-ghost use Rattle.ficus_opening.specs.Calls.{ChecksDisks};
-ghost use Rattle.ficus_opening.specs.Opening.{IsBad, Opens, PairLooked};
+ghost use Rattle.ficus_opening.specs.Calls.{ChecksDisks, JudgesPair};
+ghost use Rattle.ficus_opening.specs.Opening.{IsBad, Opens};
 
 use crate::WorldFault;
 use crate::looking::look_at;
@@ -44,10 +44,7 @@ fn check_one<K: Keep + Drop, D: Disk>(
     pair: &mut Pair<D>,
     number: u8,
 ) -> Result<Checked, WorldFault>
-    ensures judged { D.tells → IfOk result (IsJudged K.kept D.seen number pair.old) }
-    ensures never_occupied { (r : ℕ) → IsErrOf result (WorldFault.Occupied r) → ⊥ }
-    ensures never_image { (r : ℕ) → IsErrOf result (WorldFault.Image r) → ⊥ }
-    ensures looked { PairLooked D.Disk number result pair.old pair.new }
+    ensures { JudgesPair K.Keep D.Disk number ⊤ result pair.old pair.new }
 {
     if look_at(pair, number)? {
         return Ok(Checked::Empty);
@@ -61,11 +58,7 @@ fn judge<K: Keep + Drop, D: Disk>(
     pair: &mut Pair<D>,
     number: u8,
 ) -> Result<Checked, WorldFault>
-    ensures judged { D.tells → (IsEmptyPair D.seen pair.old → ⊥)
-        → IfOk result (IsJudged K.kept D.seen number pair.old) }
-    ensures never_occupied { (r : ℕ) → IsErrOf result (WorldFault.Occupied r) → ⊥ }
-    ensures never_image { (r : ℕ) → IsErrOf result (WorldFault.Image r) → ⊥ }
-    ensures looked { PairLooked D.Disk number result pair.old pair.new }
+    ensures { JudgesPair K.Keep D.Disk number (IsEmptyPair D.seen pair.old → ⊥) result pair.old pair.new }
 {
     match open_one::<K, D>(alloc, pair, number) {
         Ok(found) => Ok(soundness_of(&found.saved)),

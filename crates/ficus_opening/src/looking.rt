@@ -1,9 +1,10 @@
-ghost use Rattle.std.specs.Prelude.{◌≡◌, ◌↔◌, ◌<◌, Err, IfErr, IfOk, IsOk, IsTrue, OnErr, OnOk};
+ghost use Rattle.std.specs.Prelude.{◌≡◌, ◌↔◌, Err, IfOk, IsOk, IsTrue, OnErr, OnOk};
 ghost use Rattle.ficus_check.specs.Judged.{IsEmptyPair};
 ghost use Rattle.ficus_disk.specs.Pair.{PairRose};
 ghost use Rattle.ficus_keeper.specs.Fuses.{both_unarmed, fuses_of};
 ghost use Rattle.ficus_keeper.specs.Pairs.{PairSame};
-ghost use Rattle.ficus_opening.specs.Opening.{IsSynced, PairLooked};
+ghost use Rattle.ficus_opening.specs.Calls.{LooksAt};
+ghost use Rattle.ficus_opening.specs.Opening.{IsSynced};
 ghost use Rattle.ficus_opening.specs.Rests.{PairRests};
 
 use crate::WorldFault;
@@ -12,10 +13,7 @@ use ficus_faults::Failed;
 
 /// Whether both disks of this member hold nothing.
 pub(crate) fn look_at<D: Disk>(pair: &mut Pair<D>, number: u8) -> Result<bool, WorldFault>
-    ensures empty { D.tells → IfOk result (λ is. IsTrue is ↔ IsEmptyPair D.seen pair.old) }
-    ensures synced { D.tells → IsSynced D.seen D.may_leave pair.old → IsSynced D.seen D.may_leave pair.new }
-    ensures failed { IfErr result (λ fault. fault ≡ WorldFault.Store number) }
-    ensures looked { PairLooked D.Disk number result pair.old pair.new }
+    ensures { LooksAt D.Disk number result pair.old pair.new }
 {
     match is_empty(pair) {
         Ok(is_empty) => Ok(is_empty),

@@ -1,18 +1,11 @@
-ghost use Rattle.std.specs.Prelude.{◌≡◌, ◌≤◌, ◌+◌, ◌<◌, [], None, Some, ℕ, List, true, false, length, IfErr, IsErrOf, OnErr, OnOk};
+ghost use Rattle.std.specs.Prelude.{◌≡◌, ◌≤◌, [], None, Some, ℕ, List, true, false, length};
 ghost use Rattle.ficus_check.specs.Judged.{IsEmptyPair};
 ghost use Rattle.ficus_disk.specs.declared.pair.Pair.{Pair as PairValue};
 ghost use Rattle.ficus_ids.specs.Members.{IsCount, IsMember};
-ghost use Rattle.ficus_keeper.specs.Fuses.{IsRegularIn};
-ghost use Rattle.ficus_keeper.specs.Kept.{found_in};
 ghost use Rattle.ficus_model.specs.Lawful.{Volume};
-ghost use Rattle.ficus_replica.specs.SavedOf.{fresh_saved};
 ghost use Rattle.ficus_durable_state.specs.Limits.{byte_limit, update_limit};
-ghost use Rattle.ficus_leads.specs.Holds.{Holds};
-ghost use Rattle.ficus_stable_storage.specs.Holds.{HoldsOneOf};
-ghost use Rattle.ficus_opening.specs.Calls.{MakesVolume};
-ghost use Rattle.ficus_opening.specs.Fuses.{AreRegular};
-ghost use Rattle.ficus_opening.specs.Opening.{AreEmpty, AreMade, AreMadeInPart, AreSynced, DisksAsked, DisksLooked, IsFirstOccupied, IsFoundFault, IsStoreFault, IsSynced, PairAsked, StandsOn};
-ghost use Rattle.ficus_opening.specs.Rests.{OthersStay};
+ghost use Rattle.ficus_opening.specs.Calls.{LooksForEmpty, MakesMember, MakesMembers, MakesVolume};
+ghost use Rattle.ficus_opening.specs.Opening.{AreEmpty, AreMade, StandsOn};
 
 use crate::WorldFault;
 use crate::looking::look_at;
@@ -48,15 +41,7 @@ pub fn make_volume<K: Keep + Drop, D: Disk>(
 // Looks whether the disks of all members are empty.
 fn look_for_empty<D: Disk>(disks: &mut Vec<Pair<D>>, members: Members) -> Result<(), WorldFault>
     requires pairs { length disks.old.items ≡ 8 }
-    ensures empty { D.tells → OnOk result (AreEmpty D.seen disks.old.items members) }
-    ensures occupied { D.tells → (r : ℕ) → IsErrOf result (WorldFault.Occupied r)
-        → IsFirstOccupied D.seen disks.old.items r × (r ≤ members) }
-    ensures member { (r : ℕ) → IsErrOf result (WorldFault.Store r) → r ≤ members }
-    ensures refused { IfErr result IsFoundFault }
-    ensures others { OthersStay members disks.old.items disks.new.items }
-    ensures synced { D.tells → AreSynced D.seen D.may_leave disks.old.items members
-        → OnOk result (AreSynced D.seen D.may_leave disks.new.items members) }
-    ensures looked { DisksLooked D.Disk result disks.old.items disks.new.items }
+    ensures { LooksForEmpty D.Disk members result disks.old.items disks.new.items }
 {
     let mut occupied = None;
     for before in 0..members.count() {
@@ -95,18 +80,8 @@ fn make_all<K: Keep + Drop, D: Disk>(
     requires ids_at_most { ids ≤ update_limit }
     requires bytes { bytes ≤ byte_limit }
     requires empty { D.tells → AreEmpty D.seen disks.old.items members }
-    ensures made { D.tells → OnOk result (AreMade K.kept D.seen
-        (record { members = members; ids = ids; bytes = bytes }) disks.new.items) }
-    ensures member { (r : ℕ) → IsErrOf result (WorldFault.Store r) → r ≤ members }
-    ensures refused { IfErr result IsStoreFault }
-    ensures partly { D.tells → AreSynced D.seen D.may_leave disks.old.items members
-        → OnErr result (AreMadeInPart K.kept D.may_leave
-        (record { members = members; ids = ids; bytes = bytes }) disks.new.items) }
-    ensures others { OthersStay members disks.old.items disks.new.items }
-    ensures synced { D.tells → AreSynced D.seen D.may_leave disks.old.items members
-        → OnOk result (AreSynced D.seen D.may_leave disks.new.items members) }
-    ensures regular { D.tells → OnOk result (AreRegular K.Regular D.seen disks.new.items members) }
-    ensures asked { DisksAsked D.Disk result disks.old.items disks.new.items }
+    ensures { MakesMembers K.Keep D.Disk (record { members = members; ids = ids; bytes = bytes }) result
+        disks.old.items disks.new.items }
 {
     for before in 0..members.count() {
         let pair = &mut disks[usize::from(before)];
@@ -129,15 +104,8 @@ fn make_one<K: Keep + Drop, D: Disk>(
     requires ids_at_most { ids ≤ update_limit }
     requires bytes { bytes ≤ byte_limit }
     requires empty { D.tells → IsEmptyPair D.seen pair.old }
-    ensures made { D.tells → OnOk result (Holds (found_in K.kept D.seen pair.new)
-        (fresh_saved (record { members = members; ids = ids; bytes = bytes }) me)) }
-    ensures refused { IfErr result IsStoreFault }
-    ensures partly { D.tells → IsSynced D.seen D.may_leave pair.old → HoldsOneOf K.kept D.may_leave pair.new None
-        (Some (fresh_saved (record { members = members; ids = ids; bytes = bytes }) me)) }
-    ensures synced { D.tells → IsSynced D.seen D.may_leave pair.old
-        → OnOk result (IsSynced D.seen D.may_leave pair.new) }
-    ensures regular { D.tells → OnOk result (IsRegularIn K.Regular D.seen pair.new) }
-    ensures asked { PairAsked D.Disk me result pair.old pair.new }
+    ensures { MakesMember K.Keep D.Disk (record { members = members; ids = ids; bytes = bytes }) me result
+        pair.old pair.new }
 {
     let fresh = Replica::fresh(alloc, me, members, ids, bytes);
     match Stable::<K>::make(alloc, pair, &fresh.saved) {

@@ -1,14 +1,11 @@
-ghost use Rattle.std.specs.Prelude.{◌≡◌, ◌↔◌, ◌≤◌, ◌+◌, ◌<◌, [], ◌∷◌, ◌++◌, Err, None, ℕ, true, length, IfOk, IsErrOf, IsTrue, OnOk};
-ghost use Rattle.ficus_check.specs.Judged.{HoldsNoneOf, IsOfVolume, IsOwn};
-ghost use Rattle.ficus_ids.specs.Members.{IsCount, IsMember};
-ghost use Rattle.ficus_durable_state.specs.Saved.{FitsImage};
-ghost use Rattle.ficus_durable_state.specs.declared.saved.Saved.{Saved as SavedValue};
-ghost use Rattle.ficus_stable_storage.specs.Stable.{IsReady};
+ghost use Rattle.std.specs.Prelude.{◌≡◌, ◌↔◌, ◌+◌, [], ◌∷◌, ◌++◌, Err, None, true, length, IfOk, IsTrue, OnOk};
+ghost use Rattle.ficus_check.specs.Judged.{IsOfVolume};
+ghost use Rattle.ficus_ids.specs.Members.{IsMember};
 ghost use Rattle.ficus_runs.specs.Numbered.{IsNumbered};
+ghost use Rattle.ficus_opening.specs.Calls.{OpensMember, OpensMembers, OpensNext};
 ghost use Rattle.ficus_opening.specs.Disks.{AreDisksOf, are_fused};
-ghost use Rattle.ficus_opening.specs.Opening.{AreOpened, DisksLooked, IsBad, IsFirstBad, IsOneMore, Opens, PairLooked, opened_member};
+ghost use Rattle.ficus_opening.specs.Opening.{AreOpened, opened_member};
 ghost use Rattle.ficus_opening.specs.declared.member.Member.{Member as MemberValue};
-ghost use Rattle.ficus_opening.specs.Rests.{OthersStay};
 
 use crate::WorldFault;
 use crate::member::{Member, MemberState};
@@ -34,23 +31,7 @@ pub fn open_all<K: Keep + Drop, D: Disk>(
     disks: &mut Vec<Pair<D>>,
 ) -> Result<Opened<K>, WorldFault>
     requires pairs { length disks.old.items ≡ 8 }
-    ensures opened { IfOk result (λ opened. AreOpened opened.members.items) }
-    ensures counted { IfOk result (λ opened. (first : MemberValue) → IsNumbered opened.members.items 1 first
-        → first.replica.saved.members ≡ length opened.members.items) }
-    ensures count { IfOk result (λ opened. IsCount (length opened.members.items)) }
-    ensures stables { IfOk result (λ opened. length opened.stables.items ≡ length opened.members.items) }
-    ensures disks { IfOk result (λ opened. AreDisksOf K.Keep D.Disk
-        opened.members.items opened.stables.items disks.new.items) }
-    ensures image { D.tells → (r : ℕ) → IsErrOf result (WorldFault.Image r)
-        → IsFirstBad K.kept D.seen disks.old.items r }
-    ensures never { (r : ℕ) → IsErrOf result (WorldFault.Occupied r) → ⊥ }
-    ensures others { IfOk result (λ opened. OthersStay (length opened.members.items) disks.old.items
-        disks.new.items) }
-    ensures member { D.tells → (r : ℕ) → IsErrOf result (WorldFault.Store r) → (first : SavedValue)
-        → Opens K.kept D.seen disks.old.items first first 1 → r ≤ first.members }
-    ensures earlier { D.tells → (q r : ℕ) → IsErrOf result (WorldFault.Store q)
-        → IsFirstBad K.kept D.seen disks.old.items r → q ≤ r }
-    ensures looked { DisksLooked D.Disk result disks.old.items disks.new.items }
+    ensures { OpensMembers K.Keep D.Disk result disks.old.items disks.new.items }
 {
     one_saved();
     let mut opened = none_opened(alloc)?;
@@ -86,17 +67,7 @@ fn open_next<K: Keep + Drop, D: Disk>(
     requires opened { AreOpened opened.old.members.items }
     requires disks { AreDisksOf K.Keep D.Disk opened.old.members.items
         opened.old.stables.items disks.old.items }
-    ensures opened { OnOk result (AreOpened opened.new.members.items) }
-    ensures members { OnOk result (IsOneMore opened.old.members.items opened.new.members.items) }
-    ensures stables { OnOk result (length opened.new.stables.items ≡ number) }
-    ensures disks { OnOk result (AreDisksOf K.Keep D.Disk
-        opened.new.members.items opened.new.stables.items disks.new.items) }
-    ensures image { D.tells → (r : ℕ) → IsErrOf result (WorldFault.Image r)
-        → (r ≡ number) × IsBad K.kept D.seen disks.old.items r }
-    ensures never { (r : ℕ) → IsErrOf result (WorldFault.Occupied r) → ⊥ }
-    ensures others { OthersStay number disks.old.items disks.new.items }
-    ensures named { (r : ℕ) → IsErrOf result (WorldFault.Store r) → r ≡ number }
-    ensures looked { DisksLooked D.Disk result disks.old.items disks.new.items }
+    ensures { OpensNext K.Keep D.Disk number result opened.old opened.new disks.old.items disks.new.items }
 {
     let index = usize::from(number) - 1;
     let Recovered { stable, saved } = open_one(alloc, &mut disks[index], number)?;
@@ -127,14 +98,7 @@ pub(crate) fn open_one<K: Keep + Drop, D: Disk>(
     pair: &mut Pair<D>,
     number: u8,
 ) -> Result<Recovered<K>, WorldFault>
-    ensures fits { IfOk result (λ found. FitsImage found.saved) }
-    ensures own { IfOk result (λ found. IsOwn found.saved number) }
-    ensures ready { D.tells → IfOk result (λ found.
-        IsReady K.kept K.fits D.seen D.may_leave found.stable pair.new found.saved) }
-    ensures image { D.tells → (r : ℕ) → IsErrOf result (WorldFault.Image r)
-        → (r ≡ number) × HoldsNoneOf K.kept D.seen number pair.old }
-    ensures never { (r : ℕ) → IsErrOf result (WorldFault.Occupied r) → ⊥ }
-    ensures looked { PairLooked D.Disk number result pair.old pair.new }
+    ensures { OpensMember K.Keep D.Disk number result pair.old pair.new }
 {
     match open_own(alloc, pair, number) {
         Ok(found) => Ok(found),

@@ -27,6 +27,19 @@ abbrev pub SpansBetween : {D : Type 0} → Disk D → D → D → Type 0
 SpansBetween disk old new = disk.tells_moments
     → Spans (disk.moment old) (disk.moment new) (disk.left_since old) (disk.left_since new)
 
+-- so many calls of `write` and `sync` are made in turn, until one fails; no room is lost, and no fuse is armed; where
+-- the disk tells its fuse, it alone decides whether all of them pass
+pub record MakesCalls {D A E : Type 0} (disk : Disk D) (calls : ℕ) (old new : D) (result : Result A E) : Type 0 where
+  pub spans : SpansBetween disk old new
+  pub room : disk.room old ≤ disk.room new
+  pub failed : OnErr result (Rose (disk.faults old) (disk.faults new))
+  pub steady : OnOk result (disk.faults new ≡ disk.faults old)
+  pub risen : disk.faults old ≤ disk.faults new
+  pub armings : disk.armings new ≡ disk.armings old
+  pub by_fuse : disk.tells_fuse → is_ok result ≡ lasts calls (disk.fuse old)
+  pub falls : disk.tells_fuse → OnOk result (disk.fuse new ≡ after_calls calls (disk.fuse old))
+  pub pick : disk.tells_fuse → OnErr result (pick_of (disk.fuse new) ≡ pick_of (disk.fuse old))
+
 -- bytes are saved by so many calls of the disk, and the buffer keeps its room; `Leaves found was c` says what is left
 -- of what was, where the save is found and where it isn't: after the call and at each moment of it a crash leaves one
 -- of the two, where nothing was unsynced; where the disk tells its fuse, it alone decides whether the save passes, and
@@ -39,16 +52,8 @@ pub record SavesBytes {D A E : Type 0} (disk : Disk D) (Leaves : Bool → List �
       → Leaves false (disk.seen old) c ⊎ Leaves true (disk.seen old) c
   pub moments : disk.tells → IsSynced disk old
       → LeavesBetween disk old new (λ c. Leaves false (disk.seen old) c ⊎ Leaves true (disk.seen old) c)
-  pub spans : SpansBetween disk old new
-  pub room : disk.room old ≤ disk.room new
-  pub failed : OnErr result (Rose (disk.faults old) (disk.faults new))
-  pub steady : OnOk result (disk.faults new ≡ disk.faults old)
-  pub risen : disk.faults old ≤ disk.faults new
-  pub armings : disk.armings new ≡ disk.armings old
+  pub made : MakesCalls disk calls old new result
   pub buffer : vec_capacity was ≤ vec_capacity now
-  pub by_fuse : disk.tells_fuse → is_ok result ≡ lasts calls (disk.fuse old)
-  pub falls : disk.tells_fuse → OnOk result (disk.fuse new ≡ after_calls calls (disk.fuse old))
-  pub pick : disk.tells_fuse → OnErr result (pick_of (disk.fuse new) ≡ pick_of (disk.fuse old))
   pub found : disk.tells_fuse → disk.tells → IsSynced disk old → OnErr result
       (Leaves (finds calls (disk.fuse old)) (disk.seen old) (disk.image new (pick_of (disk.fuse old))))
 
@@ -60,15 +65,7 @@ pub record SavesRange {D A E : Type 0} (disk : Disk D) (at : ℕ) (bytes : List 
   pub durable : disk.tells → OnOk result (IsSynced disk new)
   pub crash : Follows (Torn at (length bytes)) (disk.may_leave old) (disk.may_leave new)
   pub moments : LeavesBetween disk old new (λ c. (d : List ℕ) × disk.may_leave old d × Torn at (length bytes) d c)
-  pub spans : SpansBetween disk old new
-  pub room : disk.room old ≤ disk.room new
-  pub failed : OnErr result (Rose (disk.faults old) (disk.faults new))
-  pub steady : OnOk result (disk.faults new ≡ disk.faults old)
-  pub risen : disk.faults old ≤ disk.faults new
-  pub armings : disk.armings new ≡ disk.armings old
-  pub by_fuse : disk.tells_fuse → is_ok result ≡ lasts 2 (disk.fuse old)
-  pub falls : disk.tells_fuse → OnOk result (disk.fuse new ≡ after_calls 2 (disk.fuse old))
-  pub pick : disk.tells_fuse → OnErr result (pick_of (disk.fuse new) ≡ pick_of (disk.fuse old))
+  pub made : MakesCalls disk 2 old new result
   pub images : disk.tells_fuse → OnErr result ((pick : Pick)
       → disk.image new pick ≡ picked pick (disk.image old pick) at bytes)
 

@@ -34,6 +34,19 @@ module _ {S : Type 0} (id_of : S → Id) where
       each id was None is held none now = one_held id_of old id is was rising now held
       each id was (Some other) is held some now = absurd (not_inside_none other some.0)
 
+  -- in place of none all others stand
+  pub replaces_none : (others : List S) → IsRisingBy id_of others → ReplacesBy id_of [] others others
+  replaces_none others rising = record { each = each }
+    where
+      same : (other is : Option S) → is ≡ other → is ≡ option_or other None
+      same None is one = one
+      same (Some other) is one = one
+
+      each : (id : Id) (was other is : Option S) → HoldsUnderBy id_of [] id was → HoldsUnderBy id_of others id other →
+          HoldsUnderBy id_of others id is → is ≡ option_or other was
+      each id None other is none held now = same other is (one_held id_of others id is other rising now held)
+      each id (Some was) other is some held now = absurd (not_inside_none was some.0)
+
   rising_take : (items : List S) (n : ℕ) → IsRisingBy id_of items → IsRisingBy id_of (take n items)
   rising_take items n rising = record {
     each = λ i j d before within.

@@ -107,6 +107,16 @@ impl<'a, R: Row> InOrder<'a, R> {
         }
     }
 
+    /// All rows, if it was made [of rows](InOrder::of_rows).
+    pub fn all_rows(&self) -> Option<&'a [R]>
+        ensures { IfSome result (λ rows. map R.seen rows.now ≡ self.now) }
+    {
+        match &self.held {
+            Held::Rows(rows) => Some(rows),
+            _ => None,
+        }
+    }
+
     /// The row at a place, from 0, if there is one, and if it was made [of rows](InOrder::of_rows).
     pub fn row(&self, index: usize) -> Option<&'a R>
         ensures { IfSome result (λ row. slice_get self.now index ≡ Some (R.seen row.now)) }

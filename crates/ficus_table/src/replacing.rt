@@ -44,6 +44,10 @@ impl<R: Row> Table<R> {
         ensures rising { IfOk result (IsRisingBy (λ row. R.id_of (R.seen row))) }
     {
         let list = self.whole()?;
+        if list.is_empty() {
+            // Spares the memory for a walk along both.
+            return PersistentList::of(self.allocator(), rows);
+        }
         if are_many(rows.len(), list.len()) {
             merged(self.allocator(), &list, rows)
         } else {

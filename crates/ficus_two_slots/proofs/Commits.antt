@@ -51,12 +51,13 @@ abbrev generation_in : Option Saved → ℕ
 generation_in None = 0
 generation_in (Some saved) = saved.generation
 
-abbrev pub saved_as : ℕ → List ℕ → Saved
+abbrev saved_as : ℕ → List ℕ → Saved
 saved_as generation body = record { generation = generation; body = body }
 
--- what a save leaves of the disk that it writes
-abbrev pub Leaves : List ℕ → Saved → Bool → List ℕ → Type 0
-Leaves old saved is_found c = IsFound is_found old saved c
+-- what is known of the disks, by the side of the keeper
+pub stands_on : (on_a : Bool) (keeper : TwoSlot) (a b : List ℕ) → keeper.on_a ≡ on_a → Fits keeper a b
+    → StandsOn on_a keeper.generation keeper.shut a b
+stands_on on_a keeper a b side fits = subst (λ (v : Bool). StandsOn v keeper.generation keeper.shut a b) side fits
 
 -- the greater generation is kept, wherever it lies
 wins : (on_a : Bool) (mine other : List ℕ) (old new : Saved) → slot_in mine ≡ Some new → slot_in other ≡ Some old
@@ -167,7 +168,8 @@ module _ (on_a : Bool) (generation new : ℕ) (shut : Bool) (body mine other : L
       (to_side on_a mine other regular).here s (sym (ap slot_in same) ∙ at)
 
   pub saves : (after : TwoSlot) → after.on_a ≡ on_a → after.generation ≡ new → after.shut ≡ false
-      → Saves kept_in Fits IsRegular (Leaves mine (saved_as new body)) on_a (Some (image_alone new body)) after mine other
+      → Saves kept_in Fits IsRegular (λ is_found c. IsFound is_found mine (saved_as new body) c) on_a
+      (Some (image_alone new body)) after mine other
   saves after side generation shut = record {
     unchanged = inr refl;
     keeps = keeps;

@@ -2,7 +2,9 @@
 #![tactic(auto)]
 
 mod choosing;
+mod reading;
 mod two_slot;
 
 pub use choosing::{Choice, choose};
+pub use reading::read_both;
 pub use two_slot::TwoSlot;

@@ -1,14 +1,15 @@
-ghost use Rattle.std.specs.Prelude.{◌≡◌, ◌+◌, ◌^◌, ◌≤◌, List, ℕ, OnOk, IfOk, vec_capacity};
+ghost use Rattle.std.specs.Prelude.{◌≡◌, ◌+◌, ◌≤◌, List, ℕ, IfOk};
 ghost use Rattle.ficus_keeper.specs.Kept.{image_alone, kept_of};
 ghost use Rattle.ficus_two_slots.specs.Slots.{StandsOn};
 ghost use Rattle.ficus_two_slots.specs.TwoSlot.{Fits};
 
 use crate::choosing::{Choice, choose};
+use crate::reading::read_both;
 use ficus_disk::{Disk, Pair};
 use ficus_faults::Failed;
 use ficus_ids::{Listed, Memory};
 use ficus_keeper::{Keep, MakeFault, Opened, StoreFault, Wants};
-use ficus_slot::{read_all, reserve_range, save_slot};
+use ficus_slot::{reserve_range, save_slot};
 use std::alloc::Global;
 
 /// A keeper with one slot on each disk of a pair. It always wants an image, and keeps no records.
@@ -56,10 +57,7 @@ impl Keep for TwoSlot {
     }
 
     fn open<D: Disk>(alloc: Global, disks: &mut Pair<D>) -> Result<(TwoSlot, Opened), StoreFault> {
-        disks.a.sync()?;
-        disks.b.sync()?;
-        let a = read_all(alloc, &mut disks.a)?;
-        let b = read_all(alloc, &mut disks.b)?;
+        let (a, b) = read_both(alloc, disks)?;
         match choose(&a, &b) {
             Some(choice) => Ok(opened(alloc, choice)?),
             None => Err(StoreFault::NoImage),

@@ -1,6 +1,7 @@
 ghost use Rattle.std.specs.Prelude.{◌≡◌, ◌↔◌, ◌+◌, ◌<◌, ◌^◌, ◌++◌, [], length, map, IsTrue, IfOk, OnErr, OnOk};
 ghost use Rattle.std.specs.Option.{option_map, unwrap_or};
-ghost use Rattle.ficus_wire.specs.Parts.{HasAll, HasAllBut, HasPart, HeldParts, IsWholeOf, joined, no_parts, part_at, with_part};
+ghost use Rattle.ficus_wire.specs.Parts.{HasAllBut, HasPart, HeldParts, IsWholeOf, joined, no_parts, part_at, with_part};
+ghost use Rattle.ficus_formats.specs.Format.{Keeps};
 ghost use Rattle.ficus_wire.specs.Parts.{RisesFrom};
 
 use ficus_ids::Memory;
@@ -133,7 +134,8 @@ impl Parts {
     /// missing. Room for all is taken once.
     #[tactic(auto, using(crate::proofs::Holding::front_more))]
     pub fn put_whole_with(&self, out: &mut Vec<u8>, index: u32, last: &[u8]) -> Result<(), Memory>
-        ensures { OnOk result (out.new.items ≡ out.old.items ++ joined (with_part self.now index last.now)) }
+        ensures put { OnOk result (out.new.items ≡ out.old.items ++ joined (with_part self.now index last.now)) }
+        ensures kept { OnErr result (Keeps out.old.items out.new.items) }
     {
         out.reserve(self.size.saturating_add(last.len()))?;
         for at in 0..self.pieces {

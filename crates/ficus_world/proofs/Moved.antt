@@ -66,6 +66,12 @@ peers_end may rest by other old r left (FindsNoPeers none) = Ends (FindsNoPeers 
 peers_end may rest by other old r left (FindsOneDown peers is is_too down) =
     Ends (FindsOneDown peers is is_too down)
 
+-- it isn't for want of memory that they are refused
+pub peers_known : (by other : ℕ) (old : Whole) (r : Refusal) (left : Effect Whole) → FindsPeers by other old (Err r) left
+    → r ≡ Memory → ⊥
+peers_known by other old r left (FindsNoPeers none) same = absurd (cc)
+peers_known by other old r left (FindsOneDown peers is is_too down) same = absurd (cc)
+
 module _ {K D : Type 0} (tells : Type 0) (keep : Keep K) (disk : Disk D) (old : Whole) where
   -- what asks nothing of the outside, and changes nothing
   pub comes_to_none : (command : Command) (result : Result Answer Refusal) (x : List (Pair D))

@@ -9,3 +9,4 @@ pub mod Follows
 pub mod Stand
 pub mod Kills
 pub mod Acts
+pub mod Calls

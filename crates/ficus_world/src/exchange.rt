@@ -1,20 +1,18 @@
-ghost use Rattle.std.specs.Prelude.{◌≡◌, ◌≢◌, ◌+◌, ◌^◌, ◌<◌, ◌≤◌, Err, length, IfErr, IfOk, OnErr, OnOk, IsErrOf};
+ghost use Rattle.std.specs.Prelude.{◌≡◌, ◌≢◌, ◌+◌, ◌^◌, ◌<◌, ◌≤◌, Err, length, IfErr, IfOk, OnOk, IsErrOf};
 ghost use Rattle.ficus_ids.specs.Members.{IsMember};
-ghost use Rattle.ficus_ids.specs.declared.refusal.Refusal.TheVariants.{LinkFull as IsFull, Memory as OutOfMemory};
+ghost use Rattle.ficus_ids.specs.declared.refusal.Refusal.TheVariants.{Memory as OutOfMemory};
 ghost use Rattle.ficus_durable_state.specs.Saved.{FitsImage};
-ghost use Rattle.ficus_wire.specs.Message.{message_bytes, piece_limit};
-ghost use Rattle.ficus_runs.specs.Exchange.{mails_of, total_limit};
+ghost use Rattle.ficus_wire.specs.Message.{message_bytes};
 ghost use Rattle.ficus_runs.specs.Message.{Reads};
 ghost use Rattle.ficus_runs.specs.Peers.{ArePeers};
 ghost use Rattle.ficus_runs.specs.Sequence.{unchanged};
 ghost use Rattle.std.specs.List.{range_with_len};
-ghost use Rattle.ficus_world.specs.Disks.{Carried, CarriedOn, IsBacked, IsPreparedAt};
-ghost use Rattle.ficus_world.specs.Acts.{Acts, ActsOn, StaysAt};
-ghost use Rattle.ficus_world.specs.Post.{HasRoom};
-ghost use Rattle.ficus_world.specs.Moves.{FetchesBytes, GivesMessage, GivesMessages, GivesSomeMessages, IsAsking, KeepsAsk, ask_of, messages_read};
+ghost use Rattle.ficus_world.specs.Disks.{Carried, CarriedOn, IsBacked};
+ghost use Rattle.ficus_world.specs.Acts.{Acts};
+ghost use Rattle.ficus_world.specs.Moves.{FetchesBytes, IsAsking, KeepsAsk, ask_of, messages_read};
 ghost use Rattle.ficus_world.specs.World.{IsSoundNext, IsUpIn, backed_by, event_limit, most_events};
 ghost use Rattle.ficus_opening.specs.declared.member.Member.{Member as MemberValue};
-ghost use Rattle.ficus_world.specs.Stepped.{CutPart};
+ghost use Rattle.ficus_world.specs.Calls.{AsksPeer, GivesEach, GivesMail, MakesReady};
 
 use crate::World;
 use crate::group::Group;
@@ -63,11 +61,7 @@ impl<K: Keep + Drop, L: Link + Drop> World<K, L> {
     ) -> Result<u32, Refusal>
         requires room { length self.old.whole.events < event_limit }
         requires backed { IsBacked K.Keep D.Disk self.old disks.old.items }
-        ensures asks { CarriedOn K.Keep D.Disk (KeepsAsk L.tells by to) result self.old.whole self.new.whole
-            disks.old.items disks.new.items }
-        ensures wants { IsErrOf result OutOfMemory → ArePeers (length self.old.whole.members) by to
-            × IsUpIn self.old.whole by }
-        ensures acts { Acts K.Keep D.Disk 1 result self.old self.new disks.old.items disks.new.items }
+        ensures { AsksPeer L.tells K.Keep D.Disk by to result self.old self.new disks.old.items disks.new.items }
     {
         let (asking, noted) = self.group.asking(alloc, by, to)?;
         self.group
@@ -83,11 +77,7 @@ impl<K: Keep + Drop, L: Link + Drop> World<K, L> {
     ) -> Result<Answer, Refusal>
         requires room { length self.old.whole.events < event_limit + most_events }
         requires backed { IsBacked K.Keep D.Disk self.old disks.old.items }
-        ensures gives { CarriedOn K.Keep D.Disk (GivesMessage L.tells mail) result self.old.whole self.new.whole
-            disks.old.items disks.new.items }
-        ensures wants { IsErrOf result OutOfMemory → IsMember (length self.old.whole.post.posts) mail }
-        ensures few { IfOk result (λ answer. length (mails_of answer) ≤ piece_limit) }
-        ensures acts { Acts K.Keep D.Disk 1 result self.old self.new disks.old.items disks.new.items }
+        ensures { GivesMail L.tells K.Keep D.Disk mail result self.old self.new disks.old.items disks.new.items }
     {
         let bytes = self.group.fetch(mail)?;
         match self.group.letter(bytes.items())? {
@@ -123,12 +113,8 @@ impl<K: Keep + Drop, L: Link + Drop> World<K, L> {
         requires room { length self.old.whole.events + count < event_limit + most_events }
         requires numbers { first + count ≤ 2 ^ 32 }
         requires backed { IsBacked K.Keep D.Disk self.old disks.old.items }
-        ensures gives { CarriedOn K.Keep D.Disk (GivesMessages L.tells (range_with_len first count)) result
-            self.old.whole self.new.whole disks.old.items disks.new.items }
-        ensures memory { IsErrOf result OutOfMemory → CutPart K.Keep D.Disk
-            (GivesSomeMessages L.tells (range_with_len first count)) self.old.whole self.new.whole disks.old.items
-            disks.new.items }
-        ensures acts { ActsOn L.tells K.Keep D.Disk self.old self.new disks.old.items disks.new.items }
+        ensures { GivesEach L.tells K.Keep D.Disk (range_with_len first count) result self.old self.new
+            disks.old.items disks.new.items }
     {
         self.settled(disks);
         for index in 0..count {
@@ -260,16 +246,9 @@ fn make_ready<K: Keep + Drop, L: Link + Drop, D: Disk>(
     requires stable { IsMember (length stables.old.items) by }
     requires pair { IsMember (length disks.old.items) by }
     requires fits { FitsImage asking.now.replica.saved }
-    ensures room { OnOk result (1 ≤ history.new.room) }
-    ensures post_room { OnOk result (HasRoom post.new 1) }
-    ensures prepared { OnOk result (IsPreparedAt K.wants_image K.Takes K.size_of D.room stables.new.items
-        disks.new.items by asking.now.replica.saved noted.items) }
-    ensures small { OnOk result (post.old.now.total + length asking.now.message.items ≤ total_limit) }
-    ensures full { OnErr result (result ≢ Err OutOfMemory → (result ≡ Err IsFull)
-        × (post.old.now.total + length asking.now.message.items ≤ total_limit → ⊥)) }
-    ensures events { history.new.events ≡ history.old.events }
-    ensures post { post.new.now ≡ post.old.now }
-    ensures stays { StaysAt K.Keep D.Disk by stables.old.items stables.new.items disks.old.items disks.new.items }
+    ensures { MakesReady K.Keep D.Disk by asking.now.replica.saved asking.now.message.items noted.items result
+        history.new.room history.old.events history.new.events post.old post.new stables.old.items stables.new.items
+        disks.old.items disks.new.items }
 {
     if !post.has_room_for(asking.message.len() as u64) {
         return Err(Refusal::LinkFull);

@@ -1,18 +1,13 @@
-ghost use Rattle.std.specs.Prelude.{◌≡◌, ◌+◌, ◌-◌, ◌<◌, ◌≤◌, ◌++◌, ◌∷◌, [], ℕ, Err, List, Some, length, slice_set, OnErr, OnOk};
+ghost use Rattle.std.specs.Prelude.{◌≡◌, ◌+◌, ◌<◌, ◌≤◌, ℕ, Err, List, length};
 ghost use Rattle.ficus_ids.specs.Members.{IsMember};
 ghost use Rattle.ficus_leads.specs.Holds.{Leads};
-ghost use Rattle.ficus_ids.specs.declared.refusal.Refusal.TheVariants.{Store as StoreFailed};
 ghost use Rattle.ficus_runs.specs.Numbered.{IsNumbered};
-ghost use Rattle.ficus_runs.specs.Outcome.{IsSaved, SaveFails};
 ghost use Rattle.ficus_opening.specs.Disks.{AreDisksOf};
-ghost use Rattle.ficus_world.specs.Disks.{DisksComeTo, IsBacked, IsPreparedAt};
-ghost use Rattle.ficus_world.specs.Acts.{Acts, SavesNext};
-ghost use Rattle.ficus_world.specs.Moves.{parts_after};
-ghost use Rattle.ficus_world.specs.World.{IsSoundNext, IsUpIn, backed_by, event_limit, most_events, whole_of};
+ghost use Rattle.ficus_world.specs.Disks.{IsBacked, IsPreparedAt};
+ghost use Rattle.ficus_world.specs.World.{IsSoundNext, IsUpIn, backed_by, event_limit, most_events};
 ghost use Rattle.ficus_opening.specs.declared.member.Member.{Member as MemberValue};
-ghost use Rattle.ficus_opening.specs.declared.member.MemberState.TheVariants.{Down as IsDown, Up as IsUp};
-ghost use Rattle.ficus_world.specs.Kills.{WritesAt};
-ghost use Rattle.ficus_world.specs.Post.{Outbox};
+ghost use Rattle.ficus_opening.specs.declared.member.MemberState.TheVariants.{Up as IsUp};
+ghost use Rattle.ficus_world.specs.Calls.{KeepsNext, SavesMember};
 
 use crate::World;
 use crate::group::Group;
@@ -43,9 +38,7 @@ impl<K: Keep + Drop, L: Link + Drop> World<K, L> {
         requires next { (was : MemberValue) → IsNumbered self.old.whole.members by was
             → IsSoundNext (length self.old.whole.members) (length self.old.whole.events) by noted.items was.replica
             next.replica }
-        ensures saves { SavesNext K.Keep D.Disk by next result self.old.whole self.new.whole disks.old.items
-            disks.new.items }
-        ensures acts { Acts K.Keep D.Disk 1 result self.old self.new disks.old.items disks.new.items }
+        ensures { SavesMember K.Keep D.Disk by next result self.old self.new disks.old.items disks.new.items }
     {
         self.group.save(&mut self.stables, disks, by, next, noted)
     }
@@ -67,8 +60,7 @@ impl<L: Link + Drop> Group<L> {
         requires up { IsUpIn self.old by }
         requires next { (was : MemberValue) → IsNumbered self.old.members by was
             → IsSoundNext (length self.old.members) (length self.old.events) by noted.items was.replica next.replica }
-        ensures saves { SavesNext K.Keep D.Disk by next result self.old self.new disks.old.items disks.new.items }
-        ensures acts { Acts K.Keep D.Disk 1 result (backed_by self.old stables.old.items)
+        ensures { SavesMember K.Keep D.Disk by next result (backed_by self.old stables.old.items)
             (backed_by self.new stables.new.items) disks.old.items disks.new.items }
     {
         self.history.reserve(1)?;
@@ -105,24 +97,8 @@ pub(crate) fn keep<K: Keep + Drop, D: Disk>(
     requires few { length history.old.events < event_limit + most_events }
     requires disks { AreDisksOf K.Keep D.Disk members.old.items stables.old.items
         disks.old.items }
-    ensures held { OnOk result ((was : MemberValue) → IsNumbered members.old.items by was
-        → members.new.items ≡ slice_set members.old.items (by - 1)
-        (record was { replica = next.replica; parts = parts_after next.event was.parts })) }
-    ensures stored { OnOk result (history.new.events ≡ history.old.events ++ next.event ∷ []) }
-    ensures followed { OnOk result (DisksComeTo K.Keep D.Disk (IsSaved by ∷ []) members.old.items members.new.items
-        disks.old.items disks.new.items) }
-    ensures pending { OnErr result ((was : MemberValue) → IsNumbered members.old.items by was
-        → members.new.items ≡ slice_set members.old.items (by - 1) (record was { state = IsDown (Some next) })) }
-    ensures kept { OnErr result (history.new.events ≡ history.old.events) }
-    ensures counted { OnErr result (DisksComeTo K.Keep D.Disk (SaveFails by ∷ []) members.old.items members.new.items
-        disks.old.items disks.new.items) }
-    ensures refused { OnErr result (result ≡ Err StoreFailed) }
-    ensures writes { (post after : Outbox) → WritesAt K.Keep D.Disk by
-        (whole_of members.old.items history.old.events post) (whole_of members.new.items history.new.events after)
-        disks.old.items disks.new.items }
-    ensures disks { AreDisksOf K.Keep D.Disk members.new.items stables.new.items
-        disks.new.items }
-    ensures count { length stables.new.items ≡ length stables.old.items }
+    ensures { KeepsNext K.Keep D.Disk by next result members.old.items members.new.items history.old.events
+        history.new.events stables.old.items stables.new.items disks.old.items disks.new.items }
 {
     match commit_at(stables, disks, by, &next.replica.saved) {
         Ok(()) => {

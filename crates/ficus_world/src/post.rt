@@ -7,6 +7,7 @@ ghost use Rattle.ficus_world.specs.Disks.{Carried};
 ghost use Rattle.ficus_world.specs.Moves.{SendsEach, with_post};
 ghost use Rattle.ficus_world.specs.Post.{AreFetched, HasFailed, HasRoom, IsSent};
 ghost use Rattle.ficus_world.specs.World.{Whole};
+ghost use Rattle.ficus_world.specs.Calls.{Shows};
 
 use ficus_faults::Failed;
 use ficus_ids::{Listed, Memory, Refusal};
@@ -68,9 +69,7 @@ impl<L: Link + Drop> Post<L> {
 
     /// The link.
     pub(crate) fn link(&self) -> &L
-        ensures posts { L.posts result.now ≡ self.now.now.posts }
-        ensures total { L.total result.now ≡ self.now.now.total }
-        ensures faults { L.faults result.now ≡ self.now.now.faults }
+        ensures { Shows (L.posts result.now) (L.total result.now) (L.faults result.now) self.now.now }
     {
         &self.link
     }

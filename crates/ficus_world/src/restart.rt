@@ -1,14 +1,11 @@
-ghost use Rattle.std.specs.Prelude.{◌≡◌, ◌+◌, ◌-◌, ◌<◌, ◌≤◌, ◌++◌, List, length, slice_set};
+ghost use Rattle.std.specs.Prelude.{◌≡◌, ◌-◌, ◌<◌, ◌≤◌, ◌++◌, List, length, slice_set};
 ghost use Rattle.ficus_ids.specs.Members.{IsMember};
 ghost use Rattle.ficus_model.specs.declared.event.Event.{Event as EventValue};
 ghost use Rattle.ficus_runs.specs.Numbered.{IsNumbered};
 ghost use Rattle.ficus_opening.specs.declared.member.Member.{Member as MemberValue};
-ghost use Rattle.ficus_script.specs.declared.command.Command.TheVariants.{Restart as Restarts};
 ghost use Rattle.ficus_world.specs.Disks.{ComesBack, IsBacked};
-ghost use Rattle.ficus_world.specs.Acts.{Acts};
-ghost use Rattle.ficus_world.specs.Stepped.{ComesTo};
 ghost use Rattle.ficus_world.specs.World.{event_limit};
-ghost use Rattle.ficus_opening.specs.Rests.{AreLeft};
+ghost use Rattle.ficus_world.specs.Calls.{Restarts};
 
 use crate::World;
 use crate::member::{Rising, keep_down, rise};
@@ -34,10 +31,7 @@ impl<K: Keep + Drop, L: Link + Drop> World<K, L> {
     ) -> Result<Answer, Refusal>
         requires room { length self.old.whole.events < event_limit }
         requires backed { IsBacked K.Keep D.Disk self.old disks.old.items }
-        ensures moves { ComesTo L.tells K.Keep D.Disk self.old.whole (Restarts by) result self.new.whole disks.old.items
-            disks.new.items }
-        ensures acts { Acts K.Keep D.Disk 2 result self.old self.new disks.old.items disks.new.items }
-        ensures left { D.tells → AreLeft D.seen D.may_leave disks.old.items disks.new.items }
+        ensures { Restarts L.tells K.Keep D.Disk by result self.old self.new disks.old.items disks.new.items }
     {
         if !self.group.has(by) {
             return Err(Refusal::Member);

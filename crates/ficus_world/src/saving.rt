@@ -1,22 +1,14 @@
 // One member's disks, of those of all.
-ghost use Rattle.std.specs.Prelude.{◌≡◌, ℕ, ◌<◌, ◌-◌, [], ◌∷◌, List, length, slice_set, IfOk, IsErrOf, OnOk};
+ghost use Rattle.std.specs.Prelude.{ℕ, ◌<◌, List, length, OnOk};
 ghost use Rattle.ficus_disk.specs.declared.pair.Pair.{Pair as PairValue};
 ghost use Rattle.ficus_ids.specs.Members.{IsMember};
-ghost use Rattle.ficus_keeper.specs.declared.fault.StoreFault.TheVariants.{Failed as StoreFailed};
 ghost use Rattle.ficus_durable_state.specs.Saved.{FitsImage};
 ghost use Rattle.ficus_stable_storage.specs.Stable.{MayFollow};
 ghost use Rattle.ficus_stable_storage.specs.declared.stable.Stable.{Stable as StableValue};
 ghost use Rattle.ficus_runs.specs.Numbered.{IsNumbered};
-ghost use Rattle.ficus_runs.specs.Fuses.{FuseState, with_fuses};
-ghost use Rattle.ficus_runs.specs.Outcome.{IsArmed, IsOpened, OpeningFails};
-ghost use Rattle.ficus_world.specs.Disks.{DisksComeTo, DisksFollow, DisksReopen, DisksSave, DisksStay, IsHeldBy, IsPreparedAt, IsReadAt, save_outcome};
+ghost use Rattle.ficus_world.specs.Disks.{IsPreparedAt};
 ghost use Rattle.ficus_world.specs.Acts.{StaysAt};
-ghost use Rattle.ficus_world.specs.Fuses.{FusesStand, IsReadBy, at_rest};
-ghost use Rattle.ficus_world.specs.Moves.{restarted};
-ghost use Rattle.ficus_opening.specs.declared.member.Member.{Member as MemberValue};
-ghost use Rattle.ficus_opening.specs.declared.member.MemberState.TheVariants.{Up as IsUp};
-ghost use Rattle.ficus_opening.specs.Rests.{AreLeft, RestsAt};
-ghost use Rattle.ficus_world.specs.Kills.{SavesOn};
+ghost use Rattle.ficus_world.specs.Calls.{ArmsAt, CommitsAt, ReopensPair};
 
 use ficus_disk::{Disk, Pair};
 use ficus_durable_state::Saved;
@@ -59,11 +51,8 @@ pub(crate) fn commit_at<K: Keep + Drop, D: Disk>(
         × IsPreparedAt K.wants_image K.Takes K.size_of D.room stables.old.items disks.old.items by next.now body
         × (D.tells → (stable : StableValue K) (pair : PairValue D) → IsNumbered stables.old.items by stable
         → IsNumbered disks.old.items by pair → MayFollow K.kept K.fits D.seen D.may_leave stable pair next.now body) }
-    ensures disks { DisksSave K.Keep D.Disk by next.now result stables.old.items stables.new.items disks.old.items
+    ensures { CommitsAt K.Keep D.Disk by next.now result stables.old.items stables.new.items disks.old.items
         disks.new.items }
-    ensures follows { DisksFollow D.faults D.armings (save_outcome by result ∷ []) disks.old.items disks.new.items }
-    ensures saves { SavesOn K.Keep D.Disk by next.now disks.old.items disks.new.items }
-    ensures count { length stables.new.items ≡ length stables.old.items }
 {
     let index = by as usize - 1;
     stables[index].commit(&mut disks[index], next)
@@ -78,27 +67,7 @@ pub(crate) fn reopen_at<K: Keep + Drop, D: Disk>(
 ) -> Result<Saved, StoreFault>
     requires member { IsMember (length stables.old.items) by }
     requires pair { IsMember (length disks.old.items) by }
-    ensures fits { IfOk result (λ read. FitsImage read) }
-    ensures read { D.tells → (count events : ℕ) (members : List MemberValue) (was : MemberValue)
-        → IsHeldBy K.Keep D.Disk count events by members was stables.old.items disks.old.items → IsReadAt was result }
-    // The world is as it was, or the member has risen with what was read, or it is down.
-    ensures disks { DisksReopen K.Keep D.Disk by result stables.old.items stables.new.items disks.old.items
-        disks.new.items }
-    // Where the disks tell their fuses, they are opened, and these decide which of the two is read.
-    ensures never { D.tells_fuse → IsErrOf result StoreFailed → ⊥ }
-    ensures by_fuse { D.tells_fuse → D.tells → (count events : ℕ) (members : List MemberValue) (was : MemberValue)
-        (F : ℕ → FuseState)
-        → IsHeldBy K.Keep D.Disk count events by members was stables.old.items disks.old.items
-        → FusesStand K.Keep D.Disk F members disks.old.items
-        → IfOk result (λ read. IsReadBy (F by).will_find was read × FusesStand K.Keep D.Disk
-        (with_fuses F by (at_rest read.generation)) (slice_set members (by - 1) (restarted was read)) disks.new.items) }
-    ensures opened { IsErrOf result StoreFailed → DisksFollow D.faults D.armings (OpeningFails by ∷ []) disks.old.items
-        disks.new.items }
-    ensures follows { DisksFollow D.faults D.armings (IsOpened by ∷ []) disks.old.items disks.new.items }
-    ensures rests { RestsAt D.Disk by disks.old.items disks.new.items }
-    // What a read then gives, a crash might have left.
-    ensures left { D.tells → AreLeft D.seen D.may_leave disks.old.items disks.new.items }
-    ensures count { length stables.new.items ≡ length stables.old.items }
+    ensures { ReopensPair K.Keep D.Disk by result stables.old.items stables.new.items disks.old.items disks.new.items }
 {
     one_saved();
     let index = by as usize - 1;
@@ -120,12 +89,7 @@ pub(crate) fn arm_at<K: Keep + Drop, D: Disk>(
 )
     requires pair { IsMember (length disks.old.items) by }
     requires pick { pick < 4 }
-    ensures follows { (members : List MemberValue)
-        → ((was : MemberValue) → IsNumbered members by was → was.state ≡ IsUp)
-        → DisksComeTo K.Keep D.Disk (IsArmed by calls pick ∷ []) members members disks.old.items disks.new.items }
-    ensures rests { RestsAt D.Disk by disks.old.items disks.new.items }
-    ensures disks { (stables : List (StableValue K))
-        → DisksStay K.Keep D.Disk stables stables disks.old.items disks.new.items }
+    ensures { ArmsAt K.Keep D.Disk by calls pick disks.old.items disks.new.items }
 {
     let pair = &mut disks[by as usize - 1];
     pair.a.arm(calls, pick);

@@ -1,4 +1,5 @@
 ghost use Rattle.std.specs.Prelude.{◌≡◌, ◌↔◌, length, IsSome, IfSome};
+ghost use Rattle.ficus_world.specs.Calls.{Shows};
 
 use crate::group::Group;
 use ficus_durable_state::{BYTE_LIMIT, UPDATE_LIMIT};
@@ -58,9 +59,7 @@ impl<K: Keep + Drop, L: Link + Drop> World<K, L> {
 
     /// The link over which the members exchange messages.
     pub fn link(&self) -> &L
-        ensures posts { L.posts result.now ≡ self.now.whole.post.posts }
-        ensures total { L.total result.now ≡ self.now.whole.post.total }
-        ensures faults { L.faults result.now ≡ self.now.whole.post.faults }
+        ensures { Shows (L.posts result.now) (L.total result.now) (L.faults result.now) self.now.whole.post }
     {
         self.group.post.link()
     }

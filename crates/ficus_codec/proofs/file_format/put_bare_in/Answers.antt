@@ -1,7 +1,7 @@
 use Rattle.std.specs.Prelude.{◌≡◌, ◌*◌, ◌++◌, ℕ, List, take, replicate}
 use Rattle.std.specs.List.{flat_map}
 use Rattle.std.specs.Int.{w32, to_be_bytes}
-use Rattle.std.proofs.Common.{◌∙◌, ap, refl}
+use Rattle.std.proofs.Common.{◌∙◌, ap}
 use Rattle.ficus_vectors.specs.Vector.{no_counts}
 use Rattle.ficus_formats.specs.Format.{byte, id}
 use Rattle.ficus_codec.specs.Formats.{kind, member_counts}

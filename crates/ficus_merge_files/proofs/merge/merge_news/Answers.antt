@@ -7,5 +7,5 @@ returns-clause-merged c =
     let mine = c.args.news.now.mine in
     let theirs = c.args.news.now.theirs in
     IfOk-weaker c.merged_with.result _ _ (λ both is.
-    merged_by_touched c.args.held.now mine theirs c.in_ok-taken.taken.items c.in_ok-taken.ensures.taken
-    (rw c.deref.ensures.value at is)) c.merged_with.ensures.merged
+    merged_by_touched c.args.held.now mine theirs c.in_ok-taken.taken.items c.in_ok-taken.ensures.taken is)
+    c.merged_with.ensures.merged

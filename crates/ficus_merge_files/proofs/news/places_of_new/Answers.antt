@@ -1,5 +1,5 @@
 use Rattle.std.proofs.Common.{rules, ◌≡◌, ◌+◌, ℕ, subst, sym}
-use Rattle.ficus_merge_files.proofs.Beside.{AreNewsSoFar, nothing_so_far, none_more, news_more, all_new, all_inside}
+use Rattle.ficus_merge_files.proofs.Beside.{AreNewsSoFar, nothing_so_far, news_more, all_new, all_inside}
 use Rattle.ficus_merge_files.proofs.news.places_of_new.Goals as goal
 
 pub loop-next-init : goal.loop-next-init

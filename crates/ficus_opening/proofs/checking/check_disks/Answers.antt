@@ -26,7 +26,7 @@ returns g c =
     record {
       judged = λ tells pair is.
           subst (λ p. IfOk c.check_one.result (IsJudged g.K.Keep.kept g.D.Disk.seen c.args.number p)) (number_once at is)
-          (c.check_one.ensures.judged tells);
+          (c.check_one.ensures.judged tells tt);
       failed = λ r is. ((one.asked.failed r is).0, all.asked.failed r is);
       never_occupied = c.check_one.ensures.never_occupied;
       never_image = c.check_one.ensures.never_image;

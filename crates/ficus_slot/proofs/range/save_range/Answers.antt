@@ -11,16 +11,18 @@ returns-in_err-write g c =
       durable = λ told. tt;
       crash = c.write.ensures.writes.crash;
       moments = search rules;
-      spans = λ told.
-          spans_call c.write.ensures.writes.moments
-          (λ d left. g.met.D.Disk.left_now told c.write.new.self _ d c.write.ensures.writes.moments.later left);
-      room = c.write.ensures.writes.room;
-      failed = search rules;
-      steady = tt;
-      risen = c.write.ensures.counts.risen;
-      armings = c.write.ensures.counts.armings;
-      by_fuse = search rules;
-      falls = λ fused. tt;
-      pick = search rules;
+      made = record {
+        spans = λ told.
+            spans_call c.write.ensures.writes.moments
+            (λ d left. g.met.D.Disk.left_now told c.write.new.self _ d c.write.ensures.writes.moments.later left);
+        room = c.write.ensures.writes.room;
+        failed = search rules;
+        steady = tt;
+        risen = c.write.ensures.counts.risen;
+        armings = c.write.ensures.counts.armings;
+        by_fuse = search rules;
+        falls = λ fused. tt;
+        pick = search rules;
+      };
       images = λ fused. (c.write.ensures.by_fuse fused).images;
     })

@@ -20,60 +20,54 @@ commit_at-requires-clause-prepared g c =
           },
     )
 
-pub returns-in-Ok-clause-disks : goal.returns-in-Ok-clause-disks
-returns-in-Ok-clause-disks g c =
-    let was = number_exists c.args.members.now.items c.args.by c.requires.member in
-    (c.in-Ok.ensures.disks c.args.members.now.items c.hold.new.members.items
-    (saves_held c.args.by c.args.next was.0 was.1 (c.requires.up was.0 was.1) _ tt (c.hold.ensures was.0 was.1))
-    c.requires.disks).0
-
-pub returns-in-Err-clause-disks : goal.returns-in-Err-clause-disks
-returns-in-Err-clause-disks g c =
-    let was = number_exists c.args.members.now.items c.args.by c.requires.member in
-    (c.in-Err.ensures.disks c.args.members.now.items c.put_down.new.members.items
-    (saves_pending c.args.by c.args.next was.0 was.1 (c.requires.up was.0 was.1) _ (c.put_down.ensures was.0 was.1))
-    c.requires.disks).0
-
-pub returns-in-Ok-clause-followed : goal.returns-in-Ok-clause-followed
-returns-in-Ok-clause-followed g c =
-    let was = number_exists c.args.members.now.items c.args.by c.requires.member in
+pub returns-in-Ok : goal.returns-in-Ok
+returns-in-Ok g c =
+    let old = c.args.members.now.items in
+    let new = c.hold.new.members.items in
+    let was = number_exists old c.args.by c.requires.member in
+    let up = c.requires.up was.0 was.1 in
+    let set = c.hold.ensures was.0 was.1 in
+    let saved =
+    c.in-Ok.ensures.disks old new (saves_held c.args.by c.args.next was.0 was.1 up _ tt set) c.requires.disks in
     record {
-      disks = c.in-Ok.ensures.follows;
-      fuses =
-          (c.in-Ok.ensures.disks c.args.members.now.items c.hold.new.members.items
-          (saves_held c.args.by c.args.next was.0 was.1 (c.requires.up was.0 was.1) _ tt (c.hold.ensures was.0 was.1))
-          c.requires.disks).1;
+      held = c.hold.ensures;
+      stored = c.push.ensures.events;
+      followed = record { disks = c.in-Ok.ensures.follows; fuses = saved.1 };
+      pending = tt;
+      kept = tt;
+      counted = tt;
+      refused = tt;
+      writes = λ post after.
+          writes_at g.K.Keep g.D.Disk c.args.by {T = Unit {0}} {E = Unit {0}} {result = Ok tt}
+          (whole_of old c.args.history.now.events post) (whole_of new c.push.new.self.events after) c.args.next.event
+          (saves_held c.args.by c.args.next was.0 was.1 up _ tt set) c.push.ensures.events tt c.requires.disks
+          c.requires.stable (λ was is. led_next _ _ _ (c.requires.prepared.2 was is)) c.commit_at.ensures.saves;
+      disks = saved.0;
+      count = c.commit_at.ensures.count;
     }
 
-pub returns-in-Err-clause-counted : goal.returns-in-Err-clause-counted
-returns-in-Err-clause-counted g c =
-    let was = number_exists c.args.members.now.items c.args.by c.requires.member in
+pub returns-in-Err : goal.returns-in-Err
+returns-in-Err g c =
+    let old = c.args.members.now.items in
+    let new = c.put_down.new.members.items in
+    let was = number_exists old c.args.by c.requires.member in
+    let up = c.requires.up was.0 was.1 in
+    let set = c.put_down.ensures was.0 was.1 in
+    let saved =
+    c.in-Err.ensures.disks old new (saves_pending c.args.by c.args.next was.0 was.1 up _ set) c.requires.disks in
     record {
-      disks = c.in-Err.ensures.follows;
-      fuses =
-          (c.in-Err.ensures.disks c.args.members.now.items c.put_down.new.members.items
-          (saves_pending c.args.by c.args.next was.0 was.1 (c.requires.up was.0 was.1) _ (c.put_down.ensures was.0 was.1))
-          c.requires.disks).1;
+      held = tt;
+      stored = tt;
+      followed = tt;
+      pending = c.put_down.ensures;
+      kept = refl;
+      counted = record { disks = c.in-Err.ensures.follows; fuses = saved.1 };
+      refused = refl;
+      writes = λ post after.
+          writes_at g.K.Keep g.D.Disk c.args.by {T = Unit {0}} {E = Unit {0}} {result = Err tt}
+          (whole_of old c.args.history.now.events post) (whole_of new c.args.history.now.events after) c.args.next.event
+          (saves_pending c.args.by c.args.next was.0 was.1 up tt set) tt refl c.requires.disks c.requires.stable
+          (λ was is. led_next _ _ _ (c.requires.prepared.2 was is)) c.commit_at.ensures.saves;
+      disks = saved.0;
+      count = c.commit_at.ensures.count;
     }
-
-pub returns-in-Ok-clause-writes : goal.returns-in-Ok-clause-writes
-returns-in-Ok-clause-writes g c = λ post after.
-    let was = number_exists c.args.members.now.items c.args.by c.requires.member in
-    writes_at g.K.Keep g.D.Disk c.args.by {T = Unit {0}} {E = Unit {0}} {result = Ok tt}
-    (whole_of c.args.members.now.items c.args.history.now.events post)
-    (whole_of c.hold.new.members.items c.push.new.self.events after) c.args.next.event
-    (saves_held c.args.by c.args.next was.0 was.1 (c.requires.up was.0 was.1) _ tt (c.hold.ensures was.0 was.1))
-    c.push.ensures.events tt
-    c.requires.disks c.requires.stable (λ was is. led_next _ _ _ (c.requires.prepared.2 was is))
-    c.commit_at.ensures.saves
-
-pub returns-in-Err-clause-writes : goal.returns-in-Err-clause-writes
-returns-in-Err-clause-writes g c = λ post after.
-    let was = number_exists c.args.members.now.items c.args.by c.requires.member in
-    writes_at g.K.Keep g.D.Disk c.args.by {T = Unit {0}} {E = Unit {0}} {result = Err tt}
-    (whole_of c.args.members.now.items c.args.history.now.events post)
-    (whole_of c.put_down.new.members.items c.args.history.now.events after) c.args.next.event
-    (saves_pending c.args.by c.args.next was.0 was.1 (c.requires.up was.0 was.1) tt
-    (c.put_down.ensures was.0 was.1)) tt refl
-    c.requires.disks c.requires.stable (λ was is. led_next _ _ _ (c.requires.prepared.2 was is))
-    c.commit_at.ensures.saves

@@ -13,5 +13,5 @@ returns c =
     (MatchOption-weaker found c.first.ensures.none (λ none live.
     let small = digest_small live.entry.name in
     none live.entry live.inside (live.live, live.in_dir)
-    (between_ranks c.args.dir 0 4294967296 live.entry live.in_dir (omega arith) (omega (arith, small))))
+    (between_ranks c.args.dir 0 2147483648 live.entry live.in_dir (omega arith) (omega (arith, small))))
     (λ x t. t))

@@ -17,7 +17,7 @@ returns-clause-live c =
     let old : Contains noted.before entry =
     live_noted view c.self.inside.table.edited notes noted entry viewed live in
     let small = digest_small entry.name in
-    let between = between_ranks c.args.dir 0 4294967296 entry in_dir (omega arith) (omega (arith, small)) in
+    let between = between_ranks c.args.dir 0 2147483648 entry in_dir (omega arith) (omega (arith, small)) in
     held_where_not_missing ids.items entry.id
     (λ missing. entry_within noted.before notes _ _ span.result.start span.result.end
     entry noted.noted span.ensures old live between

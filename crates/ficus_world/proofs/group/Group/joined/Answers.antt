@@ -14,7 +14,7 @@ returns g c = λ was is.
     let here : was ≡ c.member.result.now = number_once is c.member.ensures.is in
     elim c.match-member.branch [
       | in-Some+in_ok-put_whole_with-in-Some w ↦ rw w.noted-is
-          (w.in_ok-put_whole_with-in-Some.ensures
+          (w.in_ok-put_whole_with-in-Some.ensures.put
           ∙ ap (λ (front : List ℕ). front ++ joined (with_part w.in-Some.held head.index bytes)) c.in_ok-noted.ensures
           ∙ ap (λ (tables : List ℕ). accept_front ++ tables)
           (joined_some was head bytes (ap (λ (m : Member). m.parts) here ∙ w.in-Some.is)))

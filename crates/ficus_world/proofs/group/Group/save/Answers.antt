@@ -40,57 +40,15 @@ keep-requires-clause-prepared g c = (
   λ was is. (c.requires.next was (subst (λ (w : Whole). IsNumbered w.members c.args.by was) c.self.view_is is)).leads,
 )
 
-pub returns-clause-saves : goal.returns-clause-saves
-returns-clause-saves g c =
+pub returns : goal.returns
+returns g c =
     let old = whole_of c.self.inside.members.items c.self.inside.history.events c.self.inside.post.now in
     let stored = rw c.reserve.ensures.events at c.keep.ensures.stored in
     let kept = rw c.reserve.ensures.events at c.keep.ensures.kept in
     let before = c.prepare_at.ensures.stays.follows c.self.inside.members.items in
-    rw (← c.self.view_is)
-    (saves_next g.K.Keep g.D.Disk old
-    (whole_of c.keep.new.members.items c.keep.new.history.events c.self.inside.post.now) c.args.by c.args.next
-    c.args.disks.now.items c.keep.new.disks.items c.keep.result
-    (kept_advanced old c.args.by c.args.next c.keep.new.members.items c.keep.new.history.events c.keep.result
-    c.keep.ensures.held stored)
-    (on_ok_weaker c.keep.result (comes_then before) c.keep.ensures.followed)
-    (kept_downed old c.args.by c.args.next c.keep.new.members.items c.keep.new.history.events c.keep.result
-    c.keep.ensures.pending kept)
-    (on_err_weaker c.keep.result (comes_then before) c.keep.ensures.counted) c.keep.ensures.refused)
-
-pub returns-in_err-prepare_at-clause-saves : goal.returns-in_err-prepare_at-clause-saves
-returns-in_err-prepare_at-clause-saves g c =
-    let wanted = err_from_is_err_and c.from_residual-in_err-prepare_at.result c.from_residual-in_err-prepare_at.ensures.1 in
-    rw (wanted.1, wanted.2) tt
-
-pub returns-in_err-reserve-clause-saves : goal.returns-in_err-reserve-clause-saves
-returns-in_err-reserve-clause-saves g c =
-    let wanted = err_from_is_err_and c.from_residual.result c.from_residual.ensures.1 in
-    rw (wanted.1, wanted.2) tt
-
-pub returns-in_err-reserve-clause-acts : goal.returns-in_err-reserve-clause-acts
-returns-in_err-reserve-clause-acts g c =
-    let same = ap (λ (events : List Event). whole_of c.self.inside.members.items events c.self.inside.post.now)
-    c.in_err-reserve.ensures.events ∙ c.self.view_is in
-    subst (λ (w : Whole). Acts g.K.Keep g.D.Disk 1 c.from_residual.result
-    (backed_by c.args.self.now c.args.stables.now.items) (backed_by w c.args.stables.now.items) c.args.disks.now.items
-    c.args.disks.now.items) (sym same) (acts_none c.requires.backed)
-
-pub returns-in_err-prepare_at-clause-acts : goal.returns-in_err-prepare_at-clause-acts
-returns-in_err-prepare_at-clause-acts g c =
-    let same = as_reserved c.self.inside.members.items c.reserve.ensures.events refl ∙ c.self.view_is in
-    subst (λ (w : Whole). Acts g.K.Keep g.D.Disk 1 c.from_residual-in_err-prepare_at.result
-    (backed_by c.args.self.now c.args.stables.now.items) (backed_by w c.prepare_at.new.stables.items)
-    c.args.disks.now.items c.prepare_at.new.disks.items) (sym same)
-    (ready_acts c.requires.up.is.member c.prepare_at.ensures.stays c.requires.backed)
-
-pub returns-clause-acts : goal.returns-clause-acts
-returns-clause-acts g c =
-    let old = whole_of c.self.inside.members.items c.self.inside.history.events c.self.inside.post.now in
     let new = whole_of c.keep.new.members.items c.keep.new.history.events c.self.inside.post.now in
     let is = rw (← c.self.view_is) at c.requires.up.is in
     let backed = rw (← c.self.view_is) at c.requires.backed in
-    let stored = rw c.reserve.ensures.events at c.keep.ensures.stored in
-    let kept = rw c.reserve.ensures.events at c.keep.ensures.kept in
     let stays = c.prepare_at.ensures.stays in
     let writes = subst (λ (events : List Event). WritesAt g.K.Keep g.D.Disk c.args.by
     (whole_of c.self.inside.members.items events c.self.inside.post.now) new c.prepare_at.new.disks.items
@@ -99,14 +57,54 @@ returns-clause-acts g c =
     let stable : IsMember (length c.args.stables.now.items) c.args.by =
     record { at_least = is.member.at_least; at_most = omega (arith, c.requires.up.is.member.at_most, c.requires.stables) }
     in
-    rw (← c.self.view_is)
-    (saved_acts old new
-    (kept_grows old c.args.by c.args.next c.keep.new.members.items c.keep.new.history.events c.keep.result stored kept)
-    (kept_count old c.args.by c.args.next c.keep.new.members.items c.keep.new.history.events c.keep.result
-    c.requires.up.member is c.keep.ensures.held c.keep.ensures.pending) (c.keep.ensures.count ∙ stays.count)
-    (refused_not c.keep.result c.keep.ensures.refused (λ e. cc))
-    (rests_then_writes g.K.Keep g.D.Disk c.args.by g.met.D.Disk.only_now g.met.D.Disk.seen_may_be_left
-    g.met.D.Disk.left_now g.met.D.Disk.left_earlier backed.disks stable stays.rests writes) c.keep.ensures.disks backed)
+    record {
+      saves =
+          rw (← c.self.view_is)
+          (saves_next g.K.Keep g.D.Disk old
+          (whole_of c.keep.new.members.items c.keep.new.history.events c.self.inside.post.now) c.args.by c.args.next
+          c.args.disks.now.items c.keep.new.disks.items c.keep.result
+          (kept_advanced old c.args.by c.args.next c.keep.new.members.items c.keep.new.history.events c.keep.result
+          c.keep.ensures.held stored)
+          (on_ok_weaker c.keep.result (comes_then before) c.keep.ensures.followed)
+          (kept_downed old c.args.by c.args.next c.keep.new.members.items c.keep.new.history.events c.keep.result
+          c.keep.ensures.pending kept)
+          (on_err_weaker c.keep.result (comes_then before) c.keep.ensures.counted) c.keep.ensures.refused);
+      acts =
+          rw (← c.self.view_is)
+          (saved_acts old new
+          (kept_grows old c.args.by c.args.next c.keep.new.members.items c.keep.new.history.events c.keep.result stored kept)
+          (kept_count old c.args.by c.args.next c.keep.new.members.items c.keep.new.history.events c.keep.result
+          c.requires.up.member is c.keep.ensures.held c.keep.ensures.pending) (c.keep.ensures.count ∙ stays.count)
+          (refused_not c.keep.result c.keep.ensures.refused (λ e. cc))
+          (rests_then_writes g.K.Keep g.D.Disk c.args.by g.met.D.Disk.only_now g.met.D.Disk.seen_may_be_left
+          g.met.D.Disk.left_now g.met.D.Disk.left_earlier backed.disks stable stays.rests writes) c.keep.ensures.disks backed);
+    }
+
+pub returns-in_err-prepare_at : goal.returns-in_err-prepare_at
+returns-in_err-prepare_at g c =
+    let wanted = err_from_is_err_and c.from_residual-in_err-prepare_at.result c.from_residual-in_err-prepare_at.ensures.1 in
+    let same = as_reserved c.self.inside.members.items c.reserve.ensures.events refl ∙ c.self.view_is in
+    record {
+      saves = rw (wanted.1, wanted.2) tt;
+      acts =
+          subst (λ (w : Whole). Acts g.K.Keep g.D.Disk 1 c.from_residual-in_err-prepare_at.result
+          (backed_by c.args.self.now c.args.stables.now.items) (backed_by w c.prepare_at.new.stables.items)
+          c.args.disks.now.items c.prepare_at.new.disks.items) (sym same)
+          (ready_acts c.requires.up.is.member c.prepare_at.ensures.stays c.requires.backed);
+    }
+
+pub returns-in_err-reserve : goal.returns-in_err-reserve
+returns-in_err-reserve g c =
+    let wanted = err_from_is_err_and c.from_residual.result c.from_residual.ensures.1 in
+    let same = ap (λ (events : List Event). whole_of c.self.inside.members.items events c.self.inside.post.now)
+    c.in_err-reserve.ensures.events ∙ c.self.view_is in
+    record {
+      saves = rw (wanted.1, wanted.2) tt;
+      acts =
+          subst (λ (w : Whole). Acts g.K.Keep g.D.Disk 1 c.from_residual.result
+          (backed_by c.args.self.now c.args.stables.now.items) (backed_by w c.args.stables.now.items) c.args.disks.now.items
+          c.args.disks.now.items) (sym same) (acts_none c.requires.backed);
+    }
 
 pub keep-requires-clause-disks : goal.keep-requires-clause-disks
 keep-requires-clause-disks g c =

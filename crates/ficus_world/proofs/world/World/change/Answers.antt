@@ -16,29 +16,38 @@ use Rattle.ficus_world.proofs.Moved.{change_moves, change_pends, change_refused,
 use Rattle.ficus_world.proofs.Acting.{acts_done, acts_none, acts_refused}
 use Rattle.ficus_world.proofs.world.World.change.Goals as goal
 
-pub returns-in_err-replica-clause-moves : goal.returns-in_err-replica-clause-moves
-returns-in_err-replica-clause-moves g c =
+pub returns-in_err-replica : goal.returns-in_err-replica
+returns-in_err-replica g c =
     let refused = err_from_is_err_and c.from_residual.result c.from_residual.ensures.1 in
     let old = c.args.self.now.whole in
-    rw (refused.1, refused.2)
-    (comes_to_none g.L.Link.tells g.K.Keep g.D.Disk old (Changes c.args.by c.args.change.now) _ c.args.disks.now.items
-    (up_ends _ _ c.args.by old c.in_err-replica.field-0.0 (unchanged old)
-    (subst (λ (w : Whole). FindsUp c.args.by w (Err c.in_err-replica.field-0.0) (unchanged w)) (whole_is c.self.view_is) c.in_err-replica.ensures.refused)))
+    record {
+      moves =
+          rw (refused.1, refused.2)
+          (comes_to_none g.L.Link.tells g.K.Keep g.D.Disk old (Changes c.args.by c.args.change.now) _ c.args.disks.now.items
+          (up_ends _ _ c.args.by old c.in_err-replica.field-0.0 (unchanged old)
+          (subst (λ (w : Whole). FindsUp c.args.by w (Err c.in_err-replica.field-0.0) (unchanged w))
+          (whole_is c.self.view_is) c.in_err-replica.ensures.refused)));
+      acts = acts_none c.requires.backed;
+    }
 
-pub returns-in_err-next-clause-moves : goal.returns-in_err-next-clause-moves
-returns-in_err-next-clause-moves g c =
+pub returns-in_err-next : goal.returns-in_err-next
+returns-in_err-next g c =
     let residual = c.from_residual-in_err-next in
     let refused = err_from_is_err_and residual.result residual.ensures.1 in
     let old = c.args.self.now.whole in
     let was = c.in_ok-replica.field-0.now in
     let is = subst (λ (w : Whole). IsNumbered w.members c.args.by was) (whole_is c.self.view_is) c.in_ok-replica.ensures.is in
-    rw (refused.1, refused.2)
-    (comes_to_none g.L.Link.tells g.K.Keep g.D.Disk old (Changes c.args.by c.args.change.now) _ c.args.disks.now.items
-    (change_refused g.L.Link.tells g.D.Disk.tells old c.args.by was is
-    c.in_ok-replica.ensures.up c.args.change.now c.in_err-next.field-0.0 c.in_err-next.ensures.gives))
+    record {
+      moves =
+          rw (refused.1, refused.2)
+          (comes_to_none g.L.Link.tells g.K.Keep g.D.Disk old (Changes c.args.by c.args.change.now) _ c.args.disks.now.items
+          (change_refused g.L.Link.tells g.D.Disk.tells old c.args.by was is
+          c.in_ok-replica.ensures.up c.args.change.now c.in_err-next.field-0.0 c.in_err-next.ensures.gives));
+      acts = acts_none c.requires.backed;
+    }
 
-pub returns-in_err-save-clause-moves : goal.returns-in_err-save-clause-moves
-returns-in_err-save-clause-moves g c =
+pub returns-in_err-save : goal.returns-in_err-save
+returns-in_err-save g c =
     let residual = c.from_residual-in_err-save in
     let refused = err_from_is_err_and residual.result residual.ensures.1 in
     let old = c.args.self.now.whole in
@@ -57,29 +66,37 @@ returns-in_err-save-clause-moves g c =
       so = may_where_given c.in_ok-replica.ensures.sound.replica.fits c.args.change.now next.op
           c.in_ok-next.ensures.gives.answer;
     } in
-    rw (refused.1, refused.2)
-    (comes_to old change _ new x z
-    (save_refused (CarriesOut g.L.Link.tells g.D.Disk.tells change) old new c.args.by was
-    (pending_of next.replica (Update c.args.by next.op)) x z c.in_err-save.field-0.0 is
-    c.in_err-save.ensures.saves c.in_err-save.ensures.acts.memory
-    (change_pends g.L.Link.tells g.D.Disk.tells old c.args.by was is up c.args.change.now next
-    c.in_ok-next.ensures.gives)) (λ e. may))
+    record {
+      moves =
+          rw (refused.1, refused.2)
+          (comes_to old change _ new x z
+          (save_refused (CarriesOut g.L.Link.tells g.D.Disk.tells change) old new c.args.by was
+          (pending_of next.replica (Update c.args.by next.op)) x z c.in_err-save.field-0.0 is
+          c.in_err-save.ensures.saves c.in_err-save.ensures.acts.memory
+          (change_pends g.L.Link.tells g.D.Disk.tells old c.args.by was is up c.args.change.now next
+          c.in_ok-next.ensures.gives)) (λ e. may));
+      acts = rw (refused.1, refused.2) (acts_refused c.in_err-save.field-0.0 c.in_err-save.ensures.acts);
+    }
 
-pub returns-clause-moves : goal.returns-clause-moves
-returns-clause-moves g c =
+pub returns : goal.returns
+returns g c =
     let old = c.args.self.now.whole in
     let change = Changes c.args.by c.args.change.now in
     let was = c.in_ok-replica.field-0.now in
     let is = subst (λ (w : Whole). IsNumbered w.members c.args.by was) (whole_is c.self.view_is) c.in_ok-replica.ensures.is in
     let next = c.in_ok-next.next in
-    rw (c.answer-answer.ensures, c.next_id-number.ensures)
-    (saved_done old c.save.new.self.whole change c.args.by was next.replica (Update c.args.by next.op) _
-    c.args.disks.now.items c.save.new.disks.items (c.in_ok-save.ensures.saves.0 was is) c.in_ok-save.ensures.saves.1
-    (change_moves g.L.Link.tells g.D.Disk.tells old c.args.by was is c.in_ok-replica.ensures.up c.args.change.now next
-    c.in_ok-next.ensures.gives))
+    record {
+      moves =
+          rw (c.answer-answer.ensures, c.next_id-number.ensures)
+          (saved_done old c.save.new.self.whole change c.args.by was next.replica (Update c.args.by next.op) _
+          c.args.disks.now.items c.save.new.disks.items (c.in_ok-save.ensures.saves.0 was is) c.in_ok-save.ensures.saves.1
+          (change_moves g.L.Link.tells g.D.Disk.tells old c.args.by was is c.in_ok-replica.ensures.up c.args.change.now next
+          c.in_ok-next.ensures.gives));
+      acts = acts_done c.in_ok-save.ensures.acts;
+    }
 
-pub returns-in_err-noted-clause-moves : goal.returns-in_err-noted-clause-moves
-returns-in_err-noted-clause-moves g c =
+pub returns-in_err-noted : goal.returns-in_err-noted
+returns-in_err-noted g c =
     let residual = c.from_residual-in_err-noted in
     let wanted = err_from_is_err_and residual.result residual.ensures.1 in
     let old = c.args.self.now.whole in
@@ -92,9 +109,13 @@ returns-in_err-noted-clause-moves g c =
       so = may_where_given c.in_ok-replica.ensures.sound.replica.fits c.args.change.now c.in_ok-next.next.op
           c.in_ok-next.ensures.gives.answer;
     } in
-    rw (wanted.1, wanted.2)
-    (comes_to_none g.L.Link.tells g.K.Keep g.D.Disk old (Changes c.args.by c.args.change.now) _ c.args.disks.now.items
-    may)
+    record {
+      moves =
+          rw (wanted.1, wanted.2)
+          (comes_to_none g.L.Link.tells g.K.Keep g.D.Disk old (Changes c.args.by c.args.change.now) _ c.args.disks.now.items
+          may);
+      acts = acts_none c.requires.backed;
+    }
 
 pub save-requires-clause-next : goal.save-requires-clause-next
 save-requires-clause-next g c = λ was is.
@@ -112,23 +133,6 @@ save-requires-clause-next g c = λ was is.
       is = c.in_ok-noted.ensures found.replica.saved.members;
       step = c.in_ok-next.ensures.noted;
     }))
-
-pub returns-in_err-replica-clause-acts : goal.returns-in_err-replica-clause-acts
-returns-in_err-replica-clause-acts g c = acts_none c.requires.backed
-
-pub returns-in_err-next-clause-acts : goal.returns-in_err-next-clause-acts
-returns-in_err-next-clause-acts g c = acts_none c.requires.backed
-
-pub returns-in_err-noted-clause-acts : goal.returns-in_err-noted-clause-acts
-returns-in_err-noted-clause-acts g c = acts_none c.requires.backed
-
-pub returns-in_err-save-clause-acts : goal.returns-in_err-save-clause-acts
-returns-in_err-save-clause-acts g c =
-    let refused = err_from_is_err_and c.from_residual-in_err-save.result c.from_residual-in_err-save.ensures.1 in
-    rw (refused.1, refused.2) (acts_refused c.in_err-save.field-0.0 c.in_err-save.ensures.acts)
-
-pub returns-clause-acts : goal.returns-clause-acts
-returns-clause-acts g c = acts_done c.in_ok-save.ensures.acts
 
 pub same-self-in_err-noted : goal.same-self-in_err-noted
 same-self-in_err-noted g c = refl

@@ -30,41 +30,39 @@ loop-index-preserved g c =
       grows = omega (arith, c.give.ensures.acts.grows, l.invariant.grows);
     }
 
-pub returns-in_err-give-clause-gives : goal.returns-in_err-give-clause-gives
-returns-in_err-give-clause-gives g c =
+pub returns-in_err-give : goal.returns-in_err-give
+returns-in_err-give g c =
     let l = c.loop-index in
     let refused = err_from_is_err_and c.from_residual.result c.from_residual.ensures.1 in
-    rw (refused.1, refused.2)
-    (given_refused g.L.Link.tells g.K.Keep g.D.Disk c.args.first c.args.count c.args.self.now.whole
-    c.args.disks.now.items l.index l.self.whole l.disks.items l.invariant.given
-    (omega (arith, c.loop-index-test.true)) c.in_err-give.field-0.0 c.give.new.self.whole c.give.new.disks.items
-    c.in_err-give.ensures.gives)
+    record {
+      gives =
+          rw (refused.1, refused.2)
+          (given_refused g.L.Link.tells g.K.Keep g.D.Disk c.args.first c.args.count c.args.self.now.whole
+          c.args.disks.now.items l.index l.self.whole l.disks.items l.invariant.given
+          (omega (arith, c.loop-index-test.true)) c.in_err-give.field-0.0 c.give.new.self.whole c.give.new.disks.items
+          c.in_err-give.ensures.gives);
+      memory =
+          rw (refused.1, refused.2)
+          (λ is. given_cut g.L.Link.tells g.K.Keep g.D.Disk c.args.first c.args.count c.args.self.now.whole
+          c.args.disks.now.items l.index l.self.whole l.disks.items l.invariant.given
+          (omega (arith, c.loop-index-test.true)) c.give.new.self.whole c.give.new.disks.items
+          (c.in_err-give.ensures.acts.memory (same_refusal c.in_err-give.field-0.0 Memory is)));
+      acts =
+          acts_then l.invariant.acts l.invariant.settled (acts_once c.give.ensures.acts (λ before after.
+          given before after c.give.ensures.acts.touches _ (Err c.in_err-give.field-0.0) c.in_err-give.ensures.gives
+          c.in_err-give.ensures.acts.memory));
+    }
 
-pub returns-in_err-give-clause-memory : goal.returns-in_err-give-clause-memory
-returns-in_err-give-clause-memory g c =
+pub returns : goal.returns
+returns g c =
     let l = c.loop-index in
-    let refused = err_from_is_err_and c.from_residual.result c.from_residual.ensures.1 in
-    rw (refused.1, refused.2)
-    (λ is. given_cut g.L.Link.tells g.K.Keep g.D.Disk c.args.first c.args.count c.args.self.now.whole
-    c.args.disks.now.items l.index l.self.whole l.disks.items l.invariant.given
-    (omega (arith, c.loop-index-test.true)) c.give.new.self.whole c.give.new.disks.items
-    (c.in_err-give.ensures.acts.memory (same_refusal c.in_err-give.field-0.0 Memory is)))
-
-pub returns-clause-gives : goal.returns-clause-gives
-returns-clause-gives g c =
-    let l = c.loop-index in
-    given_all g.L.Link.tells g.K.Keep g.D.Disk c.args.first c.args.count c.args.self.now.whole c.args.disks.now.items
-    l.index l.self.whole l.disks.items l.invariant.given (omega (arith, c.loop-index-test.false))
-
-pub returns-in_err-give-clause-acts : goal.returns-in_err-give-clause-acts
-returns-in_err-give-clause-acts g c =
-    let l = c.loop-index in
-    acts_then l.invariant.acts l.invariant.settled (acts_once c.give.ensures.acts (λ before after.
-    given before after c.give.ensures.acts.touches _ (Err c.in_err-give.field-0.0) c.in_err-give.ensures.gives
-    c.in_err-give.ensures.acts.memory))
-
-pub returns-clause-acts : goal.returns-clause-acts
-returns-clause-acts g c = c.loop-index.invariant.acts
+    record {
+      gives =
+          given_all g.L.Link.tells g.K.Keep g.D.Disk c.args.first c.args.count c.args.self.now.whole c.args.disks.now.items
+          l.index l.self.whole l.disks.items l.invariant.given (omega (arith, c.loop-index-test.false));
+      memory = λ is. absurd (cc);
+      acts = c.loop-index.invariant.acts;
+    }
 
 pub give-requires-clause-backed : goal.give-requires-clause-backed
 give-requires-clause-backed g c = c.loop-index.invariant.acts.backed

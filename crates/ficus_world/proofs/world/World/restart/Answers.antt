@@ -27,15 +27,20 @@ use Rattle.ficus_opening.proofs.Rests.{rests_count}
 use Rattle.ficus_world.proofs.Acting.{acts_none}
 use Rattle.ficus_world.proofs.world.World.restart.Goals as goal
 
-pub returns-then-not-has-clause-moves : goal.returns-then-not-has-clause-moves
-returns-then-not-has-clause-moves g c =
+pub returns-then-not-has : goal.returns-then-not-has
+returns-then-not-has g c =
     let none = subst (λ (w : Whole). IsMember (length w.members) c.args.by → ⊥) (whole_is c.self.view_is)
     (not_so c.has.result c.has.ensures c.if-not-has.true) in
-    comes_to_none g.L.Link.tells g.K.Keep g.D.Disk c.args.self.now.whole (Restarts c.args.by) (Err refusal.Member)
-    c.args.disks.now.items (Ends (FindsNone none))
+    record {
+      moves =
+          comes_to_none g.L.Link.tells g.K.Keep g.D.Disk c.args.self.now.whole (Restarts c.args.by) (Err refusal.Member)
+          c.args.disks.now.items (Ends (FindsNone none));
+      acts = acts_none c.requires.backed;
+      left = λ told. left_none g.D.Disk.seen g.D.Disk.may_leave (g.met.D.Disk.seen_may_be_left told) c.args.disks.now.items;
+    }
 
-pub returns-in_err-reserve-clause-moves : goal.returns-in_err-reserve-clause-moves
-returns-in_err-reserve-clause-moves g c =
+pub returns-in_err-reserve : goal.returns-in_err-reserve
+returns-in_err-reserve g c =
     let wanted = err_from_is_err_and c.from_residual.result c.from_residual.ensures.1 in
     let x = c.args.disks.now.items in
     let inside = c.self-inside.inside.0.0 in
@@ -44,11 +49,21 @@ returns-in_err-reserve-clause-moves g c =
     subst (λ i. old ≡ i.group) c.self-inside.view_is refl ∙ whole_is c.self.view_is in
     let member = subst (λ (w : Whole). IsMember (length w.members) c.args.by) (whole_is c.self.view_is)
     (c.has.ensures.0 c.if-not-has.false) in
-    rw (wanted.1, wanted.2, c.in_err-reserve.ensures.events)
-    (subst (λ (w : Whole). ComesTo g.L.Link.tells g.K.Keep g.D.Disk c.args.self.now.whole
-    (Restarts c.args.by) (Err refusal.Memory) w x x) (sym same)
-    (comes_to_none g.L.Link.tells g.K.Keep g.D.Disk c.args.self.now.whole (Restarts c.args.by) (Err refusal.Memory) x
-    member))
+    record {
+      moves =
+          rw (wanted.1, wanted.2, c.in_err-reserve.ensures.events)
+          (subst (λ (w : Whole). ComesTo g.L.Link.tells g.K.Keep g.D.Disk c.args.self.now.whole
+          (Restarts c.args.by) (Err refusal.Memory) w x x) (sym same)
+          (comes_to_none g.L.Link.tells g.K.Keep g.D.Disk c.args.self.now.whole (Restarts c.args.by) (Err refusal.Memory) x
+          member));
+      acts =
+          rw (wanted.1, wanted.2, c.in_err-reserve.ensures.events)
+          (subst (λ i. Acts {A = Answer} g.K.Keep g.D.Disk 2 (Err refusal.Memory) c.args.self.now (backed_by i.group i.stables.items) x x)
+          (sym c.self-inside.view_is)
+          (subst (λ (b : Backed _). Acts {A = Answer} g.K.Keep g.D.Disk 2 (Err refusal.Memory) c.args.self.now b x x) (sym c.self.view_is)
+          (acts_none c.requires.backed)));
+      left = λ told. left_none g.D.Disk.seen g.D.Disk.may_leave (g.met.D.Disk.seen_may_be_left told) c.args.disks.now.items;
+    }
 
 pub invariant_of-self-inside-2 : goal.invariant_of-self-inside-2
 invariant_of-self-inside-2 g c =
@@ -82,8 +97,8 @@ invariant_of-self-2 g c =
     c.self.invariant in
     c.reopen_at-read.ensures.count ∙ counts ∙ sym members
 
-pub returns-clause-moves : goal.returns-clause-moves
-returns-clause-moves g c =
+pub returns : goal.returns
+returns g c =
     let by = c.args.by in
     let tells = g.L.Link.tells in
     let x = c.args.disks.now.items in
@@ -108,49 +123,6 @@ returns-clause-moves g c =
     (record { is = found.1; sound = sound; disks = backed.disks }) stand) c.reopen_at-read.ensures.never
     c.reopen_at-read.ensures.opened back.2 in
     let is : old ≡ c.args.self.now.whole = sym same ∙ whole_is c.self.view_is in
-    rw (back.3, back.4, c.in_ok-reserve.ensures.events)
-    (comes_to c.args.self.now.whole (Restarts by) c.come_back.result _ x y
-    (subst (λ (w : Whole). CarriedOn g.K.Keep g.D.Disk (CarriesOut tells g.D.Disk.tells (Restarts by))
-    c.come_back.result w (whole_of (slice_set old.members (by - 1) back.0) (old.events ++ back.1) old.post) x y) is moves)
-    (λ e. subst (λ (w : Whole). IsMember (length w.members) by) is member))
-
-pub returns-then-not-has-clause-left : goal.returns-then-not-has-clause-left
-returns-then-not-has-clause-left g c told =
-    left_none g.D.Disk.seen g.D.Disk.may_leave (g.met.D.Disk.seen_may_be_left told) c.args.disks.now.items
-
-pub returns-in_err-reserve-clause-left : goal.returns-in_err-reserve-clause-left
-returns-in_err-reserve-clause-left g c told =
-    left_none g.D.Disk.seen g.D.Disk.may_leave (g.met.D.Disk.seen_may_be_left told) c.args.disks.now.items
-
-pub returns-clause-left : goal.returns-clause-left
-returns-clause-left g c = c.reopen_at-read.ensures.left
-
-pub returns-then-not-has-clause-acts : goal.returns-then-not-has-clause-acts
-returns-then-not-has-clause-acts g c = acts_none c.requires.backed
-
-pub returns-in_err-reserve-clause-acts : goal.returns-in_err-reserve-clause-acts
-returns-in_err-reserve-clause-acts g c =
-    let wanted = err_from_is_err_and c.from_residual.result c.from_residual.ensures.1 in
-    let x = c.args.disks.now.items in
-    rw (wanted.1, wanted.2, c.in_err-reserve.ensures.events)
-    (subst (λ i. Acts {A = Answer} g.K.Keep g.D.Disk 2 (Err refusal.Memory) c.args.self.now (backed_by i.group i.stables.items) x x)
-    (sym c.self-inside.view_is)
-    (subst (λ (b : Backed _). Acts {A = Answer} g.K.Keep g.D.Disk 2 (Err refusal.Memory) c.args.self.now b x x) (sym c.self.view_is)
-    (acts_none c.requires.backed)))
-
-pub returns-clause-acts : goal.returns-clause-acts
-returns-clause-acts g c =
-    let by = c.args.by in
-    let x = c.args.disks.now.items in
-    let inside = c.self-inside.inside.0.0 in
-    let old = whole_of inside.members.items inside.history.events inside.post.now in
-    let same : c.self.inside.group ≡ old = subst (λ i. i.group ≡ old) c.self-inside.view_is refl in
-    let is : old ≡ c.args.self.now.whole = sym same ∙ whole_is c.self.view_is in
-    let member = subst (λ (w : Whole). IsMember (length w.members) by) same (c.has.ensures.0 c.if-not-has.false) in
-    let found = number_exists old.members by member in
-    let back = c.come_back.ensures found.0 found.1 in
-    let backed = subst (λ i. IsBacked g.K.Keep g.D.Disk (backed_by i.group i.stables.items) x)
-    (sym c.self-inside.view_is) (rw (← c.self.view_is) at c.requires.backed) in
     let counted = ap (λ (list : List Member). length list) back.3 ∙ length-set old.members (by - 1) back.0 in
     let members = counted ∙ ap (λ (w : Whole). length w.members) is in
     let stored = ap (λ (list : List Event). length list) back.4 ∙ length-append c.reserve.new.self.events back.1
@@ -158,40 +130,49 @@ returns-clause-acts g c =
     let before = ap (λ (w : Whole). length w.events) is in
     let pairs = rests_count c.reopen_at-read.ensures.rests in
     record {
-      grows = omega (
-        arith,
-        stored,
-        before,
-        back_stores c.args.by found.0 c.reopen_at-read.result c.come_back.result back.0 back.1 back.2,
-      );
-      members = members;
-      stables = c.reopen_at-read.ensures.count ∙ ap (λ i. length i.stables.items) c.self-inside.view_is
-          ∙ ap (λ (b : Backed _). length b.stables) c.self.view_is;
-      memory = λ e.
-          let stays = back_same c.args.by found.0 c.reopen_at-read.result c.come_back.result back.0 back.1 back.2 e in
-          let list = back.3 ∙ ap (λ (m : Member). slice_set old.members (by - 1) m) stays.0
-          ∙ set_own old.members by found.0 found.1 in
-          let events = back.4
-          ∙ ap₂ (λ (before stored : List Event). before ++ stored) c.in_ok-reserve.ensures.events stays.1
-          ∙ append-nil old.events in
-          record {
-            same =
-                ap₂ (λ (members : List Member) (events : List Event). whole_of members events old.post) list events ∙ is;
-            disks = follows_alike (λ r. refl) (λ r. refl) c.reopen_at-read.ensures.follows;
-          };
-      touches = TouchesOne (subst (λ (w : Whole). IsMember (length w.members) by) is member)
-          c.reopen_at-read.ensures.rests;
-      backed = record {
-        pairs = omega (arith, counted, backed.pairs, pairs);
-        disks = c.reopen_at-read.ensures.disks old.members c.come_back.new.members.items
-            (record {
-              was = found.0;
-              is = found.1;
-              now = back.0;
-              after = back_after c.args.by found.0 c.reopen_at-read.result c.come_back.result back.0 back.1 back.2;
-              set = back.3;
-            }) backed.disks;
+      moves =
+          rw (back.3, back.4, c.in_ok-reserve.ensures.events)
+          (comes_to c.args.self.now.whole (Restarts by) c.come_back.result _ x y
+          (subst (λ (w : Whole). CarriedOn g.K.Keep g.D.Disk (CarriesOut tells g.D.Disk.tells (Restarts by))
+          c.come_back.result w (whole_of (slice_set old.members (by - 1) back.0) (old.events ++ back.1) old.post) x y) is moves)
+          (λ e. subst (λ (w : Whole). IsMember (length w.members) by) is member));
+      acts = record {
+        grows = omega (
+          arith,
+          stored,
+          before,
+          back_stores c.args.by found.0 c.reopen_at-read.result c.come_back.result back.0 back.1 back.2,
+        );
+        members = members;
+        stables = c.reopen_at-read.ensures.count ∙ ap (λ i. length i.stables.items) c.self-inside.view_is
+            ∙ ap (λ (b : Backed _). length b.stables) c.self.view_is;
+        memory = λ e.
+            let stays = back_same c.args.by found.0 c.reopen_at-read.result c.come_back.result back.0 back.1 back.2 e in
+            let list = back.3 ∙ ap (λ (m : Member). slice_set old.members (by - 1) m) stays.0
+            ∙ set_own old.members by found.0 found.1 in
+            let events = back.4
+            ∙ ap₂ (λ (before stored : List Event). before ++ stored) c.in_ok-reserve.ensures.events stays.1
+            ∙ append-nil old.events in
+            record {
+              same =
+                  ap₂ (λ (members : List Member) (events : List Event). whole_of members events old.post) list events ∙ is;
+              disks = follows_alike (λ r. refl) (λ r. refl) c.reopen_at-read.ensures.follows;
+            };
+        touches = TouchesOne (subst (λ (w : Whole). IsMember (length w.members) by) is member)
+            c.reopen_at-read.ensures.rests;
+        backed = record {
+          pairs = omega (arith, counted, backed.pairs, pairs);
+          disks = c.reopen_at-read.ensures.disks old.members c.come_back.new.members.items
+              (record {
+                was = found.0;
+                is = found.1;
+                now = back.0;
+                after = back_after c.args.by found.0 c.reopen_at-read.result c.come_back.result back.0 back.1 back.2;
+                set = back.3;
+              }) backed.disks;
+        };
       };
+      left = c.reopen_at-read.ensures.left;
     }
 
 pub reopen_at-read-requires-clause-pair : goal.reopen_at-read-requires-clause-pair

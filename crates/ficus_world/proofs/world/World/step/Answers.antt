@@ -10,82 +10,50 @@ use Rattle.ficus_world.proofs.Moved.{answered_cut, answered_moves, answered_want
 use Rattle.ficus_world.proofs.Stepping.{cut_stops, step_follows}
 use Rattle.ficus_world.proofs.world.World.step.Goals as goal
 
-pub returns-clause-moves : goal.returns-clause-moves
-returns-clause-moves g c =
-    answered_moves g.L.Link.tells g.K.Keep g.D.Disk c.args.self.now.whole c.carry_out-came_to.new.self.whole c.args.command.now
-    c.carry_out-came_to.result c.answered.result c.args.disks.now.items c.carry_out-came_to.new.disks.items c.carry_out-came_to.ensures.moves
-    c.answered.ensures.answer
-
-pub returns-clause-memory : goal.returns-clause-memory
-returns-clause-memory g c =
-    answered_cut (CutOn g.L.Link.tells g.K.Keep g.D.Disk c.args.command.now c.args.self.now.whole
-    c.carry_out-came_to.new.self.whole c.args.disks.now.items c.carry_out-came_to.new.disks.items) c.carry_out-came_to.result
-    c.answered.result c.carry_out-came_to.ensures.memory c.answered.ensures.memory
-
-pub returns-clause-collected : goal.returns-clause-collected
-returns-clause-collected g c =
+pub returns : goal.returns
+returns g c =
+    let tells = g.L.Link.tells in
     let old = c.args.self.now.whole in
     let new = c.carry_out-came_to.new.self.whole in
+    let was = c.args.disks.now.items in
+    let now = c.carry_out-came_to.new.disks.items in
     let command = c.args.command.now in
-    IfOk-weaker c.answered.result (λ answer. Stepped g.L.Link.tells g.K.Keep g.D.Disk old
-    command answer new c.args.disks.now.items c.carry_out-came_to.new.disks.items)
-    (λ answer. HasCollected command answer new)
-    (λ answer is. moves_collected g.L.Link.tells g.D.Disk.tells old command is.outcomes answer new is.moves)
-    (answered_moves g.L.Link.tells g.K.Keep g.D.Disk old new command c.carry_out-came_to.result c.answered.result
-    c.args.disks.now.items c.carry_out-came_to.new.disks.items c.carry_out-came_to.ensures.moves c.answered.ensures.answer)
-
-pub returns-clause-pairs : goal.returns-clause-pairs
-returns-clause-pairs g c = c.carry_out-came_to.ensures.moves.disks.count
-
-pub returns-clause-stands : goal.returns-clause-stands
-returns-clause-stands g c = λ told disks_told volume W stands.
-    let old = c.args.self.now.whole in
-    let new = c.carry_out-came_to.new.self.whole in
-    let command = c.args.command.now in
-    IfOk-weaker c.answered.result (λ answer. Stepped g.L.Link.tells g.K.Keep g.D.Disk old
-    command answer new c.args.disks.now.items c.carry_out-came_to.new.disks.items)
-    (λ answer. FollowsOn g.K.Keep g.D.Disk volume W old command answer new
-    c.args.disks.now.items c.carry_out-came_to.new.disks.items)
-    (step_follows g.L.Link.tells told g.K.Keep g.D.Disk volume W old stands command new
-    c.args.disks.now.items c.carry_out-came_to.new.disks.items disks_told)
-    (answered_moves g.L.Link.tells g.K.Keep g.D.Disk old new command c.carry_out-came_to.result c.answered.result
-    c.args.disks.now.items c.carry_out-came_to.new.disks.items c.carry_out-came_to.ensures.moves c.answered.ensures.answer)
-
-pub returns-clause-stays : goal.returns-clause-stays
-returns-clause-stays g c = λ told volume W stands.
-    let old = c.args.self.now.whole in
-    let new = c.carry_out-came_to.new.self.whole in
-    let command = c.args.command.now in
-    answered_cut (StopsOn g.K.Keep g.D.Disk volume W old command new
-    c.args.disks.now.items c.carry_out-came_to.new.disks.items) c.carry_out-came_to.result c.answered.result
-    (λ memory. cut_stops g.L.Link.tells told g.K.Keep g.D.Disk volume W old stands command new
-    c.args.disks.now.items c.carry_out-came_to.new.disks.items (c.carry_out-came_to.ensures.memory memory)) c.answered.ensures.memory
-
-pub returns-clause-wants : goal.returns-clause-wants
-returns-clause-wants g c = λ volume W stands.
-    let old = c.args.self.now.whole in
-    let command = c.args.command.now in
-    answered_wants g.L.Link.tells g.K.Keep g.D.Disk old c.carry_out-came_to.new.self.whole command c.carry_out-came_to.result
-    c.answered.result c.args.disks.now.items c.carry_out-came_to.new.disks.items (CommandMayWantMemory volume W command)
-    (follow_wanted volume W old stands command) c.carry_out-came_to.ensures.moves c.answered.ensures.memory
-
-pub returns-clause-passes : goal.returns-clause-passes
-returns-clause-passes g c = c.carry_out-came_to.ensures.acts.passes c.settled.ensures c.settled-2.ensures
-
-pub returns-clause-grows : goal.returns-clause-grows
-returns-clause-grows g c =
-    comes_foreseen g.L.Link.tells g.K.Keep g.D.Disk c.args.self.now.whole c.carry_out-came_to.new.self.whole
-    c.args.command.now c.args.disks.now.items c.carry_out-came_to.new.disks.items c.carry_out-came_to.result
-    c.carry_out-came_to.ensures.moves c.carry_out-came_to.ensures.memory c.settled-2.ensures.sound
-
-pub returns-clause-members : goal.returns-clause-members
-returns-clause-members g c = c.carry_out-came_to.ensures.acts.members
-
-pub returns-clause-others : goal.returns-clause-others
-returns-clause-others g c = c.carry_out-came_to.ensures.acts.others
-
-pub returns-clause-backed : goal.returns-clause-backed
-returns-clause-backed g c = c.carry_out-came_to.ensures.acts.backed
+    let came_to = c.carry_out-came_to.result in
+    let result = c.answered.result in
+    let carried = c.carry_out-came_to.ensures in
+    let answered = c.answered.ensures in
+    let moves =
+    answered_moves tells g.K.Keep g.D.Disk old new command came_to result was now carried.moves answered.answer in
+    record {
+      moves = moves;
+      grows = comes_foreseen tells g.K.Keep g.D.Disk old new command was now came_to carried.moves carried.memory
+          c.settled-2.ensures.sound;
+      members = carried.acts.members;
+      pairs = carried.moves.disks.count;
+      memory = answered_cut (CutOn tells g.K.Keep g.D.Disk command old new was now) came_to result carried.memory
+          answered.memory;
+      unsaved = carried.unsaved;
+      backed = carried.acts.backed;
+      passes = carried.acts.passes c.settled.ensures c.settled-2.ensures;
+      left = carried.left;
+      others = carried.acts.others;
+      collected =
+          IfOk-weaker result (λ answer. Stepped tells g.K.Keep g.D.Disk old command answer new was now)
+          (λ answer. HasCollected command answer new)
+          (λ answer is. moves_collected tells g.D.Disk.tells old command is.outcomes answer new is.moves) moves;
+      stands = λ told disks_told volume W stands.
+          IfOk-weaker result (λ answer. Stepped tells g.K.Keep g.D.Disk old command answer new was now)
+          (λ answer. FollowsOn g.K.Keep g.D.Disk volume W old command answer new was now)
+          (step_follows tells told g.K.Keep g.D.Disk volume W old stands command new was now disks_told) moves;
+      stays = λ told volume W stands.
+          answered_cut (StopsOn g.K.Keep g.D.Disk volume W old command new was now) came_to result
+          (λ memory. cut_stops tells told g.K.Keep g.D.Disk volume W old stands command new was now
+          (carried.memory memory)) answered.memory;
+      wants = λ volume W stands.
+          answered_wants tells g.K.Keep g.D.Disk old new command came_to result was now
+          (CommandMayWantMemory volume W command) (follow_wanted volume W old stands command) carried.moves
+          answered.memory;
+    }
 
 pub settled-requires-2 : goal.settled-requires-2
 settled-requires-2 g c = c.carry_out-came_to.ensures.acts.backed.disks

@@ -19,56 +19,55 @@ use Rattle.ficus_world.proofs.Acting.{acts_none}
 use Rattle.ficus_opening.proofs.Rests.{rests_count}
 use Rattle.ficus_world.proofs.world.World.stop.Goals as goal
 
-pub returns-in_err-up-clause-moves : goal.returns-in_err-up-clause-moves
-returns-in_err-up-clause-moves g c =
+pub returns-in_err-up : goal.returns-in_err-up
+returns-in_err-up g c =
     let refused = err_from_is_err_and c.from_residual.result c.from_residual.ensures.1 in
     let old = c.args.self.now.whole in
-    let finds = subst (λ (w : Whole). FindsUp c.args.by w (Err c.in_err-up.field-0.0) (unchanged w))
-    (whole_is c.self.view_is) c.in_err-up.ensures.refused in
     rw (refused.1, refused.2)
-    (comes_to_none g.L.Link.tells g.K.Keep g.D.Disk old (Stops c.args.by c.args.calls c.args.pick) _ c.args.disks.now.items
-    (up_ends _ _ c.args.by old c.in_err-up.field-0.0 (unchanged old) finds))
+    (record {
+      moves =
+          comes_to_none g.L.Link.tells g.K.Keep g.D.Disk old (Stops c.args.by c.args.calls c.args.pick) _ c.args.disks.now.items
+          (up_ends _ _ c.args.by old c.in_err-up.field-0.0 (unchanged old)
+          (subst (λ (w : Whole). FindsUp c.args.by w (Err c.in_err-up.field-0.0) (unchanged w)) (whole_is c.self.view_is)
+          c.in_err-up.ensures.refused));
+      acts = acts_none c.requires.backed;
+    })
 
-pub returns-then-not-branch-clause-moves : goal.returns-then-not-branch-clause-moves
-returns-then-not-branch-clause-moves g c =
+pub returns-then-not-branch : goal.returns-then-not-branch
+returns-then-not-branch g c =
     let old = c.args.self.now.whole in
     let was = c.in_ok-up.field-0.now in
     let is = subst (λ (w : Whole). IsNumbered w.members c.args.by was) (whole_is c.self.view_is) c.in_ok-up.ensures.is in
-    comes_to_none g.L.Link.tells g.K.Keep g.D.Disk old (Stops c.args.by c.args.calls c.args.pick) _ c.args.disks.now.items
-    (Goes (FindsAt is c.in_ok-up.ensures.up) (ArmsNone c.if-not-branch.true))
+    record {
+      moves =
+          comes_to_none g.L.Link.tells g.K.Keep g.D.Disk old (Stops c.args.by c.args.calls c.args.pick) _ c.args.disks.now.items
+          (Goes (FindsAt is c.in_ok-up.ensures.up) (ArmsNone c.if-not-branch.true));
+      acts = acts_none c.requires.backed;
+    }
 
-pub returns-clause-moves : goal.returns-clause-moves
-returns-clause-moves g c =
+pub returns : goal.returns
+returns g c =
     let was = c.in_ok-up.field-0.now in
     let is = subst (λ (w : Whole). IsNumbered w.members c.args.by was) (whole_is c.self.view_is) c.in_ok-up.ensures.is in
     let armed = c.arm_at.ensures.follows c.args.self.now.whole.members (λ found here.
     subst (λ (m : Member). m.state ≡ Up) (number_once is here) c.in_ok-up.ensures.up) in
     record {
-      outcomes = IsArmed c.args.by c.args.calls c.args.pick ∷ [];
-      does = Goes (FindsAt is c.in_ok-up.ensures.up) (Arms c.if-not-branch.false);
-      disks = armed.disks;
-      fuses = armed.fuses;
-    }
-
-pub returns-in_err-up-clause-acts : goal.returns-in_err-up-clause-acts
-returns-in_err-up-clause-acts g c = acts_none c.requires.backed
-
-pub returns-then-not-branch-clause-acts : goal.returns-then-not-branch-clause-acts
-returns-then-not-branch-clause-acts g c = acts_none c.requires.backed
-
-pub returns-clause-acts : goal.returns-clause-acts
-returns-clause-acts g c =
-    let was = c.in_ok-up.field-0.now in
-    let is = subst (λ (w : Whole). IsNumbered w.members c.args.by was) (whole_is c.self.view_is) c.in_ok-up.ensures.is in
-    record {
-      grows = omega arith;
-      members = refl;
-      stables = refl;
-      memory = λ is. absurd (cc);
-      touches = TouchesOne is.member c.arm_at.ensures.rests;
-      backed = record {
-        pairs = omega (arith, c.requires.backed.pairs, rests_count c.arm_at.ensures.rests);
-        disks = c.arm_at.ensures.disks c.args.self.now.stables c.args.self.now.whole.members c.requires.backed.disks;
+      moves = record {
+        outcomes = IsArmed c.args.by c.args.calls c.args.pick ∷ [];
+        does = Goes (FindsAt is c.in_ok-up.ensures.up) (Arms c.if-not-branch.false);
+        disks = armed.disks;
+        fuses = armed.fuses;
+      };
+      acts = record {
+        grows = omega arith;
+        members = refl;
+        stables = refl;
+        memory = λ is. absurd (cc);
+        touches = TouchesOne is.member c.arm_at.ensures.rests;
+        backed = record {
+          pairs = omega (arith, c.requires.backed.pairs, rests_count c.arm_at.ensures.rests);
+          disks = c.arm_at.ensures.disks c.args.self.now.stables c.args.self.now.whole.members c.requires.backed.disks;
+        };
       };
     }
 

@@ -1,9 +1,9 @@
 use Rattle.std.proofs.Common.{rules}
 use Rattle.ficus_keeper.proofs.Moments.{spans_disk, spans_join}
-use Rattle.ficus_two_slots.proofs.two_slot.TwoSlotKeep.open.Goals as goal
+use Rattle.ficus_two_slots.proofs.reading.read_both.Goals as goal
 
-pub returns-in-Some-clause-keeps : goal.returns-in-Some-clause-keeps
-returns-in-Some-clause-keeps g c = record {
+pub returns-clause-keeps : goal.returns-clause-keeps
+returns-clause-keeps g c = record {
   same = search rules;
   crash = search rules;
   moments = search rules;
