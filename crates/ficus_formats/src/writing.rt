@@ -59,10 +59,10 @@ pub fn put_id(out: &mut Vec<u8>, value: Id) -> Result<(), Memory>
 pub fn id_and(value: Id, first: u8, second: u8) -> [u8; 8]
     ensures { result ≡ id.spell value ++ (first ∷ second ∷ 0 ∷ []) }
 {
-    let replica = u64::from(value.replica) * (1 << 56);
-    let number = u64::from(value.number) * (1 << 24);
-    let behind = u64::from(first) * (1 << 16) + u64::from(second) * (1 << 8);
-    (replica + number + behind).to_be_bytes()
+    // The low bytes stand first, and so those of the identifier's number are swapped: at once, by the processor.
+    let number = u64::from(value.number.swap_bytes()) * (1 << 8);
+    let behind = u64::from(first) * (1 << 40) + u64::from(second) * (1 << 48);
+    (u64::from(value.replica) + number + behind).to_le_bytes()
 }
 
 /// Appends bytes, fewer than 2^8, behind their length in one byte.

@@ -1,6 +1,6 @@
 ghost use Rattle.std.specs.Prelude.{◌≡◌, ◌<◌, ◌≤◌, ◌+◌, All, length, ℕ, OnOk, OnErr, IsErrOf};
 ghost use Rattle.ficus_faults.specs.Faults.{Rose};
-ghost use Rattle.ficus_graft.specs.Runs.{AnswersFront, AnswersLine, AnswersLines, AreHeld, ForeseeFew, HaveRoom, IsLineOf};
+ghost use Rattle.ficus_graft.specs.Runs.{AnswersFront, AnswersLines, AreHeld, ForeseeFew, HaveRoom, IsLineOf};
 ghost use Rattle.ficus_graft.specs.Serving.{Told, PutsLine, PutsLineFront};
 ghost use Rattle.ficus_loop.specs.Serving.{script_limit, serving_limit};
 ghost use Rattle.ficus_world.specs.Follows.{TellsFor};

@@ -1,4 +1,4 @@
-ghost use Rattle.std.specs.Prelude.{◌≡◌, Bool, []};
+ghost use Rattle.std.specs.Prelude.{Bool, []};
 ghost use Rattle.ficus_path.specs.Path.{at_orphan};
 ghost use Rattle.ficus_graft.specs.Courses.{AreCourses, IsCourse};
 ghost use Rattle.ficus_script.specs.declared.command.Command.TheVariants.{Change as Changes, Look as Looks};

@@ -1,14 +1,14 @@
 ghost use Rattle.std.specs.Prelude.{◌≡◌, ◌≢◌, ◌+◌, ◌≤◌, ℕ, [], length, Bool, IfErr, IfNone, IfOk, IfSome, OnErr, OnOk};
 ghost use Rattle.ficus_ids.specs.Members.{IsMember};
 ghost use Rattle.ficus_path.specs.Path.{IsPath, path_from};
-ghost use Rattle.ficus_runs.specs.Run.{OnlyLooks};
 ghost use Rattle.ficus_script.specs.Arguments.{IsReplicaNumber};
 ghost use Rattle.ficus_script.specs.Command.{IsCommand, IsStep};
 ghost use Rattle.ficus_graft.specs.Answered.{sent_so};
+ghost use Rattle.ficus_graft.specs.Calls.{SendsCommand};
 ghost use Rattle.ficus_graft.specs.Following.{Halts, IsRefusedBy, LineHalts, Passes, Reaches, course_path};
 ghost use Rattle.ficus_graft.specs.Paths.{ArePassed, along, names_entries, paths_of, rest_behind};
 ghost use Rattle.ficus_graft.specs.Route.{ls, sending};
-ghost use Rattle.ficus_graft.specs.Runs.{AnswersLine, AreHeld, ForeseeFew, HaveRoom, IsCutShort, MayBeCut, Sends, StopsLine};
+ghost use Rattle.ficus_graft.specs.Runs.{AnswersLine, AreHeld, ForeseeFew, HaveRoom, MayBeCut, Sends, StopsLine};
 ghost use Rattle.ficus_loop.specs.Tally.{is_refusal};
 ghost use Rattle.ficus_world.specs.Follows.{TellsFor};
 ghost use Rattle.ficus_world.specs.World.{event_limit, most_unforeseen};
@@ -280,14 +280,8 @@ impl<K: Keep + Drop, L: Link + Drop> Volumes<K, L> {
         requires step { IsStep command.now }
         requires room { HaveRoom event_limit self.old }
         requires held { AreHeld K.Keep D.Disk self.old disks.old.items }
-        ensures sends { IfOk result (λ answer. Sends (L.tells × TellsFor D.tells command.now) K.Keep D.Disk
-            (sent_so volume command.now answer) self.old self.new disks.old.items disks.new.items) }
-        ensures memory { OnErr result (IsCutShort L.tells K.Keep D.Disk volume command.now self.old self.new
-            disks.old.items disks.new.items) }
-        ensures same { OnlyLooks command.now → (self.new ≡ self.old) × (disks.new.items ≡ disks.old.items) }
-        ensures held { AreHeld K.Keep D.Disk self.new disks.new.items }
-        ensures grows { (limit : ℕ) → ForeseeFew limit self.old → ForeseeFew (limit + most_unforeseen) self.new }
-        ensures count { length self.new ≡ length self.old }
+        ensures { SendsCommand L.tells K.Keep D.Disk volume command.now result self.old self.new disks.old.items
+            disks.new.items }
     {
         let index = volume as usize - 1;
         self.worlds[index].step(alloc, &mut disks[index], command)

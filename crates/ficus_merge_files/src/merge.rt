@@ -1,4 +1,4 @@
-ghost use Rattle.std.specs.Prelude.{◌≡◌, ◌↔◌, length, unwrap_or, Some, All, Contains, IsTrue, IfOk, IfSome, OnOk};
+ghost use Rattle.std.specs.Prelude.{◌≡◌, length, unwrap_or, Some, All, Contains, IsTrue, IfOk, IfSome, OnOk};
 ghost use Rattle.ficus_ids.specs.Rising.{IsRisingBy};
 ghost use Rattle.ficus_file.specs.declared.file.FileReplica.{FileReplica as FileValue};
 ghost use Rattle.ficus_file.specs.Files.{AreFiles, IsSoundFile};

@@ -44,6 +44,7 @@ use Rattle.ficus_held_file_laws.proofs.Merging.{files_fit, files_merged}
 use Rattle.ficus_replica.specs.declared.replica.Asked.{Asked}
 use Rattle.ficus_replica.specs.declared.replica.Replica.{Replica}
 use Rattle.ficus_replica.specs.Accept.{IsOpen, MayTake, AreTablesMerged, MakesMerged, Accepted, AcceptGives, IsServed, AcceptStands, TakeGives}
+use Rattle.ficus_replica.specs.Calls.{Accepts, FitsTaking}
 use Rattle.ficus_replica.specs.Makes.{IsNoted}
 use Rattle.ficus_replica.specs.SavedOf.{IsOpenAskOf, IsSavedOf, StandsFor}
 use Rattle.ficus_replica.proofs.OpenAsks.{open_none}
@@ -352,3 +353,27 @@ pub noted_fits : (old : Saved) (event : Record) (result : Result Replica Refusal
     IfOk result (λ replica. IsNoted old event replica.saved) → IfOk result (λ replica. FitsImage replica.saved)
 noted_fits old event (Ok new) made = made.fits
 noted_fits old event (Err refusal) made = tt
+
+-- so all is promised of what is given for tables that were asked for
+pub accepts : (from number : ℕ) (entries : List Entry) (files : List FileReplica) (old : Replica)
+    (result : Result Replica Refusal) → FitsTaking old.saved entries files →
+    AcceptGives old from number entries files result →
+    IfOk result (λ replica. IsNoted old.saved (noted.Accept entries files) replica.saved) →
+    Accepts old from number entries files result
+accepts from number entries files old result fits gives makes = record {
+  gives = gives;
+  fits = noted_fits old.saved (noted.Accept entries files) result makes;
+  noted = makes;
+  stands = λ volume H serve lawful stands served.
+      accept_gives_stands volume H old.saved.me from number entries files serve old result
+      (few_members fits.fits stands) lawful stands served gives;
+}
+
+-- and of what is taken
+pub taken : (from number : ℕ) (entries : List Entry) (files : List FileReplica) (old : Replica)
+    (result : Result Replica Refusal) → FitsTaking old.saved entries files → IsOpen old from number →
+    TakeGives old.saved entries files result → Accepts old from number entries files result
+taken from number entries files old result fits open_ask gives =
+    accepts from number entries files old result fits
+    (taken_accepts from number entries files old result open_ask gives)
+    (taken_noted entries files old.saved result fits.fits fits.tables fits.generation gives)

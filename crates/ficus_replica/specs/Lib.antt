@@ -7,3 +7,4 @@ pub mod Accept
 pub mod Collect
 pub mod Makes
 pub mod Recording
+pub mod Calls

@@ -1,4 +1,4 @@
-ghost use Rattle.std.specs.Prelude.{◌≡◌, ◌-◌, ◌^◌, ◌<◌, ℕ, List, None, Err, IfOk, OnOk, OnErr, IsTrue, ◌↔◌};
+ghost use Rattle.std.specs.Prelude.{◌≡◌, ◌-◌, ◌^◌, ◌<◌, None, Err, IfOk, OnOk, OnErr, IsTrue, ◌↔◌};
 
 use crate::{Asked, Replica};
 use ficus_entry::{Entries, InOrder, SharedEntry};
@@ -12,16 +12,11 @@ use std::mem;
 impl Replica {
     ghost use Rattle.std.specs.Prelude.{All};
     ghost use Rattle.ficus_durable_state.specs.Saved.{FitsImage, IsFileOfPast};
-    ghost use Rattle.ficus_durable_state.specs.Tables.{FitsTables};
-    ghost use Rattle.ficus_model.specs.Lawful.{Volume, IsLawful};
-    ghost use Rattle.ficus_model.specs.declared.event.Event.{Event};
     ghost use Rattle.ficus_merge_files.specs.Merge.{Fit};
-    ghost use Rattle.ficus_replica.specs.Accept.{AcceptGives, AcceptStands, AreTablesMerged, IsOpen, IsServed, MayTake};
+    ghost use Rattle.ficus_replica.specs.Accept.{AreTablesMerged, IsOpen, MayTake};
     ghost use Rattle.ficus_replica.specs.Accept.{MakesMerged, TakeGives, Taken};
+    ghost use Rattle.ficus_replica.specs.Calls.{Accepts, FitsTaking};
     ghost use Rattle.ficus_ids.specs.declared.refusal.Refusal.{Refusal as RefusalValue};
-    ghost use Rattle.ficus_replica.specs.Makes.{IsNoted};
-    ghost use Rattle.ficus_replica.specs.SavedOf.{StandsFor};
-    ghost use Rattle.ficus_record.specs.declared.record.Record.TheVariants.{Accept as Noted};
 
     /// Takes the tables that a peer served in answer to an ask. Refused, in this order: `Stale` exactly where
     /// the open ask isn't of this peer and number; `BadMessage` exactly where the tables hold an identifier or a count
@@ -34,17 +29,8 @@ impl Replica {
         entries: &Entries,
         files: &Files,
     ) -> Result<Replica, Refusal>
-        requires fits { FitsImage self.now.saved }
-        requires tables { FitsTables self.now.saved.members entries.now files.now }
-        requires generation { self.now.saved.generation < 2 ^ 63 - 1 }
-        ensures gives { AcceptGives self.now from number entries.now files.now result }
-        ensures fits { IfOk result (λ replica. FitsImage replica.saved) }
-        ensures noted { IfOk result (λ replica.
-            IsNoted self.now.saved (Noted entries.now files.now) replica.saved) }
-        ensures stands { (volume : Volume) (H : List Event) (serve : ℕ) → IsLawful volume H
-            → StandsFor volume H self.now.saved.me self.now
-            → IsServed volume H self.now.saved.me from number entries.now files.now serve
-            → AcceptStands volume H self.now.saved.me serve result }
+        requires { FitsTaking self.now.saved entries.now files.now }
+        ensures { Accepts self.now from number entries.now files.now result }
     {
         if !self.waits_for(from, number) {
             return Err(Refusal::Stale);
@@ -61,17 +47,8 @@ impl Replica {
         entries: &[SharedEntry],
         files: &[SharedFile],
     ) -> Result<Replica, Refusal>
-        requires fits { FitsImage self.now.saved }
-        requires tables { FitsTables self.now.saved.members entries.now files.now }
-        requires generation { self.now.saved.generation < 2 ^ 63 - 1 }
-        ensures gives { AcceptGives self.now from number entries.now files.now result }
-        ensures fits { IfOk result (λ replica. FitsImage replica.saved) }
-        ensures noted { IfOk result (λ replica.
-            IsNoted self.now.saved (Noted entries.now files.now) replica.saved) }
-        ensures stands { (volume : Volume) (H : List Event) (serve : ℕ) → IsLawful volume H
-            → StandsFor volume H self.now.saved.me self.now
-            → IsServed volume H self.now.saved.me from number entries.now files.now serve
-            → AcceptStands volume H self.now.saved.me serve result }
+        requires { FitsTaking self.now.saved entries.now files.now }
+        ensures { Accepts self.now from number entries.now files.now result }
     {
         if !self.waits_for(from, number) {
             return Err(Refusal::Stale);
@@ -86,9 +63,7 @@ impl Replica {
         entries: &Entries,
         files: &Files,
     ) -> Result<Replica, Refusal>
-        requires fits { FitsImage self.now.saved }
-        requires tables { FitsTables self.now.saved.members entries.now files.now }
-        requires generation { self.now.saved.generation < 2 ^ 63 - 1 }
+        requires { FitsTaking self.now.saved entries.now files.now }
         ensures { TakeGives self.now.saved entries.now files.now result }
     {
         self.take(alloc, &entries.in_order()?, files.in_order()?)
@@ -101,9 +76,7 @@ impl Replica {
         entries: &[SharedEntry],
         files: &[SharedFile],
     ) -> Result<Replica, Refusal>
-        requires fits { FitsImage self.now.saved }
-        requires tables { FitsTables self.now.saved.members entries.now files.now }
-        requires generation { self.now.saved.generation < 2 ^ 63 - 1 }
+        requires { FitsTaking self.now.saved entries.now files.now }
         ensures { TakeGives self.now.saved entries.now files.now result }
     {
         let entries = InOrder::of_rows(entries);
@@ -118,9 +91,7 @@ impl Replica {
         entries: &[SharedEntry],
         files: &[SharedFile],
     ) -> Result<Replica, Refusal>
-        requires fits { FitsImage self.saved }
-        requires tables { FitsTables self.saved.members entries.now files.now }
-        requires generation { self.saved.generation < 2 ^ 63 - 1 }
+        requires { FitsTaking self.saved entries.now files.now }
         ensures { TakeGives self.saved entries.now files.now result }
     {
         let entries = InOrder::of_rows(entries);
@@ -137,9 +108,7 @@ impl Replica {
         entries: &InOrder<'_>,
         files: FilesInOrder<'_>,
     ) -> Result<(), Refusal>
-        requires fits { FitsImage self.old.saved }
-        requires tables { FitsTables self.old.saved.members entries.now files }
-        requires generation { self.old.saved.generation < 2 ^ 63 - 1 }
+        requires { FitsTaking self.old.saved entries.now files }
         ensures taken { OnOk result (Taken self.old.saved entries.now files.entry self.new) }
         ensures refused { OnErr result ((refusal : RefusalValue) × (result ≡ Err refusal)
             × TakeGives self.old.saved entries.now files.entry (Err refusal)) }
@@ -191,9 +160,7 @@ impl Replica {
         entries: &InOrder<'_>,
         files: FilesInOrder<'_>,
     ) -> Result<Replica, Refusal>
-        requires fits { FitsImage self.now.saved }
-        requires tables { FitsTables self.now.saved.members entries.now files }
-        requires generation { self.now.saved.generation < 2 ^ 63 - 1 }
+        requires { FitsTaking self.now.saved entries.now files }
         ensures { TakeGives self.now.saved entries.now files.entry result }
     {
         let news = News::of(alloc, &self.saved.files, files)?;

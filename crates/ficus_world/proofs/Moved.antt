@@ -1,5 +1,5 @@
 -- What the code of a change or a look does moves the world as the command does.
-use Rattle.std.proofs.Common.{◌≡◌, ◌≢◌, ◌↔◌, ℕ, Bool, true, false, List, [], length, Result, Ok, Err, refl, sym, ap, subst, inl}
+use Rattle.std.proofs.Common.{◌≡◌, ◌≢◌, ◌↔◌, ℕ, Bool, List, [], length, Result, Ok, Err, refl, sym, ap, subst, inl}
 use Rattle.std.specs.Prelude.{IsTrue, IfOk, OnErr, IsErrOf}
 use Rattle.std.proofs.lemmas.Result.{IfOk-weaker}
 use Rattle.ficus_disk.specs.declared.disk.Disk.{Ghosts as Disk}
@@ -47,10 +47,6 @@ use Rattle.ficus_world.specs.Fuses.{FusesFollow}
 use Rattle.ficus_world.proofs.Carrying.{or_memory}
 use Rattle.ficus_world.proofs.Disks.{follows_none}
 use Rattle.ficus_world.proofs.Fuses.{fuses_none}
-
-pub not_so : (b : Bool) {P : Type 0} → (IsTrue b ↔ P) → b ≡ false → P → ⊥
-not_so true is fails p = cc
-not_so false is fails p = let passes = is.1 p in cc
 
 -- who isn't found, or is down, ends what begins with finding it
 pub up_ends : {A : Type 0} (may : Type 0) (rest : Member → WholeAction A) (by : ℕ) (old : Whole) (r : Refusal)

@@ -165,6 +165,11 @@ HasRoomFor world size = world.post.total + size ≤ total_limit
 abbrev pub ask_of : ℕ → ℕ → Replica → Message
 ask_of by to asked = message.Ask by to asked.saved.generation
 
+-- they are two different members, the first of which is up
+pub record MayAsk (old : Whole) (by to : ℕ) : Type 0 where
+  pub peers : ArePeers (length old.members) by to
+  pub up : IsUpIn old by
+
 -- member `by` is this one, and it is this replica once it has asked another member
 pub record IsAsking (old : Whole) (by to : ℕ) (was : Member) (asked : Replica) : Type 0 where
   pub peers : ArePeers (length old.members) by to

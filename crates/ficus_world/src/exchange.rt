@@ -4,13 +4,12 @@ ghost use Rattle.ficus_ids.specs.declared.refusal.Refusal.TheVariants.{Memory as
 ghost use Rattle.ficus_durable_state.specs.Saved.{FitsImage};
 ghost use Rattle.ficus_wire.specs.Message.{message_bytes};
 ghost use Rattle.ficus_runs.specs.Message.{Reads};
-ghost use Rattle.ficus_runs.specs.Peers.{ArePeers};
 ghost use Rattle.ficus_runs.specs.Sequence.{unchanged};
 ghost use Rattle.std.specs.List.{range_with_len};
 ghost use Rattle.ficus_world.specs.Disks.{Carried, CarriedOn, IsBacked};
 ghost use Rattle.ficus_world.specs.Acts.{Acts};
-ghost use Rattle.ficus_world.specs.Moves.{FetchesBytes, IsAsking, KeepsAsk, ask_of, messages_read};
-ghost use Rattle.ficus_world.specs.World.{IsSoundNext, IsUpIn, backed_by, event_limit, most_events};
+ghost use Rattle.ficus_world.specs.Moves.{FetchesBytes, IsAsking, KeepsAsk, MayAsk, ask_of, messages_read};
+ghost use Rattle.ficus_world.specs.World.{IsSoundNext, backed_by, event_limit, most_events};
 ghost use Rattle.ficus_opening.specs.declared.member.Member.{Member as MemberValue};
 ghost use Rattle.ficus_world.specs.Calls.{AsksPeer, GivesEach, GivesMail, MakesReady};
 
@@ -21,7 +20,7 @@ use crate::member::is_up;
 use crate::post::{Behind, Post};
 use crate::saving::prepare_at;
 use ficus_disk::{Disk, Pair};
-use ficus_ids::{Listed, Refusal};
+use ficus_ids::{Listed, Memory, Refusal};
 use ficus_keeper::Keep;
 use ficus_model::{Event, History};
 use ficus_opening::Pending;
@@ -30,7 +29,7 @@ use ficus_record::{Record, encode_record};
 use ficus_replica::Replica;
 use ficus_script::Answer;
 use ficus_stable_storage::Stable;
-use ficus_wire::{Letter, PieceHead, Route, encode_ask, read_letter};
+use ficus_wire::{Letter, Route, encode_ask, read_letter};
 use std::alloc::Global;
 
 /// What is known of a message that came: its number, from whom to whom it goes, and the number of its ask.
@@ -61,6 +60,23 @@ impl<K: Keep + Drop, L: Link + Drop> World<K, L> {
     ) -> Result<u32, Refusal>
         requires room { length self.old.whole.events < event_limit }
         requires backed { IsBacked K.Keep D.Disk self.old disks.old.items }
+        ensures { AsksPeer L.tells K.Keep D.Disk by to result self.old self.new disks.old.items disks.new.items }
+    {
+        self.group.may_ask(by, to)?;
+        self.ask_peer(alloc, disks, by, to)
+    }
+
+    /// The same of a member that was looked at: it is up, and the other one is another.
+    pub(crate) fn ask_peer<D: Disk>(
+        &mut self,
+        alloc: Global,
+        disks: &mut Vec<Pair<D>>,
+        by: u8,
+        to: u8,
+    ) -> Result<u32, Refusal>
+        requires room { length self.old.whole.events < event_limit }
+        requires backed { IsBacked K.Keep D.Disk self.old disks.old.items }
+        requires may { MayAsk self.old.whole by to }
         ensures { AsksPeer L.tells K.Keep D.Disk by to result self.old self.new disks.old.items disks.new.items }
     {
         let (asking, noted) = self.group.asking(alloc, by, to)?;
@@ -126,25 +142,31 @@ impl<K: Keep + Drop, L: Link + Drop> World<K, L> {
 }
 
 impl<L: Link + Drop> Group<L> {
+    // Looks whether they are two different members, the first of which is up.
+    fn may_ask(&self, by: u8, to: u8) -> Result<(), Refusal>
+        ensures may { IfOk result (λ _. MayAsk self.now by to) }
+        ensures refused { IfErr result (λ refusal. (refusal ≢ OutOfMemory)
+            × KeepsAsk L.tells by to self.now (Err refusal) (unchanged self.now)) }
+    {
+        if !self.are_peers(by, to) {
+            Err(Refusal::Member)
+        } else if is_up(self.member(by)) {
+            Ok(())
+        } else {
+            Err(Refusal::Down)
+        }
+    }
+
     // What the member holds once it has asked another one, and its message; and what is noted of its ask.
-    fn asking(&self, alloc: Global, by: u8, to: u8) -> Result<(Asking, Vec<u8>), Refusal>
+    fn asking(&self, alloc: Global, by: u8, to: u8) -> Result<(Asking, Vec<u8>), Memory>
         requires room { length self.now.events < event_limit }
+        requires may { MayAsk self.now by to }
         ensures asks { IfOk result (λ asked. (was : MemberValue) × IsAsking self.now by to was asked.0.replica
             × IsSoundNext (length self.now.members) (length self.now.events) by asked.1.items was.replica
             asked.0.replica) }
         ensures message { IfOk result (λ asked. asked.0.message.items ≡ message_bytes (ask_of by to asked.0.replica)) }
-        ensures refused { IfErr result (λ refusal. refusal ≢ OutOfMemory
-            → KeepsAsk L.tells by to self.now (Err refusal) (unchanged self.now)) }
-        ensures wants { IsErrOf result OutOfMemory → ArePeers (length self.now.members) by to × IsUpIn self.now by }
     {
-        if !self.are_peers(by, to) {
-            return Err(Refusal::Member);
-        }
-        let member = self.member(by);
-        if !is_up(member) {
-            return Err(Refusal::Down);
-        }
-        let replica = member.replica.ask(to)?;
+        let replica = self.member(by).replica.ask(to)?;
         let number = replica.saved.generation;
         let message = encode_ask(
             alloc,

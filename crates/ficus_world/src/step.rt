@@ -145,7 +145,7 @@ impl<K: Keep + Drop, L: Link + Drop> World<K, L> {
         ensures { DoesAll L.tells K.Keep D.Disk (Pulls by to) result self.old self.new disks.old disks.new }
     {
         self.group.up_peers(by, to)?;
-        let asked = self.ask(alloc, disks, by, to)?;
+        let asked = self.ask_peer(alloc, disks, by, to)?;
         self.settled(disks);
         let given = self.give(alloc, disks, asked)?;
         self.settled(disks);

@@ -1,7 +1,6 @@
-use Rattle.std.proofs.Common.{List, subst, sym, ◌∙◌}
+use Rattle.std.proofs.Common.{subst, sym, ◌∙◌}
 use Rattle.std.proofs.lemmas.Result.{IfOk-weaker}
 use Rattle.ficus_file.specs.Files.{AreFiles}
-use Rattle.ficus_file.specs.declared.file.FileReplica.{FileReplica}
 use Rattle.ficus_merge_files.specs.Merge.{AreMergedFiles}
 use Rattle.ficus_merge_files.proofs.New.{all_merged, all_theirs}
 use Rattle.ficus_merge_files.proofs.Walk.{merged_by_changes}

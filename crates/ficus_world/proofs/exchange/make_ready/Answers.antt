@@ -12,7 +12,7 @@ use Rattle.ficus_world.specs.Acts.{StaysAt}
 use Rattle.ficus_world.specs.Calls.{MakesReady}
 use Rattle.ficus_world.specs.Post.{PostState}
 use Rattle.ficus_world.proofs.Acting.{stays_same}
-use Rattle.ficus_world.proofs.Moved.{not_so}
+use Rattle.ficus_world.proofs.Tests.{untrue}
 use Rattle.ficus_world.proofs.exchange.make_ready.Goals as goal
 
 -- memory was refused
@@ -36,7 +36,7 @@ unready events post stays = record {
 pub returns-then-not-has_room_for : goal.returns-then-not-has_room_for
 returns-then-not-has_room_for g c =
     let pair = number_exists c.args.disks.now.items c.args.by c.requires.pair in
-    let full = not_so c.has_room_for.result c.has_room_for.ensures c.if-not-has_room_for.true in
+    let full = untrue c.has_room_for.result c.has_room_for.ensures c.if-not-has_room_for.true in
     record {
       room = tt;
       post_room = tt;

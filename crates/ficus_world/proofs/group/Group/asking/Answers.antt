@@ -1,27 +1,20 @@
-use Rattle.std.proofs.Common.{arith}
+use Rattle.std.proofs.Common.{arith, subst, ◌≡◌}
 use Rattle.ficus_record.specs.declared.record.Record.TheVariants.{Ask}
-use Rattle.ficus_world.specs.Moves.KeepsAsk.{AskerDown, NoPeers}
-use Rattle.ficus_world.proofs.Moved.{not_so}
+use Rattle.ficus_opening.specs.declared.member.Member.{Member}
+use Rattle.ficus_opening.specs.declared.member.MemberState.TheVariants.{Up}
+use Rattle.ficus_run_laws.proofs.Numbers.{number_once}
 use Rattle.ficus_world.proofs.SoundWorlds.{noted_sound}
 use Rattle.ficus_world.proofs.group.Group.asking.Goals as goal
 
-pub returns-then-not-are_peers-clause-refused : goal.returns-then-not-are_peers-clause-refused
-returns-then-not-are_peers-clause-refused g c = λ other.
-    NoPeers (not_so c.are_peers.result c.are_peers.ensures c.if-not-are_peers.true)
-
-pub returns-then-not-is_up-clause-refused : goal.returns-then-not-is_up-clause-refused
-returns-then-not-is_up-clause-refused g c = λ other.
-    AskerDown (c.are_peers.ensures.0 c.if-not-are_peers.false) c.member-member.ensures.is
-    (not_so c.is_up.result c.is_up.ensures c.if-not-is_up.true)
-
 pub returns-clause-asks : goal.returns-clause-asks
 returns-clause-asks g c =
-    let peers = c.are_peers.ensures.0 c.if-not-are_peers.false in (
-      c.member-member.result.now,
+    let peers = c.requires.may.peers in
+    let up = c.requires.may.up in (
+      c.member.result.now,
       record {
         peers = peers;
-        is = c.member-member.ensures.is;
-        up = c.is_up.ensures.0 c.if-not-is_up.false;
+        is = c.member.ensures.is;
+        up = subst (λ (m : Member). m.state ≡ Up) (number_once up.is c.member.ensures.is) up.up;
         gives = c.in_ok-replica.ensures.gives;
         fits = record {
           from = peers.first;
@@ -30,7 +23,7 @@ returns-clause-asks g c =
           number = omega (arith, c.in_ok-replica.ensures.fits.generation);
         };
       },
-      noted_sound {noted = c.in_ok-noted.noted.items} c.member-member.ensures.sound.replica (record {
+      noted_sound {noted = c.in_ok-noted.noted.items} c.member.ensures.sound.replica (record {
         noted = Ask;
         is = c.in_ok-noted.ensures;
         step = c.in_ok-replica.ensures.noted;

@@ -7,7 +7,7 @@ use Rattle.ficus_world.specs.Disks.{Carried}
 use Rattle.ficus_world.specs.Moves.{FetchesBytes, with_post}
 use Rattle.ficus_world.specs.Moves.FetchesBytes.{Fetched, NoMail}
 use Rattle.ficus_world.specs.World.{Whole, whole_of}
-use Rattle.ficus_world.proofs.Moved.{not_so}
+use Rattle.ficus_world.proofs.Tests.{untrue}
 use Rattle.ficus_world.proofs.Sending.{fetch_failed}
 use Rattle.ficus_world.proofs.group.Group.fetch.Goals as goal
 
@@ -15,7 +15,7 @@ pub returns-then-not-has-clause-fetches : goal.returns-then-not-has-clause-fetch
 returns-then-not-has-clause-fetches g c = record {
   outcomes = [];
   does = subst (λ (w : Whole). FetchesBytes g.L.Link.tells c.args.mail w (Err refusal.NoMail) (unchanged w))
-      c.self.view_is (NoMail (not_so c.has.result c.has.ensures c.if-not-has.true));
+      c.self.view_is (NoMail (untrue c.has.result c.has.ensures c.if-not-has.true));
 }
 
 pub returns-in_err-fetch-clause-fetches : goal.returns-in_err-fetch-clause-fetches

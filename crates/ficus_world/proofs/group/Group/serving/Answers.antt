@@ -4,14 +4,14 @@ use Rattle.ficus_world.specs.Moves.ServesAsk.{NoRoomToServe, ServerDown}
 use Rattle.ficus_formats.specs.Pieces.{piece_count}
 use Rattle.ficus_wire.specs.Message.{sizes_of, way}
 use Rattle.ficus_wire.specs.declared.message.PieceHead.{PieceHead}
-use Rattle.ficus_world.proofs.Moved.{not_so}
+use Rattle.ficus_world.proofs.Tests.{untrue}
 use Rattle.ficus_world.proofs.Sending.{answers_may_go, answers_size, answers_spelled, few_pieces, fits_tables}
 use Rattle.ficus_world.specs.World.{Whole}
 use Rattle.ficus_world.proofs.group.Group.serving.Goals as goal
 
 pub returns-then-not-is_up-clause-refused : goal.returns-then-not-is_up-clause-refused
 returns-then-not-is_up-clause-refused g c = λ other.
-    ServerDown c.member-peer.ensures.is (not_so c.is_up.result c.is_up.ensures c.if-not-is_up.true)
+    ServerDown c.member-peer.ensures.is (untrue c.is_up.result c.is_up.ensures c.if-not-is_up.true)
 
 pub returns-then-not-has_room_for-clause-refused : goal.returns-then-not-has_room_for-clause-refused
 returns-then-not-has_room_for-clause-refused g c = λ other.
@@ -26,7 +26,7 @@ returns-then-not-has_room_for-clause-refused g c = λ other.
     let sized = answers_size old c.args.came peer c.member-peer.ensures.sound.replica.members c.in_ok-tables.tables.items
     c.in_ok-tables.ensures c.answer_size.result (rw c.deref.ensures.value at c.answer_size.ensures) in
     let full = subst (λ (w : Whole). HasRoomFor w c.answer_size.result → ⊥) c.self.view_is
-    (not_so c.has_room_for.result c.has_room_for.ensures c.if-not-has_room_for.true) in
+    (untrue c.has_room_for.result c.has_room_for.ensures c.if-not-has_room_for.true) in
     NoRoomToServe serving (rw sized at full)
 
 pub overflow_cast-head : goal.overflow_cast-head

@@ -40,18 +40,18 @@ returns-in_err-asked g c =
     c.in_ok-up_peers.ensures.peers in
     rw (refused.1, refused.2)
     (record {
-      moves = comes_to old (Pulls c.args.by c.args.to) _ c.ask.new.self.whole c.args.disks.now.items c.ask.new.disks.items
+      moves = comes_to old (Pulls c.args.by c.args.to) _ c.ask_peer.new.self.whole c.args.disks.now.items c.ask_peer.new.disks.items
           (pull_unasked g.L.Link.tells g.K.Keep g.D.Disk c.args.by c.args.to old peers c.args.disks.now.items
-          c.in_err-asked.field-0.0 c.ask.new.self.whole c.ask.new.disks.items c.in_err-asked.ensures.asks) (λ is. peers);
+          c.in_err-asked.field-0.0 c.ask_peer.new.self.whole c.ask_peer.new.disks.items c.in_err-asked.ensures.asks) (λ is. peers);
       memory = λ is.
           cut_unasked g.L.Link.tells g.K.Keep g.D.Disk c.args.by c.args.to c.args.self.now.whole
-          peers c.args.disks.now.items c.ask.new.self.whole c.ask.new.disks.items
+          peers c.args.disks.now.items c.ask_peer.new.self.whole c.ask_peer.new.disks.items
           (c.in_err-asked.ensures.acts.memory (same_refusal c.in_err-asked.field-0.0 Memory is));
       unsaved = λ looks. absurd looks;
       left = λ told r is. absurd (cc);
       acts =
-          acts_once c.ask.ensures.acts (λ before after.
-          unasked before after c.ask.ensures.acts.touches c.args.by c.args.to c.in_err-asked.field-0.0
+          acts_once c.ask_peer.ensures.acts (λ before after.
+          unasked before after c.ask_peer.ensures.acts.touches c.args.by c.args.to c.in_err-asked.field-0.0
           c.in_err-asked.ensures.asks (λ e. c.in_err-asked.ensures.acts.memory (ap Err e)));
     })
 
@@ -65,18 +65,18 @@ returns-in_err-given g c =
     (record {
       moves = comes_to old (Pulls c.args.by c.args.to) _ c.give.new.self.whole c.args.disks.now.items c.give.new.disks.items
           (pull_ungiven g.L.Link.tells g.K.Keep g.D.Disk c.args.by c.args.to old peers c.args.disks.now.items c.in_ok-asked.asked
-          c.ask.new.self.whole c.ask.new.disks.items c.in_ok-asked.ensures.asks c.in_err-given.field-0.0
+          c.ask_peer.new.self.whole c.ask_peer.new.disks.items c.in_ok-asked.ensures.asks c.in_err-given.field-0.0
           c.give.new.self.whole c.give.new.disks.items c.in_err-given.ensures.gives) (λ is. peers);
       memory = λ is.
           cut_ungiven g.L.Link.tells g.K.Keep g.D.Disk c.args.by c.args.to c.args.self.now.whole
-          peers c.args.disks.now.items c.in_ok-asked.asked c.ask.new.self.whole
-          c.ask.new.disks.items c.in_ok-asked.ensures.asks c.give.new.self.whole c.give.new.disks.items
+          peers c.args.disks.now.items c.in_ok-asked.asked c.ask_peer.new.self.whole
+          c.ask_peer.new.disks.items c.in_ok-asked.ensures.asks c.give.new.self.whole c.give.new.disks.items
           (c.in_err-given.ensures.acts.memory (same_refusal c.in_err-given.field-0.0 Memory is));
       unsaved = λ looks. absurd looks;
       left = λ told r is. absurd (cc);
       acts = acts_then
-          (acts_once c.ask.ensures.acts (λ before after.
-          asked before after c.ask.ensures.acts.touches c.args.by c.args.to c.in_ok-asked.asked c.in_ok-asked.ensures.asks)) c.settled.ensures
+          (acts_once c.ask_peer.ensures.acts (λ before after.
+          asked before after c.ask_peer.ensures.acts.touches c.args.by c.args.to c.in_ok-asked.asked c.in_ok-asked.ensures.asks)) c.settled.ensures
           (acts_once c.give.ensures.acts (λ before after.
           given before after c.give.ensures.acts.touches c.in_ok-asked.asked (Err c.in_err-given.field-0.0)
           c.in_err-given.ensures.gives c.in_err-given.ensures.acts.memory));
@@ -92,20 +92,20 @@ returns g c =
       moves = comes_to old (Pulls c.args.by c.args.to) c.give_each.result c.give_each.new.self.whole c.args.disks.now.items
           c.give_each.new.disks.items
           (pull_given g.L.Link.tells g.K.Keep g.D.Disk c.args.by c.args.to old peers c.args.disks.now.items c.in_ok-asked.asked
-          c.ask.new.self.whole c.ask.new.disks.items c.in_ok-asked.ensures.asks c.in_ok-given.given c.give.new.self.whole
+          c.ask_peer.new.self.whole c.ask_peer.new.disks.items c.in_ok-asked.ensures.asks c.in_ok-given.given c.give.new.self.whole
           c.give.new.disks.items c.in_ok-given.ensures.gives c.give_each.result c.give_each.new.self.whole
           c.give_each.new.disks.items last) (λ is. peers);
       memory = λ is.
           cut_given g.L.Link.tells g.K.Keep g.D.Disk c.args.by c.args.to c.args.self.now.whole
-          peers c.args.disks.now.items c.in_ok-asked.asked c.ask.new.self.whole
-          c.ask.new.disks.items c.in_ok-asked.ensures.asks c.in_ok-given.given c.give.new.self.whole c.give.new.disks.items
+          peers c.args.disks.now.items c.in_ok-asked.asked c.ask_peer.new.self.whole
+          c.ask_peer.new.disks.items c.in_ok-asked.ensures.asks c.in_ok-given.given c.give.new.self.whole c.give.new.disks.items
           c.in_ok-given.ensures.gives c.give_each.new.self.whole c.give_each.new.disks.items
           (rw c.mails_in-first.ensures.are at c.give_each.ensures.memory is);
       unsaved = λ looks. absurd looks;
       left = λ told r is. absurd (cc);
       acts = acts_then
-          (acts_once c.ask.ensures.acts (λ before after.
-          asked before after c.ask.ensures.acts.touches c.args.by c.args.to c.in_ok-asked.asked c.in_ok-asked.ensures.asks)) c.settled.ensures
+          (acts_once c.ask_peer.ensures.acts (λ before after.
+          asked before after c.ask_peer.ensures.acts.touches c.args.by c.args.to c.in_ok-asked.asked c.in_ok-asked.ensures.asks)) c.settled.ensures
           (acts_then
           (acts_once c.give.ensures.acts (λ before after.
           given before after c.give.ensures.acts.touches c.in_ok-asked.asked (Ok c.in_ok-given.given)
@@ -113,20 +113,26 @@ returns g c =
     }
 
 pub settled-requires : goal.settled-requires
-settled-requires g c = c.ask.ensures.acts.backed.disks
+settled-requires g c = c.ask_peer.ensures.acts.backed.disks
 
 pub settled-requires-2 : goal.settled-requires-2
 settled-requires-2 g c = c.give.ensures.acts.backed.disks
 
 pub give-requires-clause-backed : goal.give-requires-clause-backed
-give-requires-clause-backed g c = c.ask.ensures.acts.backed
+give-requires-clause-backed g c = c.ask_peer.ensures.acts.backed
 
 pub give_each-requires-clause-backed : goal.give_each-requires-clause-backed
 give_each-requires-clause-backed g c = c.give.ensures.acts.backed
 
 pub give-requires-clause-room : goal.give-requires-clause-room
-give-requires-clause-room g c = omega (arith, c.ask.ensures.acts.grows, c.requires.room)
+give-requires-clause-room g c = omega (arith, c.ask_peer.ensures.acts.grows, c.requires.room)
 
 pub give_each-requires-clause-room : goal.give_each-requires-clause-room
 give_each-requires-clause-room g c =
-    omega (arith, c.ask.ensures.acts.grows, c.give.ensures.acts.grows, c.requires.room, c.mails_in-first.ensures.few)
+    omega (arith, c.ask_peer.ensures.acts.grows, c.give.ensures.acts.grows, c.requires.room, c.mails_in-first.ensures.few)
+
+pub ask_peer-requires-clause-may : goal.ask_peer-requires-clause-may
+ask_peer-requires-clause-may g c =
+    let peers = subst (λ (w : Whole). ArePeersUp w c.args.by c.args.to) (whole_is c.self.view_is)
+    c.in_ok-up_peers.ensures.peers in
+    record { peers = peers.peers; up = peers.one }

@@ -16,7 +16,8 @@ use Rattle.ficus_world.specs.Stepped.{ComesTo}
 use Rattle.ficus_world.specs.World.{Backed, backed_by, IsSoundMember, IsWorld, Whole, whole_of}
 use Rattle.ficus_world.proofs.Carrying.{comes_to, whole_is}
 use Rattle.ficus_world.proofs.Disks.{follows_alike}
-use Rattle.ficus_world.proofs.Moved.{comes_to_none, not_so}
+use Rattle.ficus_world.proofs.Moved.{comes_to_none}
+use Rattle.ficus_world.proofs.Tests.{untrue}
 use Rattle.ficus_run_laws.proofs.Numbers.{number_exists}
 use Rattle.ficus_world.proofs.Restarting.{back_after, back_same, back_sound, back_stores, restart_carried, set_own}
 use Rattle.ficus_world.proofs.SoundWorlds.{world_after}
@@ -30,7 +31,7 @@ use Rattle.ficus_world.proofs.world.World.restart.Goals as goal
 pub returns-then-not-has : goal.returns-then-not-has
 returns-then-not-has g c =
     let none = subst (λ (w : Whole). IsMember (length w.members) c.args.by → ⊥) (whole_is c.self.view_is)
-    (not_so c.has.result c.has.ensures c.if-not-has.true) in
+    (untrue c.has.result c.has.ensures c.if-not-has.true) in
     record {
       moves =
           comes_to_none g.L.Link.tells g.K.Keep g.D.Disk c.args.self.now.whole (Restarts c.args.by) (Err refusal.Member)
