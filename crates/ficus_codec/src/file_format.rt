@@ -2,7 +2,7 @@ ghost use Rattle.std.specs.Prelude.{◌≡◌, ◌↔◌, ◌+◌, ◌≤◌, �
 ghost use Rattle.ficus_file.specs.File.{HaveOneText};
 ghost use Rattle.ficus_file.specs.Version.{AreCurrent};
 ghost use Rattle.ficus_file.specs.declared.version.Version.{Version as VersionValue};
-ghost use Rattle.std.specs.Int.{w32, to_be_bytes};
+ghost use Rattle.std.specs.Int.{w32, w64, to_be_bytes, to_le_bytes};
 ghost use Rattle.ficus_vectors.specs.Vector.{in_order, no_counts};
 ghost use Rattle.ficus_formats.specs.Format.{Begins, Keeps, Reads, byte, number32, number64, id as id_format, times};
 ghost use Rattle.ficus_codec.specs.Checks.{MayPrecede, IsBare, IsWhole};
@@ -373,10 +373,12 @@ pub(crate) fn file_behind<'a>(
     }
 }
 
-// What stands before the versions: the identifier, the kind, and how many versions there are. Behind it is a zero.
+// The number whose bytes, the low one first, stand before the versions: the identifier, the kind, and how many versions
+// there are. Behind them is a zero.
 #[inline(always)]
-fn file_head(id: Id, kind: Kind, count: u8) -> [u8; 8]
-    ensures { result ≡ id_format.spell id ++ (kind_format.spell kind ++ (byte.spell count ++ byte.spell 0)) }
+fn file_head(id: Id, kind: Kind, count: u8) -> u64
+    ensures { to_le_bytes w64 result
+        ≡ id_format.spell id ++ (kind_format.spell kind ++ (byte.spell count ++ byte.spell 0)) }
 {
     id_and(id, number_of(kind), count)
 }
@@ -425,7 +427,7 @@ fn put_bare_in(window: &mut Window, id: Id, kind: Kind, members: Members)
     ensures { window.new ≡ window.old
         ++ (id_format.spell id ++ (kind_format.spell kind ++ (byte.spell 0 ++ (counts members).spell no_counts))) }
 {
-    window.put_front(&file_head(id, kind, 0), HEAD_ROOM);
+    window.put_number(file_head(id, kind, 0), HEAD_ROOM);
     window.put_front(&[0; 32], 4 * usize::from(members.count()));
 }
 
@@ -457,7 +459,7 @@ impl Spelling for FileSpelling {
         if versions.is_empty() {
             return put_bare(out, value.id, value.kind, value.covered, members);
         }
-        let head = file_head(value.id, value.kind, versions.len() as u8);
+        let head = file_head(value.id, value.kind, versions.len() as u8).to_le_bytes();
         put_bytes(out, &head[..HEAD_ROOM])?;
         put_run(&VersionSpelling { members }, out, versions)?;
         put_counts(out, value.covered, members)

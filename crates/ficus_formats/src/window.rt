@@ -1,4 +1,5 @@
 ghost use Rattle.std.specs.Prelude.{◌≡◌, ◌+◌, ◌-◌, ◌≤◌, ◌++◌, [], length, take, OnOk};
+ghost use Rattle.std.specs.Int.{w64, to_le_bytes};
 ghost use Rattle.ficus_formats.specs.Format.{Keeps};
 
 use ficus_ids::Memory;
@@ -54,6 +55,18 @@ impl Window {
         self.count = from + count;
     }
 
+    /// Puts the first bytes of a number behind the others, the low one first. There is room for all eight.
+    #[inline(always)]
+    pub fn put_number(&mut self, number: u64, count: usize)
+        requires room { length self.old + 8 ≤ 2048 }
+        requires front { count ≤ 8 }
+        ensures { self.new ≡ self.old ++ take count (to_le_bytes w64 number) }
+    {
+        let from = self.count;
+        put_number_over(&mut self.bytes[from..from + 8], number);
+        self.count = from + count;
+    }
+
     /// Has room for so many bytes: where there is less, those that it holds are appended to what was spelled before.
     pub fn make_room(&mut self, out: &mut Vec<u8>, count: usize) -> Result<(), Memory>
         requires { count ≤ 2048 }
@@ -79,8 +92,7 @@ impl Window {
     }
 }
 
-// Puts an array in place of as many bytes. It is assigned, not copied, so none looks whether the two lie apart, and one
-// of eight bytes is moved as a number.
+// Puts an array in place of as many bytes. It is assigned, not copied, so none looks whether the two lie apart.
 #[inline(always)]
 fn put_over<const N: usize>(bytes: &mut [u8], array: &[u8; N])
     requires { length bytes.old ≡ N }
@@ -90,4 +102,16 @@ fn put_over<const N: usize>(bytes: &mut [u8], array: &[u8; N])
         unreachable!()
     };
     *place = *array;
+}
+
+// Puts a number in place of eight bytes, the low one first. It is spelled there, so it is moved as a number.
+#[inline(always)]
+fn put_number_over(bytes: &mut [u8], number: u64)
+    requires { length bytes.old ≡ 8 }
+    ensures { bytes.new ≡ to_le_bytes w64 number }
+{
+    let Some(place) = bytes.as_mut_array() else {
+        unreachable!()
+    };
+    *place = number.to_le_bytes();
 }

@@ -1,4 +1,5 @@
 ghost use Rattle.std.specs.Prelude.{◌≡◌, ◌<◌, ◌++◌, ◌^◌, [], ◌∷◌, length, OnErr, OnOk};
+ghost use Rattle.std.specs.Int.{w64, to_le_bytes};
 ghost use Rattle.ficus_formats.specs.Format.{byte, number16, number32, number64, string, id, Keeps};
 
 use ficus_ids::{Id, Memory};
@@ -54,15 +55,16 @@ pub fn put_id(out: &mut Vec<u8>, value: Id) -> Result<(), Memory>
     put_bytes(out, &[value.replica, first, second, third, fourth])
 }
 
-/// The bytes of an identifier, of two more behind it, and a zero. They are those of one number, which is put at once.
+/// The number whose bytes, the low one first, are those of an identifier, of two more behind it, and a zero. They are
+/// spelled where they are put, so that they go there at once.
 #[inline(always)]
-pub fn id_and(value: Id, first: u8, second: u8) -> [u8; 8]
-    ensures { result ≡ id.spell value ++ (first ∷ second ∷ 0 ∷ []) }
+pub fn id_and(value: Id, first: u8, second: u8) -> u64
+    ensures { to_le_bytes w64 result ≡ id.spell value ++ (first ∷ second ∷ 0 ∷ []) }
 {
-    // The low bytes stand first, and so those of the identifier's number are swapped: at once, by the processor.
+    // The high byte of the identifier's number stands first, so its bytes are swapped: at once, by the processor.
     let number = u64::from(value.number.swap_bytes()) * (1 << 8);
     let behind = u64::from(first) * (1 << 40) + u64::from(second) * (1 << 48);
-    (u64::from(value.replica) + number + behind).to_le_bytes()
+    u64::from(value.replica) + number + behind
 }
 
 /// Appends bytes, fewer than 2^8, behind their length in one byte.
