@@ -14,7 +14,7 @@ use Rattle.ficus_runs.specs.Run.{Does, OnlyLooks, Run, Step}
 use Rattle.ficus_runs.specs.Sequence.{ByRule, Effect, First, joined, unchanged}
 use Rattle.ficus_runs.specs.Sequence.First.{Ends, Goes}
 use Rattle.ficus_runs.specs.Sequence.ByRule.{Says}
-use Rattle.ficus_run_laws.proofs.Extending.{run_never_returns}
+use Rattle.ficus_runs.proofs.Extending.{run_never_returns}
 
 -- the action changes nothing, and asks nothing of the outside
 abbrev pub IsIdle : {A : Type 0} → ModelAction A → Type 0

@@ -18,7 +18,7 @@ use Rattle.ficus_runs.specs.Run.{CommandMayWantMemory, Does, Step}
 use Rattle.ficus_runs.specs.Sequence.{Effect}
 use Rattle.ficus_runs.specs.Sequence.First.{Ends, Goes}
 use Rattle.ficus_runs.specs.Sequence.ByRule.{Says}
-use Rattle.ficus_run_laws.proofs.Numbers.{number_exists}
+use Rattle.ficus_runs.proofs.Numbers.{number_exists}
 use Rattle.ficus_world.specs.Follows.{FollowsOn, StopsOn}
 use Rattle.ficus_world.specs.World.{IsUpIn, Whole, WorldStandsFor}
 use Rattle.ficus_world.proofs.Disks.{follows_none}

@@ -8,7 +8,7 @@ use Rattle.ficus_keeper.specs.Moments.{PairSpans, Spans}
 use Rattle.ficus_model.specs.Lawful.{Volume}
 use Rattle.ficus_runs.specs.ModelWorld.{ModelWorld}
 use Rattle.ficus_runs.specs.Numbered.{IsNumbered}
-use Rattle.ficus_run_laws.proofs.Numbers.{number_exists}
+use Rattle.ficus_runs.proofs.Numbers.{number_exists}
 use Rattle.ficus_opening.proofs.Rests.{spans_then}
 use Rattle.ficus_loop.specs.Trail.{Covers, LeftOn, Somewhere, Trail}
 use Rattle.ficus_loop.specs.Trail.Trail.{Joined, Link, Still}

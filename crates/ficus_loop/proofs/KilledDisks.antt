@@ -12,8 +12,8 @@ use Rattle.ficus_model.specs.Events.{actor}
 use Rattle.ficus_model.specs.Lawful.{IsLawful, Volume}
 use Rattle.ficus_runs.specs.ModelWorld.{ModelWorld, Standing, Up, Down}
 use Rattle.ficus_runs.specs.Numbered.{IsNumbered}
-use Rattle.ficus_run_laws.proofs.Numbers.{number_exists, number_once}
-use Rattle.ficus_run_laws.proofs.Replaced.{replaced}
+use Rattle.ficus_runs.proofs.Numbers.{number_exists, number_once}
+use Rattle.ficus_runs.proofs.Replaced.{replaced}
 use Rattle.ficus_world.specs.Stand.{DisksOutlast}
 use Rattle.ficus_opening.specs.Stand.{KeepsOf}
 use Rattle.ficus_world.specs.Stand.{KeepsFor}

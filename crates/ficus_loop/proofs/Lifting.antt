@@ -15,13 +15,13 @@ use Rattle.ficus_model.specs.Events.{actor, generation_of, is_saved, traits}
 use Rattle.ficus_laws.proofs.Updates.{is_own}
 use Rattle.ficus_model.specs.Lawful.{Volume}
 use Rattle.ficus_durable_state.specs.declared.saved.Saved.{Saved}
-use Rattle.ficus_leads.specs.Holds.{Holds}
+use Rattle.ficus_stable_storage.specs.Leads.Holds.{Holds}
 use Rattle.ficus_runs.specs.ModelWorld.{IsUp, ModelWorld, Standing}
 use Rattle.ficus_runs.specs.ModelWorld as model
 use Rattle.ficus_runs.specs.Numbered.{IsNumbered}
-use Rattle.ficus_run_laws.proofs.Extending.{Extends, as_it_was, further, step_extends}
-use Rattle.ficus_run_laws.proofs.Numbers.{number_exists, number_once}
-use Rattle.ficus_run_laws.proofs.Replaced.{replaced}
+use Rattle.ficus_runs.proofs.Extending.{Extends, as_it_was, further, step_extends}
+use Rattle.ficus_runs.proofs.Numbers.{number_exists, number_once}
+use Rattle.ficus_runs.proofs.Replaced.{replaced}
 use Rattle.ficus_opening.specs.declared.member.Member.{Member}
 use Rattle.ficus_opening.specs.declared.member.MemberState.{MemberState}
 use Rattle.ficus_opening.specs.declared.member.MemberState.TheVariants as state

@@ -11,8 +11,8 @@ use Rattle.ficus_runs.specs.Exchange.{behind}
 use Rattle.ficus_runs.specs.ModelWorld.{ModelWorld, Posted, Standing}
 use Rattle.ficus_runs.specs.ModelWorld as model
 use Rattle.ficus_runs.specs.Numbered.{IsNumbered}
-use Rattle.ficus_run_laws.proofs.Extending.{Extends}
-use Rattle.ficus_run_laws.proofs.Numbers.{number_exists, number_once}
+use Rattle.ficus_runs.proofs.Extending.{Extends}
+use Rattle.ficus_runs.proofs.Numbers.{number_exists, number_once}
 use Rattle.ficus_opening.specs.declared.member.MemberState.{MemberState}
 use Rattle.ficus_opening.specs.declared.member.MemberState.TheVariants as state
 use Rattle.ficus_world.specs.Follows.{StoresAsMany}

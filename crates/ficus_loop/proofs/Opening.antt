@@ -6,7 +6,7 @@ use Rattle.std.proofs.lemmas.List.{length-replicate}
 use Rattle.ficus_disk.specs.declared.disk.Disk.{Ghosts as Disk}
 use Rattle.ficus_disk.specs.declared.pair.Pair.{Pair}
 use Rattle.ficus_keeper.specs.Kept.{Kept}
-use Rattle.ficus_leads.proofs.Led.{held_at}
+use Rattle.ficus_stable_storage.proofs.leads.Led.{held_at}
 use Rattle.ficus_model.specs.declared.event.Event.{Event}
 use Rattle.ficus_model.specs.declared.event.Event.TheVariants.{Restart}
 use Rattle.ficus_model.specs.Lawful.{Volume}
@@ -15,7 +15,7 @@ use Rattle.ficus_replica.proofs.Saves.{saved_kept}
 use Rattle.ficus_durable_state.specs.declared.saved.Saved.{Saved}
 use Rattle.ficus_runs.specs.ModelWorld.{ModelWorld, Standing, Up}
 use Rattle.ficus_runs.specs.Start.{start}
-use Rattle.ficus_run_laws.proofs.Up.{up_first}
+use Rattle.ficus_runs.proofs.Up.{up_first}
 use Rattle.ficus_opening.specs.Rests.{AllRest}
 use Rattle.ficus_opening.specs.Opening.{AreSynced, StandsOn}
 use Rattle.ficus_world.specs.Stand.{KeepsFor}

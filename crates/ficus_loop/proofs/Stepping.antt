@@ -11,7 +11,7 @@ use Rattle.ficus_runs.specs.ModelWorld.{ModelWorld}
 use Rattle.ficus_runs.specs.Outcome.{Outcome}
 use Rattle.ficus_runs.specs.Run.{Run}
 use Rattle.ficus_runs.specs.Run.Run.{End, Then}
-use Rattle.ficus_run_laws.proofs.Extending.{Extends}
+use Rattle.ficus_runs.proofs.Extending.{Extends}
 use Rattle.ficus_world.specs.Follows.{StoresAsMany}
 use Rattle.ficus_world.specs.Kills.{Passes}
 use Rattle.ficus_world.specs.World.{Whole, WorldStandsFor}

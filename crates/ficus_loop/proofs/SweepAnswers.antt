@@ -14,7 +14,7 @@ use Rattle.ficus_runs.specs.Sweep.{Swept, Sweeps, SweepsPart, none_swept, sweep_
 use Rattle.ficus_script.specs.declared.answer.Answer.TheVariants as answer
 use Rattle.ficus_script.specs.declared.command.Command.TheVariants as command
 use Rattle.ficus_script.specs.declared.order.Order.{Order}
-use Rattle.ficus_sweep_runs.proofs.Chains.{then_nothing}
+use Rattle.ficus_runs.proofs.sweeps.Chains.{then_nothing}
 use Rattle.ficus_loop.specs.SweepFollows.{FollowsAction, StopsAction}
 use Rattle.ficus_world.specs.Follows.{FollowsOn, StopsOn}
 use Rattle.ficus_world.specs.World.{Whole}

@@ -19,10 +19,10 @@ use Rattle.ficus_script.specs.declared.answer.Answer.{Answer}
 use Rattle.ficus_script.specs.declared.answer.Answer.TheVariants as answer
 use Rattle.ficus_runs.specs.Sweep.{Collecting, DoesSweepPart, DoesSweepStep, Pulling, SweepStep, Swept, Sweeps, SweepsPart, command_of, none_swept, sweep_steps, with_answer}
 use Rattle.ficus_script.specs.declared.order.Order.{Order}
-use Rattle.ficus_run_laws.proofs.SweepSteps.{of_command, of_part}
-use Rattle.ficus_sweep_runs.proofs.Adding.{pull_adds, collect_adds}
-use Rattle.ficus_sweep_runs.proofs.Chains.{sweeps_push, sweeps_end, sweeps_cut}
-use Rattle.ficus_sweep_runs.proofs.Whole.{all_swept}
+use Rattle.ficus_runs.proofs.SweepSteps.{of_command, of_part}
+use Rattle.ficus_runs.proofs.sweeps.Adding.{pull_adds, collect_adds}
+use Rattle.ficus_runs.proofs.sweeps.Chains.{sweeps_push, sweeps_end, sweeps_cut}
+use Rattle.ficus_runs.proofs.sweeps.Whole.{all_swept}
 use Rattle.ficus_world.specs.Follows.{FollowsOn, StopsOn, TellsFor}
 use Rattle.ficus_world.specs.World.{Whole, WorldStandsFor}
 use Rattle.ficus_world.proofs.Disks.{follows_none, follows_then}

@@ -8,7 +8,7 @@ use Rattle.ficus_model.specs.Lawful.{Volume}
 use Rattle.ficus_script.specs.declared.command.Command.{Command}
 use Rattle.ficus_script.specs.declared.answer.Answer.{Answer}
 use Rattle.ficus_script.specs.Answer.{answer_text_of}
-use Rattle.ficus_run_laws.specs.Outcomes.{all_outcomes}
+use Rattle.ficus_runs.specs.Outcomes.{all_outcomes}
 use Rattle.ficus_runs.specs.ModelWorld.{ModelWorld}
 use Rattle.ficus_runs.specs.Outcome.{Outcome, link_failures}
 use Rattle.ficus_runs.specs.Run.{Run, DoesPart}

@@ -8,16 +8,16 @@ use Rattle.ficus_ids.specs.Members.{IsMember}
 use Rattle.ficus_keeper.specs.Kept.{Kept, found_in}
 use Rattle.ficus_model.specs.Lawful.{Volume}
 use Rattle.ficus_replica.specs.SavedOf.{fresh_saved}
-use Rattle.ficus_leads.specs.Holds.{Holds}
-use Rattle.ficus_leads.proofs.Led.{held_at}
+use Rattle.ficus_stable_storage.specs.Leads.Holds.{Holds}
+use Rattle.ficus_stable_storage.proofs.leads.Led.{held_at}
 use Rattle.ficus_stable_storage.specs.Holds.{HoldsOneOf}
 use Rattle.ficus_runs.specs.Numbered.{IsNumbered}
 use Rattle.ficus_opening.specs.Rests.{AllRest}
-use Rattle.ficus_check.specs.Judged.{IsEmptyPair}
+use Rattle.ficus_opening.specs.Check.Judged.{IsEmptyPair}
 use Rattle.ficus_opening.specs.Opening.{AreEmpty, AreMade, AreMadeInPart, AreSynced, IsFirstOccupied, IsFoundFault, Steady}
 use Rattle.ficus_opening.specs.declared.fault.WorldFault.{WorldFault}
 use Rattle.ficus_opening.specs.declared.fault.WorldFault.TheVariants.{Image, Memory, Occupied, Store}
-use Rattle.ficus_run_laws.proofs.Numbers.{number_exists}
+use Rattle.ficus_runs.proofs.Numbers.{number_exists}
 use Rattle.ficus_opening.proofs.Steadies.{set_at}
 
 -- what is known of the disks of the members so far: none holds something, or this one is the first that does

@@ -3,9 +3,9 @@ use Rattle.std.proofs.Common.{◌≡◌, ℕ, ◌+◌, ◌<◌, ◌≤◌, Bool,
 use Rattle.std.specs.Prelude.{◌↔◌, slice_set, IsTrue}
 use Rattle.std.proofs.lemmas.Bool.{cases_lt}
 use Rattle.std.proofs.lemmas.List.{length_push}
-use Rattle.ficus_check.specs.Judged.{HoldsNoneOf, IsOfVolume, IsOwn, IsSound, MayOpen}
-use Rattle.ficus_check.specs.declared.checked.Checked.{Checked}
-use Rattle.ficus_check.proofs.Owning.{is_false}
+use Rattle.ficus_opening.specs.Check.Judged.{HoldsNoneOf, IsOfVolume, IsOwn, IsSound, MayOpen}
+use Rattle.ficus_opening.specs.declared.check.checked.Checked.{Checked}
+use Rattle.ficus_opening.proofs.check.Owning.{is_false}
 use Rattle.ficus_disk.specs.declared.disk.Disk.{Ghosts as Disk}
 use Rattle.ficus_disk.specs.declared.pair.Pair.{Pair}
 use Rattle.ficus_ids.specs.Members.{IsMember}
@@ -13,8 +13,8 @@ use Rattle.ficus_keeper.specs.declared.keep.Keep.{Ghosts as Keep}
 use Rattle.ficus_keeper.specs.Kept.{Kept, found_in}
 use Rattle.ficus_durable_state.specs.Saved.{FitsImage}
 use Rattle.ficus_durable_state.specs.declared.saved.Saved.{Saved}
-use Rattle.ficus_leads.specs.Holds.{Holds, OneHeld}
-use Rattle.ficus_leads.proofs.Led.{held_at}
+use Rattle.ficus_stable_storage.specs.Leads.Holds.{Holds, OneHeld}
+use Rattle.ficus_stable_storage.proofs.leads.Led.{held_at}
 use Rattle.ficus_stable_storage.specs.Stable.{IsReady}
 use Rattle.ficus_stable_storage.specs.declared.stable.Stable.{Stable}
 use Rattle.ficus_runs.specs.Numbered.{IsNumbered}
@@ -26,7 +26,7 @@ use Rattle.ficus_opening.specs.declared.fault.WorldFault.TheVariants.{Image, Occ
 use Rattle.ficus_opening.specs.declared.member.Member.{Member}
 use Rattle.ficus_opening.specs.declared.member.MemberState.{MemberState}
 use Rattle.ficus_opening.specs.declared.opening.Opened.{Opened}
-use Rattle.ficus_run_laws.proofs.Numbers.{number_once, number_read, number_exists, number_more, number_cases}
+use Rattle.ficus_runs.proofs.Numbers.{number_once, number_read, number_exists, number_more, number_cases}
 use Rattle.ficus_opening.proofs.Asking.{err_as}
 use Rattle.ficus_opening.proofs.Steadies.{set_at, steady_back}
 

@@ -7,7 +7,7 @@ use Rattle.ficus_disk.specs.declared.pair.Pair.{Pair}
 use Rattle.ficus_ids.specs.Members.{IsMember}
 use Rattle.ficus_keeper.specs.Pairs.{PairLeft}
 use Rattle.ficus_runs.specs.Numbered.{IsNumbered}
-use Rattle.ficus_run_laws.proofs.Numbers.{number_exists, number_once}
+use Rattle.ficus_runs.proofs.Numbers.{number_exists, number_once}
 use Rattle.ficus_opening.specs.Rests.{AllRest, AreLeft, OthersRest, OthersStay, PairRests}
 use Rattle.ficus_opening.proofs.Rests.{rests_none, rests_then}
 use Rattle.ficus_opening.proofs.Steadies.{set_at}

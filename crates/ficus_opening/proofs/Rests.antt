@@ -11,8 +11,8 @@ use Rattle.ficus_keeper.specs.Pairs.{PairWithin}
 use Rattle.ficus_keeper.proofs.Moments.{joined, spans_call, spans_none}
 use Rattle.ficus_runs.specs.Numbered.{IsNumbered}
 use Rattle.ficus_opening.specs.Rests.{AllRest, PairRests, RestsAt}
-use Rattle.ficus_run_laws.proofs.Numbers.{number_exists, number_once, number_read}
-use Rattle.ficus_run_laws.proofs.Replaced.{replaced}
+use Rattle.ficus_runs.proofs.Numbers.{number_exists, number_once, number_read}
+use Rattle.ficus_runs.proofs.Replaced.{replaced}
 
 -- there are as many pairs
 pub rests_count : {D : Type 0} {disk : Disk D} {by : ℕ} {old new : List (Pair D)} → RestsAt disk by old new

@@ -13,11 +13,11 @@ use Rattle.ficus_replica.specs.SavedOf.{IsSavedOf, fresh_saved}
 use Rattle.ficus_durable_state.specs.Limits.{byte_limit, update_limit}
 use Rattle.ficus_durable_state.specs.Saved.{FitsImage}
 use Rattle.ficus_durable_state.specs.declared.saved.Saved.{Saved}
-use Rattle.ficus_leads.specs.Holds.{Holds, OneHeld}
+use Rattle.ficus_stable_storage.specs.Leads.Holds.{Holds, OneHeld}
 use Rattle.ficus_runs.specs.Numbered.{IsNumbered}
 use Rattle.ficus_opening.specs.Opening.{AreMade, IsFirstBad, Opens, StandsOn}
 use Rattle.ficus_opening.specs.Stand.{KeepsOf}
-use Rattle.ficus_run_laws.proofs.Numbers.{number_exists}
+use Rattle.ficus_runs.proofs.Numbers.{number_exists}
 
 -- disks that stand for a history hold of each member what a world is opened with
 module _ {D : Type 0} (kept : List ℕ → List ℕ → Option Kept) (seen : D → List ℕ) (volume : Volume) (H : List Event)

@@ -8,8 +8,8 @@ use Rattle.ficus_ids.specs.Members.{IsMember}
 use Rattle.ficus_keeper.specs.Pairs.{PairSame}
 use Rattle.ficus_runs.specs.Numbered.{IsNumbered}
 use Rattle.ficus_opening.specs.Opening.{AreSynced, IsAtFault, IsSynced, Steady}
-use Rattle.ficus_run_laws.proofs.Numbers.{number_once, number_read, number_exists}
-use Rattle.ficus_run_laws.proofs.Replaced.{replaced}
+use Rattle.ficus_runs.proofs.Numbers.{number_once, number_read, number_exists}
+use Rattle.ficus_runs.proofs.Replaced.{replaced}
 
 -- what stands at an index has the number above it
 pub number_at : {A : Type 0} (list : List A) (index : ℕ) (x : A) → index < length list → x ≡ get_or list index x

@@ -1,7 +1,7 @@
 -- What each call on the disks of a volume's members promises, by name. The world's calls of the same names say it too.
 use Rattle.std.specs.Prelude.{◌≡◌, ◌↔◌, ◌≤◌, ◌⊎◌, ℕ, Bool, List, length, Some, None, Result, Err, IfErr, IfOk, IsErrOf, IsTrue, OnErr, OnOk}
-use Rattle.ficus_check.specs.Judged.{HoldsNoneOf, IsEmptyPair, IsJudged, IsOwn}
-use Rattle.ficus_check.specs.declared.checked.Checked.{Checked}
+use Rattle.ficus_opening.specs.Check.Judged.{HoldsNoneOf, IsEmptyPair, IsJudged, IsOwn}
+use Rattle.ficus_opening.specs.declared.check.checked.Checked.{Checked}
 use Rattle.ficus_disk.specs.declared.disk.Disk.{Ghosts as Disk}
 use Rattle.ficus_disk.specs.declared.pair.Pair.{Pair}
 use Rattle.ficus_durable_state.specs.Saved.{FitsImage}
@@ -10,7 +10,7 @@ use Rattle.ficus_ids.specs.Members.{IsCount}
 use Rattle.ficus_keeper.specs.Fuses.{IsRegularIn}
 use Rattle.ficus_keeper.specs.Kept.{found_in}
 use Rattle.ficus_keeper.specs.declared.keep.Keep.{Ghosts as Keep}
-use Rattle.ficus_leads.specs.Holds.{Holds}
+use Rattle.ficus_stable_storage.specs.Leads.Holds.{Holds}
 use Rattle.ficus_model.specs.Lawful.{Volume}
 use Rattle.ficus_replica.specs.SavedOf.{fresh_saved}
 use Rattle.ficus_runs.specs.Numbered.{IsNumbered}

@@ -4,3 +4,4 @@ pub mod Fuses
 pub mod Disks
 pub mod Opening
 pub mod Calls
+pub mod Check

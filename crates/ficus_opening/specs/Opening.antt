@@ -1,6 +1,6 @@
 -- What it means that a volume is made on disks, and that a world is opened on them.
 use Rattle.std.specs.Prelude.{◌≡◌, ◌≢◌, ◌⊎◌, ℕ, ◌^◌, ◌<◌, ◌≤◌, ◌+◌, ◌==◌, Bool, if◌then◌else◌, List, [], length, map, Option, None, Some, Result, IsErrOf, OnOk}
-use Rattle.ficus_check.specs.Judged.{IsEmptyPair, MayOpen}
+use Rattle.ficus_opening.specs.Check.Judged.{IsEmptyPair, MayOpen}
 use Rattle.ficus_disk.specs.Crash.{Only}
 use Rattle.ficus_disk.specs.Pair.{PairRose}
 use Rattle.ficus_disk.specs.declared.disk.Disk.{Ghosts as Disk}
@@ -15,7 +15,7 @@ use Rattle.ficus_model.specs.Lawful.{Volume, IsLawful}
 use Rattle.ficus_replica.specs.SavedOf.{fresh_saved}
 use Rattle.ficus_durable_state.specs.Saved.{FitsImage}
 use Rattle.ficus_durable_state.specs.declared.saved.Saved.{Saved}
-use Rattle.ficus_leads.specs.Holds.{Holds}
+use Rattle.ficus_stable_storage.specs.Leads.Holds.{Holds}
 use Rattle.ficus_stable_storage.specs.Holds.{HoldsOneOf}
 use Rattle.ficus_runs.specs.Numbered.{IsNumbered}
 use Rattle.ficus_opening.specs.declared.member.Member.{Member}

@@ -8,7 +8,7 @@ use Rattle.ficus_model.specs.Lawful.{Volume}
 use Rattle.ficus_replica.specs.SavedOf.{IsSavedOf}
 use Rattle.ficus_durable_state.specs.Saved.{FitsImage}
 use Rattle.ficus_durable_state.specs.declared.saved.Saved.{Saved}
-use Rattle.ficus_leads.specs.Holds.{Holds}
+use Rattle.ficus_stable_storage.specs.Leads.Holds.{Holds}
 use Rattle.ficus_runs.specs.Numbered.{IsNumbered}
 
 -- what was found, an image and the records behind it, holds what the member saves after the history

@@ -1,19 +1,19 @@
 ghost use Rattle.std.specs.Prelude.{◌≡◌, ℕ, ⊤, List, length};
-ghost use Rattle.ficus_check.specs.Judged.{HoldsNoneOf, IsEmptyPair, IsOfVolume, IsSound};
-ghost use Rattle.ficus_check.specs.declared.checked.Checked.{Checked as CheckedValue};
+ghost use Rattle.ficus_opening.specs.Check.Judged.{HoldsNoneOf, IsEmptyPair, IsOfVolume, IsSound};
+ghost use Rattle.ficus_opening.specs.declared.check.checked.Checked.{Checked as CheckedValue};
 ghost use Rattle.ficus_disk.specs.declared.pair.Pair.{Pair as PairValue};
 ghost use Rattle.ficus_ids.specs.Members.{IsMember};
 ghost use Rattle.ficus_keeper.specs.Kept.{found_in};
-ghost use Rattle.ficus_leads.specs.Holds.{Holds};
+ghost use Rattle.ficus_stable_storage.specs.Leads.Holds.{Holds};
 ghost use Rattle.ficus_runs.specs.Numbered.{IsNumbered};
 ghost use Rattle.ficus_durable_state.specs.declared.saved.Saved.{Saved as SavedValue};
 ghost use Rattle.ficus_opening.specs.Calls.{ChecksDisks, JudgesPair};
 ghost use Rattle.ficus_opening.specs.Opening.{IsBad, Opens};
 
 use crate::WorldFault;
+use crate::check::{Checked, soundness_of};
 use crate::looking::look_at;
 use crate::opening::open_one;
-use ficus_check::{Checked, soundness_of};
 use ficus_disk::{Disk, Pair};
 use ficus_keeper::Keep;
 use std::alloc::Global;

@@ -2,6 +2,7 @@
 //! replica hold is judged, and those of each member are opened.
 #![tactic(auto)]
 
+pub mod check;
 mod checking;
 mod fault;
 mod looking;

@@ -1,5 +1,5 @@
 ghost use Rattle.std.specs.Prelude.{◌≡◌, ◌↔◌, Err, IfOk, IsOk, IsTrue, OnErr, OnOk};
-ghost use Rattle.ficus_check.specs.Judged.{IsEmptyPair};
+ghost use Rattle.ficus_opening.specs.Check.Judged.{IsEmptyPair};
 ghost use Rattle.ficus_disk.specs.Pair.{PairRose};
 ghost use Rattle.ficus_keeper.specs.Fuses.{both_unarmed, fuses_of};
 ghost use Rattle.ficus_keeper.specs.Pairs.{PairSame};

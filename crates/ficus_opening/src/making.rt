@@ -1,5 +1,5 @@
 ghost use Rattle.std.specs.Prelude.{◌≡◌, ◌≤◌, [], None, Some, ℕ, List, true, false, length};
-ghost use Rattle.ficus_check.specs.Judged.{IsEmptyPair};
+ghost use Rattle.ficus_opening.specs.Check.Judged.{IsEmptyPair};
 ghost use Rattle.ficus_disk.specs.declared.pair.Pair.{Pair as PairValue};
 ghost use Rattle.ficus_ids.specs.Members.{IsCount, IsMember};
 ghost use Rattle.ficus_model.specs.Lawful.{Volume};

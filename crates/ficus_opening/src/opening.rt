@@ -1,5 +1,5 @@
 ghost use Rattle.std.specs.Prelude.{◌≡◌, ◌↔◌, ◌+◌, [], ◌∷◌, ◌++◌, Err, None, true, length, IfOk, IsTrue, OnOk};
-ghost use Rattle.ficus_check.specs.Judged.{IsOfVolume};
+ghost use Rattle.ficus_opening.specs.Check.Judged.{IsOfVolume};
 ghost use Rattle.ficus_ids.specs.Members.{IsMember};
 ghost use Rattle.ficus_runs.specs.Numbered.{IsNumbered};
 ghost use Rattle.ficus_opening.specs.Calls.{OpensMember, OpensMembers, OpensNext};
@@ -8,8 +8,8 @@ ghost use Rattle.ficus_opening.specs.Opening.{AreOpened, opened_member};
 ghost use Rattle.ficus_opening.specs.declared.member.Member.{Member as MemberValue};
 
 use crate::WorldFault;
+use crate::check::{is_of_volume, open_own};
 use crate::member::{Member, MemberState};
-use ficus_check::{is_of_volume, open_own};
 use ficus_disk::{Disk, Pair};
 use ficus_durable_state::Saved;
 use ficus_ids::Memory;

@@ -9,7 +9,7 @@ use Rattle.ficus_model.specs.declared.event.Event.TheVariants.{Ask, Serve, Take,
 use Rattle.ficus_model.specs.Events.{IsAt, through, generation_of}
 use Rattle.ficus_model.specs.Lawful.{Volume, MayCome, AnswersOpenAsk, HasTaken, IsOfState}
 use Rattle.ficus_model.specs.Vectors.{Counts}
-use Rattle.ficus_piece_laws.specs.Laws.{HasServedAll}
+use Rattle.ficus_runs.specs.Pieces.Laws.{HasServedAll}
 use Rattle.ficus_replica.specs.SavedOf.{IsSavedOf}
 use Rattle.ficus_rules.specs.Rule.{Gives, Tells}
 use Rattle.ficus_durable_state.specs.declared.saved.Saved.{Saved}

@@ -14,3 +14,6 @@ pub mod Run
 pub mod Start
 pub mod Fuses
 pub mod Sweep
+pub mod Pieces
+pub mod Sweeps
+pub mod Outcomes

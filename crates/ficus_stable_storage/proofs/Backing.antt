@@ -2,8 +2,8 @@
 use Rattle.std.proofs.Common.{◌≡◌, ℕ, List, [], Option, Some, None, refl, sym, ap, subst}
 use Rattle.ficus_keeper.specs.Kept.{Kept, kept_of}
 use Rattle.ficus_keeper.specs.declared.opened.Opened.{Opened}
-use Rattle.ficus_leads.specs.Chain.{LeadAll}
-use Rattle.ficus_leads.specs.Holds.{Holds, Leads}
+use Rattle.ficus_stable_storage.specs.Leads.Chain.{LeadAll}
+use Rattle.ficus_stable_storage.specs.Leads.Holds.{Holds, Leads}
 use Rattle.ficus_image.specs.Image.{IsImageOf}
 use Rattle.ficus_image.proofs.Images.{one_imaged}
 use Rattle.ficus_record.specs.declared.fault.RecordFault.{RecordFault}

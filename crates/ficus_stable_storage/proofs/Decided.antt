@@ -7,8 +7,8 @@ use Rattle.ficus_disk.specs.declared.pair.Pair.{Pair}
 use Rattle.ficus_image.specs.Image.{image_bytes}
 use Rattle.ficus_keeper.specs.Fuses.{FusedSave, finds, found_again, fuses_of, on_side}
 use Rattle.ficus_keeper.specs.Kept.{Kept, KeepsOneBetween, KeepsOneOf, after_commit, found_in, generation_of, image_alone}
-use Rattle.ficus_leads.specs.Holds.{Holds, Leads}
-use Rattle.ficus_leads.proofs.Led.{held_after, held_at, held_generation, held_image, led_next}
+use Rattle.ficus_stable_storage.specs.Leads.Holds.{Holds, Leads}
+use Rattle.ficus_stable_storage.proofs.leads.Led.{held_after, held_at, held_generation, held_image, led_next}
 use Rattle.ficus_durable_state.specs.Saved.{FitsImage}
 use Rattle.ficus_durable_state.specs.declared.saved.Saved.{Saved}
 use Rattle.ficus_stable_storage.specs.Fuses.{DecidedByFuses}

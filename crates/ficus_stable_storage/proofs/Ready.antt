@@ -4,8 +4,8 @@ use Rattle.std.specs.Prelude.{IfOk}
 use Rattle.ficus_disk.specs.declared.pair.Pair.{Pair}
 use Rattle.ficus_keeper.specs.Kept.{Kept, Settled, found_in}
 use Rattle.ficus_keeper.specs.Pairs.{PairSame, PairWithin}
-use Rattle.ficus_leads.specs.Holds.{Holds}
-use Rattle.ficus_leads.proofs.Led.{held_at}
+use Rattle.ficus_stable_storage.specs.Leads.Holds.{Holds}
+use Rattle.ficus_stable_storage.proofs.leads.Led.{held_at}
 use Rattle.ficus_durable_state.specs.declared.saved.Saved.{Saved}
 use Rattle.ficus_stable_storage.specs.Stable.{IsReady}
 use Rattle.ficus_stable_storage.specs.declared.stable.Recovered.{Recovered}

@@ -15,7 +15,7 @@ use Rattle.ficus_keeper.specs.declared.fault.StoreFault.TheVariants.{Failed, Mem
 use Rattle.ficus_keeper.specs.declared.keep.Keep.{Ghosts as Keep}
 use Rattle.ficus_durable_state.specs.Saved.{FitsImage}
 use Rattle.ficus_durable_state.specs.declared.saved.Saved.{Saved}
-use Rattle.ficus_leads.specs.Holds.{Holds}
+use Rattle.ficus_stable_storage.specs.Leads.Holds.{Holds}
 use Rattle.ficus_stable_storage.specs.Fuses.{DecidedByFuses}
 use Rattle.ficus_stable_storage.specs.Holds.{HoldsOneBetween, HoldsOneOf}
 use Rattle.ficus_stable_storage.specs.Stable.{IsPrepared, IsReady}

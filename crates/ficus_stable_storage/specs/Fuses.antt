@@ -6,7 +6,7 @@ use Rattle.ficus_disk.specs.declared.pair.Pair.{Pair}
 use Rattle.ficus_keeper.specs.Fuses.{after_save, finds, found_again, fuses_of, lasts, on_side}
 use Rattle.ficus_keeper.specs.Kept.{Kept}
 use Rattle.ficus_durable_state.specs.declared.saved.Saved.{Saved}
-use Rattle.ficus_leads.specs.Holds.{Holds}
+use Rattle.ficus_stable_storage.specs.Leads.Holds.{Holds}
 
 -- the fuses alone decide whether it is saved, by so many calls on one of the disks, and which of the two is found where
 -- it isn't, once both disks are opened again

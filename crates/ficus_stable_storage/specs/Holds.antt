@@ -2,7 +2,7 @@
 use Rattle.std.specs.Prelude.{◌≡◌, ◌⊎◌, ℕ, List, Option, Some, None}
 use Rattle.ficus_disk.specs.declared.pair.Pair.{Pair}
 use Rattle.ficus_keeper.specs.Kept.{Kept}
-use Rattle.ficus_leads.specs.Holds.{Holds}
+use Rattle.ficus_stable_storage.specs.Leads.Holds.{Holds}
 use Rattle.ficus_durable_state.specs.declared.saved.Saved.{Saved}
 
 -- this, or nothing is kept

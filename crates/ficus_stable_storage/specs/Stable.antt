@@ -4,7 +4,7 @@ use Rattle.ficus_disk.specs.declared.pair.Pair.{Pair}
 use Rattle.ficus_keeper.specs.Kept.{Kept, Settled, found_in}
 use Rattle.ficus_durable_state.specs.declared.saved.Saved.{Saved}
 use Rattle.ficus_image.specs.Image.{image_bytes}
-use Rattle.ficus_leads.specs.Holds.{Holds, Leads}
+use Rattle.ficus_stable_storage.specs.Leads.Holds.{Holds, Leads}
 use Rattle.ficus_stable_storage.specs.declared.stable.Stable.{Stable}
 
 -- the pair holds this, the keeper fits it, and nothing is unsynced

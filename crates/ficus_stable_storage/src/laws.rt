@@ -1,9 +1,9 @@
 ghost use Rattle.std.specs.Prelude.{◌≡◌, Option};
 ghost use Rattle.ficus_keeper.specs.Kept.{Kept};
 ghost use Rattle.ficus_durable_state.specs.declared.saved.Saved.{Saved as SavedValue};
-ghost use Rattle.ficus_leads.specs.Holds.{Holds};
+ghost use Rattle.ficus_stable_storage.specs.Leads.Holds.{Holds};
 
-use ficus_leads::one_led;
+use crate::leads::one_led;
 
 /// The law that what a keeper found holds one thing at most. It does nothing when it runs.
 pub fn one_saved()

@@ -1,14 +1,14 @@
 ghost use Rattle.std.specs.Prelude.{◌≡◌, Some, IfOk, IsErrOf};
 ghost use Rattle.ficus_keeper.specs.Kept.{kept_of};
-ghost use Rattle.ficus_leads.specs.Holds.{Holds};
+ghost use Rattle.ficus_stable_storage.specs.Leads.Holds.{Holds};
 ghost use Rattle.ficus_durable_state.specs.Saved.{FitsImage};
 ghost use Rattle.ficus_durable_state.specs.declared.saved.Saved.{Saved as SavedValue};
 ghost use Rattle.ficus_stable_storage.specs.Reading.{IsSpelledIn};
 
+use crate::leads::led_by;
 use ficus_durable_state::Saved;
 use ficus_image::{ImageFault, decode_image};
 use ficus_keeper::{Opened, StoreFault};
-use ficus_leads::led_by;
 use ficus_record::RecordFault;
 use std::alloc::Global;
 

@@ -3,7 +3,7 @@ ghost use Rattle.ficus_keeper.specs.Kept.{kept_of};
 ghost use Rattle.ficus_durable_state.specs.Saved.{FitsImage};
 ghost use Rattle.ficus_durable_state.specs.declared.saved.Saved.{Saved as SavedValue};
 ghost use Rattle.ficus_stable_storage.specs.Calls.{CommitsState, MakesState, Opens, OpensAnew, Prepares};
-ghost use Rattle.ficus_leads.specs.Holds.{Holds};
+ghost use Rattle.ficus_stable_storage.specs.Leads.Holds.{Holds};
 ghost use Rattle.ficus_stable_storage.specs.Stable.{IsPrepared, MayFollow};
 
 use crate::reading::read_back;

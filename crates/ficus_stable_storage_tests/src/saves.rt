@@ -1,7 +1,7 @@
 // Saves, and what the disks hold after each.
 ghost use Rattle.std.specs.Prelude.{◌≡◌, ◌<◌, ◌≤◌, [], IfOk, IfSome, IsTrue, OnOk};
 ghost use Rattle.ficus_keeper.specs.Pairs.{PairSame, PairWithin};
-ghost use Rattle.ficus_leads.specs.Holds.{Leads};
+ghost use Rattle.ficus_stable_storage.specs.Leads.Holds.{Leads};
 ghost use Rattle.ficus_durable_state.specs.Saved.{FitsImage};
 ghost use Rattle.ficus_stable_storage.specs.Stable.{IsReady, MayFollow};
 

@@ -11,8 +11,8 @@ use Rattle.ficus_runs.specs.Fuses.{FuseState}
 use Rattle.ficus_runs.specs.ModelWorld.{ModelWorld}
 use Rattle.ficus_runs.specs.Outcome.{Outcome}
 use Rattle.ficus_runs.specs.Start.{start}
-use Rattle.ficus_run_laws.proofs.Runs.{part_lawful, run_lawful}
-use Rattle.ficus_run_laws.proofs.Starts.{start_lawful}
+use Rattle.ficus_runs.proofs.Runs.{part_lawful, run_lawful}
+use Rattle.ficus_runs.proofs.Starts.{start_lawful}
 use Rattle.ficus_top.specs.Ends.{Ends, EndsFront}
 use Rattle.ficus_top.specs.Headline.{Answers, AnswersFront, fuses_of}
 use Rattle.ficus_loop.specs.Serving.{IsCut}

@@ -10,22 +10,22 @@ use Rattle.ficus_disk.specs.declared.pair.Pair.{Pair}
 use Rattle.ficus_ids.specs.Members.{IsCount, IsMember}
 use Rattle.ficus_model.specs.Events.{raised}
 use Rattle.ficus_model.specs.Lawful.{Volume}
-use Rattle.ficus_run_laws.proofs.Numbers.{number_cases, number_exists, number_once}
-use Rattle.ficus_run_laws.proofs.Replaced.{replaced}
-use Rattle.ficus_run_laws.proofs.Starts.{length_restarts}
+use Rattle.ficus_runs.proofs.Numbers.{number_cases, number_exists, number_once}
+use Rattle.ficus_runs.proofs.Replaced.{replaced}
+use Rattle.ficus_runs.proofs.Starts.{length_restarts}
 use Rattle.ficus_runs.specs.Numbered.{IsNumbered}
 use Rattle.ficus_runs.specs.Run.Run.{End}
-use Rattle.ficus_summary.specs.Keeper.{Keeper, keeper}
+use Rattle.ficus_top.specs.Summary.Keeper.{Keeper, keeper}
 use Rattle.ficus_world.specs.World.{Backed, Whole, WorldStandsFor}
 use Rattle.ficus_loop.proofs.Places.{none_caused, tells_for}
 use Rattle.ficus_loop.specs.Serving.{serving_limit}
 use Rattle.ficus_world.specs.Fuses.{at_rest}
 use Rattle.ficus_script.specs.declared.volume_line.VolumeLine.{VolumeLine}
-use Rattle.ficus_graft.specs.Answered.{AreAnswered, Sent}
-use Rattle.ficus_graft.specs.Answered.AreAnswered.{None}
+use Rattle.ficus_top.specs.Graft.Answered.{AreAnswered, Sent}
+use Rattle.ficus_top.specs.Graft.Answered.AreAnswered.{None}
 use Rattle.ficus_world.specs.Disks.{IsBacked}
-use Rattle.ficus_graft.specs.Runs.{AnswersFront, AnswersLines, Disks, EachRuns, HaveRoom, IsNextCut}
-use Rattle.ficus_graft.specs.Serving.{Told}
+use Rattle.ficus_top.specs.Graft.Runs.{AnswersFront, AnswersLines, Disks, EachRuns, HaveRoom, IsNextCut}
+use Rattle.ficus_top.specs.Graft.Serving.{Told}
 use Rattle.ficus_top.specs.Fresh.{AnswersFresh, AnswersFreshFront, AreFresh, AreUnfailed, IsFresh, RunsFresh, begun}
 
 -- it stores one event for each member at most

@@ -9,7 +9,7 @@ use Rattle.ficus_outside.specs.declared.sink.Sink.{Ghosts as Sink}
 use Rattle.ficus_outside.specs.declared.source.Source.{Ghosts as Source}
 use Rattle.ficus_model.specs.Lawful.{Volume}
 use Rattle.ficus_model.specs.declared.event.Event.{Event}
-use Rattle.ficus_summary.specs.Keeper.{kept_in}
+use Rattle.ficus_top.specs.Summary.Keeper.{kept_in}
 use Rattle.ficus_top.specs.Codes.{IsCode, IsIdleCode}
 use Rattle.ficus_top.specs.Ending.{IsAnswering, IsIdle, IsInterruption, IsOfJoining, IsOfMaking, IsUntouched, TakesAsEnded, TakesAsEndedIn}
 use Rattle.ficus_top.specs.Grammar.{Grammar, of_commands, of_volumes}

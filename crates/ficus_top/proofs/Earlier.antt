@@ -13,7 +13,7 @@ use Rattle.ficus_runs.specs.Start.{start}
 use Rattle.ficus_world.specs.Disks.{DisksFollow}
 use Rattle.ficus_opening.specs.Opening.{IsAtFault, Steady}
 use Rattle.ficus_world.proofs.Disks.{follows_steady, follows_then}
-use Rattle.ficus_run_laws.proofs.Numbers.{number_exists}
+use Rattle.ficus_runs.proofs.Numbers.{number_exists}
 use Rattle.ficus_loop.proofs.Places.{fuses_same}
 use Rattle.ficus_opening.proofs.Steadies.{steady_back, steady_trans}
 use Rattle.ficus_top.specs.Ends.{Ends, EndsFront, NoneFailed}

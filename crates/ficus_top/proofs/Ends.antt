@@ -14,12 +14,12 @@ use Rattle.ficus_runs.specs.ModelWorld.{ModelWorld}
 use Rattle.ficus_runs.specs.Outcome.{Outcome, is_link_failure, is_store_failure, link_failures, store_failures}
 use Rattle.ficus_runs.specs.Run.{Run, EachDone}
 use Rattle.ficus_runs.specs.Start.{start}
-use Rattle.ficus_run_laws.specs.Outcomes.{all_outcomes}
-use Rattle.ficus_run_laws.proofs.Outcomes.{count_append}
-use Rattle.ficus_run_laws.proofs.Numbers.{number_exists}
-use Rattle.ficus_run_laws.proofs.Up.{run_up}
+use Rattle.ficus_runs.specs.Outcomes.{all_outcomes}
+use Rattle.ficus_runs.proofs.Outcomes.{count_append}
+use Rattle.ficus_runs.proofs.Numbers.{number_exists}
+use Rattle.ficus_runs.proofs.Up.{run_up}
 use Rattle.ficus_world.specs.Disks.{DisksFollow}
-use Rattle.ficus_summary.specs.Keeper.{keeping, kept_in}
+use Rattle.ficus_top.specs.Summary.Keeper.{keeping, kept_in}
 use Rattle.ficus_world.specs.Fuses.{FusesPermit, keeping_of}
 use Rattle.ficus_opening.specs.Opening.{Steady}
 use Rattle.ficus_world.specs.Stand.{ArePending, DisksOutlast, DisksStand}

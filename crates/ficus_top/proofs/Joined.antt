@@ -2,10 +2,10 @@
 use Rattle.std.proofs.Common.{◌≡◌, ℕ, List, [], subst}
 use Rattle.ficus_laws.proofs.Lawful.{lawful_none}
 use Rattle.ficus_model.specs.Lawful.{Volume}
-use Rattle.ficus_graft.specs.Answered.{Sent}
+use Rattle.ficus_top.specs.Graft.Answered.{Sent}
 use Rattle.ficus_top.specs.Fresh.{AnswersFresh, AnswersFreshFront, RunsFresh}
-use Rattle.ficus_run_laws.proofs.Runs.{run_lawful}
-use Rattle.ficus_run_laws.proofs.Starts.{start_lawful}
+use Rattle.ficus_runs.proofs.Runs.{run_lawful}
+use Rattle.ficus_runs.proofs.Starts.{start_lawful}
 use Rattle.ficus_script.specs.VolumeLine.{IsVolumeScript}
 use Rattle.ficus_script.specs.declared.volume_line.VolumeLine.{VolumeLine}
 use Rattle.ficus_top.specs.Modes.Volumes.{AnswersVolumes, AnswersVolumesFront, IsSound}

@@ -2,14 +2,14 @@
 use Rattle.std.proofs.Common.{◌≡◌, ◌≢◌, ◌⊎◌, ℕ, ◌+◌, ◌-◌, ◌<◌, ◌≤◌, List, length, Result, Ok, Err, refl, sym, ap, subst, ◌∙◌, inl, inr, arith}
 use Rattle.std.specs.Prelude.{IsErrOf, slice_set}
 use Rattle.std.proofs.lemmas.Option.{get_or_from_slice_get}
-use Rattle.ficus_check.specs.Judged.{IsJudged}
-use Rattle.ficus_check.specs.declared.checked.Checked.{Checked}
-use Rattle.ficus_check.proofs.Judging.{judged_same}
+use Rattle.ficus_opening.specs.Check.Judged.{IsJudged}
+use Rattle.ficus_opening.specs.declared.check.checked.Checked.{Checked}
+use Rattle.ficus_opening.proofs.check.Judging.{judged_same}
 use Rattle.ficus_disk.specs.declared.disk.Disk.{Ghosts as Disk}
 use Rattle.ficus_disk.specs.declared.pair.Pair.{Pair}
 use Rattle.ficus_ids.specs.Members.{IsMember}
-use Rattle.ficus_summary.specs.Keeper.{kept_in}
-use Rattle.ficus_run_laws.proofs.Numbers.{number_exists}
+use Rattle.ficus_top.specs.Summary.Keeper.{kept_in}
+use Rattle.ficus_runs.proofs.Numbers.{number_exists}
 use Rattle.ficus_runs.specs.Numbered.{IsNumbered}
 use Rattle.ficus_opening.specs.Rests.{AllRest, RestsAt}
 use Rattle.ficus_opening.specs.Opening.{IsAtFault, IsUnfailed, SeenSame, Steady}

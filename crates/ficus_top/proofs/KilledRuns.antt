@@ -11,8 +11,8 @@ use Rattle.ficus_script.specs.declared.answer.Answer.{Answer}
 use Rattle.ficus_script.specs.declared.command.Command.{Command}
 use Rattle.ficus_runs.specs.ModelWorld.{ModelWorld}
 use Rattle.ficus_runs.specs.Outcome.{Outcome}
-use Rattle.ficus_run_laws.proofs.Extending.{Extends, as_it_was, further, step_extends}
-use Rattle.ficus_run_laws.proofs.Runs.{run_lawful, step_lawful}
+use Rattle.ficus_runs.proofs.Extending.{Extends, as_it_was, further, step_extends}
+use Rattle.ficus_runs.proofs.Runs.{run_lawful, step_lawful}
 use Rattle.ficus_opening.specs.Opening.{StandsOn}
 use Rattle.ficus_loop.specs.Trail.{AreKilled, DuringAt, KeepsBetween, KeepsFrom, Killed, Neighbours, Somewhere, Trail, whole}
 use Rattle.ficus_loop.specs.Trail.Trail.{Joined, Link, Still}

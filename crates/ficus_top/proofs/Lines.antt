@@ -9,7 +9,7 @@ use Rattle.ficus_script.specs.Command.{command_text}
 use Rattle.ficus_script.specs.Script.{lines_of, is_kept, IsScript, IsFirstBad}
 use Rattle.ficus_script.specs.VolumeLine.{IsVolumeScript, SpellsLine}
 use Rattle.ficus_script.specs.declared.volume_line.VolumeLine.{VolumeLine}
-use Rattle.ficus_graft.specs.Runs.{IsLineOf}
+use Rattle.ficus_top.specs.Graft.Runs.{IsLineOf}
 
 length-onto_first : (byte : ℕ) (lines : List (List ℕ)) → length (onto_first byte lines) ≤ length lines + 1
 length-onto_first byte [] = omega arith

@@ -22,9 +22,9 @@ use Rattle.ficus_runs.specs.Run.Run.{End, Then}
 use Rattle.ficus_runs.specs.Sequence.{First, ByRule, Effect}
 use Rattle.ficus_runs.specs.Sequence.First.{Ends, Goes}
 use Rattle.ficus_runs.specs.Sequence.ByRule.{Says}
-use Rattle.ficus_run_laws.specs.Outcomes.{all_outcomes}
-use Rattle.ficus_run_laws.proofs.EachAction.{HoldsOfActions, does_holds}
-use Rattle.ficus_run_laws.proofs.Outcomes.{count_append}
+use Rattle.ficus_runs.specs.Outcomes.{all_outcomes}
+use Rattle.ficus_runs.proofs.EachAction.{HoldsOfActions, does_holds}
+use Rattle.ficus_runs.proofs.Outcomes.{count_append}
 
 module _ (members : ℕ) where
   -- no disk of another than these members failed

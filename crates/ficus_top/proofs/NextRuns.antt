@@ -7,8 +7,8 @@ use Rattle.ficus_keeper.specs.Pairs.{PairLeft}
 use Rattle.ficus_model.specs.Lawful.{IsLawful, Volume}
 use Rattle.ficus_runs.specs.ModelWorld.{ModelWorld, Standing}
 use Rattle.ficus_runs.specs.Numbered.{IsNumbered}
-use Rattle.ficus_run_laws.proofs.Numbers.{number_exists}
-use Rattle.ficus_summary.specs.Keeper.{kept_in}
+use Rattle.ficus_runs.proofs.Numbers.{number_exists}
+use Rattle.ficus_top.specs.Summary.Keeper.{kept_in}
 use Rattle.ficus_opening.specs.Opening.{StandsOn}
 use Rattle.ficus_world.specs.Stand.{DisksOutlast, DisksStand, KeepsFor}
 use Rattle.ficus_opening.specs.Stand.{KeepsOf}

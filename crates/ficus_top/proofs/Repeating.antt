@@ -5,7 +5,7 @@ use Rattle.ficus_disk.specs.declared.disk.Disk.{Ghosts as Disk}
 use Rattle.ficus_disk.specs.declared.pair.Pair.{Pair}
 use Rattle.ficus_model.specs.Lawful.{Volume}
 use Rattle.ficus_model.specs.declared.event.Event.{Event}
-use Rattle.ficus_run_laws.proofs.OneRun.{fused_run_once}
+use Rattle.ficus_runs.proofs.OneRun.{fused_run_once}
 use Rattle.ficus_runs.specs.Fuses.{FuseState}
 use Rattle.ficus_runs.specs.Run.{Run}
 use Rattle.ficus_runs.specs.Start.{start}
@@ -13,7 +13,7 @@ use Rattle.ficus_script.specs.declared.answer.Answer.{Answer}
 use Rattle.ficus_script.specs.declared.command.Command.{Command}
 use Rattle.ficus_script.proofs.ScriptLaws.{one_script}
 use Rattle.ficus_loop.specs.Serving.{texts_of}
-use Rattle.ficus_summary.specs.Keeper.{keeping}
+use Rattle.ficus_top.specs.Summary.Keeper.{keeping}
 use Rattle.ficus_top.specs.Headline.{Answers, AreFusesAtRest, fuses_of}
 
 -- the same answers are put again

@@ -9,10 +9,10 @@ use Rattle.ficus_model.specs.Events.{generation_of, is_saved}
 use Rattle.ficus_model.specs.Lawful.{Volume}
 use Rattle.ficus_model.specs.declared.event.Event.{Event}
 use Rattle.ficus_model.specs.declared.event.Event.TheVariants.{Restart}
-use Rattle.ficus_run_laws.proofs.Numbers.{number_exists}
+use Rattle.ficus_runs.proofs.Numbers.{number_exists}
 use Rattle.ficus_runs.specs.Fuses.{FuseState}
 use Rattle.ficus_runs.specs.Start.{restarts, start}
-use Rattle.ficus_summary.specs.Keeper.{IsRegular}
+use Rattle.ficus_top.specs.Summary.Keeper.{IsRegular}
 use Rattle.ficus_world.specs.Fuses.{AreAtRest, FusesStand, at_rest}
 use Rattle.ficus_opening.specs.Fuses.{AreRegular, AreUnarmed}
 use Rattle.ficus_opening.specs.Opening.{Unfailing}

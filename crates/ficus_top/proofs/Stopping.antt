@@ -8,9 +8,9 @@ use Rattle.ficus_disk.specs.declared.disk.Disk.{Ghosts as Disk}
 use Rattle.ficus_disk.specs.declared.pair.Pair.{Pair}
 use Rattle.ficus_keeper.specs.Pairs.{PairSame}
 use Rattle.ficus_model.specs.Lawful.{Volume}
-use Rattle.ficus_run_laws.proofs.Arming.{part_unarming, run_arms}
-use Rattle.ficus_run_laws.proofs.Outcomes.{count_append}
-use Rattle.ficus_run_laws.specs.Outcomes.{all_outcomes}
+use Rattle.ficus_runs.proofs.Arming.{part_unarming, run_arms}
+use Rattle.ficus_runs.proofs.Outcomes.{count_append}
+use Rattle.ficus_runs.specs.Outcomes.{all_outcomes}
 use Rattle.ficus_runs.specs.Fuses.{FuseState}
 use Rattle.ficus_runs.specs.ModelWorld.{ModelWorld}
 use Rattle.ficus_runs.specs.Numbered.{IsNumbered}

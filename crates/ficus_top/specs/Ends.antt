@@ -5,13 +5,13 @@ use Rattle.ficus_disk.specs.declared.pair.Pair.{Pair}
 use Rattle.ficus_keeper.specs.declared.keep.Keep.{Ghosts as Keep}
 use Rattle.ficus_model.specs.Lawful.{Volume}
 use Rattle.ficus_script.specs.declared.command.Command.{Command}
-use Rattle.ficus_run_laws.specs.Outcomes.{all_outcomes}
+use Rattle.ficus_runs.specs.Outcomes.{all_outcomes}
 use Rattle.ficus_runs.specs.Fuses.{FuseState, FusesAllowAll}
 use Rattle.ficus_runs.specs.ModelWorld.{ModelWorld, Standing, Up}
 use Rattle.ficus_runs.specs.Numbered.{IsNumbered}
 use Rattle.ficus_runs.specs.Outcome.{link_failures}
 use Rattle.ficus_runs.specs.Run.{EachDone}
-use Rattle.ficus_summary.specs.Keeper.{keeping, kept_in}
+use Rattle.ficus_top.specs.Summary.Keeper.{keeping, kept_in}
 use Rattle.ficus_world.specs.Disks.{DisksFollow}
 use Rattle.ficus_world.specs.Fuses.{FusesStand}
 use Rattle.ficus_world.specs.World.{Whole}

@@ -8,7 +8,7 @@ use Rattle.ficus_ids.specs.Members.{IsMember}
 use Rattle.ficus_model.specs.Lawful.{Volume}
 use Rattle.ficus_script.specs.declared.answer.Answer.{Answer}
 use Rattle.ficus_script.specs.declared.volume_line.VolumeLine.{VolumeLine}
-use Rattle.ficus_run_laws.specs.Outcomes.{all_outcomes}
+use Rattle.ficus_runs.specs.Outcomes.{all_outcomes}
 use Rattle.ficus_runs.specs.Fuses.{FuseState, FusesAllowAll}
 use Rattle.ficus_runs.specs.ModelWorld.{ModelWorld}
 use Rattle.ficus_runs.specs.Numbered.{IsNumbered}
@@ -17,11 +17,11 @@ use Rattle.ficus_runs.specs.Run.{Run}
 use Rattle.ficus_runs.specs.Start.{start}
 use Rattle.ficus_loop.specs.Puts.{PutsFront}
 use Rattle.ficus_loop.specs.Serving.{texts_of}
-use Rattle.ficus_summary.specs.Keeper.{Keeper, keeper, keeping}
+use Rattle.ficus_top.specs.Summary.Keeper.{Keeper, keeper, keeping}
 use Rattle.ficus_world.specs.Fuses.{FusesStand, at_rest}
 use Rattle.ficus_world.specs.World.{Backed, WorldStandsFor}
-use Rattle.ficus_graft.specs.Answered.{AreAnswered, Sent, answers_to, commands_to}
-use Rattle.ficus_graft.specs.Runs.{AreHeld, Disks}
+use Rattle.ficus_top.specs.Graft.Answered.{AreAnswered, Sent, answers_to, commands_to}
+use Rattle.ficus_top.specs.Graft.Runs.{AreHeld, Disks}
 
 -- how a volume begins: nothing has happened, all disks have a fuse, and the link has room for 256 MiB
 abbrev pub begun : ℕ → ModelWorld

@@ -12,7 +12,7 @@ use Rattle.ficus_script.specs.declared.command.Command.{Command}
 use Rattle.ficus_script.specs.Script.{IsScript}
 use Rattle.ficus_runs.specs.Fuses.{FuseState}
 use Rattle.ficus_runs.specs.Start.{start}
-use Rattle.ficus_summary.specs.Keeper.{IsRegular}
+use Rattle.ficus_top.specs.Summary.Keeper.{IsRegular}
 use Rattle.ficus_opening.specs.Fuses.{AreRegular, AreUnarmed}
 use Rattle.ficus_world.specs.Fuses.{at_rest}
 use Rattle.ficus_opening.specs.Opening.{Steady, fuses_in}

@@ -14,3 +14,5 @@ pub mod Fresh
 pub mod Modes
 pub mod Program
 pub mod Killed
+pub mod Graft
+pub mod Summary

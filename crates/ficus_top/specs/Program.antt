@@ -1,6 +1,6 @@
 -- What the program does, by the mode that the words are of.
 use Rattle.std.specs.Prelude.{◌≡◌, ◌≢◌, ◌<◌, ◌≤◌, ◌^◌, length}
-use Rattle.ficus_graft.specs.Crossing.{AreFew}
+use Rattle.ficus_top.specs.Graft.Crossing.{AreFew}
 use Rattle.ficus_ids.specs.Members.{IsCount}
 use Rattle.ficus_words.specs.declared.mode.Mode.{Mode}
 use Rattle.ficus_words.specs.declared.mode.Mode.TheVariants.{Init, Run, Check, Replay, Volumes, Gen}

@@ -1,5 +1,5 @@
 ghost use Rattle.std.specs.Prelude.{◌≡◌, ◌≢◌, ◌⊎◌, ◌++◌, ◌<◌, ◌≤◌, length, IsErrOf, OnOk};
-ghost use Rattle.ficus_check.specs.Lines.{checked_text};
+ghost use Rattle.ficus_opening.specs.Check.Lines.{checked_text};
 ghost use Rattle.ficus_faults.specs.Faults.{Rose};
 ghost use Rattle.ficus_loop.specs.Puts.{PutsFront};
 ghost use Rattle.ficus_top.specs.Modes.Check.{AreJudged, FailsAs, IsCheckCode, PutsJudgements, PutsJudgementsFront, StaysUnwritten};
@@ -7,12 +7,12 @@ ghost use Rattle.ficus_opening.specs.Opening.{IsAtFault, Steady};
 
 use crate::fault::Fault;
 use crate::status::Status;
-use ficus_check::{Checked, checked_text};
+use crate::summary::Keeper;
 use ficus_disk::{Disk, Pair};
 use ficus_loop::{AnsweringFault, put_all};
 use ficus_opening::WorldFault;
+use ficus_opening::check::{Checked, checked_text};
 use ficus_outside::{MemLink, Sink};
-use ficus_summary::Keeper;
 use ficus_world::World;
 use std::alloc::Global;
 

@@ -3,12 +3,12 @@ ghost use Rattle.ficus_disk.specs.contracts.mem_disk.MemDiskDisk;
 ghost use Rattle.ficus_ids.specs.Members.{IsCount};
 ghost use Rattle.ficus_durable_state.specs.Limits.{byte_limit, update_limit};
 ghost use Rattle.ficus_top.specs.Fresh.{AreFresh};
-ghost use Rattle.ficus_summary.specs.Sized.{sized};
+ghost use Rattle.ficus_top.specs.Summary.Sized.{sized};
 
+use crate::summary::{Keeper, fresh_world};
 use ficus_disk::{MemDisk, Pair, fresh_disks};
 use ficus_ids::{Members, Memory};
 use ficus_outside::MemLink;
-use ficus_summary::{Keeper, fresh_world};
 use ficus_world::World;
 use std::alloc::Global;
 

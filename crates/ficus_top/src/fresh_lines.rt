@@ -1,20 +1,20 @@
 ghost use Rattle.std.specs.Prelude.{◌≡◌, ◌≤◌, ◌<◌, All, length, OnErr, OnOk, IsErrOf};
 ghost use Rattle.ficus_faults.specs.Faults.{Rose};
-ghost use Rattle.ficus_graft.specs.Crossing.{AreFew};
-ghost use Rattle.ficus_graft.specs.Runs.{IsLineOf};
+ghost use Rattle.ficus_top.specs.Graft.Crossing.{AreFew};
+ghost use Rattle.ficus_top.specs.Graft.Runs.{IsLineOf};
 ghost use Rattle.ficus_top.specs.Fresh.{AnswersFresh, AnswersFreshFront, AreUnfailed};
 ghost use Rattle.ficus_ids.specs.Members.{IsCount};
 ghost use Rattle.ficus_durable_state.specs.Limits.{byte_limit, update_limit};
 ghost use Rattle.ficus_loop.specs.Serving.{script_limit};
-ghost use Rattle.ficus_summary.specs.Sized.{sized};
+ghost use Rattle.ficus_top.specs.Summary.Sized.{sized};
 
 use crate::fresh::{Fresh, fresh_volumes};
-use ficus_graft::{Volumes, answer_lines};
+use crate::graft::{Volumes, answer_lines};
+use crate::summary::Keeper;
 use ficus_ids::Members;
 use ficus_loop::AnsweringFault;
 use ficus_outside::{MemLink, Sink};
 use ficus_script::VolumeLine;
-use ficus_summary::Keeper;
 use std::alloc::Global;
 
 /// Answers the lines over so many fresh volumes in memory, each with so many members and these limits. `Sink` comes

@@ -1,6 +1,6 @@
 ghost use Rattle.std.specs.Prelude.{◌<◌, ◌≤◌, ◌≡◌, IfErr, IsErrOf, OnOk};
 ghost use Rattle.ficus_faults.specs.Faults.{Rose};
-ghost use Rattle.ficus_graft.specs.Crossing.{AreFew};
+ghost use Rattle.ficus_top.specs.Graft.Crossing.{AreFew};
 ghost use Rattle.ficus_top.specs.Ending.{IsAnswering, IsIdle, IsOfJoining, TakesAsEndedIn};
 ghost use Rattle.ficus_top.specs.Grammar.{of_volumes};
 ghost use Rattle.ficus_top.specs.Making.{FitsSize, volume_of};

@@ -8,7 +8,7 @@ ghost use Rattle.ficus_keeper.specs.Pairs.{PairLeft, PairSame};
 ghost use Rattle.ficus_runs.specs.Numbered.{IsNumbered};
 ghost use Rattle.ficus_script.specs.declared.command.Command.{Command};
 ghost use Rattle.ficus_script.specs.declared.command.Command.TheVariants.{Stop as Stops};
-ghost use Rattle.ficus_summary.specs.Keeper.{kept_in};
+ghost use Rattle.ficus_top.specs.Summary.Keeper.{kept_in};
 ghost use Rattle.ficus_opening.specs.Fuses.{AreUnarmed};
 ghost use Rattle.ficus_world.specs.Fuses.{at_rest};
 ghost use Rattle.ficus_loop.specs.Trail.{AreKilled, DuringAt, KeepsBetween, KeepsFrom, Killed, Somewhere, Trail, whole};

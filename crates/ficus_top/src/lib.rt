@@ -5,6 +5,7 @@ mod checking;
 mod fault;
 mod fresh;
 mod fresh_lines;
+pub mod graft;
 mod joining;
 mod laws;
 mod making;
@@ -13,6 +14,7 @@ mod read;
 mod running;
 mod serving;
 mod status;
+pub mod summary;
 mod telling;
 mod words;
 

@@ -1,5 +1,5 @@
 ghost use Rattle.std.specs.Prelude.{◌≡◌, ◌⊎◌, ◌≤◌, ℕ, [], length, IfErr, IsErrAnd, IsErrOf, OnErr, OnOk};
-ghost use Rattle.ficus_summary.specs.Keeper.{IsRegular, kept_in};
+ghost use Rattle.ficus_top.specs.Summary.Keeper.{IsRegular, kept_in};
 ghost use Rattle.ficus_top.specs.Ending.{IsInterruption, IsOfMaking};
 ghost use Rattle.ficus_top.specs.Making.{FitsSize, volume_of};
 ghost use Rattle.ficus_opening.specs.Fuses.{AreRegular};
@@ -8,10 +8,10 @@ ghost use Rattle.ficus_opening.specs.Rests.{AllRest, OthersStay};
 ghost use Rattle.ficus_opening.specs.Opening.{AreEmpty, AreMade, AreMadeInPart, AreSynced, IsAtFault, IsFirstOccupied, IsStoreFault, IsUnfailed, SeenSame, StandsOn, Steady, Unfailing};
 
 use crate::fault::Fault;
+use crate::summary::Keeper;
 use ficus_disk::{Disk, Pair};
 use ficus_opening::{WorldFault, what_is_made_stands};
 use ficus_outside::MemLink;
-use ficus_summary::Keeper;
 use ficus_words::Size;
 use ficus_world::World;
 use std::alloc::Global;

@@ -1,7 +1,7 @@
 ghost use Rattle.std.specs.Prelude.{◌≡◌, ◌↔◌, ◌+◌, ◌<◌, ◌≤◌, ℕ, [], length, take, All, IfOk, OnOk, OnErr, IfErr, IsErrOf, IsTrue};
 ghost use Rattle.ficus_faults.specs.Faults.{Rose};
-ghost use Rattle.ficus_graft.specs.Crossing.{AreFew};
-ghost use Rattle.ficus_graft.specs.Runs.{IsLineOf};
+ghost use Rattle.ficus_top.specs.Graft.Crossing.{AreFew};
+ghost use Rattle.ficus_top.specs.Graft.Runs.{IsLineOf};
 ghost use Rattle.ficus_script.specs.Command.{IsCommand};
 ghost use Rattle.ficus_script.specs.Script.{IsScript};
 ghost use Rattle.ficus_script.specs.VolumeLine.{IsVolumeScript};

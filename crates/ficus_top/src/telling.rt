@@ -5,10 +5,10 @@ ghost use Rattle.ficus_top.specs.Modes.Gen.{IsGenCode, PutsSummary, PutsSummaryF
 
 use crate::fault::Fault;
 use crate::status::Status;
+use crate::summary::summarize;
 use ficus_ids::Members;
 use ficus_loop::{AnsweringFault, put_all};
 use ficus_outside::Sink;
-use ficus_summary::summarize;
 use std::alloc::Global;
 
 /// Runs the script of the seed in memory, and puts what it comes to. Ends with code 0; 3, for want of memory; or 5,

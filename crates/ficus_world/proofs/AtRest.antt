@@ -15,7 +15,7 @@ use Rattle.ficus_opening.specs.Disks.{AreDisksOf}
 use Rattle.ficus_world.specs.Fuses.{AreAtRest, FuseStands, FusesStand, StandsSo, at_rest}
 use Rattle.ficus_opening.specs.Fuses.{AreRegular, AreUnarmed}
 use Rattle.ficus_opening.specs.Opening.{AreMade, AreOpened, AreRead, Steady}
-use Rattle.ficus_run_laws.proofs.Numbers.{number_exists}
+use Rattle.ficus_runs.proofs.Numbers.{number_exists}
 use Rattle.ficus_world.proofs.Fuses.{same_generation}
 use Rattle.ficus_world.proofs.Saves.{up_ready}
 

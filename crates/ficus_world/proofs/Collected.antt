@@ -13,8 +13,8 @@ use Rattle.ficus_ids.specs.declared.refusal.Refusal.TheVariants as refusal
 use Rattle.ficus_keeper.specs.declared.keep.Keep.{Ghosts as Keep}
 use Rattle.ficus_model.specs.declared.event.Event.{Event}
 use Rattle.ficus_model.specs.declared.event.Event.TheVariants.{Take}
-use Rattle.ficus_run_laws.proofs.Numbers.{number_exists, number_once}
-use Rattle.ficus_run_laws.proofs.Replaced.{replaced}
+use Rattle.ficus_runs.proofs.Numbers.{number_exists, number_once}
+use Rattle.ficus_runs.proofs.Replaced.{replaced}
 use Rattle.ficus_runs.specs.Answers.{OrMemory}
 use Rattle.ficus_runs.specs.Fuses.{FuseState}
 use Rattle.ficus_runs.specs.Numbered.{IsNumbered}

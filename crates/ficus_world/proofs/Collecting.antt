@@ -18,7 +18,7 @@ use Rattle.ficus_world.specs.Moves.{CarriesOut, HasCollected, HasNoGarbage, Keep
 use Rattle.ficus_world.specs.Moves.FindsUp.{FindsAt, FindsNoneAt, FindsDown}
 use Rattle.ficus_world.specs.Moves.KeepsCollection.{Collects, CollectsNot}
 use Rattle.ficus_world.specs.World.{Whole}
-use Rattle.ficus_run_laws.proofs.Replaced.{replaced}
+use Rattle.ficus_runs.proofs.Replaced.{replaced}
 
 -- so does the member that keeps what its collection leaves
 keeps_no_garbage : (old : Whole) (by entries files : ℕ) (was : Member) → IsNumbered old.members by was

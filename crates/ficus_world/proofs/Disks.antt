@@ -12,7 +12,7 @@ use Rattle.ficus_keeper.specs.declared.keep.Keep.{Ghosts as Keep}
 use Rattle.ficus_keeper.specs.Kept.{found_in}
 use Rattle.ficus_keeper.specs.Pairs.{PairSame, PairWithin}
 use Rattle.ficus_durable_state.specs.declared.saved.Saved.{Saved}
-use Rattle.ficus_leads.proofs.Led.{held_at}
+use Rattle.ficus_stable_storage.proofs.leads.Led.{held_at}
 use Rattle.ficus_stable_storage.specs.Holds.{HoldsOneOf}
 use Rattle.ficus_stable_storage.specs.Stable.{IsReady}
 use Rattle.ficus_stable_storage.specs.declared.stable.Stable.{Stable}
@@ -24,8 +24,8 @@ use Rattle.ficus_opening.specs.declared.member.MemberState.TheVariants.{Up, Down
 use Rattle.ficus_opening.specs.Disks.{AreDisksOf, HoldsFor, IsPairOf, are_fused}
 use Rattle.ficus_world.specs.Disks.{DisksFollow, PairFollows}
 use Rattle.ficus_world.specs.Moves.{still_pending}
-use Rattle.ficus_run_laws.proofs.Numbers.{number_exists, number_once}
-use Rattle.ficus_run_laws.proofs.Replaced.{replaced}
+use Rattle.ficus_runs.proofs.Numbers.{number_exists, number_once}
+use Rattle.ficus_runs.proofs.Replaced.{replaced}
 
 -- how often something became of one and the other
 pub count_append : (test : Outcome → Bool) (one other : List Outcome)

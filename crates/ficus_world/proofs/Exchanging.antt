@@ -58,8 +58,8 @@ use Rattle.ficus_world.specs.Moves.ServesAsk.{ServerDown, NoRoomToServe, Serves}
 use Rattle.ficus_world.specs.Post.{Outbox, IsSent, AreFetched, lies_behind}
 use Rattle.ficus_world.specs.World.{Whole, IsPosted, WorldStandsFor}
 use Rattle.ficus_world.proofs.Lifts.{one_stored, CutLifts, Lifts, cut_lifts, first_lifts, gives_lifts, nothing_lifts, stays}
-use Rattle.ficus_run_laws.proofs.Numbers.{number_exists, number_once}
-use Rattle.ficus_run_laws.proofs.Serving.{may_serve as serve_may_come}
+use Rattle.ficus_runs.proofs.Numbers.{number_exists, number_once}
+use Rattle.ficus_runs.proofs.Serving.{may_serve as serve_may_come}
 use Rattle.ficus_world.proofs.Outcomes.{steady_caused, one_caused, both_caused}
 use Rattle.ficus_world.proofs.Sending.{ask_size}
 use Rattle.ficus_world.proofs.Spelling.{one_message}

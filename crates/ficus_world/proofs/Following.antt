@@ -59,7 +59,7 @@ use Rattle.ficus_world.specs.Moves.KeepsCollection.{Collects, CollectsNot}
 use Rattle.ficus_world.specs.Moves.KeepsUpdate.{Keeps, KeepsNot}
 use Rattle.ficus_world.specs.Moves.Reopens.{ReopenedAsWas, ReopenedAsPending, NotReopened, NoImageFound}
 use Rattle.ficus_world.specs.World.{Whole, IsUpIn, WorldStandsFor}
-use Rattle.ficus_run_laws.proofs.Agreement.{alike_answer_along, look_answer_along}
+use Rattle.ficus_runs.proofs.Agreement.{alike_answer_along, look_answer_along}
 use Rattle.ficus_world.proofs.Exchanging.{ask_lifts, give_lifts, gives_each_lift, gives_some_lift}
 use Rattle.ficus_world.proofs.Lifts.{one_stored, two_stored, Lifts, CutLifts, first_lifts, cut_lifts, gives_lifts, nothing_lifts, stays}
 use Rattle.ficus_world.proofs.Outcomes.{steady_caused}

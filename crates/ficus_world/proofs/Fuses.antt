@@ -12,8 +12,8 @@ use Rattle.ficus_keeper.specs.Pairs.{PairWithin}
 use Rattle.ficus_keeper.specs.declared.keep.Keep.{Ghosts as Keep}
 use Rattle.ficus_durable_state.specs.declared.saved.Saved.{Saved}
 use Rattle.ficus_stable_storage.specs.Fuses.{DecidedByFuses}
-use Rattle.ficus_leads.specs.Holds.{Holds, OneHeld}
-use Rattle.ficus_leads.proofs.Led.{held_generation}
+use Rattle.ficus_stable_storage.specs.Leads.Holds.{Holds, OneHeld}
+use Rattle.ficus_stable_storage.proofs.leads.Led.{held_generation}
 use Rattle.ficus_runs.specs.Fuses.{FuseState, FusesAllow, FusesAllowAll, Keeping, after_arming, after_failing, after_outcome, after_outcomes, after_saving, next_calls, next_fuse, with_fuses}
 use Rattle.ficus_runs.specs.Numbered.{IsNumbered}
 use Rattle.ficus_runs.specs.Outcome.{Outcome, IsArmed, IsFound, IsOpened, IsSaved, SaveFails}
@@ -25,7 +25,7 @@ use Rattle.ficus_world.specs.Disks.{DisksComeTo, IsReadAt, SavesAt, save_outcome
 use Rattle.ficus_world.specs.Fuses.{FuseStands, FusesFollow, FusesPermit, FusesStand, IsReadBy, StandsSo, at_rest, keeping_of}
 use Rattle.ficus_world.specs.Moves.{restarted}
 use Rattle.ficus_world.specs.World.{IsPendingSound, IsSoundMember}
-use Rattle.ficus_run_laws.proofs.Numbers.{number_exists}
+use Rattle.ficus_runs.proofs.Numbers.{number_exists}
 use Rattle.ficus_world.proofs.Disks.{OthersStay, follows_then, others_set, set_here}
 
 -- the fuses allow what they allow one after the other

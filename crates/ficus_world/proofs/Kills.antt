@@ -10,8 +10,8 @@ use Rattle.ficus_ids.specs.Members.{IsMember}
 use Rattle.ficus_keeper.specs.Moments.{LeavesOnly, PairSpans, Spans}
 use Rattle.ficus_keeper.specs.declared.keep.Keep.{Ghosts as Keep}
 use Rattle.ficus_durable_state.specs.declared.saved.Saved.{Saved}
-use Rattle.ficus_leads.specs.Holds.{Holds}
-use Rattle.ficus_leads.proofs.Led.{held_at}
+use Rattle.ficus_stable_storage.specs.Leads.Holds.{Holds}
+use Rattle.ficus_stable_storage.proofs.leads.Led.{held_at}
 use Rattle.ficus_stable_storage.specs.Holds.{HoldsOneOf}
 use Rattle.ficus_stable_storage.specs.declared.stable.Stable.{Stable}
 use Rattle.ficus_runs.specs.Numbered.{IsNumbered}
@@ -24,7 +24,7 @@ use Rattle.ficus_world.specs.World.{IsWorld, Whole}
 use Rattle.ficus_opening.specs.Rests.{OthersStay, RestsAt}
 use Rattle.ficus_world.specs.Kills.{IsSavedOr, IsSettled, SavesOn, Touches, WritesAt, latest}
 use Rattle.ficus_world.specs.Kills.Touches.{TouchesNone, TouchesOne, WritesOne}
-use Rattle.ficus_run_laws.proofs.Numbers.{number_exists}
+use Rattle.ficus_runs.proofs.Numbers.{number_exists}
 use Rattle.ficus_opening.proofs.Others.{others_none, others_one}
 use Rattle.ficus_opening.proofs.Rests.{rests_none, spans_then}
 use Rattle.ficus_world.proofs.Disks.{set_here}

@@ -5,7 +5,7 @@ use Rattle.std.specs.List.{range_with_len}
 use Rattle.std.proofs.lemmas.Bool.{cases_eq}
 use Rattle.std.proofs.lemmas.List.{append-nil, length-replicate, get_or-replicate, length-take-le, get_or-take, length-map, get_or-map}
 use Rattle.std.proofs.lemmas.Option.{get_or_from_slice_get}
-use Rattle.ficus_check.proofs.Owning.{holds_same}
+use Rattle.ficus_opening.proofs.check.Owning.{holds_same}
 use Rattle.ficus_disk.specs.declared.pair.Pair.{Pair}
 use Rattle.ficus_ids.specs.Members.{IsCount, IsMember}
 use Rattle.ficus_keeper.specs.Kept.{Kept, found_in}
@@ -18,7 +18,7 @@ use Rattle.ficus_replica.proofs.Events.{quiet_stands, restart_stands}
 use Rattle.ficus_replica.proofs.Saves.{saved_kept}
 use Rattle.ficus_replica.specs.SavedOf.{IsSavedOf, StandsFor}
 use Rattle.ficus_replica.specs.declared.replica.Replica.{Replica}
-use Rattle.ficus_leads.specs.Holds.{Holds, OneHeld}
+use Rattle.ficus_stable_storage.specs.Leads.Holds.{Holds, OneHeld}
 use Rattle.ficus_runs.specs.ModelWorld.{Standing}
 use Rattle.ficus_runs.specs.ModelWorld as model
 use Rattle.ficus_runs.specs.Numbered.{IsNumbered}
@@ -32,10 +32,10 @@ use Rattle.ficus_wire.specs.Parts.{HeldParts}
 use Rattle.ficus_opening.specs.declared.member.Member.{Member}
 use Rattle.ficus_opening.specs.declared.member.MemberState.{MemberState}
 use Rattle.ficus_opening.specs.declared.member.MemberState.TheVariants.{Up}
-use Rattle.ficus_run_laws.proofs.Numbers.{number_exists}
+use Rattle.ficus_runs.proofs.Numbers.{number_exists}
 use Rattle.ficus_opening.proofs.Openings.{opens_of, opens_same}
 use Rattle.ficus_world.proofs.Parts.{others_leave_taken, parts_ended, parts_left}
-use Rattle.ficus_run_laws.proofs.Starts.{restarts_more, restarts_raised, start_lawful, start_of_run}
+use Rattle.ficus_runs.proofs.Starts.{restarts_more, restarts_raised, start_lawful, start_of_run}
 use Rattle.ficus_opening.proofs.Stand.{saved_is}
 use Rattle.ficus_opening.proofs.Steadies.{steady_back}
 

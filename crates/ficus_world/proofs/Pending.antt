@@ -18,7 +18,7 @@ use Rattle.ficus_opening.specs.declared.member.MemberState.TheVariants as state
 use Rattle.ficus_opening.specs.declared.member.Pending.{Pending}
 use Rattle.ficus_world.specs.Moves.{still_pending}
 use Rattle.ficus_world.specs.World.{AreOthers, IsPendingFor, StateStandsFor}
-use Rattle.ficus_run_laws.proofs.Messages.{served_more}
+use Rattle.ficus_runs.proofs.Messages.{served_more}
 
 -- a replica stands for the history with what others did
 pub others_leave : (volume : Volume) (H : List Event) (r : ℕ) (replica : Replica) (later : List Event)

@@ -17,14 +17,14 @@ use Rattle.ficus_model.specs.declared.event.Event.TheVariants.{Accept, Serve, Ta
 use Rattle.ficus_model.specs.Events.{IsAt, through}
 use Rattle.ficus_model.specs.Lawful.{Volume, AnswersOpenAsk, HasTaken, IsOfState, IsOpenAsk, IsWantedPiece, MayAccept, MayCome}
 use Rattle.ficus_laws.proofs.Positions.{at_same}
-use Rattle.ficus_piece_laws.specs.Laws.{HasServedAll}
-use Rattle.ficus_piece_laws.proofs.Taken.{one_count, taken_served, taken_tables}
+use Rattle.ficus_runs.specs.Pieces.Laws.{HasServedAll}
+use Rattle.ficus_runs.proofs.pieces.Taken.{one_count, taken_served, taken_tables}
 use Rattle.ficus_replica.specs.declared.replica.Replica.{Replica}
 use Rattle.ficus_replica.specs.Accept.{AcceptGives, AcceptStands, IsOpen, IsServed}
 use Rattle.ficus_replica.specs.SavedOf.{IsSavedOf, StandsFor}
 use Rattle.ficus_replica.proofs.Accepts.{accept_gives_stands, open_taken, taken_open}
-use Rattle.ficus_run_laws.proofs.Numbers.{number_once}
-use Rattle.ficus_run_laws.proofs.Taking.{one_of_state, taking_exists}
+use Rattle.ficus_runs.proofs.Numbers.{number_once}
+use Rattle.ficus_runs.proofs.Taking.{one_of_state, taking_exists}
 use Rattle.ficus_runs.specs.Actions.{ModelAction, Wants, with_event, with_standing}
 use Rattle.ficus_runs.specs.Actions.Adds.{Added}
 use Rattle.ficus_runs.specs.Actions.Saves.{NotSaved, Saved as HasSaved}

@@ -13,8 +13,8 @@ use Rattle.ficus_keeper.specs.declared.fault.StoreFault.{StoreFault}
 use Rattle.ficus_keeper.specs.declared.fault.StoreFault.TheVariants.{Failed, Memory, NoImage}
 use Rattle.ficus_durable_state.specs.Saved.{FitsImage}
 use Rattle.ficus_durable_state.specs.declared.saved.Saved.{Saved}
-use Rattle.ficus_leads.specs.Holds.{Holds, OneHeld}
-use Rattle.ficus_leads.proofs.Led.{held_at}
+use Rattle.ficus_stable_storage.specs.Leads.Holds.{Holds, OneHeld}
+use Rattle.ficus_stable_storage.proofs.leads.Led.{held_at}
 use Rattle.ficus_stable_storage.specs.Holds.{HoldsOneOf}
 use Rattle.ficus_stable_storage.specs.Stable.{IsReady}
 use Rattle.ficus_stable_storage.specs.declared.stable.Stable.{Stable}

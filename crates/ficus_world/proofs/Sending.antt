@@ -52,7 +52,7 @@ use Rattle.ficus_world.specs.Moves.TakesFitting.{IsHeld, IsOneMore, IsTheLast}
 use Rattle.ficus_world.specs.Moves.TakesSpelled.{SpellsNone, SpellsTables}
 use Rattle.ficus_world.specs.Moves.TakesTables.{Refuses, Takes, TakesNot}
 use Rattle.ficus_runs.specs.Numbered.{IsNumbered}
-use Rattle.ficus_run_laws.proofs.Serving.{some_pieces}
+use Rattle.ficus_runs.proofs.Serving.{some_pieces}
 use Rattle.ficus_world.specs.Post.{Outbox, IsSent, HasFailed, lies_behind}
 use Rattle.ficus_world.specs.World.{IsSound, IsWorld, Whole, smallest_message, whole_of}
 use Rattle.ficus_world.proofs.Carrying.{AreQuiet, carried_first, carried_none, carried_then, goes_on, or_memory, quiet_carried, quiet_done, quiet_failure, quiet_follows, quiet_fuses, quiet_none, quiet_then}

@@ -5,7 +5,7 @@ use Rattle.std.proofs.lemmas.Option.{same_Some}
 use Rattle.std.proofs.lemmas.List.{get_or-set_same, length-set}
 use Rattle.ficus_ids.specs.Members.{IsMember}
 use Rattle.ficus_runs.specs.Numbered.{IsNumbered}
-use Rattle.ficus_run_laws.proofs.Numbers.{number_read}
+use Rattle.ficus_runs.proofs.Numbers.{number_read}
 
 -- it is the last one that stands there
 pub set_again : {A : Type 0} (list : List A) (i : ℕ) (one other : A)

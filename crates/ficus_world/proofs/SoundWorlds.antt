@@ -9,8 +9,8 @@ use Rattle.ficus_ids.specs.declared.refusal.Refusal.{Refusal}
 use Rattle.ficus_model.specs.declared.event.Event.{Event}
 use Rattle.ficus_durable_state.specs.Saved.{FitsImage}
 use Rattle.ficus_durable_state.specs.declared.saved.Saved.{Saved}
-use Rattle.ficus_leads.specs.Holds.{Leads}
-use Rattle.ficus_leads.proofs.Led.{led_next}
+use Rattle.ficus_stable_storage.specs.Leads.Holds.{Leads}
+use Rattle.ficus_stable_storage.proofs.leads.Led.{led_next}
 use Rattle.ficus_record.specs.declared.record.Record.{Record}
 use Rattle.ficus_record.specs.declared.record.Record.TheVariants.{Accept, Ask, Change, Collect}
 use Rattle.ficus_replica.specs.Makes.{Makes}
@@ -30,7 +30,7 @@ use Rattle.ficus_world.specs.Moves.{IsLike, SendsEach, restarted, still_pending}
 use Rattle.ficus_world.specs.Moves.Sends.{NotSent, Sent}
 use Rattle.ficus_world.specs.Post.{Outbox, IsSent, HasFailed}
 use Rattle.ficus_world.specs.World.{Whole, IsPendingSound, IsSound, IsSoundMember, IsSoundNext, IsWorld, message_limit, smallest_message}
-use Rattle.ficus_run_laws.proofs.Replaced.{replaced}
+use Rattle.ficus_runs.proofs.Replaced.{replaced}
 
 pub sound_more : {count events more r : ℕ} {replica : Replica} → IsSound count events r replica → events ≤ more
     → IsSound count more r replica

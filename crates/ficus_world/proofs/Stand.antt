@@ -10,7 +10,7 @@ use Rattle.ficus_durable_state.specs.Saved.{FitsImage}
 use Rattle.ficus_replica.specs.declared.replica.Replica.{Replica}
 use Rattle.ficus_replica.specs.SavedOf.{StandsFor}
 use Rattle.ficus_stable_storage.specs.declared.stable.Stable.{Stable}
-use Rattle.ficus_leads.specs.Holds.{Holds}
+use Rattle.ficus_stable_storage.specs.Leads.Holds.{Holds}
 use Rattle.ficus_stable_storage.specs.Stable.{IsReady}
 use Rattle.ficus_runs.specs.ModelWorld.{ModelWorld, Standing}
 use Rattle.ficus_runs.specs.ModelWorld as model
@@ -22,7 +22,7 @@ use Rattle.ficus_world.specs.Stand.{ArePending, DisksOutlast, DisksStand, KeepsF
 use Rattle.ficus_opening.specs.Stand.{KeepsOf}
 use Rattle.ficus_opening.specs.declared.member.Pending.{Pending}
 use Rattle.ficus_world.specs.World.{Backed, Whole, IsPendingFor, IsPendingSound, IsWorld, StateStandsFor, WorldStandsFor}
-use Rattle.ficus_run_laws.proofs.Numbers.{number_exists}
+use Rattle.ficus_runs.proofs.Numbers.{number_exists}
 use Rattle.ficus_world.proofs.Standing.{member_from, member_stands, raise, replica_stands}
 
 module _ {K D : Type 0} (keep : Keep K) (disk : Disk D) (volume : Volume) where

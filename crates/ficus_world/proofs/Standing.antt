@@ -33,12 +33,12 @@ use Rattle.ficus_world.specs.declared.post.Behind.{Behind}
 use Rattle.ficus_world.specs.Post.{Outbox, IsSent, HasFailed, lies_behind}
 use Rattle.ficus_world.specs.World.{Whole, AreOthers, IsPendingFor, FitsServed, PartsStandFor, StateStandsFor, MemberStandsFor, IsPosted, WorldStandsFor}
 use Rattle.ficus_world.proofs.LastPart.{length_part, part_more}
-use Rattle.ficus_run_laws.proofs.Messages.{message_more}
-use Rattle.ficus_run_laws.proofs.Numbers.{number_exists, number_end, number_more, number_cases}
-use Rattle.ficus_run_laws.proofs.Runs.{world_kept}
+use Rattle.ficus_runs.proofs.Messages.{message_more}
+use Rattle.ficus_runs.proofs.Numbers.{number_exists, number_end, number_more, number_cases}
+use Rattle.ficus_runs.proofs.Runs.{world_kept}
 use Rattle.ficus_world.proofs.Parts.{others_leave_taken, parts_after_saved, parts_ended, parts_left, saved_serves_none, serve_leaves}
 use Rattle.ficus_world.proofs.Pending.{comes_now, down_stands, modelled_up, others_leave, state_later, state_up, up_stands}
-use Rattle.ficus_run_laws.proofs.Replaced.{replaced}
+use Rattle.ficus_runs.proofs.Replaced.{replaced}
 use Rattle.ficus_world.proofs.Sets.{number_set, set_again, set_same}
 
 -- the member that restarts, with what was pending

@@ -6,7 +6,7 @@ use Rattle.ficus_keeper.specs.Fuses.{Fuses, StaysRegular, both_unarmed, found_ag
 use Rattle.ficus_keeper.specs.Kept.{Kept}
 use Rattle.ficus_keeper.specs.declared.keep.Keep.{Ghosts as Keep}
 use Rattle.ficus_durable_state.specs.declared.saved.Saved.{Saved}
-use Rattle.ficus_leads.specs.Holds.{Holds}
+use Rattle.ficus_stable_storage.specs.Leads.Holds.{Holds}
 use Rattle.ficus_runs.specs.Fuses.{FuseState, FusesAllowAll, Keeping, after_outcomes}
 use Rattle.ficus_runs.specs.Numbered.{IsNumbered}
 use Rattle.ficus_runs.specs.Outcome.{Outcome}

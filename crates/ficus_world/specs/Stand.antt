@@ -8,7 +8,7 @@ use Rattle.ficus_model.specs.Lawful.{IsLawful, MayCome, Volume}
 use Rattle.ficus_replica.specs.SavedOf.{IsSavedOf}
 use Rattle.ficus_durable_state.specs.Saved.{FitsImage}
 use Rattle.ficus_durable_state.specs.declared.saved.Saved.{Saved}
-use Rattle.ficus_leads.specs.Holds.{Holds}
+use Rattle.ficus_stable_storage.specs.Leads.Holds.{Holds}
 use Rattle.ficus_runs.specs.ModelWorld.{ModelWorld, Standing, Up, Down}
 use Rattle.ficus_runs.specs.Numbered.{IsNumbered}
 use Rattle.ficus_opening.specs.Stand.{KeepsOf}

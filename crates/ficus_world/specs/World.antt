@@ -10,7 +10,7 @@ use Rattle.ficus_model.specs.Lawful.{Volume, IsLawful, HasTaken}
 use Rattle.ficus_durable_state.specs.Saved.{FitsImage}
 use Rattle.ficus_durable_state.specs.Tables.{FitsTables}
 use Rattle.ficus_durable_state.specs.declared.saved.Saved.{Saved}
-use Rattle.ficus_leads.specs.Holds.{Leads}
+use Rattle.ficus_stable_storage.specs.Leads.Holds.{Leads}
 use Rattle.ficus_replica.specs.declared.replica.Replica.{Replica}
 use Rattle.ficus_replica.specs.SavedOf.{IsSavedOf, StandsFor, StandsAfter}
 use Rattle.ficus_wire.specs.declared.message.Message.{Message}

@@ -3,9 +3,9 @@ ghost use Rattle.ficus_ids.specs.Members.{IsMember};
 ghost use Rattle.ficus_opening.specs.Calls.{ChecksDisks};
 
 use crate::World;
-use ficus_check::Checked;
 use ficus_disk::{Disk, Pair};
 use ficus_keeper::Keep;
+use ficus_opening::check::Checked;
 use ficus_opening::{WorldFault, check_disks};
 use ficus_outside::Link;
 use std::alloc::Global;

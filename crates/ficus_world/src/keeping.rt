@@ -1,6 +1,6 @@
 ghost use Rattle.std.specs.Prelude.{◌≡◌, ◌+◌, ◌<◌, ◌≤◌, ℕ, Err, List, length};
 ghost use Rattle.ficus_ids.specs.Members.{IsMember};
-ghost use Rattle.ficus_leads.specs.Holds.{Leads};
+ghost use Rattle.ficus_stable_storage.specs.Leads.Holds.{Leads};
 ghost use Rattle.ficus_runs.specs.Numbered.{IsNumbered};
 ghost use Rattle.ficus_opening.specs.Disks.{AreDisksOf};
 ghost use Rattle.ficus_world.specs.Disks.{IsBacked, IsPreparedAt};

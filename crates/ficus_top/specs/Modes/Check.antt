@@ -1,11 +1,11 @@
 -- The mode `check`: what the disks of each replica hold is judged, and told.
 use Rattle.std.specs.Prelude.{◌≡◌, ◌≢◌, ◌⊎◌, ℕ, List, ◌++◌, length, Result, Ok, Err}
-use Rattle.ficus_check.specs.Judged.{IsJudged}
-use Rattle.ficus_check.specs.Lines.{checked_text}
-use Rattle.ficus_check.specs.declared.checked.Checked.{Checked}
+use Rattle.ficus_opening.specs.Check.Judged.{IsJudged}
+use Rattle.ficus_opening.specs.Check.Lines.{checked_text}
+use Rattle.ficus_opening.specs.declared.check.checked.Checked.{Checked}
 use Rattle.ficus_disk.specs.declared.disk.Disk.{Ghosts as Disk}
 use Rattle.ficus_disk.specs.declared.pair.Pair.{Pair}
-use Rattle.ficus_summary.specs.Keeper.{kept_in}
+use Rattle.ficus_top.specs.Summary.Keeper.{kept_in}
 use Rattle.ficus_runs.specs.Numbered.{IsNumbered}
 use Rattle.ficus_loop.specs.Puts.{PutsFront}
 use Rattle.ficus_opening.specs.Rests.{AllRest}

@@ -1,6 +1,6 @@
 -- The mode `gen`: a script that follows from a number is run, and what it comes to is told.
 use Rattle.std.specs.Prelude.{◌≡◌, ◌⊎◌, ℕ, List, ◌++◌}
-use Rattle.ficus_summary.specs.Summary.{Summarizes}
+use Rattle.ficus_top.specs.Summary.Summary.{Summarizes}
 use Rattle.ficus_loop.specs.Puts.{PutsFront}
 use Rattle.ficus_top.specs.Seen.{Seen, put_before, put_after}
 use Rattle.ficus_top.specs.declared.status.Status.{Status}

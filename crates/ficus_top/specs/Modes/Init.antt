@@ -1,6 +1,6 @@
 -- The mode `init`: a fresh volume is made.
 use Rattle.std.specs.Prelude.{◌≡◌, ◌≢◌, ◌⊎◌, ◌≤◌, ℕ, []}
-use Rattle.ficus_summary.specs.Keeper.{kept_in}
+use Rattle.ficus_top.specs.Summary.Keeper.{kept_in}
 use Rattle.ficus_words.specs.declared.mode.Size.{Size}
 use Rattle.ficus_opening.specs.Rests.{OthersStay}
 use Rattle.ficus_opening.specs.Opening.{AreEmpty, AreMadeInPart, AreSynced, StandsOn, Steady}

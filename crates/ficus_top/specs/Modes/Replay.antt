@@ -1,6 +1,6 @@
 -- The mode `replay`: a fresh volume is made, and the script is run on it.
 use Rattle.std.specs.Prelude.{◌≡◌, ◌≢◌, ◌⊎◌, ◌≤◌, ℕ, []}
-use Rattle.ficus_summary.specs.Keeper.{kept_in}
+use Rattle.ficus_top.specs.Summary.Keeper.{kept_in}
 use Rattle.ficus_words.specs.declared.mode.Size.{Size}
 use Rattle.ficus_opening.specs.Fuses.{AreUnarmed}
 use Rattle.ficus_opening.specs.Rests.{OthersRest}

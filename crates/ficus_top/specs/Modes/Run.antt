@@ -3,7 +3,7 @@ use Rattle.std.specs.Prelude.{◌≡◌, ◌≢◌, ◌⊎◌, ◌≤◌, ℕ, L
 use Rattle.ficus_model.specs.Lawful.{Volume}
 use Rattle.ficus_model.specs.declared.event.Event.{Event}
 use Rattle.ficus_durable_state.specs.declared.saved.Saved.{Saved}
-use Rattle.ficus_summary.specs.Keeper.{kept_in}
+use Rattle.ficus_top.specs.Summary.Keeper.{kept_in}
 use Rattle.ficus_opening.specs.Rests.{AllRest, OthersRest}
 use Rattle.ficus_opening.specs.Opening.{AreSynced, IsFirstBad, Opens, SeenSame, StandsOn, Steady}
 use Rattle.ficus_top.specs.Codes.{IsIdleCode, IsRefusalCode}

@@ -1,7 +1,7 @@
 use Rattle.std.proofs.Common.{refl}
 use Rattle.std.proofs.lemmas.Result.{on_ok_weaker, err_from_is_err_and}
-use Rattle.ficus_run_laws.proofs.Extending.{step_extends}
-use Rattle.ficus_run_laws.proofs.Extending.{part_extends}
+use Rattle.ficus_runs.proofs.Extending.{step_extends}
+use Rattle.ficus_runs.proofs.Extending.{part_extends}
 use Rattle.ficus_loop.proofs.Stepping.{trail_to}
 use Rattle.ficus_loop.proofs.Faults.{if_front}
 use Rattle.ficus_loop.proofs.Serves.{world_one, world_front, world_stopped}

@@ -1,4 +1,4 @@
-use Rattle.ficus_run_laws.proofs.Extending.{step_extends}
+use Rattle.ficus_runs.proofs.Extending.{step_extends}
 use Rattle.ficus_loop.proofs.Stepping.{trail_to}
 use Rattle.ficus_loop.proofs.Tallying.{tallies_one}
 use Rattle.ficus_loop.proofs.tally.count_one.Goals as goal

@@ -1,8 +1,8 @@
 use Rattle.std.proofs.Common.{◌≡◌, ℕ, ◌+◌, ◌-◌, ◌<◌, length, subst, arith}
 use Rattle.std.specs.Prelude.{slice_set, IfOk}
-use Rattle.ficus_check.specs.Judged.{IsJudged}
+use Rattle.ficus_opening.specs.Check.Judged.{IsJudged}
 use Rattle.ficus_runs.specs.Numbered.{IsNumbered}
-use Rattle.ficus_run_laws.proofs.Numbers.{number_once}
+use Rattle.ficus_runs.proofs.Numbers.{number_once}
 use Rattle.ficus_opening.specs.Rests.{RestsAt}
 use Rattle.ficus_opening.proofs.Asking.{looked_one}
 use Rattle.ficus_opening.proofs.Rests.{rests_pair}

@@ -1,7 +1,7 @@
 use Rattle.std.proofs.Common.{◌≡◌, ◌∙◌, sym}
-use Rattle.ficus_check.specs.Judged.{IsEmptyPair}
-use Rattle.ficus_check.proofs.Judging.{judged_so}
-use Rattle.ficus_check.proofs.Owning.{is_false}
+use Rattle.ficus_opening.specs.Check.Judged.{IsEmptyPair}
+use Rattle.ficus_opening.proofs.check.Judging.{judged_so}
+use Rattle.ficus_opening.proofs.check.Owning.{is_false}
 use Rattle.std.proofs.lemmas.Result.{err_from_is_err_and}
 use Rattle.ficus_opening.proofs.Asking.{asked_after, looked_err, looked_then}
 use Rattle.ficus_opening.proofs.Rests.{rests_then}

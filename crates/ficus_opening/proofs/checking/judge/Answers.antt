@@ -1,6 +1,6 @@
 use Rattle.std.proofs.Common.{rules, Err, ap, refl, ◌∙◌}
-use Rattle.ficus_check.specs.Judged.{soundness_of}
-use Rattle.ficus_check.proofs.Owning.{holds_same}
+use Rattle.ficus_opening.specs.Check.Judged.{soundness_of}
+use Rattle.ficus_opening.proofs.check.Owning.{holds_same}
 use Rattle.ficus_opening.specs.declared.fault.WorldFault.TheVariants.{Image, Occupied}
 use Rattle.ficus_opening.proofs.Asking.{asked_ok, err_as, looked_err, looked_then}
 use Rattle.ficus_opening.proofs.checking.judge.Goals as goal

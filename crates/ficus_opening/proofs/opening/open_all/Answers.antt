@@ -4,7 +4,7 @@ use Rattle.std.specs.Prelude.{List}
 use Rattle.ficus_ids.specs.Members.{IsCount}
 use Rattle.ficus_opening.specs.declared.member.Member.{Member as MemberValue}
 use Rattle.ficus_opening.specs.declared.fault.WorldFault.TheVariants.{Memory}
-use Rattle.ficus_run_laws.proofs.Numbers.{number_exists, number_once}
+use Rattle.ficus_runs.proofs.Numbers.{number_exists, number_once}
 use Rattle.ficus_opening.proofs.Openings.{held_of, more_next, next_fails, one_next}
 use Rattle.ficus_opening.proofs.Others.{others_then, others_within}
 use Rattle.ficus_opening.proofs.Steadies.{number_at, steady_trans}

@@ -1,6 +1,6 @@
 use Rattle.std.proofs.Common.{◌≡◌, ℕ, Err, ap, ◌∙◌, sym}
 use Rattle.std.specs.Prelude.{IsErrOf}
-use Rattle.ficus_check.specs.Judged.{HoldsNoneOf}
+use Rattle.ficus_opening.specs.Check.Judged.{HoldsNoneOf}
 use Rattle.ficus_disk.specs.declared.disk.Disk.{Ghosts as Disk}
 use Rattle.ficus_disk.specs.declared.pair.Pair.{Pair}
 use Rattle.ficus_keeper.specs.declared.keep.Keep.{Ghosts as Keep}

@@ -1,7 +1,7 @@
 use Rattle.std.proofs.Common.{◌≡◌, Err, ap}
 use Rattle.std.proofs.lemmas.Result.{err_from_is_err_and}
 use Rattle.ficus_keeper.specs.declared.fault.StoreFault.TheVariants.{NoImage}
-use Rattle.ficus_leads.proofs.Led.{all_led_fits}
+use Rattle.ficus_stable_storage.proofs.leads.Led.{all_led_fits}
 use Rattle.ficus_stable_storage.proofs.Backing.{held_base, holds_nothing}
 use Rattle.ficus_stable_storage.proofs.reading.read_back.Goals as goal
 

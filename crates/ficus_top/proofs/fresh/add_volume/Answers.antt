@@ -1,7 +1,7 @@
 use Rattle.std.proofs.Common.{[], Bool, List, arith, subst}
 use Rattle.ficus_runs.specs.Start.{start}
-use Rattle.ficus_summary.proofs.Summarizing.{all_fused}
-use Rattle.ficus_summary.specs.Sized.{sized}
+use Rattle.ficus_top.proofs.summary.Summarizing.{all_fused}
+use Rattle.ficus_top.specs.Summary.Sized.{sized}
 use Rattle.ficus_world.specs.World.{WorldStandsFor}
 use Rattle.ficus_top.specs.Fresh.{begun}
 use Rattle.ficus_top.proofs.Begun.{few_events, fresh_more}

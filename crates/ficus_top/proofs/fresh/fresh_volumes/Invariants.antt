@@ -1,5 +1,5 @@
 use Rattle.std.proofs.Common.{◌≡◌, length}
-use Rattle.ficus_summary.specs.Sized.{sized}
+use Rattle.ficus_top.specs.Summary.Sized.{sized}
 use Rattle.ficus_top.specs.Fresh.{AreFresh}
 use Rattle.ficus_top.proofs.fresh.fresh_volumes.Given as goal
 

@@ -1,5 +1,5 @@
 use Rattle.std.proofs.lemmas.Result.{err_from_is_err_and, on_err_weaker, on_ok_weaker}
-use Rattle.ficus_summary.specs.Sized.{sized}
+use Rattle.ficus_top.specs.Summary.Sized.{sized}
 use Rattle.ficus_top.proofs.Begun.{answers_fresh, front_fresh, none_fresh, room_of}
 use Rattle.ficus_top.proofs.fresh_lines.answer_fresh.Goals as goal
 

@@ -1,4 +1,4 @@
-use Rattle.ficus_summary.proofs.Keepers.{nothing_regular}
+use Rattle.ficus_top.proofs.summary.Keepers.{nothing_regular}
 use Rattle.ficus_top.proofs.laws.empty_disks_are_at_rest.Goals as goal
 
 pub returns : goal.returns

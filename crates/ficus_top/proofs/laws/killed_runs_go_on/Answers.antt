@@ -1,4 +1,4 @@
-use Rattle.ficus_summary.specs.Keeper.{kept_in}
+use Rattle.ficus_top.specs.Summary.Keeper.{kept_in}
 use Rattle.ficus_top.proofs.KilledRuns.{kept_stands, killed_between, killed_in_run}
 use Rattle.ficus_top.proofs.laws.killed_runs_go_on.Goals as goal
 

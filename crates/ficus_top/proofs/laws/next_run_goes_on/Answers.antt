@@ -1,5 +1,5 @@
 use Rattle.ficus_loop.proofs.KilledDisks.{left_disks}
-use Rattle.ficus_summary.specs.Keeper.{kept_in}
+use Rattle.ficus_top.specs.Summary.Keeper.{kept_in}
 use Rattle.ficus_top.proofs.KilledRuns.{kept_stands}
 use Rattle.ficus_top.proofs.NextRuns.{stands_left, stands_next}
 use Rattle.ficus_top.proofs.laws.next_run_goes_on.Goals as goal

@@ -7,7 +7,7 @@ use Rattle.ficus_opening.proofs.Made.{made_rests, none_in_part}
 use Rattle.ficus_opening.proofs.Stand.{first_opens}
 use Rattle.ficus_opening.proofs.Others.{all_others_rest, others_rest_then, stay_rests}
 use Rattle.ficus_opening.proofs.Steadies.{fault_behind, steady_none, steady_trans}
-use Rattle.ficus_summary.specs.Keeper.{kept_in}
+use Rattle.ficus_top.specs.Summary.Keeper.{kept_in}
 use Rattle.ficus_top.specs.Making.{volume_of}
 use Rattle.ficus_top.proofs.Answering.{answers_of, front_of}
 use Rattle.ficus_top.proofs.Earlier.{ends_since, front_since}

@@ -4,7 +4,7 @@ use Rattle.std.proofs.lemmas.List.{length-map}
 use Rattle.std.proofs.lemmas.List.FromFn.{length-range_with_len}
 use Rattle.std.proofs.lemmas.Result.{err_from_is_err_and}
 use Rattle.ficus_model.specs.declared.event.Event.TheVariants.{Restart}
-use Rattle.ficus_run_laws.proofs.Up.{up_first}
+use Rattle.ficus_runs.proofs.Up.{up_first}
 use Rattle.ficus_loop.specs.declared.fault.AnsweringFault.{AnsweringFault}
 use Rattle.ficus_top.specs.declared.fault.Fault.TheVariants.{Answering}
 use Rattle.ficus_opening.specs.Rests.{OthersStay}
@@ -14,7 +14,7 @@ use Rattle.ficus_top.proofs.Ends.{ends_behind, front_ends_behind, front_ends_whe
 use Rattle.ficus_top.proofs.Resting.{rests_open}
 use Rattle.ficus_top.proofs.Stored.{handed_on, told_on}
 use Rattle.ficus_loop.proofs.Opening.{opened_neighbours}
-use Rattle.ficus_summary.specs.Keeper.{kept_in}
+use Rattle.ficus_top.specs.Summary.Keeper.{kept_in}
 use Rattle.ficus_top.specs.Headline.{fuses_of}
 use Rattle.ficus_top.proofs.Kills.{front_killed_from, killed_from}
 use Rattle.ficus_top.proofs.running.run_on.Goals as goal

@@ -6,7 +6,7 @@ use Rattle.ficus_durable_state.specs.declared.saved.Saved.{Saved}
 use Rattle.ficus_ids.specs.declared.refusal.Refusal.TheVariants.{Memory}
 use Rattle.ficus_keeper.specs.declared.keep.Keep.{Ghosts as Keep}
 use Rattle.ficus_model.specs.declared.event.Event.{Event}
-use Rattle.ficus_run_laws.proofs.Numbers.{number_exists}
+use Rattle.ficus_runs.proofs.Numbers.{number_exists}
 use Rattle.ficus_stable_storage.specs.declared.stable.Stable.{Stable}
 use Rattle.ficus_world.specs.Acts.{StaysAt}
 use Rattle.ficus_world.specs.Calls.{MakesReady}

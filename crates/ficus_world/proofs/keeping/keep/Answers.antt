@@ -1,6 +1,6 @@
 use Rattle.std.proofs.Common.{Err, Ok, refl}
-use Rattle.ficus_leads.proofs.Led.{led_next}
-use Rattle.ficus_run_laws.proofs.Numbers.{number_exists}
+use Rattle.ficus_stable_storage.proofs.leads.Led.{led_next}
+use Rattle.ficus_runs.proofs.Numbers.{number_exists}
 use Rattle.ficus_world.specs.World.{whole_of}
 use Rattle.ficus_world.proofs.Saves.{saves_held, saves_pending, up_ready}
 use Rattle.ficus_world.proofs.Kills.{writes_at}

@@ -1,6 +1,6 @@
 use Rattle.std.proofs.Common.{◌+◌, ◌∷◌, [], ◌++◌, ap, sym, ◌∙◌, length, arith}
 use Rattle.ficus_model.specs.declared.event.Event.TheVariants.{Restart}
-use Rattle.ficus_run_laws.proofs.Starts.{restarts_more, length_restarts}
+use Rattle.ficus_runs.proofs.Starts.{restarts_more, length_restarts}
 use Rattle.ficus_world.proofs.opening.restart_all.Goals as goal
 
 pub push-requires-clause-within : goal.push-requires-clause-within

@@ -1,5 +1,5 @@
 use Rattle.std.proofs.Common.{sym, refl}
-use Rattle.ficus_run_laws.proofs.Numbers.{number_read}
+use Rattle.ficus_runs.proofs.Numbers.{number_read}
 use Rattle.ficus_world.proofs.Disks.{rose_none}
 use Rattle.ficus_world.proofs.Fuses.{fuses_armed}
 use Rattle.ficus_world.proofs.Saves.{disks_armed, pair_armed}

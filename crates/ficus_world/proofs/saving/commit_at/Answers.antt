@@ -1,9 +1,9 @@
 use Rattle.std.proofs.Common.{◌+◌, ◌-◌, sym, refl, ap, ◌∙◌}
 use Rattle.std.proofs.lemmas.List.{length-set}
 use Rattle.ficus_keeper.specs.Kept.{found_in}
-use Rattle.ficus_leads.specs.Holds.{Holds}
-use Rattle.ficus_leads.proofs.Led.{led_next}
-use Rattle.ficus_run_laws.proofs.Numbers.{number_read}
+use Rattle.ficus_stable_storage.specs.Leads.Holds.{Holds}
+use Rattle.ficus_stable_storage.proofs.leads.Led.{led_next}
+use Rattle.ficus_runs.proofs.Numbers.{number_read}
 use Rattle.ficus_world.proofs.Fuses.{fuses_saved, same_generation}
 use Rattle.ficus_world.proofs.Saves.{disks_saved, save_follows, up_ready}
 use Rattle.ficus_world.proofs.saving.commit_at.Goals as goal

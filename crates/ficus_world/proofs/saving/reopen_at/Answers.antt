@@ -13,7 +13,7 @@ use Rattle.ficus_stable_storage.specs.declared.stable.Recovered.{Recovered}
 use Rattle.ficus_opening.specs.Rests.{AreLeft, RestsAt}
 use Rattle.ficus_world.specs.Disks.{DisksFollow}
 use Rattle.ficus_world.proofs.Disks.{follows_at}
-use Rattle.ficus_run_laws.proofs.Numbers.{number_exists, number_read}
+use Rattle.ficus_runs.proofs.Numbers.{number_exists, number_read}
 use Rattle.ficus_world.proofs.Fuses.{fuses_read}
 use Rattle.ficus_world.proofs.Saves.{disks_not_read, disks_read, opening_failed, read_is, some_image}
 use Rattle.ficus_opening.proofs.Others.{left_one}

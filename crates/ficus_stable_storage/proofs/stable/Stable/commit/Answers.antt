@@ -1,7 +1,7 @@
 use Rattle.std.proofs.Common.{is_ok}
 use Rattle.ficus_keeper.specs.Kept.{after_commit, found_in}
 use Rattle.ficus_keeper.proofs.Results.{both_ok}
-use Rattle.ficus_leads.proofs.Led.{held_at}
+use Rattle.ficus_stable_storage.proofs.leads.Led.{held_at}
 use Rattle.ficus_stable_storage.proofs.Decided.{decided, held_prepared, next_generation, one_between, one_of}
 use Rattle.ficus_stable_storage.proofs.stable.Stable.commit.Goals as goal
 

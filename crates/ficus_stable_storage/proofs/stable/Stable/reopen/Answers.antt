@@ -1,5 +1,5 @@
 use Rattle.std.proofs.Common.{rules, sym}
-use Rattle.ficus_leads.proofs.Led.{held_at}
+use Rattle.ficus_stable_storage.proofs.leads.Led.{held_at}
 use Rattle.ficus_stable_storage.proofs.Ready.{ready_found}
 use Rattle.ficus_stable_storage.proofs.stable.Stable.reopen.Goals as goal
 

@@ -2,7 +2,7 @@ use Rattle.std.proofs.Common.{arith, subst, ◌≡◌}
 use Rattle.ficus_record.specs.declared.record.Record.TheVariants.{Ask}
 use Rattle.ficus_opening.specs.declared.member.Member.{Member}
 use Rattle.ficus_opening.specs.declared.member.MemberState.TheVariants.{Up}
-use Rattle.ficus_run_laws.proofs.Numbers.{number_once}
+use Rattle.ficus_runs.proofs.Numbers.{number_once}
 use Rattle.ficus_world.proofs.SoundWorlds.{noted_sound}
 use Rattle.ficus_world.proofs.group.Group.asking.Goals as goal
 

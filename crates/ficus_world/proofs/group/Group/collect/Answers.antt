@@ -1,7 +1,7 @@
 use Rattle.std.proofs.Common.{length}
 use Rattle.ficus_ids.specs.Members.{IsMember}
 use Rattle.ficus_model.specs.declared.event.Event.TheVariants.{Take}
-use Rattle.ficus_run_laws.proofs.Numbers.{number_exists}
+use Rattle.ficus_runs.proofs.Numbers.{number_exists}
 use Rattle.ficus_wire.specs.Parts.{with_part}
 use Rattle.ficus_world.specs.Moves.{parts_held}
 use Rattle.ficus_world.proofs.Collected.{collected_inside}

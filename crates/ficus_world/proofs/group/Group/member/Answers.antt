@@ -1,5 +1,5 @@
 use Rattle.std.proofs.Common.{sym}
-use Rattle.ficus_run_laws.proofs.Numbers.{number_read}
+use Rattle.ficus_runs.proofs.Numbers.{number_read}
 use Rattle.ficus_world.proofs.group.Group.member.Goals as goal
 
 pub returns-clause-sound : goal.returns-clause-sound

@@ -2,9 +2,9 @@ use Rattle.std.proofs.Common.{rules, ◌-◌, ◌≤◌, Err, Some, List, ℕ, l
 use Rattle.std.proofs.lemmas.List.{length-set, length_push}
 use Rattle.std.proofs.lemmas.Result.{err_from_is_err_and}
 use Rattle.ficus_model.specs.declared.event.Event.TheVariants.{Ask}
-use Rattle.ficus_leads.specs.Holds.{Leads}
+use Rattle.ficus_stable_storage.specs.Leads.Holds.{Leads}
 use Rattle.ficus_runs.specs.Numbered.{IsNumbered}
-use Rattle.ficus_run_laws.proofs.Numbers.{number_once}
+use Rattle.ficus_runs.proofs.Numbers.{number_once}
 use Rattle.ficus_opening.specs.declared.member.Member.{Member}
 use Rattle.ficus_world.specs.Disks.{CarriedOn}
 use Rattle.ficus_world.specs.Moves.{HasRoomFor, IsAsking, KeepsAsk, advanced, ask_of, downed, parts_after, pending_of, with_post}

@@ -8,7 +8,7 @@ use Rattle.ficus_ids.specs.declared.refusal.Refusal.TheVariants.{BadMessage, Mem
 use Rattle.ficus_record.specs.Record.{accept_front}
 use Rattle.ficus_record.specs.declared.record.Record.TheVariants.{Accept as AcceptOf}
 use Rattle.ficus_runs.specs.Numbered.{IsNumbered}
-use Rattle.ficus_run_laws.proofs.Numbers.{number_once}
+use Rattle.ficus_runs.proofs.Numbers.{number_once}
 use Rattle.ficus_opening.specs.declared.member.Member.{Member}
 use Rattle.ficus_opening.specs.declared.member.MemberState.TheVariants.{Up}
 use Rattle.ficus_world.specs.Moves.{spelled_with}

@@ -1,5 +1,5 @@
 use Rattle.ficus_world.specs.Moves.FindsPeers.{FindsNoPeers, FindsOneDown}
-use Rattle.ficus_run_laws.proofs.Numbers.{number_exists}
+use Rattle.ficus_runs.proofs.Numbers.{number_exists}
 use Rattle.ficus_world.proofs.Tests.{untrue}
 use Rattle.ficus_world.proofs.group.Group.up_peers.Goals as goal
 

@@ -8,7 +8,7 @@ use Rattle.ficus_world.specs.Moves.{ArePeersUp, FindsPeers}
 use Rattle.ficus_world.specs.World.{Whole}
 use Rattle.ficus_world.proofs.Carrying.{whole_is}
 use Rattle.ficus_world.proofs.Moved.{alike_moves, peers_end}
-use Rattle.ficus_run_laws.proofs.Numbers.{number_once}
+use Rattle.ficus_runs.proofs.Numbers.{number_once}
 use Rattle.ficus_world.proofs.world.World.alike.Goals as goal
 
 pub returns-in_err-up_peers : goal.returns-in_err-up_peers

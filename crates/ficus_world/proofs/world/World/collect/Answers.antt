@@ -15,7 +15,7 @@ use Rattle.ficus_world.specs.Moves.{CarriesOut, FindsUp, TablesMayWantMemory, pe
 use Rattle.ficus_world.specs.World.{Backed, IsSoundMember, IsSoundNext, Whole}
 use Rattle.ficus_opening.specs.declared.member.Member.{Member}
 use Rattle.ficus_opening.specs.declared.member.MemberState.TheVariants.{Up}
-use Rattle.ficus_run_laws.proofs.Numbers.{number_once}
+use Rattle.ficus_runs.proofs.Numbers.{number_once}
 use Rattle.ficus_world.proofs.SoundWorlds.{noted_sound}
 use Rattle.ficus_world.proofs.Carrying.{comes_to, save_refused, saved_done, whole_is}
 use Rattle.ficus_world.proofs.Moved.{collect_moves, collect_pends, comes_to_none, up_ends}

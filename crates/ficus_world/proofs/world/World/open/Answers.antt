@@ -13,7 +13,7 @@ use Rattle.ficus_opening.specs.declared.fault.WorldFault.{WorldFault}
 use Rattle.ficus_opening.specs.declared.fault.WorldFault.TheVariants.{Image, Memory, Occupied, Store}
 use Rattle.ficus_opening.specs.Opening.{AreRead, DisksLooked, IsFirstBad, IsStoreFault, Opens}
 use Rattle.ficus_opening.proofs.Bad.{image_comes, none_bad_where_read}
-use Rattle.ficus_run_laws.proofs.Numbers.{number_exists}
+use Rattle.ficus_runs.proofs.Numbers.{number_exists}
 use Rattle.ficus_world.proofs.OpenedWorlds.{empty_post, opened_read, opened_stands, opened_world}
 use Rattle.ficus_opening.proofs.Stand.{never_bad}
 use Rattle.ficus_durable_state.specs.declared.saved.Saved.{Saved}

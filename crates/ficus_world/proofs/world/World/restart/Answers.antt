@@ -18,7 +18,7 @@ use Rattle.ficus_world.proofs.Carrying.{comes_to, whole_is}
 use Rattle.ficus_world.proofs.Disks.{follows_alike}
 use Rattle.ficus_world.proofs.Moved.{comes_to_none}
 use Rattle.ficus_world.proofs.Tests.{untrue}
-use Rattle.ficus_run_laws.proofs.Numbers.{number_exists}
+use Rattle.ficus_runs.proofs.Numbers.{number_exists}
 use Rattle.ficus_world.proofs.Restarting.{back_after, back_same, back_sound, back_stores, restart_carried, set_own}
 use Rattle.ficus_world.proofs.SoundWorlds.{world_after}
 use Rattle.ficus_world.specs.Kills.Touches.{TouchesOne}

@@ -11,7 +11,7 @@ use Rattle.ficus_world.specs.Moves.{FindsUp}
 use Rattle.ficus_world.specs.Moves.ArmsDisks.{Arms, ArmsNone}
 use Rattle.ficus_world.specs.Moves.FindsUp.{FindsAt}
 use Rattle.ficus_world.specs.World.{Whole}
-use Rattle.ficus_run_laws.proofs.Numbers.{number_once}
+use Rattle.ficus_runs.proofs.Numbers.{number_once}
 use Rattle.ficus_world.proofs.Carrying.{whole_is}
 use Rattle.ficus_world.proofs.Moved.{comes_to_none, up_ends}
 use Rattle.ficus_world.specs.Kills.Touches.{TouchesOne}

@@ -1,9 +1,0 @@
-use Rattle.std.proofs.Common.{◌≡◌, ◌≤◌, length, take}
-use Rattle.ficus_check.specs.Lines.{checked_text}
-use Rattle.ficus_check.proofs.lines.checked_text.Given as goal
-
-abbrev pub invariant-loop-index : goal.invariant-loop-index
-invariant-loop-index l = record {
-  within : l.index ≤ length l.judgements;
-  text : l.text.items ≡ checked_text (take l.index l.judgements);
-}

@@ -1,5 +1,0 @@
-use Rattle.ficus_leads.proofs.Splitting.{IsLedTo}
-use Rattle.ficus_leads.proofs.following.led_by.Given as goal
-
-abbrev pub invariant-records : goal.invariant-records
-invariant-records l = IsLedTo l.fn.records.items l.fn.base l.replica.saved l.body-iterator.rest.items

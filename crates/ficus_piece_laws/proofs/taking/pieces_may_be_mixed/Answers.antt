@@ -1,6 +1,0 @@
-use Rattle.ficus_piece_laws.proofs.Mixing.{mixed_join}
-use Rattle.ficus_piece_laws.proofs.taking.pieces_may_be_mixed.Goals as goal
-
-pub returns : goal.returns
-returns c = λ spelling volume H server served saved pieces is count each.
-    mixed_join spelling volume H server served saved pieces is count each

@@ -1,6 +1,0 @@
-use Rattle.ficus_ids.specs.declared.refusal.Refusal.TheVariants.{Mixed}
-use Rattle.ficus_run_laws.proofs.Pulls.{pull_refused}
-use Rattle.ficus_run_laws.proofs.answers.pulls_are_never_mixed.Goals as goal
-
-pub returns : goal.returns
-returns c = λ volume W by to left does. let asking = pull_refused volume W by to Mixed left does in cc

@@ -1,6 +1,0 @@
-use Rattle.ficus_run_laws.proofs.Agreement.{same_updates_answer}
-use Rattle.ficus_run_laws.proofs.answers.same_updates_answer_same.Goals as goal
-
-pub returns : goal.returns
-returns c = λ volume H replica other look answer again same tells.
-    same_updates_answer volume H replica other look same tells answer again

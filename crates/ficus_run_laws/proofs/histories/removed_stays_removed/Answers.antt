@@ -1,6 +1,0 @@
-use Rattle.ficus_run_laws.proofs.Extending.{run_never_returns}
-use Rattle.ficus_run_laws.proofs.histories.removed_stays_removed.Goals as goal
-
-pub returns : goal.returns
-returns c = λ volume W after commands outcomes answers replica entry run removed live.
-    run_never_returns run replica entry removed live

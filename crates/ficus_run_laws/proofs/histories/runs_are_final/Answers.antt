@@ -1,8 +1,0 @@
-use Rattle.ficus_final_laws.proofs.Finishing.{final}
-use Rattle.ficus_run_laws.proofs.Runs.{run_lawful}
-use Rattle.ficus_run_laws.proofs.Starts.{start_lawful}
-use Rattle.ficus_run_laws.proofs.histories.runs_are_final.Goals as goal
-
-pub returns : goal.returns
-returns c = λ volume earlier total fused commands outcomes answers W lawful run.
-    final volume W.events (run_lawful run (start_lawful volume earlier lawful))

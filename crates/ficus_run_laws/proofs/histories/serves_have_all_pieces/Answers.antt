@@ -1,7 +1,0 @@
-use Rattle.ficus_run_laws.proofs.Runs.{run_of_run}
-use Rattle.ficus_run_laws.proofs.Starts.{start_lawful, start_of_run}
-use Rattle.ficus_run_laws.proofs.histories.serves_have_all_pieces.Goals as goal
-
-pub returns : goal.returns
-returns c = λ volume earlier total fused commands outcomes answers W lawful run.
-    (run_of_run run (start_lawful volume earlier lawful) (start_of_run volume earlier volume.members total fused)).serves

@@ -1,5 +1,0 @@
-use Rattle.ficus_run_laws.proofs.OneRun.{run_once}
-use Rattle.ficus_run_laws.proofs.same.one_run.Goals as goal
-
-pub returns : goal.returns
-returns c = λ volume W after later commands outcomes answers others. run_once

@@ -1,5 +1,0 @@
-use Rattle.ficus_run_laws.proofs.OneRun.{done_run_once}
-use Rattle.ficus_run_laws.proofs.same.one_run_where_all_is_done.Goals as goal
-
-pub returns : goal.returns
-returns c = λ volume W after later commands outcomes other_outcomes answers others. done_run_once

@@ -1,0 +1,13 @@
+ghost use Rattle.ficus_runs.specs.Sweeps.Laws.{SweepsAdd, SweepsSweep};
+
+/// The law that after a sweep that met no refusal all members know the same updates, no removed entry is held, and each
+/// object that is held has a live name or is an orphan. It does nothing when it runs.
+pub fn sweeps_leave_all_swept()
+    ensures { SweepsSweep }
+{}
+
+/// The law that a sweep that met no refusal adds three events for each of its pulls, beside the taking of pieces, and
+/// one for each member. It does nothing when it runs.
+pub fn sweeps_add()
+    ensures { SweepsAdd }
+{}
