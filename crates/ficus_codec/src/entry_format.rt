@@ -1,13 +1,14 @@
-ghost use Rattle.std.specs.Prelude.{◌≡◌, ◌↔◌, IsTrue, IfErr, IfSome};
+ghost use Rattle.std.specs.Prelude.{◌≡◌, ◌↔◌, IsTrue, IfErr};
 ghost use Rattle.ficus_ids.specs.Name.{IsName};
 ghost use Rattle.ficus_formats.specs.Format.{Begins, Reads, id as id_format};
 ghost use Rattle.ficus_codec.specs.Formats.{name, marks, dead, state, entry, entry_fields};
 ghost use Rattle.ficus_codec.specs.FormatsUnique.{unique-entry};
 ghost use Rattle.ficus_durable_state.specs.Tables.{IsIssuable, MayHoldEntries, FitsState, FitsEntry};
 
+use crate::known::TableRow;
 use ficus_durable_state::UPDATE_LIMIT;
-use ficus_entry::{Entry, State};
-use ficus_formats::{ReadFault, Reader, RowSpelling, Spelling};
+use ficus_entry::{Entry, SharedEntry, State};
+use ficus_formats::{ReadFault, Reader};
 use ficus_ids::{ATTIC, Id, Marks, Members, Memory, Name, NameFault, ROOT};
 use std::alloc::Global;
 
@@ -125,23 +126,6 @@ fn passes_fields(reader: &mut Reader<'_>, entry: &Entry, members: Members) -> bo
         && passes_state(reader, entry.state, members)
 }
 
-/// What is left behind the spelling of an entry that may stand in tables, where that stands in front.
-pub(crate) fn entry_behind<'a>(
-    value: &Entry,
-    reader: &Reader<'a>,
-    members: Members,
-) -> Option<Reader<'a>>
-    requires { FitsEntry members value.now }
-    ensures { IfSome result (Begins (entry members) reader.now value.now) }
-{
-    let mut rest = reader.again();
-    if passes_fields(&mut rest, value, members) {
-        Some(rest)
-    } else {
-        None
-    }
-}
-
 // The fields of an entry, each by itself.
 fn read_fields(reader: &mut Reader<'_>, members: Members) -> Result<Entry, ReadFault>
     ensures reads { Reads (entry_fields members) reader.old result reader.new }
@@ -156,8 +140,8 @@ fn read_fields(reader: &mut Reader<'_>, members: Members) -> Result<Entry, ReadF
     })
 }
 
-/// An entry that may stand in tables.
-pub(crate) fn read_entry(reader: &mut Reader<'_>, members: Members) -> Result<Entry, ReadFault>
+// An entry that may stand in tables.
+fn read_entry(reader: &mut Reader<'_>, members: Members) -> Result<Entry, ReadFault>
     ensures reads { Reads (entry members) reader.old result reader.new }
     ensures unspelled { IfErr result (λ fault. fault ≡ ReadFault.Unspelled) }
 {
@@ -169,32 +153,25 @@ pub(crate) fn read_entry(reader: &mut Reader<'_>, members: Members) -> Result<En
     }
 }
 
-/// How entries are spelled in a volume of so many members.
-#[derive(Drop)]
-pub(crate) struct EntrySpelling {
-    pub(crate) members: Members,
-}
+impl TableRow for SharedEntry {
+    ghost format = { entry };
 
-impl Spelling for EntrySpelling {
-    type Value = Entry;
+    ghost unique = { unique-entry };
 
-    ghost format = { λ s. entry s.members };
-
-    ghost unique = { λ s. unique-entry s.members };
-
-    fn read(&self, _: Global, reader: &mut Reader<'_>) -> Result<Entry, ReadFault> {
-        read_entry(reader, self.members)
+    fn passes(&self, reader: &mut Reader<'_>, members: Members) -> bool {
+        passes_fields(reader, self.entry(), members)
     }
 
-    fn put(&self, out: &mut Vec<u8>, value: &Entry) -> Result<(), Memory> {
-        value.put(out)
+    fn read_row(
+        alloc: Global,
+        reader: &mut Reader<'_>,
+        members: Members,
+    ) -> Result<SharedEntry, ReadFault> {
+        let entry = read_entry(reader, members)?;
+        Ok(SharedEntry::of(alloc, entry)?)
     }
-}
 
-impl RowSpelling for EntrySpelling {
-    ghost id_of = { λ e. e.id };
-
-    fn id(value: &Entry) -> Id {
-        value.id
+    fn put_row(&self, out: &mut Vec<u8>, _members: Members) -> Result<(), Memory> {
+        self.entry().put(out)
     }
 }

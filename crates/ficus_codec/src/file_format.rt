@@ -1,4 +1,4 @@
-ghost use Rattle.std.specs.Prelude.{◌≡◌, ◌↔◌, ◌+◌, ◌≤◌, ◌++◌, ◌∷◌, [], length, take, drop, map, All, Contains, IsTrue, IfErr, IfSome, OnErr, OnOk};
+ghost use Rattle.std.specs.Prelude.{◌≡◌, ◌↔◌, ◌+◌, ◌≤◌, ◌++◌, ◌∷◌, [], length, take, drop, map, All, Contains, IsTrue, IfErr, OnErr, OnOk};
 ghost use Rattle.ficus_file.specs.File.{HaveOneText};
 ghost use Rattle.ficus_file.specs.Version.{AreCurrent};
 ghost use Rattle.ficus_file.specs.declared.version.Version.{Version as VersionValue};
@@ -11,11 +11,12 @@ ghost use Rattle.ficus_codec.specs.FormatsUnique.{unique-version, unique-file};
 ghost use Rattle.ficus_durable_state.specs.Tables.{FitsCounts, FitsVersion, FitsFile};
 
 use crate::entry_format::{is_issuable, passes_id};
+use crate::known::{TableRow, WindowRow};
 use ficus_durable_state::{FILE_LIMIT, UPDATE_LIMIT};
-use ficus_file::{FileReplica, Version, Versions};
+use ficus_file::{FileReplica, SharedFile, Version, Versions};
 use ficus_formats::{
-    ReadFault, Reader, RowSpelling, Spelling, Window, WindowSpelling, id_and, put_bytes,
-    put_long_string, put_run, read_run,
+    ReadFault, Reader, Spelling, Window, WindowSpelling, id_and, put_bytes, put_long_string,
+    put_run, read_run,
 };
 use ficus_ids::{FIXED_LIMIT, Id, Kind, Listed, Members, Memory, Sort};
 use ficus_vectors::{Standing, Vector};
@@ -356,23 +357,6 @@ fn passes_fields(reader: &mut Reader<'_>, file: &FileReplica, members: Members) 
         && passes_counts(reader, file.covered, members)
 }
 
-/// What is left behind the spelling of a file that may stand in tables, where that stands in front.
-pub(crate) fn file_behind<'a>(
-    value: &FileReplica,
-    reader: &Reader<'a>,
-    members: Members,
-) -> Option<Reader<'a>>
-    requires { FitsFile members value.now }
-    ensures { IfSome result (Begins (file members) reader.now value.now) }
-{
-    let mut rest = reader.again();
-    if passes_fields(&mut rest, value, members) {
-        Some(rest)
-    } else {
-        None
-    }
-}
-
 // The number whose bytes, the low one first, stand before the versions: the identifier, the kind, and how many versions
 // there are. Behind them is a zero.
 #[inline(always)]
@@ -431,10 +415,10 @@ fn put_bare_in(window: &mut Window, id: Id, kind: Kind, members: Members)
     window.put_front(&[0; 32], 4 * usize::from(members.count()));
 }
 
-/// How files are spelled in a volume of so many members.
+// How files are spelled in a volume of so many members.
 #[derive(Drop)]
-pub(crate) struct FileSpelling {
-    pub(crate) members: Members,
+struct FileSpelling {
+    members: Members,
 }
 
 impl Spelling for FileSpelling {
@@ -501,10 +485,37 @@ impl WindowSpelling for FileSpelling {
     }
 }
 
-impl RowSpelling for FileSpelling {
-    ghost id_of = { λ f. f.id };
+impl TableRow for SharedFile {
+    ghost format = { file };
 
-    fn id(value: &FileReplica) -> Id {
-        value.id
+    ghost unique = { unique-file };
+
+    fn passes(&self, reader: &mut Reader<'_>, members: Members) -> bool {
+        passes_fields(reader, self.file(), members)
+    }
+
+    fn read_row(
+        alloc: Global,
+        reader: &mut Reader<'_>,
+        members: Members,
+    ) -> Result<SharedFile, ReadFault> {
+        let file = FileSpelling { members }.read(alloc, reader)?;
+        Ok(SharedFile::of(alloc, file)?)
+    }
+
+    fn put_row(&self, out: &mut Vec<u8>, members: Members) -> Result<(), Memory> {
+        FileSpelling { members }.put(out, self.file())
+    }
+}
+
+impl WindowRow for SharedFile {
+    #[inline(always)]
+    fn put_row_in(
+        &self,
+        window: &mut Window,
+        out: &mut Vec<u8>,
+        members: Members,
+    ) -> Result<(), Memory> {
+        FileSpelling { members }.put_in(window, out, self.file())
     }
 }

@@ -1,16 +1,12 @@
-ghost use Rattle.std.specs.Prelude.{◌≡◌, map, All, IfOk, IfSome, IfNone};
-ghost use Rattle.ficus_formats.specs.Format.{Begins, Reads};
-ghost use Rattle.ficus_codec.specs.Formats.{entry, file};
-ghost use Rattle.ficus_codec.specs.FormatsUnique.{unique-entry, unique-file};
+ghost use Rattle.std.specs.Prelude.{◌≡◌, ◌++◌, map, All, IsTrue, IfOk, IfSome, IfNone, OnErr, OnOk};
+ghost use Rattle.ficus_formats.specs.Format.{Begins, Keeps, Reads};
 ghost use Rattle.ficus_durable_state.specs.Tables.{FitsEntry, FitsFile, FitsTables};
 
-use crate::entry_format::{EntrySpelling, entry_behind, read_entry};
-use crate::file_format::{FileSpelling, file_behind};
-use ficus_entry::{Entries, Entry, SharedEntry};
-use ficus_file::{FileReplica, Files, SharedFile};
+use ficus_entry::{Entries, SharedEntry};
+use ficus_file::{Files, SharedFile};
 use ficus_formats::{ReadFault, Reader, RowSpelling, Spelling, Window, WindowSpelling};
 use ficus_ids::{Id, Members, Memory};
-use ficus_persistent::{Item, PersistentList};
+use ficus_persistent::PersistentList;
 use ficus_table::Row;
 use std::alloc::Global;
 use std::cell::Cell;
@@ -111,252 +107,175 @@ fn place_near<R: Row>(known: &[&R], near: usize, id: Id) -> usize {
     known.partition_point(|row| R::id(row.look()) < id)
 }
 
-// An entry of its own. It stands apart, so that no room is made for one where a known entry is passed.
-#[inline(never)]
-fn read_new_entry(
-    alloc: Global,
-    reader: &mut Reader<'_>,
-    members: Members,
-) -> Result<SharedEntry, ReadFault>
-    ensures { Reads (entry members) reader.old result reader.new }
-{
-    let entry = read_entry(reader, members)?;
-    Ok(SharedEntry::of(alloc, entry)?)
+/// A row that tables have, with how it is spelled in a volume of so many members.
+pub(crate) trait TableRow: Row {
+    ghost use Rattle.std.specs.Prelude.{ℕ};
+    ghost use Rattle.ficus_formats.specs.Format.{Format, IsUnique};
+
+    /// Which rows may stand in tables, and which bytes spell them.
+    ghost format: { ℕ → Format Self };
+
+    /// Each has one spelling, and none begins another.
+    ghost unique: { (members : ℕ) → IsUnique (format members) };
+
+    /// Passes the row, which may stand in tables, if its spelling stands in front.
+    fn passes(&self, reader: &mut Reader<'_>, members: Members) -> bool
+        requires { (format members).fits self.now }
+        ensures { IsTrue result → Begins (format members) reader.old self.now reader.new };
+
+    /// Reads a row of its own.
+    fn read_row(alloc: Global, reader: &mut Reader<'_>, members: Members) -> Result<Self, ReadFault>
+        ensures { Reads (format members) reader.old result reader.new };
+
+    /// Appends the spelling of the row.
+    fn put_row(&self, out: &mut Vec<u8>, members: Members) -> Result<(), Memory>
+        requires { (format members).fits self.now }
+        ensures put { OnOk result (out.new.items ≡ out.old.items ++ (format members).spell self.now) }
+        ensures kept { OnErr result (Keeps out.old.items out.new.items) };
 }
 
-// A file of its own. It stands apart, so that no room is made for one where a known file is passed.
-#[inline(never)]
-fn read_new_file(
-    alloc: Global,
-    reader: &mut Reader<'_>,
-    members: Members,
-) -> Result<SharedFile, ReadFault>
-    ensures { Reads (file members) reader.old result reader.new }
-{
-    let file = FileSpelling { members }.read(alloc, reader)?;
-    Ok(SharedFile::of(alloc, file)?)
-}
-
-/// How entries are spelled in a volume of so many members, where some are known. Contracts see how many members there
-/// are.
-#[derive(Drop)]
-pub(crate) struct KnownEntries<'a> {
-    members: Members,
-    known: &'a [&'a SharedEntry],
-    // The place of the row that is looked at first.
-    next: Cell<usize>,
-}
-
-impl<'a> Model for KnownEntries<'a> {
-    ghost use Rattle.std.specs.Prelude.{ℕ, All};
-
-    ghost Value = { ℕ };
-
-    ghost view = { λ s. s.members };
-
-    ghost use Rattle.ficus_durable_state.specs.Tables.{FitsEntry};
-
-    ghost invariant = { λ s. All (λ row. FitsEntry s.members row.now) s.known.now };
-}
-
-impl<'a> KnownEntries<'a> {
-    /// None is known.
-    pub(crate) fn none(members: Members) -> KnownEntries<'a>
-        ensures { result ≡ members }
-    {
-        KnownEntries::of(members, &[])
-    }
-
-    /// These are known, which may stand in tables.
-    pub(crate) fn of(members: Members, known: &'a [&'a SharedEntry]) -> KnownEntries<'a>
-        requires { All (λ row. FitsEntry members row.now) known.now }
-        ensures { result ≡ members }
-    {
-        KnownEntries {
-            members,
-            known,
-            next: Cell::new(0),
-        }
-    }
-
-    // The known entry at the place, if its spelling stands in front, which it passes.
-    #[inline(always)]
-    fn pass_at(&self, place: usize, reader: &mut Reader<'_>) -> Option<&'a SharedEntry>
-        ensures passed { IfSome result (λ row. Begins (entry self.now) reader.old row.now reader.new) }
-        ensures kept { IfNone result (reader.new ≡ reader.old) }
-    {
-        let row = *self.known.get(place)?;
-        *reader = entry_behind(row.entry(), reader, self.members)?;
-        self.next.set(place.saturating_add(1));
-        Some(row)
-    }
-
-    // The known entry whose spelling stands in front, which it passes, where it isn't the next one.
-    #[inline(never)]
-    fn pass_another(&self, reader: &mut Reader<'_>) -> Option<&'a SharedEntry>
-        ensures passed { IfSome result (λ row. Begins (entry self.now) reader.old row.now reader.new) }
-        ensures kept { IfNone result (reader.new ≡ reader.old) }
-    {
-        let place = search(self.known, &self.next, reader)?;
-        self.pass_at(place, reader)
-    }
-
-    // The known entry whose spelling stands in front, which it passes: mostly the next one.
-    fn pass(&self, reader: &mut Reader<'_>) -> Option<&'a SharedEntry>
-        ensures passed { IfSome result (λ row. Begins (entry self.now) reader.old row.now reader.new) }
-        ensures kept { IfNone result (reader.new ≡ reader.old) }
-    {
-        match self.pass_at(self.next.get(), reader) {
-            Some(row) => Some(row),
-            None => self.pass_another(reader),
-        }
-    }
-}
-
-impl<'a> Spelling for KnownEntries<'a> {
-    type Value = SharedEntry;
-
-    ghost format = { λ s. entry s };
-
-    ghost unique = { λ s. unique-entry s };
-
-    fn read(&self, alloc: Global, reader: &mut Reader<'_>) -> Result<SharedEntry, ReadFault> {
-        if let Some(row) = self.pass(reader) {
-            return Ok(row.copied()?);
-        }
-        read_new_entry(alloc, reader, self.members)
-    }
-
-    fn put(&self, out: &mut Vec<u8>, value: &SharedEntry) -> Result<(), Memory> {
-        let members = self.members;
-        EntrySpelling { members }.put(out, value.entry())
-    }
-}
-
-impl<'a> RowSpelling for KnownEntries<'a> {
-    ghost id_of = { λ e. e.id };
-
-    fn id(value: &SharedEntry) -> Id
-        ensures { result ≡ value.now.id }
-    {
-        value.entry().id
-    }
-}
-
-/// How files are spelled in a volume of so many members, where some are known. Contracts see how many members there
-/// are.
-#[derive(Drop)]
-pub(crate) struct KnownFiles<'a> {
-    members: Members,
-    known: &'a [&'a SharedFile],
-    // The place of the row that is looked at first.
-    next: Cell<usize>,
-}
-
-impl<'a> Model for KnownFiles<'a> {
-    ghost use Rattle.std.specs.Prelude.{ℕ, All};
-
-    ghost Value = { ℕ };
-
-    ghost view = { λ s. s.members };
-
-    ghost use Rattle.ficus_durable_state.specs.Tables.{FitsFile};
-
-    ghost invariant = { λ s. All (λ row. FitsFile s.members row.now) s.known.now };
-}
-
-impl<'a> KnownFiles<'a> {
-    /// None is known.
-    pub(crate) fn none(members: Members) -> KnownFiles<'a>
-        ensures { result ≡ members }
-    {
-        KnownFiles::of(members, &[])
-    }
-
-    /// These are known, which may stand in tables.
-    pub(crate) fn of(members: Members, known: &'a [&'a SharedFile]) -> KnownFiles<'a>
-        requires { All (λ row. FitsFile members row.now) known.now }
-        ensures { result ≡ members }
-    {
-        KnownFiles {
-            members,
-            known,
-            next: Cell::new(0),
-        }
-    }
-
-    // The known file at the place, if its spelling stands in front, which it passes.
-    #[inline(always)]
-    fn pass_at(&self, place: usize, reader: &mut Reader<'_>) -> Option<&'a SharedFile>
-        ensures passed { IfSome result (λ row. Begins (file self.now) reader.old row.now reader.new) }
-        ensures kept { IfNone result (reader.new ≡ reader.old) }
-    {
-        let row = *self.known.get(place)?;
-        *reader = file_behind(row.file(), reader, self.members)?;
-        self.next.set(place.saturating_add(1));
-        Some(row)
-    }
-
-    // The known file whose spelling stands in front, which it passes, where it isn't the next one.
-    #[inline(never)]
-    fn pass_another(&self, reader: &mut Reader<'_>) -> Option<&'a SharedFile>
-        ensures passed { IfSome result (λ row. Begins (file self.now) reader.old row.now reader.new) }
-        ensures kept { IfNone result (reader.new ≡ reader.old) }
-    {
-        let place = search(self.known, &self.next, reader)?;
-        self.pass_at(place, reader)
-    }
-
-    // The known file whose spelling stands in front, which it passes: mostly the next one.
-    fn pass(&self, reader: &mut Reader<'_>) -> Option<&'a SharedFile>
-        ensures passed { IfSome result (λ row. Begins (file self.now) reader.old row.now reader.new) }
-        ensures kept { IfNone result (reader.new ≡ reader.old) }
-    {
-        match self.pass_at(self.next.get(), reader) {
-            Some(row) => Some(row),
-            None => self.pass_another(reader),
-        }
-    }
-}
-
-impl<'a> Spelling for KnownFiles<'a> {
-    type Value = SharedFile;
-
-    ghost format = { λ s. file s };
-
-    ghost unique = { λ s. unique-file s };
-
-    fn read(&self, alloc: Global, reader: &mut Reader<'_>) -> Result<SharedFile, ReadFault> {
-        if let Some(row) = self.pass(reader) {
-            return Ok(row.copied()?);
-        }
-        read_new_file(alloc, reader, self.members)
-    }
-
-    fn put(&self, out: &mut Vec<u8>, value: &SharedFile) -> Result<(), Memory> {
-        let members = self.members;
-        FileSpelling { members }.put(out, value.file())
-    }
-}
-
-impl<'a> WindowSpelling for KnownFiles<'a> {
-    fn put_in(
+/// A row of tables that is written through a window.
+pub(crate) trait WindowRow: TableRow {
+    /// Puts the spelling of the row behind what was spelled before, of which the window holds the last bytes.
+    fn put_row_in(
         &self,
         window: &mut Window,
         out: &mut Vec<u8>,
-        value: &SharedFile,
-    ) -> Result<(), Memory> {
-        let members = self.members;
-        FileSpelling { members }.put_in(window, out, value.file())
+        members: Members,
+    ) -> Result<(), Memory>
+        requires { (Self.TableRow.format members).fits self.now }
+        ensures put { OnOk result (out.new.items ++ window.new
+            ≡ (out.old.items ++ window.old) ++ (Self.TableRow.format members).spell self.now) }
+        ensures kept { Keeps out.old.items out.new.items };
+}
+
+// A row of its own. It stands apart, so that no room is made for one where a known row is passed.
+#[inline(never)]
+fn read_new<R: TableRow>(
+    alloc: Global,
+    reader: &mut Reader<'_>,
+    members: Members,
+) -> Result<R, ReadFault>
+    ensures { Reads (R.format members) reader.old result reader.new }
+{
+    R::read_row(alloc, reader, members)
+}
+
+// What is left behind the spelling of a row that may stand in tables, where that stands in front.
+fn behind<'a, R: TableRow>(row: &R, reader: &Reader<'a>, members: Members) -> Option<Reader<'a>>
+    requires { (R.format members).fits row.now }
+    ensures { IfSome result (Begins (R.format members) reader.now row.now) }
+{
+    let mut rest = reader.again();
+    if row.passes(&mut rest, members) {
+        Some(rest)
+    } else {
+        None
     }
 }
 
-impl<'a> RowSpelling for KnownFiles<'a> {
-    ghost id_of = { λ f. f.id };
+/// How rows are spelled in a volume of so many members, where some are known. Contracts see how many members there are.
+#[derive(Drop)]
+pub(crate) struct KnownRows<'a, R: TableRow> {
+    members: Members,
+    known: &'a [&'a R],
+    // The place of the row that is looked at first.
+    next: Cell<usize>,
+}
 
-    fn id(value: &SharedFile) -> Id
-        ensures { result ≡ value.now.id }
+impl<'a, R: TableRow> Model for KnownRows<'a, R> {
+    ghost use Rattle.std.specs.Prelude.{ℕ, All};
+
+    ghost Value = { ℕ };
+
+    ghost view = { λ s. s.members };
+
+    ghost invariant = { λ s. All (λ row. (R.format s.members).fits row.now) s.known.now };
+}
+
+impl<'a, R: TableRow> KnownRows<'a, R> {
+    /// None is known.
+    pub(crate) fn none(members: Members) -> KnownRows<'a, R>
+        ensures { result ≡ members }
     {
-        value.file().id
+        KnownRows::of(members, &[])
+    }
+
+    /// These are known, which may stand in tables.
+    pub(crate) fn of(members: Members, known: &'a [&'a R]) -> KnownRows<'a, R>
+        requires { All (λ row. (R.format members).fits row.now) known.now }
+        ensures { result ≡ members }
+    {
+        KnownRows {
+            members,
+            known,
+            next: Cell::new(0),
+        }
+    }
+
+    // The known row at the place, if its spelling stands in front, which it passes.
+    #[inline(always)]
+    fn pass_at(&self, place: usize, reader: &mut Reader<'_>) -> Option<&'a R>
+        ensures passed { IfSome result (λ row. Begins (R.format self.now) reader.old row.now reader.new) }
+        ensures kept { IfNone result (reader.new ≡ reader.old) }
+    {
+        let row = *self.known.get(place)?;
+        *reader = behind(row, reader, self.members)?;
+        self.next.set(place.saturating_add(1));
+        Some(row)
+    }
+
+    // The known row whose spelling stands in front, which it passes, where it isn't the next one.
+    #[inline(never)]
+    fn pass_another(&self, reader: &mut Reader<'_>) -> Option<&'a R>
+        ensures passed { IfSome result (λ row. Begins (R.format self.now) reader.old row.now reader.new) }
+        ensures kept { IfNone result (reader.new ≡ reader.old) }
+    {
+        let place = search(self.known, &self.next, reader)?;
+        self.pass_at(place, reader)
+    }
+
+    // The known row whose spelling stands in front, which it passes: mostly the next one.
+    fn pass(&self, reader: &mut Reader<'_>) -> Option<&'a R>
+        ensures passed { IfSome result (λ row. Begins (R.format self.now) reader.old row.now reader.new) }
+        ensures kept { IfNone result (reader.new ≡ reader.old) }
+    {
+        match self.pass_at(self.next.get(), reader) {
+            Some(row) => Some(row),
+            None => self.pass_another(reader),
+        }
+    }
+}
+
+impl<'a, R: TableRow> Spelling for KnownRows<'a, R> {
+    type Value = R;
+
+    ghost format = { λ s. R.format s };
+
+    ghost unique = { λ s. R.unique s };
+
+    fn read(&self, alloc: Global, reader: &mut Reader<'_>) -> Result<R, ReadFault> {
+        if let Some(row) = self.pass(reader) {
+            return Ok(row.copied()?);
+        }
+        read_new(alloc, reader, self.members)
+    }
+
+    fn put(&self, out: &mut Vec<u8>, value: &R) -> Result<(), Memory> {
+        value.put_row(out, self.members)
+    }
+}
+
+impl<'a, R: WindowRow> WindowSpelling for KnownRows<'a, R> {
+    fn put_in(&self, window: &mut Window, out: &mut Vec<u8>, value: &R) -> Result<(), Memory> {
+        value.put_row_in(window, out, self.members)
+    }
+}
+
+impl<'a, R: TableRow> RowSpelling for KnownRows<'a, R> {
+    ghost id_of = { λ row. R.id_of (R.seen row) };
+
+    fn id(value: &R) -> Id {
+        R::id(value.look())
     }
 }

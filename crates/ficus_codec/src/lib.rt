@@ -12,6 +12,6 @@ pub use entry_format::read_name;
 pub use file_format::read_kind;
 pub use known::Known;
 pub use tables::{
-    one_tables, put_rows, put_tables, read_all_rows, read_rows, read_tables, take_tables,
+    one_tables, put_rows, put_tables, read_all_rows, read_rows, read_tables, tables_of, take_tables,
 };
 pub use take_fault::TakeFault;

@@ -16,7 +16,7 @@ use Rattle.ficus_orphan.specs.Orphan.{IsNamedBy, IsOrphanIn}
 use Rattle.ficus_rules.specs.Alike.{AreAlike}
 use Rattle.ficus_deciding.specs.Alike.{ShowSameAt}
 use Rattle.ficus_deciding.specs.View.{HasObject, IsVisibleBy, tables_view}
-use Rattle.ficus_deciding.proofs.Tables.{tables_bound, visible_held}
+use Rattle.ficus_deciding.proofs.Tables.{so_of_file, tables_bound, visible_held}
 
 -- the list has exactly the visible objects
 abbrev pub AreVisible : Saved → List Id → Type 0
@@ -183,20 +183,11 @@ module _ (one other : Saved) (fits : FitsImage one) (fits_too : FitsImage other)
         let seen = (visible id).0 inside in
         let held = visible_held fits seen in
         let file : FileReplica = held.item in
-        let kind = (alike.kinds id file.kind).0 (record {
-          visible = seen;
-          file = file;
-          inside = held.inside;
-          has_id = held.has_id;
-          so = refl;
-        }) in
-        let versions = (alike.versions id file.versions).0 (record {
-          visible = seen;
-          file = file;
-          inside = held.inside;
-          has_id = held.has_id;
-          so = refl;
-        }) in
+        let has : HasObject one id (λ other. other ≡ file) =
+        record { visible = seen; file = file; inside = held.inside; has_id = held.has_id; so = refl } in
+        let kind = (alike.kinds id file.kind).0 ((so_of_file fits has (λ other. other.kind ≡ file.kind)).0 refl) in
+        let versions = (alike.versions id file.versions).0
+        ((so_of_file fits has (λ other. other.versions ≡ file.versions)).0 refl) in
         let same : versions.file ≡ kind.file = one_item id_of other.files versions.file kind.file
         fits_too.tables.rising_files versions.inside kind.inside (versions.has_id ∙ sym kind.has_id) in
         record {

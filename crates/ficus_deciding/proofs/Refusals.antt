@@ -7,12 +7,14 @@ use Rattle.ficus_ids.specs.declared.id.Id.{Id}
 use Rattle.ficus_ids.specs.declared.refusal.Refusal.{Refusal}
 use Rattle.ficus_ids.specs.declared.refusal.Refusal.TheVariants.{Memory}
 use Rattle.ficus_model.specs.declared.event.Op.{Op}
-use Rattle.ficus_model.specs.Lawful.{most_file_bytes}
-use Rattle.ficus_rules.specs.Limits.{LimitsRule, LimitsUpTo}
-use Rattle.ficus_rules.specs.Rule.{Then, RefusedOr, Gives, UnlessMemoryWhere}
+use Rattle.ficus_path.specs.declared.path.Path.{Path}
+use Rattle.ficus_rules.specs.Limits.{LimitsRule}
+use Rattle.ficus_rules.specs.Rule.{Then, RefusedOr, Gives, RefusesNothing, UnlessMemory, UnlessMemoryWhere}
 use Rattle.ficus_rules.specs.View.{View}
 use Rattle.ficus_rules.specs.Resolved.{ResolvedRule}
-use Rattle.ficus_rules.proofs.Rules.{or_refused}
+use Rattle.ficus_rules.specs.Walk.{VersionedRule}
+use Rattle.ficus_rules.proofs.Rules.{behind, or_refused, passed, refusal_along}
+use Rattle.ficus_rules.proofs.Walks.{versioned_once}
 use Rattle.ficus_deciding.specs.Files.{ResolvedWithin}
 use Rattle.ficus_deciding.specs.Told.{ToldAs}
 
@@ -66,33 +68,30 @@ module _ {B : Type 0} (may : Type 0) (rule : Result B Refusal → Type 0) where
       IsErrAnd result (λ given. given ≡ Memory) → may → ToldAs told_as (UnlessMemoryWhere may rule) result
   told_wanted told_as result is so = refused_so (ToldAs told_as (UnlessMemoryWhere may rule)) Memory so result is
 
--- Limits, and whatever comes after them.
-module _ (most : ℕ) (view : View) (bytes : ℕ) (rest : Result Op Refusal → Type 0) where
-  -- what they refuse is refused
-  pub any_over_limits : (refusal : Refusal) → LimitsUpTo most view bytes (Gives {B = Unit {0}} tt) (Err refusal) →
-      LimitsUpTo most view bytes rest (Err refusal)
-  any_over_limits refusal (inl long) = inl long
-  any_over_limits refusal (inr (short, inl spent)) = inr (short, inl spent)
-  any_over_limits refusal (inr (short, inr (left, inl quota))) = inr (short, inr (left, inl quota))
-  any_over_limits refusal (inr (short, inr (left, inr (room, none)))) = absurd none
+-- A step of a rule: where all before it lets pass, the whole refuses what the step refuses, and nothing else.
+module _ {A B : Type 0} (may : Type 0) (step : Result A Refusal → Type 0) (rule : Result B Refusal → Type 0)
+    (also : RefusesNothing rule → may) (there : (refusal : Refusal) → step (Err refusal) → rule (Err refusal))
+    (back : (refusal : Refusal) → rule (Err refusal) → step (Err refusal)) where
+  -- so it is with want of memory too
+  pub step_stopped : (refusal : Refusal) → UnlessMemory step (Err refusal) → (result : Result B Refusal) →
+      IsErrAnd result (λ given. given ≡ refusal) → UnlessMemoryWhere may rule result
+  step_stopped refusal refused result is =
+      refused_so (UnlessMemoryWhere may rule) refusal
+      (refusal_along step rule refusal (λ none. also (λ other refuses. none other (back other refuses)))
+      (there refusal) refused) result is
 
-  -- within them it is as the rest has it
-  pub any_within_limits : (nothing : Unit {0}) (given : Op) →
-      LimitsUpTo most view bytes (Gives {B = Unit {0}} tt) (Ok nothing) → rest (Ok given) →
-      LimitsUpTo most view bytes rest (Ok given)
-  any_within_limits nothing given (short, (left, (room, is))) so = (short, (left, (room, so)))
-
--- So it is with an operation after those of a file.
-module _ (view : View) (bytes : ℕ) (op : Op) where
-  pub over_limits : (refusal : Refusal) → LimitsRule view bytes (Gives {B = Unit {0}} tt) (Err refusal) →
-      LimitsRule view bytes (Gives op) (Err refusal)
-  over_limits refusal over = any_over_limits most_file_bytes view bytes (Gives op) refusal over
-
-  pub within_limits : (nothing : Unit {0}) (given : Op) →
-      LimitsRule view bytes (Gives {B = Unit {0}} tt) (Ok nothing) → given ≡ op →
-      LimitsRule view bytes (Gives op) (Ok given)
-  within_limits nothing given within same =
-      any_within_limits most_file_bytes view bytes (Gives op) nothing given within same
+-- The change of a file's versions at a path by bytes: where the file is fit for it, the limits alone refuse.
+module _ (view : View) (path : Path) (bytes : List ℕ) (bad good : Id → Type 0) (unfit : Refusal) (op : Id → Op) where
+  pub by_bytes_stopped : (file : Id) → VersionedRule view path (Ok file) → (bad file → ⊥) → good file →
+      (refusal : Refusal) → UnlessMemory (LimitsRule view (length bytes) (Gives bytes)) (Err refusal) →
+      (result : Result Op Refusal) → IsErrAnd result (λ given. given ≡ refusal) →
+      UnlessMemory (Then (VersionedRule view path)
+      (λ file. RefusedOr (bad file) (good file) unfit (LimitsRule view (length bytes) (Gives (op file))))) result
+  by_bytes_stopped file walked not_bad is_good =
+      step_stopped _ (LimitsRule view (length bytes) (Gives bytes)) (Then (VersionedRule view path)
+      (λ file. RefusedOr (bad file) (good file) unfit (LimitsRule view (length bytes) (Gives (op file)))))
+      (λ none. none) (λ refusal over. inr (file, walked, inr (is_good, over)))
+      (λ refusal refuses. passed not_bad (behind (versioned_once view path) file walked refuses))
 
 module _ (view : View) (file : Id) where
   -- where the resolver is refused, what stands on its text is

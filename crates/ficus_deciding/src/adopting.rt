@@ -4,9 +4,9 @@ ghost use Rattle.ficus_path.specs.Path.{IsNew};
 ghost use Rattle.ficus_rules.specs.Change.{ChangeAnswer};
 ghost use Rattle.ficus_deciding.specs.View.{tables_view};
 
-use crate::limits::is_spent;
+use crate::new_name::new_name;
 use crate::renaming::is_within;
-use crate::walk::{is_orphan_here, is_taken, last_name, parent_of};
+use crate::walk::{is_orphan_here, parent_of};
 use ficus_durable_state::Saved;
 use ficus_ids::{Id, Refusal};
 use ficus_model::Op;
@@ -26,13 +26,7 @@ pub fn adopt(alloc: Global, saved: &Saved, orphan: Id, path: &Path) -> Result<Op
     if is_within(alloc, saved, orphan, dir)? {
         return Err(Refusal::IntoSelf);
     }
-    if is_taken(saved, dir, path) {
-        return Err(Refusal::Exists);
-    }
-    if is_spent(saved) {
-        return Err(Refusal::Spent);
-    }
-    let name = last_name(path).copy()?;
+    let name = new_name(saved, dir, path)?;
     Ok(Op::Adopt {
         file: orphan,
         dir,

@@ -17,6 +17,7 @@ mod listing;
 mod looks;
 mod making;
 mod names;
+mod new_name;
 mod orphanage;
 mod reading;
 mod reading_link;

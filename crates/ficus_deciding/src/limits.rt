@@ -1,11 +1,12 @@
-ghost use Rattle.std.specs.Prelude.{◌↔◌, IsTrue};
+ghost use Rattle.std.specs.Prelude.{◌↔◌, length, IsTrue};
 ghost use Rattle.ficus_durable_state.specs.Saved.{FitsImage};
-ghost use Rattle.ficus_rules.specs.Limits.{LimitsRule, LimitsUpTo};
-ghost use Rattle.ficus_rules.specs.Rule.{Gives};
+ghost use Rattle.ficus_rules.specs.Limits.{LimitsUpTo};
+ghost use Rattle.ficus_rules.specs.Rule.{Gives, UnlessMemory};
 ghost use Rattle.ficus_deciding.specs.View.{tables_view};
 
-use ficus_durable_state::{FILE_LIMIT, Saved};
-use ficus_ids::Refusal;
+use ficus_durable_state::Saved;
+use ficus_ids::{Listed, Refusal};
+use std::alloc::Global;
 
 /// Whether the replica has made all the updates that it may make.
 pub(crate) fn is_spent(saved: &Saved) -> bool
@@ -22,15 +23,7 @@ fn is_over_quota(saved: &Saved, bytes: usize) -> bool
     bytes > (saved.bytes - saved.used) as usize
 }
 
-/// Whether so many bytes may be written to a file by one more update.
-pub(crate) fn within_limits(saved: &Saved, bytes: usize) -> Result<(), Refusal>
-    requires { FitsImage saved.now }
-    ensures { LimitsRule (tables_view saved.now) bytes (Gives tt) result }
-{
-    within(saved, FILE_LIMIT, bytes)
-}
-
-/// Whether so many bytes, and these are not more than so many, may be written by one more update.
+/// Whether so many bytes, and not more than the most, may be written by one more update.
 pub(crate) fn within(saved: &Saved, most: usize, bytes: usize) -> Result<(), Refusal>
     requires { FitsImage saved.now }
     ensures { LimitsUpTo most (tables_view saved.now) bytes (Gives tt) result }
@@ -45,4 +38,19 @@ pub(crate) fn within(saved: &Saved, most: usize, bytes: usize) -> Result<(), Ref
         return Err(Refusal::Quota);
     }
     Ok(())
+}
+
+/// The bytes, where so many, and not more than the most, may be written by one more update.
+pub(crate) fn bytes_within(
+    alloc: Global,
+    saved: &Saved,
+    most: usize,
+    bytes: &[u8],
+) -> Result<Listed<u8>, Refusal>
+    requires { FitsImage saved.now }
+    ensures { UnlessMemory (LimitsUpTo most (tables_view saved.now) (length bytes.now) (Gives bytes.now)) result }
+{
+    within(saved, most, bytes.len())?;
+    let bytes = bytes.to_vec(alloc)?;
+    Ok(Listed::of(bytes))
 }

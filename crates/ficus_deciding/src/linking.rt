@@ -4,8 +4,8 @@ ghost use Rattle.ficus_rules.specs.Link.{LinkRule};
 ghost use Rattle.ficus_rules.specs.Rule.{UnlessMemory};
 ghost use Rattle.ficus_deciding.specs.View.{tables_view};
 
-use crate::limits::is_spent;
-use crate::walk::{is_directory, is_taken, last_name, places_of};
+use crate::new_name::new_name;
+use crate::walk::{is_directory, places_of};
 use ficus_durable_state::Saved;
 use ficus_ids::Refusal;
 use ficus_model::Op;
@@ -22,13 +22,7 @@ pub fn link(saved: &Saved, from: &Path, path: &Path) -> Result<Op, Refusal>
     if is_directory(saved, places.found.object) {
         return Err(Refusal::IsDir);
     }
-    if is_taken(saved, places.dir, path) {
-        return Err(Refusal::Exists);
-    }
-    if is_spent(saved) {
-        return Err(Refusal::Spent);
-    }
-    let name = last_name(path).copy()?;
+    let name = new_name(saved, places.dir, path)?;
     Ok(Op::Link {
         dir: places.dir,
         name,

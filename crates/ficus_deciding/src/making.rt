@@ -6,8 +6,8 @@ ghost use Rattle.ficus_rules.specs.Make.{MakeRule};
 ghost use Rattle.ficus_rules.specs.Rule.{UnlessMemory};
 ghost use Rattle.ficus_deciding.specs.View.{tables_view};
 
-use crate::limits::is_spent;
-use crate::walk::{is_taken, last_name, parent_of};
+use crate::new_name::new_name;
+use crate::walk::parent_of;
 use ficus_durable_state::Saved;
 use ficus_ids::{Kind, Listed, Refusal};
 use ficus_model::Op;
@@ -22,13 +22,7 @@ pub fn make(alloc: Global, saved: &Saved, path: &Path, kind: Kind) -> Result<Op,
     ensures { UnlessMemory (MakeRule (tables_view saved.now) path.now kind) result }
 {
     let dir = parent_of(saved, path)?;
-    if is_taken(saved, dir, path) {
-        return Err(Refusal::Exists);
-    }
-    if is_spent(saved) {
-        return Err(Refusal::Spent);
-    }
-    let name = last_name(path).copy()?;
+    let name = new_name(saved, dir, path)?;
     Ok(Op::Make {
         dir,
         name,

@@ -5,7 +5,7 @@ ghost use Rattle.ficus_commands.specs.declared.told.Told.TheVariants.{Text as To
 ghost use Rattle.ficus_deciding.specs.Told.{ToldAs};
 ghost use Rattle.ficus_deciding.specs.View.{tables_view};
 
-use crate::text::fixed_text_of;
+use crate::text::text_of;
 use crate::walk::fixed_at;
 use ficus_durable_state::Saved;
 use ficus_ids::Refusal;
@@ -19,5 +19,5 @@ pub fn readlink(alloc: Global, saved: &Saved, path: &Path) -> Result<Vec<u8>, Re
         (UnlessMemory (ReadLinkRule (tables_view saved.now) path.now)) result }
 {
     let file = fixed_at(saved, path)?;
-    Ok(fixed_text_of(saved, file).to_vec(alloc)?)
+    Ok(text_of(saved, file).to_vec(alloc)?)
 }

@@ -6,9 +6,9 @@ ghost use Rattle.ficus_rules.specs.Change.{ChangeAnswer};
 ghost use Rattle.ficus_rules.specs.View.{IsDirectoryIn, IsWithinIn};
 ghost use Rattle.ficus_deciding.specs.View.{tables_view, IsVisibleBy};
 
-use crate::limits::is_spent;
 use crate::names::named_entries;
-use crate::walk::{is_directory, is_taken, last_name, places_of};
+use crate::new_name::new_name;
+use crate::walk::{is_directory, last_name, places_of};
 use ficus_durable_state::Saved;
 use ficus_ids::{Id, Listed, Memory, Refusal};
 use ficus_model::Op;
@@ -29,15 +29,9 @@ pub fn rename(alloc: Global, saved: &Saved, from: &Path, path: &Path) -> Result<
     if is_within(alloc, saved, found.object, dir)? {
         return Err(Refusal::IntoSelf);
     }
-    if is_taken(saved, dir, path) {
-        return Err(Refusal::Exists);
-    }
-    if is_spent(saved) {
-        return Err(Refusal::Spent);
-    }
+    let name = new_name(saved, dir, path)?;
     let old = last_name(from);
     let entries = named_entries(saved, found.dir, old, found.object)?;
-    let name = last_name(path).copy()?;
     Ok(Op::Move {
         entries: Listed::of(entries),
         dir,

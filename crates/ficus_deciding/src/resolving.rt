@@ -4,10 +4,10 @@ ghost use Rattle.ficus_rules.specs.Change.{ChangeAnswer};
 ghost use Rattle.ficus_deciding.specs.View.{tables_view};
 
 use crate::conflict::is_conflict;
-use crate::limits::within_limits;
+use crate::limits::within;
 use crate::resolved::resolved;
 use crate::walk::versioned_at;
-use ficus_durable_state::Saved;
+use ficus_durable_state::{FILE_LIMIT, Saved};
 use ficus_ids::Refusal;
 use ficus_model::Op;
 use ficus_path::Path;
@@ -23,7 +23,7 @@ pub fn resolve(alloc: Global, saved: &Saved, path: &Path) -> Result<Op, Refusal>
         return Err(Refusal::NoConflict);
     }
     let bytes = resolved(alloc, saved, file)?;
-    within_limits(saved, bytes.items().len())?;
+    within(saved, FILE_LIMIT, bytes.items().len())?;
     Ok(Op::Resolve {
         file: file.id,
         bytes,

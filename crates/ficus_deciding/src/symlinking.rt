@@ -5,10 +5,10 @@ ghost use Rattle.ficus_rules.specs.Rule.{UnlessMemory};
 ghost use Rattle.ficus_rules.specs.Symlink.{SymlinkRule};
 ghost use Rattle.ficus_deciding.specs.View.{tables_view};
 
-use crate::limits::within;
+use crate::limits::bytes_within;
 use crate::walk::{is_taken, last_name, parent_of};
 use ficus_durable_state::Saved;
-use ficus_ids::{FIXED_LIMIT, Kind, Listed, Refusal};
+use ficus_ids::{FIXED_LIMIT, Kind, Refusal};
 use ficus_model::Op;
 use ficus_path::Path;
 use std::alloc::Global;
@@ -24,9 +24,8 @@ pub fn symlink(alloc: Global, saved: &Saved, path: &Path, text: &[u8]) -> Result
     if is_taken(saved, dir, path) {
         return Err(Refusal::Exists);
     }
-    within(saved, FIXED_LIMIT, text.len())?;
+    let text = bytes_within(alloc, saved, FIXED_LIMIT, text)?;
     let name = last_name(path).copy()?;
-    let text = Listed::of(text.to_vec(alloc)?);
     Ok(Op::Make {
         dir,
         name,

@@ -4,10 +4,10 @@ ghost use Rattle.ficus_rules.specs.Write.{WriteRule};
 ghost use Rattle.ficus_deciding.specs.View.{tables_view};
 
 use crate::conflict::is_conflict;
-use crate::limits::within_limits;
+use crate::limits::bytes_within;
 use crate::walk::versioned_at;
-use ficus_durable_state::Saved;
-use ficus_ids::{Listed, Refusal};
+use ficus_durable_state::{FILE_LIMIT, Saved};
+use ficus_ids::Refusal;
 use ficus_model::Op;
 use ficus_path::Path;
 use std::alloc::Global;
@@ -21,8 +21,7 @@ pub fn write(alloc: Global, saved: &Saved, path: &Path, bytes: &[u8]) -> Result<
     if is_conflict(saved, file) {
         return Err(Refusal::Conflict);
     }
-    within_limits(saved, bytes.len())?;
-    let bytes = Listed::of(bytes.to_vec(alloc)?);
+    let bytes = bytes_within(alloc, saved, FILE_LIMIT, bytes)?;
     Ok(Op::Write {
         file: file.id,
         bytes,

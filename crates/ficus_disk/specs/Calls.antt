@@ -1,5 +1,5 @@
 -- What is alike in the calls of a disk, so that each call says it by name.
-use Rattle.std.specs.Prelude.{◌≡◌, ◌⊎◌, ℕ, ◌≤◌, List, length, Option, Result, is_ok, IsOk, OnOk, OnErr}
+use Rattle.std.specs.Prelude.{◌≡◌, ◌⊎◌, ℕ, ◌+◌, ◌≤◌, List, length, Option, Result, is_ok, IsOk, OnOk, OnErr}
 use Rattle.ficus_faults.specs.Faults.{Rose}
 use Rattle.ficus_disk.specs.Bytes.{patch, Torn}
 use Rattle.ficus_disk.specs.Crash.{Elapses, Follows, Only, Within}
@@ -30,6 +30,12 @@ pub record Stays {D A E : Type 0} (tells : Type 0) (seen : D → List ℕ) (may_
     (old new : D) (result : Result A E) : Type 0 where
   pub keeps : Keeps tells seen may_leave moment left_since room old new
   pub counts : Counts faults armings old new result
+
+-- a write of the bytes begins within the disk, and there is room for it
+pub record FitsWrite {D : Type 0} (tells : Type 0) (seen : D → List ℕ) (room : D → ℕ) (at : ℕ) (bytes : List ℕ)
+    (disk : D) : Type 0 where
+  pub place : tells → at ≤ length (seen disk)
+  pub within : at + length bytes ≤ room disk
 
 -- the bytes stand from `at` on where the call passed, and may be begun where it failed; until the next sync a crash may
 -- leave any bytes in their range; no room is lost

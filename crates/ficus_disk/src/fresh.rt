@@ -17,8 +17,8 @@ pub fn fresh_disks(alloc: Global) -> Result<Vec<Pair<MemDisk>>, Memory>
     Ok(disks)
 }
 
-// A pair of empty disks.
-fn fresh_pair(alloc: Global) -> Pair<MemDisk>
+/// A pair of empty disks in memory. No fuse is armed. Takes no memory.
+pub fn fresh_pair(alloc: Global) -> Pair<MemDisk>
     ensures { IsFreshPair result }
 {
     Pair {

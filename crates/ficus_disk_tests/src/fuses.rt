@@ -14,9 +14,9 @@ const STEPS: [Step; 5] = [
 ];
 
 /// How many of the steps pass, and what each pick then leaves.
-const LEFT: [(u32, [&[u8]; 4]); 7] = [
+const LEFT: [(&[u32], [&[u8]; 4]); 3] = [
     (
-        0,
+        &[0, 1],
         [
             b"",
             b"abcdef",
@@ -25,42 +25,11 @@ const LEFT: [(u32, [&[u8]; 4]); 7] = [
         ],
     ),
     (
-        1,
-        [
-            b"",
-            b"abcdef",
-            b"\x01\x01\x01\x01\x01\x01",
-            b"abc\xff\xff\xff",
-        ],
-    ),
-    (
-        2,
+        &[2, 3],
         [b"abcdef", b"XYZdef", b"\x01\x01\x01def", b"X\xff\xffdef"],
     ),
     (
-        3,
-        [b"abcdef", b"XYZdef", b"\x01\x01\x01def", b"X\xff\xffdef"],
-    ),
-    (
-        4,
-        [
-            b"XYZdef",
-            b"12345678",
-            b"\x01\x01\x01\x01\x01\x01\x01\x01",
-            b"1234\xff\xff\xff\xff",
-        ],
-    ),
-    (
-        5,
-        [
-            b"XYZdef",
-            b"12345678",
-            b"\x01\x01\x01\x01\x01\x01\x01\x01",
-            b"1234\xff\xff\xff\xff",
-        ],
-    ),
-    (
-        9,
+        &[4, 5, 9],
         [
             b"XYZdef",
             b"12345678",
@@ -92,10 +61,12 @@ fn leaves(alloc: Global, calls: u32, pick: u8, left: &[u8]) -> Result<bool, Memo
 
 #[test]
 fn a_fuse_leaves_what_its_pick_names(rt: HostRuntime) -> Result<(), Fail> {
-    for (calls, images) in LEFT {
-        for (pick, image) in images.iter().enumerate() {
-            let is = leaves(rt.alloc(), calls, pick as u8, image)?;
-            assert!(rt; is, "{calls} calls, pick {pick}");
+    for (passed, images) in LEFT {
+        for calls in passed {
+            for (pick, image) in images.iter().enumerate() {
+                let is = leaves(rt.alloc(), *calls, pick as u8, image)?;
+                assert!(rt; is, "{calls} calls, pick {pick}");
+            }
         }
     }
     Ok(())

@@ -1,5 +1,5 @@
 -- How many entries and files tables may have that fit.
-use Rattle.std.specs.Prelude.{◌≡◌, ℕ, ◌+◌, ◌*◌, ◌^◌, ◌≤◌, ◌<◌, List, [], ◌∷◌, length, All, AllPairs, Contains, get_or}
+use Rattle.std.specs.Prelude.{◌≡◌, ℕ, ◌+◌, ◌*◌, ◌≤◌, ◌<◌, List, [], ◌∷◌, length, All, AllPairs, Contains, get_or}
 use Rattle.std.specs.Cmp.{nat_cmp_is}
 use Rattle.std.specs.declared.cmp.Ordering.TheVariants.{Less, Equal, Greater}
 use Rattle.std.specs.Ordering.{nat_cmp}
@@ -13,8 +13,13 @@ use Rattle.ficus_ids.specs.Rising.{IsRisingBy}
 use Rattle.ficus_ids.specs.declared.id.Id.{Id}
 use Rattle.ficus_entry.specs.declared.entry.Entry.{Entry}
 use Rattle.ficus_file.specs.Files.{id_of}
+use Rattle.ficus_file.specs.declared.file.FileReplica.{FileReplica}
 use Rattle.ficus_durable_state.specs.Laws.{TablesAreCountable}
-use Rattle.ficus_durable_state.specs.Tables.{IsIssuable, FitsEntry, FitsFile}
+use Rattle.ficus_durable_state.specs.Tables.{IsIssuable, FitsEntry, FitsFile, FitsTables}
+
+-- the most identifiers that members may issue, by their ranks
+abbrev pub most_issued : ℕ
+most_issued = 900000
 
 -- identifiers that members may issue, counted through
 rank : Id → ℕ
@@ -41,7 +46,7 @@ rank_rises members a b fits also less = elim (cases_order a.replica b.replica) [
       absurd cc
 ]
 
-rank_bounds : (members : ℕ) (a : Id) → IsCount members → IsIssuable members a → (0 < rank a) × (rank a ≤ 900000)
+rank_bounds : (members : ℕ) (a : Id) → IsCount members → IsIssuable members a → (0 < rank a) × (rank a ≤ most_issued)
 unfolding rank
 rank_bounds members a few fits = (
   omega (arith, fits.at_least),
@@ -63,21 +68,32 @@ module _ {X : Type 0} (id_of : X → Id) where
       )) in
       omega (arith, first.0, rest)
 
-  -- of what members may issue there is less than a count in four bytes can say
-  issued_few : (members : ℕ) (xs : List X) → IsCount members → IsRisingBy id_of xs →
-      All (λ x. IsIssuable members (id_of x)) xs → length xs < 2 ^ 32
-  issued_few members xs few rising each =
-      let so = few_between xs 0 900000 (omega arith)
+  -- of what members may issue there are no more than of their ranks
+  few_issued : (members : ℕ) (xs : List X) → IsCount members → IsRisingBy id_of xs →
+      All (λ x. IsIssuable members (id_of x)) xs → length xs ≤ most_issued
+  few_issued members xs few rising each =
+      let so = few_between xs 0 most_issued (omega arith)
       (λ i j d before within. rank_rises members (id_of (get_or xs i d)) (id_of (get_or xs j d)) (each i d (omega arith))
       (each j d within) (rising.each i j d before within))
       (λ x inside. rank_bounds members (id_of x) few
       (All-contains (λ x. IsIssuable members (id_of x)) xs x each inside)) in
       omega (arith, so)
 
+module _ (members : ℕ) (entries : List Entry) (files : List FileReplica) (few : IsCount members)
+    (fits : FitsTables members entries files) where
+  pub few_entries : length entries ≤ most_issued
+  few_entries =
+      few_issued (λ (entry : Entry). entry.id) members entries few fits.rising
+      (All-weaker (FitsEntry members) (λ entry. IsIssuable members entry.id) (λ entry fit. fit.id) entries fits.each)
+
+  pub few_files : length files ≤ most_issued
+  few_files =
+      few_issued id_of members files few fits.rising_files
+      (All-weaker (FitsFile members) (λ file. IsIssuable members file.id) (λ file fit. fit.id) files fits.each_file)
+
+-- so many that a count in four bytes can say it
 pub tables_countable : TablesAreCountable
 tables_countable members entries files few fits = record {
-  few_entries = issued_few (λ (entry : Entry). entry.id) members entries few fits.rising
-      (All-weaker (FitsEntry members) (λ entry. IsIssuable members entry.id) (λ entry fit. fit.id) entries fits.each);
-  few_files = issued_few id_of members files few fits.rising_files
-      (All-weaker (FitsFile members) (λ file. IsIssuable members file.id) (λ file fit. fit.id) files fits.each_file);
+  few_entries = omega (arith, few_entries members entries files few fits);
+  few_files = omega (arith, few_files members entries files few fits);
 }

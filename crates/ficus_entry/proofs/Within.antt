@@ -14,7 +14,7 @@ use Rattle.ficus_index.specs.declared.place.Place.{Place}
 use Rattle.ficus_index.specs.Digest.{digest_of}
 use Rattle.ficus_index.specs.Place.{IsSpan, IsNotedWithin}
 use Rattle.ficus_index.specs.NoteLaws.{row_noted}
-use Rattle.ficus_index.specs.PlaceLaws.{noted_within}
+use Rattle.ficus_index.specs.PlaceLaws.{digest_small, noted_within}
 use Rattle.ficus_entry.specs.Inside.{LiesBetween}
 use Rattle.ficus_entry.specs.Kill.{is_live}
 use Rattle.ficus_entry.specs.Place.{note_of, AreNoted}
@@ -41,6 +41,12 @@ between_ranks dir low high entry in_dir at_least below =
       below =
           rw (replica, number) (omega (arith, below));
     }
+
+-- the places of a directory lie from its first rank up to the end of all ranks
+pub between_all : (dir : Id) (entry : Entry) → entry.dir ≡ dir →
+    LiesBetween (record { dir = dir; rank = 0 }) (record { dir = dir; rank = 2147483648 }) entry
+between_all dir entry in_dir =
+    between_ranks dir 0 2147483648 entry in_dir (omega arith) (omega (arith, digest_small entry.name))
 
 pub MatchOption-weaker : {X P P' : Type 0} {Q Q' : X → Type 0} (o : Option X) → MatchOption o P Q → (P → P') →
     ((x : X) → Q x → Q' x) → MatchOption o P' Q'

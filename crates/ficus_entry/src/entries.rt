@@ -80,7 +80,7 @@ impl Entries {
     pub fn is_empty(&self) -> bool
         ensures { result ≡ (length self.now == 0) }
     {
-        self.len() == 0
+        self.table.is_empty()
     }
 
     /// The entry at a place in the order of identifiers, from 0. The place is below the length.

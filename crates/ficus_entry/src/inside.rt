@@ -129,12 +129,8 @@ impl Entries {
     pub fn live_inside(&self, dir: Id) -> bool
         ensures { IsTrue result ↔ HasLiveInside self.now dir }
     {
-        let from = Place { dir, rank: 0 };
-        let to = Place {
-            dir,
-            rank: DIGEST_END,
-        };
-        self.first(from, to, &LiveIn { dir }).is_some()
+        self.first(first_place(dir), place_behind(dir), &LiveIn { dir })
+            .is_some()
     }
 
     /// The identifiers of the entries that lie in the directory, live and removed ones, in order. It looks at each
@@ -156,12 +152,8 @@ impl Entries {
         ensures live { IfOk result (λ ids. (entry : EntryValue) → Contains self.now entry
             → entry.state ≡ Live → entry.dir ≡ dir → Contains ids.items entry.id) }
     {
-        let from = Place { dir, rank: 0 };
-        let to = Place {
-            dir,
-            rank: DIGEST_END,
-        };
-        noted_of(self, &self.index, self.index.span(from, to), dir)
+        let span = self.index.span(first_place(dir), place_behind(dir));
+        noted_of(self, &self.index, span, dir)
     }
 
     // Whether the entry with the identifier lies in the directory.
@@ -203,6 +195,23 @@ impl Entries {
             Some(entry) if test.passes(entry) => Some(entry),
             _ => None,
         }
+    }
+}
+
+// The lowest place that an entry of the directory may have.
+fn first_place(dir: Id) -> Place
+    ensures { result ≡ record { dir = dir; rank = 0 } }
+{
+    Place { dir, rank: 0 }
+}
+
+// The place behind all that entries of the directory may have.
+fn place_behind(dir: Id) -> Place
+    ensures { result ≡ record { dir = dir; rank = DIGEST_END } }
+{
+    Place {
+        dir,
+        rank: DIGEST_END,
     }
 }
 

@@ -1,4 +1,4 @@
-ghost use Rattle.std.specs.Prelude.{is_some, false, ◌⊎◌, ◌≡◌, ◌^◌, ◌≤◌, ⊤, IfOk, IsOk, IsErr, OnOk, OnErr, [], None, Ok, length, string_bytes};
+ghost use Rattle.std.specs.Prelude.{is_some, false, ◌⊎◌, ◌≡◌, ◌^◌, ◌≤◌, ⊤, IfOk, IsOk, IsErr, OnOk, OnErr, [], Ok, length, string_bytes};
 ghost use Rattle.ficus_disk.specs.Bytes.{Torn};
 ghost use Rattle.ficus_disk.specs.Crash.{Follows};
 ghost use Rattle.ficus_faults.specs.Faults.{Rose, next_fault};
@@ -99,31 +99,17 @@ fn counted<T: Drop>(faults: &mut Faults, answer: io::Result<T>) -> Result<T, Fai
 }
 
 impl<S: System + Drop> Disk for SystemDisk<S> {
-    ghost use Rattle.ficus_disk.specs.declared.fuse.Fuse.TheVariants.{Unarmed};
-
     ghost tells = { ⊥ };
-
-    ghost tells_moments = { ⊥ };
-
-    ghost tells_fuse = { ⊥ };
 
     ghost seen = { λ _. [] };
 
     ghost may_leave = { λ _ _. ⊤ };
-
-    ghost moment = { λ _. 0 };
 
     ghost left_since = { λ _ _ _. ⊤ };
 
     ghost room = { λ _. 2 ^ 64 };
 
     ghost faults = { λ d. d.faults };
-
-    ghost armings = { λ _. None };
-
-    ghost fuse = { λ _. Unarmed };
-
-    ghost image = { λ _ _. [] };
 
     ghost seen_may_be_left = { λ none d. absurd none };
 

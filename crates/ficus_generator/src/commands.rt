@@ -1,6 +1,6 @@
 ghost use Rattle.std.specs.Prelude.{◌≡◌, ◌<◌, ◌≤◌, ◌+◌, ◌^◌, ◌++◌, ◌∷◌, [], All, IfOk, OnOk, length};
 ghost use Rattle.ficus_generator.specs.Commands.{dir_commands, first_pull_commands, step_command, step_commands};
-ghost use Rattle.ficus_generator.specs.Draws.{state_after};
+ghost use Rattle.ficus_generator.specs.Draws.{FitsSteps, state_after};
 ghost use Rattle.ficus_generator.specs.Lines.{StopsNothing};
 ghost use Rattle.ficus_generator.specs.Script.{script_lines, text_of};
 ghost use Rattle.ficus_generator.specs.Step.{step_from};
@@ -65,8 +65,7 @@ fn push_steps(
     steps: u32,
     members: Members,
 ) -> Result<(), Memory>
-    requires seed { seed < 2 ^ 31 }
-    requires steps { steps ≤ 5000 }
+    requires { FitsSteps seed steps }
     ensures { OnOk result (commands.new.items ≡ commands.old.items ++ step_commands seed steps members) }
 {
     let mut draws = Draws::new(seed);

@@ -1,5 +1,5 @@
 ghost use Rattle.std.specs.Prelude.{◌≡◌, ◌<◌, ◌≤◌, ◌^◌, [], ◌∷◌, ◌++◌, IfOk, OnOk};
-ghost use Rattle.ficus_generator.specs.Draws.{state_after};
+ghost use Rattle.ficus_generator.specs.Draws.{FitsSteps, state_after};
 ghost use Rattle.ficus_generator.specs.Script.{dir_lines, first_pull_lines, mkdir_line, pull_line};
 ghost use Rattle.ficus_generator.specs.Script.{script_lines, step_line, step_lines, text_of};
 ghost use Rattle.ficus_generator.specs.Step.{step_from};
@@ -65,8 +65,7 @@ fn append_steps(
     steps: u32,
     members: Members,
 ) -> Result<(), Memory>
-    requires seed { seed < 2 ^ 31 }
-    requires steps { steps ≤ 5000 }
+    requires { FitsSteps seed steps }
     ensures { OnOk result (script.new.items ≡ script.old.items ++ text_of (step_lines seed steps members)) }
 {
     let mut draws = Draws::new(seed);

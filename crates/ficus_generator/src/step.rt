@@ -1,4 +1,4 @@
-ghost use Rattle.std.specs.Prelude.{◌≡◌, ◌<◌, [], ◌∷◌, ◌++◌, IfOk, string_bytes};
+ghost use Rattle.std.specs.Prelude.{◌≡◌, ◌<◌, ◌+◌, ◌%◌, [], ◌∷◌, ◌++◌, IfOk, string_bytes};
 ghost use Rattle.ficus_ids.specs.Members.{IsMember};
 ghost use Rattle.ficus_generator.specs.Commands.{mkdir_command, step_command};
 ghost use Rattle.ficus_generator.specs.Draws.{state_after};
@@ -54,6 +54,21 @@ impl Step {
         }
     }
 
+    // The number of the directory that has the place.
+    fn dir(self) -> u8
+        ensures { result ≡ self.place % 4 }
+    {
+        self.place % 4
+    }
+
+    // That of the next one, to which a move goes.
+    fn next_dir(self) -> u8
+        requires { self.place < 8 }
+        ensures { result ≡ (self.place + 1) % 4 }
+    {
+        (self.place + 1) % 4
+    }
+
     /// The line of the step, ended by byte 10.
     pub(crate) fn line(self, alloc: Global, members: Members) -> Result<String, Memory>
         requires member { IsMember members self.by }
@@ -66,8 +81,8 @@ impl Step {
             action,
             place,
         } = self;
-        let dir = place % 4;
-        let next = (place + 1) % 4;
+        let dir = self.dir();
+        let next = self.next_dir();
         let peer = peer_of(members, by, place);
         match action {
             Action::MkDir => Ok(format!(in alloc; "{by} mkdir /d{dir}\n")?),
@@ -89,15 +104,9 @@ impl Step {
         requires place { self.place < 8 }
         ensures { IfOk result (λ command. command ≡ step_command members self) }
     {
-        let Step {
-            number,
-            by,
-            action,
-            place,
-        } = self;
-        let dir = place % 4;
-        let next = (place + 1) % 4;
-        match action {
+        let Step { by, place, .. } = self;
+        let dir = self.dir();
+        match self.action {
             Action::MkDir => mkdir(alloc, by, dir),
             Action::Collect => Ok(Command::Collect { by }),
             Action::Pull => Ok(Command::Pull {
@@ -116,7 +125,7 @@ impl Step {
             }
             Action::Write => {
                 let path = file_path(alloc, dir, place)?;
-                let text = text_of(alloc, number)?;
+                let text = text_of(alloc, self.number)?;
                 Ok(changed(by, Change::Write { path, text }))
             }
             Action::Rm => {
@@ -125,7 +134,7 @@ impl Step {
             }
             Action::Mv => {
                 let from = file_path(alloc, dir, place)?;
-                let path = file_path(alloc, next, place)?;
+                let path = file_path(alloc, self.next_dir(), place)?;
                 Ok(changed(by, Change::Mv { from, path }))
             }
             Action::Resolve => {

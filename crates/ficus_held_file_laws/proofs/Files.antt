@@ -13,6 +13,7 @@ use Rattle.ficus_file.specs.declared.file.FileReplica.{FileReplica}
 use Rattle.ficus_file.specs.declared.version.Version.{Version}
 use Rattle.ficus_model.specs.declared.event.Event.{Event}
 use Rattle.ficus_model.specs.Events.{count_of as updates_of}
+use Rattle.ficus_model.specs.Held.{IsHeldObject}
 use Rattle.ficus_model.specs.Known.{Knows}
 use Rattle.ficus_model.specs.Lawful.{Volume, IsLawful}
 use Rattle.ficus_model.specs.Live.{IsMade, HasName}
@@ -100,12 +101,10 @@ files_once {files = files} {others = others} held held_too =
     same_items id_of files others held.rising held_too.rising
     (λ file. (file_inside held held_too file, file_inside held_too held file))
 
--- an object with a live name isn't done, so it is listed
-pub named_listed : (volume : Volume) (H : List Event) (replica : ℕ) (files : List FileReplica) (object : Id)
-    (kind : Kind) → IsLawful volume H → IsMember volume.members replica →
-    AreHeldFiles volume.members H replica files → HasName H (Knows H replica) object →
-    IsMade H (Knows H replica) object kind → ListsObject files object kind
-named_listed volume H replica files object kind lawful m held named made = record {
+-- an object that is held is listed
+pub object_listed : {members : ℕ} {H : List Event} {replica : ℕ} {files : List FileReplica} {object : Id} {kind : Kind} →
+    AreHeldFiles members H replica files → IsHeldObject members H replica object kind → ListsObject files object kind
+object_listed {files = files} {object = object} {kind = kind} held h = record {
   file = found.0;
   inside = found.1;
   has_id = ap (λ (o : KeptObject). o.id) found.2 ∙ listed.has.named;
@@ -113,10 +112,17 @@ named_listed volume H replica files object kind lawful m held named made = recor
 }
   where
     listed : HasKind (objects_of files) object kind
-    listed = held_listed held.kept (record {
-      made = made;
-      held = λ position d. (final volume H lawful).nameless replica position replica object d m named;
-    })
+    listed = held_listed held.kept h
 
     found : (file : FileReplica) × Contains files file × (object_of file ≡ listed.has.object)
     found = from_map object_of files listed.has.object listed.has.inside
+
+-- one with a live name isn't done, so it is
+pub named_listed : (volume : Volume) (H : List Event) (replica : ℕ) (files : List FileReplica) (object : Id)
+    (kind : Kind) → IsLawful volume H → IsMember volume.members replica →
+    AreHeldFiles volume.members H replica files → HasName H (Knows H replica) object →
+    IsMade H (Knows H replica) object kind → ListsObject files object kind
+named_listed volume H replica files object kind lawful m held named made = object_listed held (record {
+  made = made;
+  held = λ position d. (final volume H lawful).nameless replica position replica object d m named;
+})

@@ -1,7 +1,6 @@
 -- An orphan isn't done, so it is listed; and which files of a list have an uncovered version.
-use Rattle.std.proofs.Common.{◌≡◌, ℕ, List, ap, subst, ◌∙◌, inl, inr}
+use Rattle.std.proofs.Common.{ℕ, List, subst, ◌∙◌, inl, inr}
 use Rattle.std.specs.Prelude.{Contains}
-use Rattle.ficus_ids.specs.ListLaws.{from_map}
 use Rattle.ficus_ids.specs.Members.{IsMember}
 use Rattle.ficus_ids.specs.declared.id.Id.{Id}
 use Rattle.ficus_ids.specs.declared.kind.Kind.{Kind}
@@ -22,14 +21,13 @@ use Rattle.ficus_version_laws.specs.Listed.{Item}
 use Rattle.ficus_version_laws.proofs.Orphaned.{unseen_beyond, beyond_unseen}
 use Rattle.ficus_final_laws.specs.Laws.{KnowsAllOf}
 use Rattle.ficus_final_laws.proofs.Finishing.{knows_all_of}
-use Rattle.ficus_held_laws.specs.Objects.{KeptObject, IsKeptObject, HasKind}
-use Rattle.ficus_held_laws.proofs.Leaving.{held_listed}
+use Rattle.ficus_held_laws.specs.Objects.{IsKeptObject}
 use Rattle.ficus_file_laws.specs.Items.{item_of}
 use Rattle.ficus_file_laws.proofs.Items.{item_inside, from_items}
 use Rattle.ficus_file_laws.proofs.Merging.{count_members, covers_from}
-use Rattle.ficus_held_file_laws.specs.Tables.{object_of, objects_of, AreHeldFiles}
+use Rattle.ficus_held_file_laws.specs.Tables.{object_of, AreHeldFiles}
 use Rattle.ficus_held_file_laws.specs.Laws.{ListsObject}
-use Rattle.ficus_held_file_laws.proofs.Files.{kept_file, versions_held}
+use Rattle.ficus_held_file_laws.proofs.Files.{kept_file, object_listed, versions_held}
 
 module _ (volume : Volume) (H : List Event) (lawful : IsLawful volume H) {replica position : ℕ} {object : Id}
     (m : IsMember volume.members replica) (done : IsDone volume.members H replica object position) where
@@ -91,21 +89,10 @@ pub orphan_listed : (volume : Volume) (H : List Event) (replica : ℕ) (files : 
     (kind : Kind) → IsLawful volume H → IsMember volume.members replica →
     AreHeldFiles volume.members H replica files → IsOrphan H (Knows H replica) object →
     IsMade H (Knows H replica) object kind → ListsObject files object kind
-orphan_listed volume H replica files object kind lawful m held orphan made = record {
-  file = found.0;
-  inside = found.1;
-  has_id = ap (λ (o : KeptObject). o.id) found.2 ∙ listed.has.named;
-  of_kind = ap (λ (o : KeptObject). o.kind) found.2 ∙ listed.of;
-}
-  where
-    listed : HasKind (objects_of files) object kind
-    listed = held_listed held.kept (record {
-      made = made;
-      held = λ position done. not_orphan volume H lawful m done orphan;
-    })
-
-    found : (file : FileReplica) × Contains files file × (object_of file ≡ listed.has.object)
-    found = from_map object_of files listed.has.object listed.has.inside
+orphan_listed volume H replica files object kind lawful m held orphan made = object_listed held (record {
+  made = made;
+  held = λ position done. not_orphan volume H lawful m done orphan;
+})
 
 -- a version of a file of the list is uncovered exactly where the vector of one isn't at most the cover
 module _ (volume : Volume) (H : List Event) {replica : ℕ} {files : List FileReplica} {file : FileReplica}

@@ -12,7 +12,7 @@ ghost use Rattle.ficus_image.specs.declared.image_version.ImageVersion.{ImageVer
 
 use crate::front::read_front;
 use crate::{ImageFault, ImageVersion};
-use ficus_codec::read_tables;
+use ficus_codec::{Known, read_all_rows, tables_of};
 use ficus_durable_state::{BYTE_LIMIT, Saved, UPDATE_LIMIT};
 use ficus_entry::Entries;
 use ficus_file::{Files, FilesInOrder};
@@ -35,14 +35,9 @@ fn read_all_tables(
 ) -> Result<(Entries, Files), ReadFault>
     ensures { ReadsAll (tables members) reader.entry result }
 {
-    let _ = members.count();
-    let mut rest = reader;
-    let tables = read_tables(alloc, &mut rest, members)?;
-    if rest.is_empty() {
-        Ok(tables)
-    } else {
-        Err(ReadFault::Unspelled)
-    }
+    let (entries, files) = read_all_rows(alloc, reader, &Known::none(members))?;
+    let tables = tables_of(alloc, entries.items(), files.items())?;
+    Ok(tables)
 }
 
 // What stands in front of the tables, and the tables to the end.

@@ -1,5 +1,5 @@
-use crate::saves::{Kept, Stop, empty, ends_with, kept_on, saves};
-use ficus_disk::{Disk, MemDisk, Pair};
+use crate::saves::{Kept, Stop, ends_with, kept_on, saves};
+use ficus_disk::{Disk, MemDisk, Pair, fresh_pair};
 use ficus_journal::Journal;
 use ficus_keeper::{Keep, StoreFault, Wants};
 use ficus_slot::read_all;
@@ -33,7 +33,7 @@ fn keeps_each(alloc: Global, disks: &mut Pair<MemDisk>, number: u8) -> Result<bo
 #[test]
 fn each_65th_save_is_an_image(rt: HostRuntime) -> Result<(), Fail> {
     let alloc = rt.alloc();
-    let mut disks = empty(alloc);
+    let mut disks = fresh_pair(alloc);
     assert!(rt; Journal::make(alloc, &mut disks, b"").is_ok());
     for number in 1..=SAVES {
         assert!(rt;
@@ -45,18 +45,15 @@ fn each_65th_save_is_an_image(rt: HostRuntime) -> Result<(), Fail> {
 }
 
 /// How many calls pass, and whether each pick then finds a record.
-const FOUND: [(u32, [bool; 4]); 6] = [
-    (0, [false, false, false, false]),
-    (1, [false, false, false, false]),
-    (2, [false, true, true, false]),
-    (3, [false, true, true, false]),
-    (4, [true, true, true, true]),
-    (5, [true, true, true, true]),
+const FOUND: [(&[u32], [bool; 4]); 3] = [
+    (&[0, 1], [false, false, false, false]),
+    (&[2, 3], [false, true, true, false]),
+    (&[4, 5], [true, true, true, true]),
 ];
 
 // Whether a record that is saved with such a fuse is found, or isn't, as said, and one more can be saved then.
 fn leaves(alloc: Global, calls: u32, pick: u8, is_found: bool) -> Result<bool, StoreFault> {
-    let mut disks = empty(alloc);
+    let mut disks = fresh_pair(alloc);
     if pick > 3 || Journal::make(alloc, &mut disks, b"image").is_err() {
         return Ok(false);
     }
@@ -73,10 +70,12 @@ fn leaves(alloc: Global, calls: u32, pick: u8, is_found: bool) -> Result<bool, S
 
 #[test]
 fn a_stopped_record_is_found_by_its_pick(rt: HostRuntime) -> Result<(), Fail> {
-    for (calls, found) in FOUND {
-        for (pick, is_found) in found.iter().enumerate() {
-            let is = leaves(rt.alloc(), calls, pick as u8, *is_found);
-            assert!(rt; is == Ok(true), "{calls} calls, pick {pick}");
+    for (passed, found) in FOUND {
+        for calls in passed {
+            for (pick, is_found) in found.iter().enumerate() {
+                let is = leaves(rt.alloc(), *calls, pick as u8, *is_found);
+                assert!(rt; is == Ok(true), "{calls} calls, pick {pick}");
+            }
         }
     }
     Ok(())
@@ -108,7 +107,7 @@ const LOG: &[u8] = b"\x01\0\0\0\0\0\0\0\0\0\0\0\0\0\0\0\x01i\
 #[test]
 fn a_disk_is_a_slot_and_records(rt: HostRuntime) -> Result<(), Fail> {
     let alloc = rt.alloc();
-    let mut disks = empty(alloc);
+    let mut disks = fresh_pair(alloc);
     assert!(rt; Journal::make(alloc, &mut disks, b"i").is_ok());
     assert!(rt; saves::<Journal, MemDisk>(alloc, &mut disks, b"r", None) == Ok(true));
     assert!(rt; saves::<Journal, MemDisk>(alloc, &mut disks, b"st", None) == Ok(true));
@@ -142,7 +141,7 @@ fn a_record_that_is_cut_short_is_passed_over(rt: HostRuntime) -> Result<(), Fail
 #[test]
 fn what_two_slots_left_has_no_record(rt: HostRuntime) -> Result<(), Fail> {
     let alloc = rt.alloc();
-    let mut disks = empty(alloc);
+    let mut disks = fresh_pair(alloc);
     let none = Kept {
         image: 3,
         records: 0,

@@ -1,7 +1,7 @@
 // Saves, and what is kept after them.
-ghost use Rattle.std.specs.Prelude.{◌≡◌, ◌<◌, [], IfSome};
+ghost use Rattle.std.specs.Prelude.{◌<◌, IfSome};
 
-use ficus_disk::{Disk, MemDisk, Pair};
+use ficus_disk::{Disk, Pair};
 use ficus_keeper::{Keep, StoreFault, Wants, reopen};
 use std::alloc::Global;
 
@@ -10,17 +10,6 @@ use std::alloc::Global;
 pub(crate) struct Stop {
     pub(crate) calls: u32,
     pub(crate) pick: u8,
-}
-
-/// Two empty disks.
-pub(crate) fn empty(alloc: Global) -> Pair<MemDisk>
-    ensures a { ⟦<MemDisk as Disk>⟧.seen result.a ≡ [] }
-    ensures b { ⟦<MemDisk as Disk>⟧.seen result.b ≡ [] }
-{
-    Pair {
-        a: MemDisk::new(alloc),
-        b: MemDisk::new(alloc),
-    }
 }
 
 /// Opens the disks and saves the bytes as the next generation, with both disks armed behind the preparations where a

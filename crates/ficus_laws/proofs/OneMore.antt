@@ -19,13 +19,15 @@ pub within_more : (H T : List Event) (replica : ℕ) → UpdatesWithin H (Knows 
 within_more H T replica =
     record { has = λ number op u. record { position = u.position; known = knows_more T u.known; update = update_more T u.update } }
 
--- an update that is known after one more event was known before; or the event is the replica's own, and it is
--- that update or was told of it
+-- the event is the replica's own, and it is this update or was told of it
+abbrev Adds : List Event → Event → ℕ → Id → Op → Type 0
+Adds H event replica number op = (actor event ≡ replica) ×
+    (((event ≡ Update replica op) × (number ≡ next_number replica H)) ⊎ HasUpdate H (IsTold H event) number op)
+
+-- an update that is known after one more event was known before, or the event adds it
 pub has_cases : {H : List Event} {replica : ℕ} {number : Id} {op : Op} (event : Event) →
     HasUpdate (H ++ event ∷ []) (Knows (H ++ event ∷ []) replica) number op →
-    HasUpdate H (Knows H replica) number op ⊎
-    ((actor event ≡ replica) ×
-    (((event ≡ Update replica op) × (number ≡ next_number replica H)) ⊎ HasUpdate H (IsTold H event) number op))
+    HasUpdate H (Knows H replica) number op ⊎ Adds H event replica number op
 has_cases {H} {replica} {number} {op} event u = go (update_cases event u.update) (knows_cases event u.known)
   where
     last : (number.replica ≡ replica) → event ≡ Update number.replica op → number ≡ next_number number.replica H →
@@ -35,30 +37,28 @@ has_cases {H} {replica} {number} {op} event u = go (update_cases event u.update)
     go : IsUpdate H u.position number op ⊎
         ((u.position ≡ length H) × (event ≡ Update number.replica op) × (number ≡ next_number number.replica H)) →
         IsKnownAfter H event replica u.position →
-        HasUpdate H (Knows H replica) number op ⊎
-        ((actor event ≡ replica) ×
-        (((event ≡ Update replica op) × (number ≡ next_number replica H)) ⊎ HasUpdate H (IsTold H event) number op))
+        HasUpdate H (Knows H replica) number op ⊎ Adds H event replica number op
     go (inl was) (inl known) = inl (record { position = u.position; known = known; update = was })
     go (inl was) (inr (of, inl end)) = absurd (omega (arith, update_within was))
     go (inl was) (inr (of, inr told)) = inr (of, inr (record { position = u.position; known = told; update = was }))
     go (inr (end, is, next)) (inl known) = absurd (omega (arith, knows_within known))
     go (inr (end, is, next)) (inr (of, rest)) = inr (of, inl (last (sym (ap actor is) ∙ of) is next))
 
--- an event of another replica changes nothing
+-- an event that adds nothing changes nothing
+same_unless_added : (H : List Event) (event : Event) (replica : ℕ) →
+    ((number : Id) (op : Op) → Adds H event replica number op → ⊥) →
+    SameUpdates H (Knows H replica) (H ++ event ∷ []) (Knows (H ++ event ∷ []) replica)
+same_unless_added H event replica none = record {
+  there = within_more H (event ∷ []) replica;
+  back = record {
+    has = λ number op u. elim (has_cases event u) [ inl was ↦ was | inr added ↦ absurd (none number op added) ];
+  };
+}
+
+-- one of another replica doesn't
 pub same_of_other : (H : List Event) (event : Event) (replica : ℕ) → actor event ≢ replica →
     SameUpdates H (Knows H replica) (H ++ event ∷ []) (Knows (H ++ event ∷ []) replica)
-same_of_other H event replica other = record {
-  there = within_more H (event ∷ []) replica;
-  back = record { has = λ number op u. go number op (has_cases event u) };
-}
-  where
-    go : (number : Id) (op : Op) →
-        HasUpdate H (Knows H replica) number op ⊎
-        ((actor event ≡ replica) ×
-        (((event ≡ Update replica op) × (number ≡ next_number replica H)) ⊎ HasUpdate H (IsTold H event) number op)) →
-        HasUpdate H (Knows H replica) number op
-    go number op (inl was) = was
-    go number op (inr (of, rest)) = absurd (other of)
+same_of_other H event replica other = same_unless_added H event replica (λ number op added. other added.0)
 
 pub quiet_takes : (event : Event) (served : ℕ) → IsQuiet event → Takes event served → ⊥
 quiet_takes (Accept by serve piece) served quiet takes = quiet
@@ -67,19 +67,10 @@ quiet_takes event served quiet takes = takes
 -- nor does one that is no update and takes nothing
 pub same_quiet : (H : List Event) (event : Event) (replica : ℕ) → IsQuiet event →
     SameUpdates H (Knows H replica) (H ++ event ∷ []) (Knows (H ++ event ∷ []) replica)
-same_quiet H event replica quiet = record {
-  there = within_more H (event ∷ []) replica;
-  back = record { has = λ number op u. go number op (has_cases event u) };
-}
-  where
-    go : (number : Id) (op : Op) →
-        HasUpdate H (Knows H replica) number op ⊎
-        ((actor event ≡ replica) ×
-        (((event ≡ Update replica op) × (number ≡ next_number replica H)) ⊎ HasUpdate H (IsTold H event) number op)) →
-        HasUpdate H (Knows H replica) number op
-    go number op (inl was) = was
-    go number op (inr (of, inl (is, next))) = absurd (subst IsQuiet is quiet)
-    go number op (inr (of, inr told)) = absurd (quiet_takes event told.known.served quiet told.known.takes)
+same_quiet H event replica quiet = same_unless_added H event replica (λ number op added. elim added.1 [
+  | inl next ↦ subst IsQuiet next.0 quiet
+  | inr told ↦ quiet_takes event told.known.served quiet told.known.takes
+])
 
 -- an update of the replica is known with the next number
 pub has_end : (H : List Event) (replica : ℕ) (op : Op) →
@@ -92,9 +83,7 @@ pub has_after_update : {H : List Event} {replica : ℕ} {number : Id} {op : Op} 
     HasUpdate H (Knows H replica) number op ⊎ ((number ≡ next_number replica H) × (op ≡ done))
 has_after_update {H} {replica} {number} {op} done u = go (has_cases (Update replica done) u)
   where
-    go : HasUpdate H (Knows H replica) number op ⊎
-        ((replica ≡ replica) × (((Update replica done ≡ Update replica op) × (number ≡ next_number replica H))
-        ⊎ HasUpdate H (IsTold H (Update replica done)) number op)) →
+    go : HasUpdate H (Knows H replica) number op ⊎ Adds H (Update replica done) replica number op →
         HasUpdate H (Knows H replica) number op ⊎ ((number ≡ next_number replica H) × (op ≡ done))
     go (inl was) = inl was
     go (inr (of, inl (is, next))) = inr (next, cc)
@@ -121,9 +110,7 @@ same_accept H replica served piece = record {
         record { position = u.position; known = knows_heard replica piece u.known; update = update_more (event ∷ []) u.update }
 
     go : (number : Id) (op : Op) →
-        HasUpdate H (Knows H replica) number op ⊎
-        ((replica ≡ replica) ×
-        (((event ≡ Update replica op) × (number ≡ next_number replica H)) ⊎ HasUpdate H (IsTold H event) number op)) →
+        HasUpdate H (Knows H replica) number op ⊎ Adds H event replica number op →
         HasUpdate H (Joined (Knows H replica) (HasSeen H served)) number op
     go number op (inl u) = record { position = u.position; known = inl u.known; update = u.update }
     go number op (inr (of, inl (is, next))) = (let clash : Accept replica served piece ≡ Update replica op = is in cc)

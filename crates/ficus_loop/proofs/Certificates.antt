@@ -1,5 +1,5 @@
 -- What why is answered is what the model answers, whatever the world stands for.
-use Rattle.std.proofs.Common.{ℕ, List, [], length, Ok, Err, refl, ap, subst, ◌∙◌}
+use Rattle.std.proofs.Common.{ℕ, List, [], length, Ok, Err, refl, sym, ap, subst, ◌∙◌}
 use Rattle.ficus_disk.specs.declared.disk.Disk.{Ghosts as Disk}
 use Rattle.ficus_disk.specs.declared.pair.Pair.{Pair}
 use Rattle.ficus_ids.specs.Members.{IsMember}
@@ -14,18 +14,16 @@ use Rattle.ficus_why.specs.Plain.{IsPlain}
 use Rattle.ficus_why_runs.specs.Row.{Explains, run_of}
 use Rattle.ficus_why_runs.proofs.Lawful.{lawful_plain}
 use Rattle.ficus_runs.specs.ModelWorld.{ModelWorld}
-use Rattle.ficus_runs.specs.Run.{CommandMayWantMemory, Does, Step}
+use Rattle.ficus_runs.specs.Run.{CommandMayWantMemory, Does, DoesPart, Step}
 use Rattle.ficus_runs.specs.Sequence.{Effect}
 use Rattle.ficus_runs.specs.Sequence.First.{Ends, Goes}
 use Rattle.ficus_runs.specs.Sequence.ByRule.{Says}
 use Rattle.ficus_runs.proofs.Numbers.{number_exists}
+use Rattle.ficus_loop.proofs.Actions.{as_command, nothing_follows, nothing_stops, stops_command}
 use Rattle.ficus_world.specs.Follows.{FollowsOn, StopsOn}
 use Rattle.ficus_world.specs.World.{IsUpIn, Whole, WorldStandsFor}
-use Rattle.ficus_world.proofs.Disks.{follows_none}
 use Rattle.ficus_world.proofs.Following.{at_down, at_member, at_none, at_refused}
-use Rattle.ficus_world.proofs.Fuses.{fuses_none, permit_none}
 use Rattle.ficus_world.proofs.OneWorld.{stored_from}
-use Rattle.ficus_world.proofs.Outcomes.{steady_caused}
 use Rattle.ficus_world.proofs.Standing.{member_of, up_in}
 
 module _ (volume : Volume) (W : ModelWorld) (world : Whole) (stands : WorldStandsFor volume W world) (by : ℕ) where
@@ -82,30 +80,12 @@ module _ {K D : Type 0} (keep : Keep K) (disk : Disk D) (volume : Volume) (W : M
   -- nothing happens, and nothing is asked of the outside
   pub why_follows : (given : Answer) → Step volume W (Why by) [] given W
       → FollowsOn keep disk volume W world (Why by) given world disks disks
-  why_follows given step = record {
-    outcomes = [];
-    follows = record {
-      after = W;
-      step = step;
-      caused = steady_caused world.post.faults;
-      stored = refl;
-      stands = stands;
-    };
-    disks = follows_none;
-    fuses = fuses_none;
-  }
+  why_follows given step =
+      subst (λ (a : Answer). FollowsOn keep disk volume W world (Why by) a world disks disks) (sym step.answer_is)
+      (as_command (Why by) step.result
+      (nothing_follows (Does volume (Why by)) step.result W world disks stands step.does) (λ left does. does))
 
   -- also where memory is refused
   pub why_stops : StopsOn keep disk volume W world (Why by) world disks disks
-  why_stops = record {
-    outcomes = [];
-    stops = record {
-      after = W;
-      does = refl;
-      caused = steady_caused world.post.faults;
-      stored = refl;
-      stands = stands;
-    };
-    disks = follows_none;
-    fuses = permit_none;
-  }
+  why_stops =
+      stops_command {command = Why by} (nothing_stops (DoesPart volume (Why by)) W world disks stands refl)

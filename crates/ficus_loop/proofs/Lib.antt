@@ -9,9 +9,11 @@ pub mod KilledDisks
 pub mod Certificates
 pub mod Faults
 pub mod Places
+pub mod Backing
 pub mod Serves
 pub mod Sweeping
 pub mod Tallying
+pub mod Actions
 pub mod SweepAnswers
 pub mod SweepCommands
 pub mod FewSteps

@@ -16,6 +16,7 @@ use Rattle.ficus_script.specs.declared.command.Command.TheVariants as command
 use Rattle.ficus_script.specs.declared.order.Order.{Order}
 use Rattle.ficus_runs.proofs.sweeps.Chains.{then_nothing}
 use Rattle.ficus_loop.specs.SweepFollows.{FollowsAction, StopsAction}
+use Rattle.ficus_loop.proofs.Actions.{as_command, stops_command}
 use Rattle.ficus_world.specs.Follows.{FollowsOn, StopsOn}
 use Rattle.ficus_world.specs.World.{Whole}
 
@@ -33,43 +34,18 @@ module _ {K D : Type 0} {keep : Keep K} {disk : Disk D} {W : ModelWorld} {old ne
       → FollowsAction keep disk volume W old (Sweeps volume (sweep_steps order volume.members) none_swept) (Ok swept) new
       old_disks new_disks
       → FollowsOn keep disk volume W old (command.Sweep order) (swept_answer swept) new old_disks new_disks
-  sweep_answered swept on = record {
-    outcomes = on.outcomes;
-    follows = record {
-      after = on.follows.after;
-      step = record {
-        result = Ok (swept_answer swept);
-        does = then_answers volume order W swept (record { outcomes = on.outcomes; after = on.follows.after })
-            on.follows.does;
-        answer_is = refl;
-      };
-      caused = on.follows.caused;
-      stored = on.follows.stored;
-      stands = on.follows.stands;
-    };
-    disks = on.disks;
-    fuses = on.fuses;
-  }
+  sweep_answered swept on =
+      as_command (command.Sweep order) (Ok (swept_answer swept)) on
+      (λ left does. then_answers volume order W swept left does)
 
   -- one that met a refusal, with that
   pub sweep_refused : (refusal : Refusal)
       → FollowsAction keep disk volume W old (Sweeps volume (sweep_steps order volume.members) none_swept)
       (Err refusal) new old_disks new_disks
       → FollowsOn keep disk volume W old (command.Sweep order) (answer.Refused refusal) new old_disks new_disks
-  sweep_refused refusal on = record {
-    outcomes = on.outcomes;
-    follows = record {
-      after = on.follows.after;
-      step = record { result = Err refusal; does = Ends on.follows.does; answer_is = refl };
-      caused = on.follows.caused;
-      stored = on.follows.stored;
-      stands = on.follows.stands;
-    };
-    disks = on.disks;
-    fuses = on.fuses;
-  }
+  sweep_refused refusal on = as_command (command.Sweep order) (Err refusal) on (λ left does. Ends does)
 
   -- and where memory is refused it has done what its command has
   pub sweep_cut : StopsAction keep disk volume W old (SweepsPart volume (sweep_steps order volume.members)) new old_disks
       new_disks → StopsOn keep disk volume W old (command.Sweep order) new old_disks new_disks
-  sweep_cut on = record { outcomes = on.outcomes; stops = on.stops; disks = on.disks; fuses = on.fuses }
+  sweep_cut on = stops_command {command = command.Sweep order} on

@@ -25,12 +25,13 @@ use Rattle.ficus_runs.proofs.sweeps.Chains.{sweeps_push, sweeps_end, sweeps_cut}
 use Rattle.ficus_runs.proofs.sweeps.Whole.{all_swept}
 use Rattle.ficus_world.specs.Follows.{FollowsOn, StopsOn, TellsFor}
 use Rattle.ficus_world.specs.World.{Whole, WorldStandsFor}
-use Rattle.ficus_world.proofs.Disks.{follows_none, follows_then}
-use Rattle.ficus_world.proofs.Fuses.{fuses_none, fuses_then, permit_none, permit_then}
-use Rattle.ficus_world.proofs.Outcomes.{both_caused, steady_caused}
+use Rattle.ficus_world.proofs.Disks.{follows_then}
+use Rattle.ficus_world.proofs.Fuses.{permit_then}
+use Rattle.ficus_world.proofs.Outcomes.{both_caused}
 use Rattle.ficus_loop.specs.declared.sweep_fault.SweepFault.{SweepFault}
 use Rattle.ficus_loop.specs.declared.sweep_fault.SweepFault.TheVariants.{Stopped, Memory}
 use Rattle.ficus_loop.specs.declared.sweep_report.SweepReport.{SweepReport}
+use Rattle.ficus_loop.proofs.Actions.{effect_of, nothing_follows, nothing_stops, then_follows}
 use Rattle.ficus_loop.specs.SweepFollows.{FollowsAction, StopsAction, FollowsStep, FollowsSweep, LeavesSwept, ReportsSo, swept_of}
 
 -- a step that is done isn't answered with a refusal
@@ -89,34 +90,14 @@ module _ {K D : Type 0} {keep : Keep K} {disk : Disk D} {volume : Volume} where
   -- no step
   pub no_steps : (W : ModelWorld) (world : Whole) (disks : List (Pair D)) → WorldStandsFor volume W world
       → FollowsAction keep disk volume W world (Sweeps volume [] none_swept) (Ok none_swept) world disks disks
-  no_steps W world disks stands = record {
-    outcomes = [];
-    follows = record {
-      after = W;
-      does = Says refl;
-      caused = steady_caused world.post.faults;
-      stored = refl;
-      stands = stands;
-    };
-    disks = follows_none;
-    fuses = fuses_none;
-  }
+  no_steps W world disks stands =
+      nothing_follows (Sweeps volume [] none_swept) (Ok none_swept) W world disks stands (Says refl)
 
   -- memory is refused before the first
   pub stops_first : (steps : List SweepStep) (W : ModelWorld) (world : Whole) (disks : List (Pair D))
       → WorldStandsFor volume W world → StopsAction keep disk volume W world (SweepsPart volume steps) world disks disks
-  stops_first steps W world disks stands = record {
-    outcomes = [];
-    stops = record {
-      after = W;
-      does = nothing_swept volume steps W;
-      caused = steady_caused world.post.faults;
-      stored = refl;
-      stands = stands;
-    };
-    disks = follows_none;
-    fuses = permit_none;
-  }
+  stops_first steps W world disks stands =
+      nothing_stops (SweepsPart volume steps) W world disks stands (nothing_swept volume steps W)
 
   module _ {W : ModelWorld} {before middle new : Whole} {old_disks mid_disks new_disks : List (Pair D)}
       (steps : List SweepStep) (step : SweepStep) (swept : Swept)
@@ -128,21 +109,10 @@ module _ {K D : Type 0} {keep : Keep K} {disk : Disk D} {volume : Volume} where
         new_disks
         → FollowsAction keep disk volume W before (Sweeps volume (steps ++ step ∷ []) none_swept)
         (Ok (with_answer swept given)) new old_disks new_disks
-    one_more given behind = record {
-      outcomes = first.outcomes ++ behind.outcomes;
-      follows = record {
-        after = behind.follows.after;
-        does = sweeps_push volume steps step none_swept swept given W
-            (record { outcomes = first.outcomes; after = first.follows.after })
-            (record { outcomes = behind.outcomes; after = behind.follows.after }) first.follows.does
-            behind.follows.does;
-        caused = both_caused first.outcomes behind.outcomes first.follows.caused behind.follows.caused;
-        stored = omega (arith, first.follows.stored, behind.follows.stored);
-        stands = behind.follows.stands;
-      };
-      disks = follows_then first.disks behind.disks;
-      fuses = fuses_then first.fuses behind.fuses;
-    }
+    one_more given behind =
+        then_follows (Sweeps volume (steps ++ step ∷ []) none_swept) (Ok (with_answer swept given)) first behind
+        (sweeps_push volume steps step none_swept swept given W (effect_of first) (effect_of behind) first.follows.does
+        behind.follows.does)
 
     -- a step that is refused
     pub one_refused : (more : List SweepStep) (refusal : Refusal)
@@ -150,21 +120,10 @@ module _ {K D : Type 0} {keep : Keep K} {disk : Disk D} {volume : Volume} where
         mid_disks new_disks
         → FollowsAction keep disk volume W before (Sweeps volume (steps ++ step ∷ more) none_swept) (Err refusal) new
         old_disks new_disks
-    one_refused more refusal behind = record {
-      outcomes = first.outcomes ++ behind.outcomes;
-      follows = record {
-        after = behind.follows.after;
-        does = sweeps_end volume steps step more none_swept swept refusal W
-            (record { outcomes = first.outcomes; after = first.follows.after })
-            (record { outcomes = behind.outcomes; after = behind.follows.after }) first.follows.does
-            behind.follows.does;
-        caused = both_caused first.outcomes behind.outcomes first.follows.caused behind.follows.caused;
-        stored = omega (arith, first.follows.stored, behind.follows.stored);
-        stands = behind.follows.stands;
-      };
-      disks = follows_then first.disks behind.disks;
-      fuses = fuses_then first.fuses behind.fuses;
-    }
+    one_refused more refusal behind =
+        then_follows (Sweeps volume (steps ++ step ∷ more) none_swept) (Err refusal) first behind
+        (sweeps_end volume steps step more none_swept swept refusal W (effect_of first) (effect_of behind)
+        first.follows.does behind.follows.does)
 
     -- a step in which memory is refused
     pub one_cut : (more : List SweepStep)
@@ -174,8 +133,7 @@ module _ {K D : Type 0} {keep : Keep K} {disk : Disk D} {volume : Volume} where
       outcomes = first.outcomes ++ behind.outcomes;
       stops = record {
         after = behind.stops.after;
-        does = sweeps_cut volume steps step more none_swept swept W
-            (record { outcomes = first.outcomes; after = first.follows.after })
+        does = sweeps_cut volume steps step more none_swept swept W (effect_of first)
             (record { outcomes = behind.outcomes; after = behind.stops.after }) first.follows.does behind.stops.does;
         caused = both_caused first.outcomes behind.outcomes first.follows.caused behind.stops.caused;
         stored = omega (arith, first.follows.stored, behind.stops.stored);
@@ -238,8 +196,7 @@ module _ {K D : Type 0} {keep : Keep K} {disk : Disk D} {volume : Volume} where
             let action = on_result given on (Ok found) is in
             let same : given ≡ found = answer_is (Ok found) is in
             reported before found
-            (gives_no_refusal volume W step found (record { outcomes = action.outcomes; after = action.follows.after })
-            action.follows.does)
+            (gives_no_refusal volume W step found (effect_of action) action.follows.does)
             result (subst (λ a. ReportsSo before a result) same reports) action
         go (Err refusal) is =
             refused before given refusal (answer_is (Err refusal) is) result reports (on_result given on (Err refusal) is)
@@ -322,8 +279,7 @@ module _ {K D : Type 0} {keep : Keep K} {disk : Disk D} {volume : Volume} where
   leaves_swept order W old new swept old_disks new_disks stands on = record {
     after = on.follows.after;
     stands = on.follows.stands;
-    swept = all_swept volume order W swept (record { outcomes = on.outcomes; after = on.follows.after })
-        stands.count.at_least stands.lawful on.follows.does;
+    swept = all_swept volume order W swept (effect_of on) stands.count.at_least stands.lawful on.follows.does;
   }
 
 pub swept_of_result : {K D : Type 0} (keep : Keep K) (disk : Disk D) (volume : Volume) (order : Order)

@@ -5,3 +5,4 @@ pub mod Sweeping
 pub mod Tally
 pub mod Legs
 pub mod SweepFollows
+pub mod Calls

@@ -4,6 +4,7 @@ ghost use Rattle.ficus_faults.specs.Faults.{Rose};
 ghost use Rattle.ficus_runs.specs.ModelWorld.{ModelWorld};
 ghost use Rattle.ficus_script.specs.Answer.{answer_text_of};
 ghost use Rattle.ficus_script.specs.Command.{IsCommand};
+ghost use Rattle.ficus_loop.specs.Calls.{StaysBacked};
 ghost use Rattle.ficus_loop.specs.Puts.{PutsFront};
 ghost use Rattle.ficus_loop.specs.Serving.{serving_limit, ServesWorld, ServesWorldFront};
 ghost use Rattle.ficus_loop.specs.Serving.{script_limit};
@@ -11,7 +12,7 @@ ghost use Rattle.ficus_loop.specs.SweepFollows.{most_swept, sweeping_limit};
 ghost use Rattle.ficus_world.specs.Disks.{IsBacked};
 ghost use Rattle.ficus_world.specs.Follows.{TellsFor};
 ghost use Rattle.ficus_opening.specs.Rests.{OthersStay};
-ghost use Rattle.ficus_world.specs.World.{WorldStandsFor, foreseen};
+ghost use Rattle.ficus_world.specs.World.{WorldStandsFor};
 
 use crate::command::carry_out;
 use crate::fault::AnsweringFault;
@@ -78,14 +79,10 @@ fn answer_one<K: Sink, D: Disk, P: Keep + Drop, L: Link + Drop>(
         → ServesWorldFront K.tells (fault ≡ AnsweringFault.Memory) P.Keep D.Disk volume W world.old.whole
         (command.now ∷ []) world.new.whole (K.written output.old) (K.written output.new)
         disks.old.items disks.new.items) }
-    ensures backed { IsBacked P.Keep D.Disk world.new disks.new.items }
-    ensures members { length world.new.whole.members ≡ length world.old.whole.members }
-    ensures others { OthersStay (length world.old.whole.members) disks.old.items disks.new.items }
-    ensures pairs { length disks.new.items ≡ length disks.old.items }
+    ensures disks { StaysBacked P.Keep D.Disk most_swept world.old world.new disks.old.items disks.new.items }
     ensures failed { IsErrOf result AnsweringFault.Sink → Rose (K.faults output.old) (K.faults output.new) }
     ensures told { K.faults output.old < K.faults output.new → IsErrOf result AnsweringFault.Sink }
     ensures counted { K.faults output.old ≤ K.faults output.new }
-    ensures grows { foreseen world.new.whole ≤ foreseen world.old.whole + most_swept }
 {
     let answer = carry_out(alloc, world, disks, command)?;
     put_answer(alloc, &answer, output)

@@ -1,15 +1,10 @@
-ghost use Rattle.std.specs.Prelude.{◌≡◌, ◌+◌, ◌<◌, ◌≤◌, length, IfOk, OnErr};
-ghost use Rattle.ficus_model.specs.Lawful.{Volume};
-ghost use Rattle.ficus_runs.specs.ModelWorld.{ModelWorld};
+ghost use Rattle.std.specs.Prelude.{◌<◌, length};
 ghost use Rattle.ficus_script.specs.Command.{IsCommand};
 ghost use Rattle.ficus_script.specs.declared.command.Command.TheVariants.{Sweep as Sweeps};
+ghost use Rattle.ficus_loop.specs.Calls.{AnswersCommand, StaysBacked};
 ghost use Rattle.ficus_loop.specs.Sweeping.{AnswersSweep};
 ghost use Rattle.ficus_loop.specs.SweepFollows.{most_swept, sweeping_limit};
 ghost use Rattle.ficus_world.specs.Disks.{IsBacked};
-ghost use Rattle.ficus_world.specs.Follows.{FollowsOn, StopsOn, TellsFor};
-ghost use Rattle.ficus_opening.specs.Rests.{OthersStay};
-ghost use Rattle.ficus_world.specs.Kills.{Passes};
-ghost use Rattle.ficus_world.specs.World.{WorldStandsFor, foreseen};
 
 use crate::explaining::answer_why;
 use crate::sweep_fault::SweepFault;
@@ -33,19 +28,9 @@ pub(crate) fn carry_out<D: Disk, P: Keep + Drop, L: Link + Drop>(
     requires command { IsCommand command.now }
     requires room { length world.old.whole.events < sweeping_limit }
     requires backed { IsBacked P.Keep D.Disk world.old disks.old.items }
-    ensures stands { L.tells → TellsFor D.tells command.now → (volume : Volume) (W : ModelWorld)
-        → WorldStandsFor volume W world.old.whole
-        → IfOk result (λ answer. FollowsOn P.Keep D.Disk volume W world.old.whole command.now answer world.new.whole
-        disks.old.items disks.new.items) }
-    ensures stays { L.tells → (volume : Volume) (W : ModelWorld) → WorldStandsFor volume W world.old.whole
-        → OnErr result (StopsOn P.Keep D.Disk volume W world.old.whole command.now world.new.whole disks.old.items
-        disks.new.items) }
-    ensures passes { Passes L.tells P.Keep D.Disk world.old.whole world.new.whole disks.old.items disks.new.items }
-    ensures others { OthersStay (length world.old.whole.members) disks.old.items disks.new.items }
-    ensures backed { IsBacked P.Keep D.Disk world.new disks.new.items }
-    ensures members { length world.new.whole.members ≡ length world.old.whole.members }
-    ensures pairs { length disks.new.items ≡ length disks.old.items }
-    ensures grows { foreseen world.new.whole ≤ foreseen world.old.whole + most_swept }
+    ensures answers { AnswersCommand L.tells P.Keep D.Disk command.now result world.old.whole world.new.whole
+        disks.old.items disks.new.items }
+    ensures disks { StaysBacked P.Keep D.Disk most_swept world.old world.new disks.old.items disks.new.items }
 {
     match command {
         Command::Sweep { order } => answer_sweep(alloc, world, disks, *order),
@@ -66,18 +51,9 @@ fn answer_sweep<D: Disk, P: Keep + Drop, L: Link + Drop>(
 ) -> Result<Answer, Memory>
     requires room { length world.old.whole.events < sweeping_limit }
     requires backed { IsBacked P.Keep D.Disk world.old disks.old.items }
-    ensures stands { L.tells → (volume : Volume) (W : ModelWorld) → WorldStandsFor volume W world.old.whole
-        → IfOk result (λ answer. FollowsOn P.Keep D.Disk volume W world.old.whole (Sweeps order) answer world.new.whole
-        disks.old.items disks.new.items) }
-    ensures stays { L.tells → (volume : Volume) (W : ModelWorld) → WorldStandsFor volume W world.old.whole
-        → OnErr result (StopsOn P.Keep D.Disk volume W world.old.whole (Sweeps order) world.new.whole disks.old.items
-        disks.new.items) }
-    ensures passes { Passes L.tells P.Keep D.Disk world.old.whole world.new.whole disks.old.items disks.new.items }
-    ensures others { OthersStay (length world.old.whole.members) disks.old.items disks.new.items }
-    ensures backed { IsBacked P.Keep D.Disk world.new disks.new.items }
-    ensures members { length world.new.whole.members ≡ length world.old.whole.members }
-    ensures pairs { length disks.new.items ≡ length disks.old.items }
-    ensures grows { foreseen world.new.whole ≤ foreseen world.old.whole + most_swept }
+    ensures answers { AnswersCommand L.tells P.Keep D.Disk (Sweeps order) result world.old.whole world.new.whole
+        disks.old.items disks.new.items }
+    ensures disks { StaysBacked P.Keep D.Disk most_swept world.old world.new disks.old.items disks.new.items }
 {
     let swept = sweep(alloc, world, disks, order);
     answered(swept)

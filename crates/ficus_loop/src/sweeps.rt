@@ -3,11 +3,11 @@ ghost use Rattle.ficus_model.specs.Lawful.{Volume};
 ghost use Rattle.ficus_runs.specs.ModelWorld.{ModelWorld};
 ghost use Rattle.ficus_runs.specs.Sweep.{SweepStep, command_of, sweep_steps};
 ghost use Rattle.ficus_script.specs.Command.{IsCommand};
+ghost use Rattle.ficus_loop.specs.Calls.{StaysBacked};
 ghost use Rattle.ficus_loop.specs.SweepFollows.{CountsFew, FollowsStep, FollowsSweep, GivesUpFew, IsSweepCommand, LeavesSwept, ReportsSo, most_steps, most_swept, swept_of, sweeping_limit};
 ghost use Rattle.ficus_world.specs.Disks.{IsBacked};
-ghost use Rattle.ficus_opening.specs.Rests.{OthersStay};
 ghost use Rattle.ficus_world.specs.Kills.{Passes};
-ghost use Rattle.ficus_world.specs.World.{WorldStandsFor, event_limit, foreseen, most_unforeseen};
+ghost use Rattle.ficus_world.specs.World.{WorldStandsFor, event_limit, most_unforeseen};
 
 use crate::sweep_fault::SweepFault;
 use crate::sweep_report::SweepReport;
@@ -40,11 +40,7 @@ pub fn sweep<D: Disk, K: Keep + Drop, L: Link + Drop>(
         → IfOk result (λ report. LeavesSwept volume world.new.whole) }
     // At each moment of it the disks are as before, or one member saves: link by link, a link for each message.
     ensures passes { Passes L.tells K.Keep D.Disk world.old.whole world.new.whole disks.old.items disks.new.items }
-    ensures others { OthersStay (length world.old.whole.members) disks.old.items disks.new.items }
-    ensures backed { IsBacked K.Keep D.Disk world.new disks.new.items }
-    ensures members { length world.new.whole.members ≡ length world.old.whole.members }
-    ensures pairs { length disks.new.items ≡ length disks.old.items }
-    ensures grows { foreseen world.new.whole ≤ foreseen world.old.whole + most_swept }
+    ensures disks { StaysBacked K.Keep D.Disk most_swept world.old world.new disks.old.items disks.new.items }
 {
     world.settled(disks);
     let steps = steps_of(alloc, order, world.members().count())?;
@@ -68,11 +64,7 @@ fn take_steps<D: Disk, K: Keep + Drop, L: Link + Drop>(
         → FollowsSweep K.Keep D.Disk volume W world.old.whole some result world.new.whole disks.old.items
         disks.new.items }
     ensures passes { Passes L.tells K.Keep D.Disk world.old.whole world.new.whole disks.old.items disks.new.items }
-    ensures others { OthersStay (length world.old.whole.members) disks.old.items disks.new.items }
-    ensures backed { IsBacked K.Keep D.Disk world.new disks.new.items }
-    ensures members { length world.new.whole.members ≡ length world.old.whole.members }
-    ensures pairs { length disks.new.items ≡ length disks.old.items }
-    ensures grows { foreseen world.new.whole ≤ foreseen world.old.whole + most_swept }
+    ensures disks { StaysBacked K.Keep D.Disk most_swept world.old world.new disks.old.items disks.new.items }
 {
     world.settled(disks);
     let mut report = SweepReport {
@@ -105,11 +97,7 @@ fn take_step<D: Disk, K: Keep + Drop, L: Link + Drop>(
         disks.old.items disks.new.items }
     ensures few { (count : ℕ) → CountsFew count report → IfOk result (CountsFew (count + 1)) }
     ensures passes { Passes L.tells K.Keep D.Disk world.old.whole world.new.whole disks.old.items disks.new.items }
-    ensures others { OthersStay (length world.old.whole.members) disks.old.items disks.new.items }
-    ensures backed { IsBacked K.Keep D.Disk world.new disks.new.items }
-    ensures members { length world.new.whole.members ≡ length world.old.whole.members }
-    ensures pairs { length disks.new.items ≡ length disks.old.items }
-    ensures grows { foreseen world.new.whole ≤ foreseen world.old.whole + most_unforeseen }
+    ensures disks { StaysBacked K.Keep D.Disk most_unforeseen world.old world.new disks.old.items disks.new.items }
 {
     world.settled(disks);
     let answer = world.step(alloc, disks, step)?;

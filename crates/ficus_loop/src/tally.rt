@@ -2,12 +2,13 @@ ghost use Rattle.std.specs.Prelude.{◌≡◌, ◌+◌, ◌<◌, ◌≤◌, ◌�
 ghost use Rattle.ficus_model.specs.Lawful.{Volume};
 ghost use Rattle.ficus_runs.specs.ModelWorld.{ModelWorld};
 ghost use Rattle.ficus_script.specs.Command.{IsCommand};
+ghost use Rattle.ficus_loop.specs.Calls.{StaysBacked};
 ghost use Rattle.ficus_loop.specs.Serving.{script_limit, serving_limit};
 ghost use Rattle.ficus_loop.specs.Tally.{Tallies, with_answer};
 ghost use Rattle.ficus_loop.specs.SweepFollows.{most_swept, sweeping_limit};
 ghost use Rattle.ficus_world.specs.Disks.{IsBacked};
 ghost use Rattle.ficus_world.specs.Follows.{TellsFor};
-ghost use Rattle.ficus_world.specs.World.{WorldStandsFor, foreseen};
+ghost use Rattle.ficus_world.specs.World.{WorldStandsFor};
 
 use crate::command::carry_out;
 use ficus_disk::{Disk, Pair};
@@ -78,10 +79,7 @@ fn count_one<D: Disk, P: Keep + Drop, L: Link + Drop>(
         → Tallies P.Keep D.Disk volume W world.old.whole (command.now ∷ []) world.new.whole tally.old tally.new
         disks.old.items disks.new.items) }
     ensures more { OnOk result (tally.new.ok + tally.new.no ≡ tally.old.ok + tally.old.no + 1) }
-    ensures backed { IsBacked P.Keep D.Disk world.new disks.new.items }
-    ensures members { length world.new.whole.members ≡ length world.old.whole.members }
-    ensures pairs { length disks.new.items ≡ length disks.old.items }
-    ensures grows { foreseen world.new.whole ≤ foreseen world.old.whole + most_swept }
+    ensures disks { StaysBacked P.Keep D.Disk most_swept world.old world.new disks.old.items disks.new.items }
 {
     let answer = carry_out(alloc, world, disks, command)?;
     tally.count(&answer);

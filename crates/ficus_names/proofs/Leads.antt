@@ -96,6 +96,18 @@ pub record HasNeighbours (leads : List Lead) (index : ℕ) (place : NameClash) :
   pub here : HoldsAt (λ lead. lead.place ≡ place) leads at
   pub previous : HoldsAt (λ lead. lead.place ≡ place) leads (at - 1)
 
+-- they lead so below any index that is above them
+neighbours_below : {leads : List Lead} {index : ℕ} {place : NameClash} (has : HasNeighbours leads index place)
+    (other : ℕ) → has.at < other → HasNeighbours leads other place
+neighbours_below has other before = record {
+  at = has.at;
+  behind = has.behind;
+  before = before;
+  within = has.within;
+  here = has.here;
+  previous = has.previous;
+}
+
 -- the places so far are those from which neighbours below the index lead
 abbrev pub ArePlaces : List Lead → ℕ → List NameClash → Type 0
 ArePlaces leads index places = (place : NameClash) → Contains places place ↔ HasNeighbours leads index place
@@ -109,27 +121,13 @@ module _ (leads : List Lead) where
 
   module _ (index : ℕ) (places : List NameClash) (are : ArePlaces leads index places) where
     later : {place : NameClash} → HasNeighbours leads index place → HasNeighbours leads (index + 1) place
-    later has = record {
-      at = has.at;
-      behind = has.behind;
-      before = omega (arith, has.before);
-      within = has.within;
-      here = has.here;
-      previous = has.previous;
-    }
+    later has = neighbours_below has (index + 1) (omega (arith, has.before))
 
     earlier_or_here : {place : NameClash} (has : HasNeighbours leads (index + 1) place) →
         HasNeighbours leads index place ⊎ (has.at ≡ index)
     earlier_or_here has =
         elim (cases_lt has.at index) [
-          | inl before ↦ inl (record {
-            at = has.at;
-            behind = has.behind;
-            before = before;
-            within = has.within;
-            here = has.here;
-            previous = has.previous;
-          })
+          | inl before ↦ inl (neighbours_below has index before)
           | inr behind ↦ inr (omega (arith, has.before))
         ]
 
@@ -236,12 +234,5 @@ module _ (leads : List Lead) (rising : IsStrictlySortedBy lead_cmp leads) (place
     λ inside. neighbours_differ index ((are place).0 inside),
     λ several.
         let has = several_neighbours several in
-        (are place).1 (record {
-          at = has.at;
-          behind = has.behind;
-          before = omega (arith, has.before);
-          within = has.within;
-          here = has.here;
-          previous = has.previous;
-        }),
+        (are place).1 (neighbours_below has index (omega (arith, has.before))),
   )

@@ -5,8 +5,7 @@ ghost use Rattle.ficus_names.specs.Listing.{IsListing};
 ghost use Rattle.ficus_ids.specs.declared.id.Id.{Id as IdValue};
 
 use crate::binding::Binding;
-use crate::listing::{ShownName, listed};
-use crate::once::once_each;
+use crate::listing::{ShownName, listing_of};
 use ficus_entry::Entries;
 use ficus_ids::{Id, Memory};
 use std::alloc::Global;
@@ -51,8 +50,7 @@ impl Directories {
     pub fn shown(&self, alloc: Global, dir: Id) -> Result<Vec<ShownName>, Memory>
         ensures { IfOk result (λ names. IsListing (Binds (bindings_of self.now dir)) names.items) }
     {
-        let bindings = once_each(self.bindings_in(alloc, dir)?);
-        listed(alloc, &bindings)
+        listing_of(alloc, self.bindings_in(alloc, dir)?)
     }
 
     // The names of a directory once more.

@@ -39,11 +39,18 @@ pub struct Line {
 pub fn shown(alloc: Global, entries: &Entries, dir: Id) -> Result<Vec<ShownName>, Memory>
     ensures { IfOk result (λ names. IsListing (BindsIn entries.now dir) names.items) }
 {
-    let bindings = once_each(bindings_in(alloc, entries, dir)?);
+    listing_of(alloc, bindings_in(alloc, entries, dir)?)
+}
+
+/// How what is bound is shown, each name with each of its objects once.
+pub(crate) fn listing_of(alloc: Global, bindings: Vec<Binding>) -> Result<Vec<ShownName>, Memory>
+    ensures { IfOk result (λ names. IsListing (Binds bindings.items) names.items) }
+{
+    let bindings = once_each(bindings);
     listed(alloc, &bindings)
 }
 
-pub(crate) fn listed(alloc: Global, bindings: &[Binding]) -> Result<Vec<ShownName>, Memory>
+fn listed(alloc: Global, bindings: &[Binding]) -> Result<Vec<ShownName>, Memory>
     requires { IsStrictlySortedBy binding_cmp bindings.now }
     ensures { IfOk result (λ names. IsListing (Binds bindings.now) names.items) }
 {

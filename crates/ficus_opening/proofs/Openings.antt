@@ -18,22 +18,17 @@ use Rattle.ficus_stable_storage.proofs.leads.Led.{held_at}
 use Rattle.ficus_stable_storage.specs.Stable.{IsReady}
 use Rattle.ficus_stable_storage.specs.declared.stable.Stable.{Stable}
 use Rattle.ficus_runs.specs.Numbered.{IsNumbered}
-use Rattle.ficus_opening.specs.Disks.{AreDisksOf, HoldsFor, are_fused}
-use Rattle.ficus_opening.specs.Calls.{OpensMembers, OpensNext}
+use Rattle.ficus_opening.specs.Disks.{AreDisksOf, ArePairsOf, HoldsFor, are_fused}
+use Rattle.ficus_opening.specs.Calls.{AreOpenedOn, OpensMembers, OpensNext}
 use Rattle.ficus_opening.specs.Opening.{AreOpened, DisksLooked, IsBad, IsFirstBad, IsOneMore, IsOpened, Opens, Steady, opened_member}
 use Rattle.ficus_opening.specs.declared.fault.WorldFault.{WorldFault}
 use Rattle.ficus_opening.specs.declared.fault.WorldFault.TheVariants.{Image, Occupied, Store}
 use Rattle.ficus_opening.specs.declared.member.Member.{Member}
 use Rattle.ficus_opening.specs.declared.member.MemberState.{MemberState}
 use Rattle.ficus_opening.specs.declared.opening.Opened.{Opened}
-use Rattle.ficus_runs.proofs.Numbers.{number_once, number_read, number_exists, number_more, number_cases}
+use Rattle.ficus_runs.proofs.Numbers.{number_once, number_exists, number_more, number_cases}
 use Rattle.ficus_opening.proofs.Asking.{err_as}
 use Rattle.ficus_opening.proofs.Steadies.{set_at, steady_back}
-
--- the first of some
-pub first_of : (member : Member) (members : List Member) → IsNumbered (member ∷ members) 1 member
-first_of member members =
-    number_read (member ∷ members) 1 member member (record { at_least = omega arith; at_most = omega arith }) refl
 
 nothing_before : (members : List Member) → 1 ≡ length members + 1 → members ≡ []
 nothing_before [] one = refl
@@ -76,65 +71,97 @@ pub one_more : (members : List Member) (next : Member) → IsOneMore members (me
 one_more members next = record { count = length_push members next; stays = λ r member at. number_more members next at }
 
 module _ {K D : Type 0} (keep : Keep K) (disk : Disk D) where
-  pub disks_none : (members : List Member) (stables : List (Stable K)) (disks : List (Pair D)) → members ≡ []
-      → AreDisksOf keep disk members stables disks
-  disks_none members stables disks none = record {
-    each = λ r member stable pair at at_stable at_pair.
-        absurd (omega (arith, at.member.at_least, at.member.at_most, ap (λ (l : List Member). length l) none));
-  }
+  -- none was opened yet
+  pub opened_none : (opened : Opened K) (disks : List (Pair D)) → opened.members.items ≡ [] → opened.stables.items ≡ []
+      → AreOpenedOn keep disk opened disks
+  opened_none opened disks none no_keeper =
+      let empty = ap (λ (l : List Member). length l) none in
+      record {
+        opened = record {
+          each = λ r first member one at. absurd (omega (arith, at.member.at_least, at.member.at_most, empty));
+        };
+        stables = ap (λ (l : List (Stable K)). length l) no_keeper ∙ sym empty;
+        disks = record {
+          each = λ r member stable pair at at_stable at_pair.
+              absurd (omega (arith, at.member.at_least, at.member.at_most, empty));
+        };
+      }
 
-  -- the disks of one member more
-  module _ (members : List Member) (stables : List (Stable K)) (disks : List (Pair D)) (index : ℕ) (saved : Saved)
-      (fused : Bool) (stable : Stable K) (after : Pair D) (counted : length stables ≡ length members)
-      (next : index ≡ length members) (are : AreDisksOf keep disk members stables disks)
+  -- one member more was
+  module _ (was now : Opened K) (disks : List (Pair D)) (index : ℕ) (saved : Saved) (fused : Bool) (stable : Stable K)
+      (after : Pair D) (before : AreOpenedOn keep disk was disks) (next : index ≡ length was.members.items)
+      (members_are : now.members.items ≡ was.members.items ++ opened_member saved fused ∷ [])
+      (stables_are : now.stables.items ≡ was.stables.items ++ stable ∷ [])
       (is_fused : fused ≡ are_fused disk.armings after)
       (ready : disk.tells → IsReady keep.kept keep.fits disk.seen disk.may_leave stable after saved) where
-    pub disks_more : AreDisksOf keep disk (members ++ opened_member saved fused ∷ [])
-        (stables ++ stable ∷ []) (slice_set disks index after)
-    disks_more = record {
-      each = λ r m s p at at_stable at_pair.
-          elim (set_at disks index r after p at_pair) [
-            | inl (number, is) ↦ elim (number_cases members (opened_member saved fused) at) [
-              | inl here ↦ absurd (omega (arith, here.member.at_most, number, next))
-              | inr (last, is_new) ↦ elim (number_cases stables stable at_stable) [
-                | inl there ↦ absurd (omega (arith, there.member.at_most, counted, number, next))
-                | inr (also, is_stable) ↦ record {
-                  fused =
-                      ap (λ (x : Member). x.fused) is_new ∙ is_fused
-                      ∙ ap (λ (x : Pair D). are_fused disk.armings x) (sym is);
-                  holds = λ told.
-                      subst (λ (x : Member). HoldsFor keep disk s p x.replica.saved x.state)
-                      (sym is_new)
-                      (subst (λ (x : Stable K). IsReady keep.kept keep.fits disk.seen disk.may_leave x p saved) (sym is_stable)
-                      (subst (λ (x : Pair D). IsReady keep.kept keep.fits disk.seen disk.may_leave stable x saved) (sym is)
-                      (ready told)));
-                }
-              ]
-            ]
-            | inr (differs, kept_pair) ↦ elim (number_cases members (opened_member saved fused) at) [
-              | inl here ↦ elim (number_cases stables stable at_stable) [
-                | inl there ↦ are.each r m s p here there kept_pair
-                | inr (also, is_stable) ↦ absurd (omega (arith, here.member.at_most, also, counted))
-              ]
-              | inr (last, is_new) ↦ absurd (differs (omega (arith, last, next)))
-            ]
-          ];
-    }
+    pub more_opened : AreOpened now.members.items → AreOpenedOn keep disk now (slice_set disks index after)
+    more_opened opened =
+        let grown =
+        ap (λ (l : List Member). length l) members_are ∙ length_push was.members.items (opened_member saved fused) in
+        let kept = ap (λ (l : List (Stable K)). length l) stables_are ∙ length_push was.stables.items stable in
+        record {
+          opened = opened;
+          stables = omega (arith, grown, kept, before.stables);
+          disks = record {
+            each = λ r m s p at at_stable at_pair.
+                let member = number_cases was.members.items (opened_member saved fused)
+                (subst (λ (l : List Member). IsNumbered l r m) members_are at) in
+                let keeper = number_cases was.stables.items stable
+                (subst (λ (l : List (Stable K)). IsNumbered l r s) stables_are at_stable) in
+                elim (set_at disks index r after p at_pair) [
+                  | inl (number, is) ↦ elim member [
+                    | inl here ↦ absurd (omega (arith, here.member.at_most, number, next))
+                    | inr (last, is_new) ↦ elim keeper [
+                      | inl there ↦ absurd (omega (arith, there.member.at_most, before.stables, number, next))
+                      | inr (also, is_stable) ↦ record {
+                        fused =
+                            ap (λ (x : Member). x.fused) is_new ∙ is_fused
+                            ∙ ap (λ (x : Pair D). are_fused disk.armings x) (sym is);
+                        holds = λ told.
+                            subst (λ (x : Member). HoldsFor keep disk s p x.replica.saved x.state)
+                            (sym is_new)
+                            (subst (λ (x : Stable K). IsReady keep.kept keep.fits disk.seen disk.may_leave x p saved)
+                            (sym is_stable)
+                            (subst (λ (x : Pair D). IsReady keep.kept keep.fits disk.seen disk.may_leave stable x saved)
+                            (sym is) (ready told)));
+                      }
+                    ]
+                  ]
+                  | inr (differs, kept_pair) ↦ elim member [
+                    | inl here ↦ elim keeper [
+                      | inl there ↦ before.disks.each r m s p here there kept_pair
+                      | inr (also, is_stable) ↦ absurd (omega (arith, here.member.at_most, also, before.stables))
+                    ]
+                    | inr (last, is_new) ↦ absurd (differs (omega (arith, last, next)))
+                  ]
+                ];
+          };
+        }
+
+  -- the pair of each member is its own where it has a keeper
+  pub pairs_of : (members : List Member) (stables : List (Stable K)) (disks : List (Pair D))
+      → length stables ≡ length members → AreDisksOf keep disk members stables disks → ArePairsOf keep disk members disks
+  pairs_of members stables disks counted are = record {
+    each = λ r member pair at at_pair.
+        let stable = number_exists stables r (subst (λ n. IsMember n r) (sym counted) at.member) in
+        (stable.0, are.each r member stable.0 pair at stable.1 at_pair);
+  }
+
+  pub opened_pairs : (opened : Opened K) (disks : List (Pair D)) → AreOpenedOn keep disk opened disks
+      → ArePairsOf keep disk opened.members.items disks
+  opened_pairs opened disks on = pairs_of opened.members.items opened.stables.items disks on.stables on.disks
 
   -- what the disks of a member hold that was opened
-  pub held_of : (members : List Member) (stables : List (Stable K)) (disks : List (Pair D))
-      → length stables ≡ length members → AreOpened members
-      → AreDisksOf keep disk members stables disks → disk.tells → (r : ℕ) (member : Member)
-      (pair : Pair D) → IsNumbered members r member → IsNumbered disks r pair
+  pub held_of : (opened : Opened K) (disks : List (Pair D)) → AreOpenedOn keep disk opened disks → disk.tells → (r : ℕ)
+      (member : Member) (pair : Pair D) → IsNumbered opened.members.items r member → IsNumbered disks r pair
       → Holds (found_in keep.kept disk.seen pair) member.replica.saved
-  held_of members stables disks counted opened are told r member pair at at_pair =
+  held_of opened disks on told r member pair at at_pair =
       let first =
-      number_exists members 1
+      number_exists opened.members.items 1
       (record { at_least = omega arith; at_most = omega (arith, at.member.at_least, at.member.at_most) }) in
-      let stable = number_exists stables r (subst (λ n. IsMember n r) (sym counted) at.member) in
-      let up = (opened.each r first.0 member first.1 at).up in
-      (subst (λ (s : MemberState). HoldsFor keep disk stable.0 pair member.replica.saved s) up
-      ((are.each r member stable.0 pair at stable.1 at_pair).holds told)).holds
+      let own = (opened_pairs opened disks on).each r member pair at at_pair in
+      let up = (on.opened.each r first.0 member first.1 at).up in
+      (subst (λ (s : MemberState). HoldsFor keep disk own.0 pair member.replica.saved s) up (own.1.holds told)).holds
 
 -- The disks of this member are the next to be opened: it is a member, and those of none before it are bad; so its own
 -- are the first that are, where what is read now is.
@@ -309,8 +336,6 @@ next_fails {keep = keep} {disk = disk} {old = old} {mid = mid} fault next fails 
   opened = tt;
   counted = tt;
   count = tt;
-  stables = tt;
-  disks = tt;
   image = λ told r is.
       let bad = fails.image told r (err_as fault (Image r) is) in
       subst (IsFirstBad keep.kept disk.seen old) (sym bad.0)

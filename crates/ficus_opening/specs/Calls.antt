@@ -143,28 +143,31 @@ pub record OpensMember {K D : Type 0} (keep : Keep K) (disk : Disk D) (number : 
   pub never : (r : ℕ) → IsErrOf result (Occupied r) → ⊥
   pub looked : PairLooked disk number result old new
 
--- the same of the next member's, which is entered behind those that were opened
+-- the members that were opened: each has a keeper, and its pair is its own
+pub record AreOpenedOn {K D : Type 0} (keep : Keep K) (disk : Disk D) (those : Opened K) (under : List (Pair D)) :
+    Type 0 where
+  pub opened : AreOpened those.members.items
+  pub stables : length those.stables.items ≡ length those.members.items
+  pub disks : AreDisksOf keep disk those.members.items those.stables.items under
+
+-- what the next member's disks hold of its own is opened, and it is entered behind those that were opened
 pub record OpensNext {A K D : Type 0} (keep : Keep K) (disk : Disk D) (number : ℕ) (result : Result A WorldFault)
     (was now : Opened K) (old new : List (Pair D)) : Type 0 where
-  pub opened : OnOk result (AreOpened now.members.items)
+  pub opened : OnOk result (AreOpenedOn keep disk now new)
   pub members : OnOk result (IsOneMore was.members.items now.members.items)
-  pub stables : OnOk result (length now.stables.items ≡ number)
-  pub disks : OnOk result (AreDisksOf keep disk now.members.items now.stables.items new)
   pub image : disk.tells → (r : ℕ) → IsErrOf result (Image r) → (r ≡ number) × IsBad keep.kept disk.seen old r
   pub never : (r : ℕ) → IsErrOf result (Occupied r) → ⊥
   pub others : OthersStay number old new
   pub named : (r : ℕ) → IsErrOf result (Store r) → r ≡ number
   pub looked : DisksLooked disk result old new
 
--- and of each member's, of which there are as many as the first one says
+-- so are those of each member, of which there are as many as the first one says
 pub record OpensMembers {K D : Type 0} (keep : Keep K) (disk : Disk D) (result : Result (Opened K) WorldFault)
     (old new : List (Pair D)) : Type 0 where
-  pub opened : IfOk result (λ opened. AreOpened opened.members.items)
+  pub opened : IfOk result (λ opened. AreOpenedOn keep disk opened new)
   pub counted : IfOk result (λ opened. (first : Member) → IsNumbered opened.members.items 1 first
       → first.replica.saved.members ≡ length opened.members.items)
   pub count : IfOk result (λ opened. IsCount (length opened.members.items))
-  pub stables : IfOk result (λ opened. length opened.stables.items ≡ length opened.members.items)
-  pub disks : IfOk result (λ opened. AreDisksOf keep disk opened.members.items opened.stables.items new)
   pub image : disk.tells → (r : ℕ) → IsErrOf result (Image r) → IsFirstBad keep.kept disk.seen old r
   pub never : (r : ℕ) → IsErrOf result (Occupied r) → ⊥
   pub others : IfOk result (λ opened. OthersStay (length opened.members.items) old new)

@@ -31,8 +31,19 @@ pub record IsPairOf {K D : Type 0} (keep : Keep K) (disk : Disk D) (member : Mem
   pub fused : member.fused ≡ are_fused disk.armings pair
   pub holds : disk.tells → HoldsFor keep disk stable pair member.replica.saved member.state
 
--- the pair of each member is its own
+-- the pair of the member of this number is its own
+abbrev pub IsPairAt : {K D : Type 0} → Keep K → Disk D → ℕ → List Member → List (Stable K) → List (Pair D) → Type 0
+IsPairAt {K} {D} keep disk r members stables disks =
+    (member : Member) (stable : Stable K) (pair : Pair D) → IsNumbered members r member → IsNumbered stables r stable
+    → IsNumbered disks r pair → IsPairOf keep disk member stable pair
+
+-- so is the pair of each
 pub record AreDisksOf {K D : Type 0} (keep : Keep K) (disk : Disk D) (members : List Member) (stables : List (Stable K))
     (disks : List (Pair D)) : Type 0 where
-  pub each : (r : ℕ) (member : Member) (stable : Stable K) (pair : Pair D) → IsNumbered members r member
-      → IsNumbered stables r stable → IsNumbered disks r pair → IsPairOf keep disk member stable pair
+  pub each : (r : ℕ) → IsPairAt keep disk r members stables disks
+
+-- the pair of each member is its own, whichever keeper it has
+pub record ArePairsOf {K D : Type 0} (keep : Keep K) (disk : Disk D) (members : List Member) (disks : List (Pair D)) :
+    Type 0 where
+  pub each : (r : ℕ) (member : Member) (pair : Pair D) → IsNumbered members r member → IsNumbered disks r pair
+      → (stable : Stable K) × IsPairOf keep disk member stable pair

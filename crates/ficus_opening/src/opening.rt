@@ -2,9 +2,9 @@ ghost use Rattle.std.specs.Prelude.{◌≡◌, ◌↔◌, ◌+◌, [], ◌∷◌
 ghost use Rattle.ficus_opening.specs.Check.Judged.{IsOfVolume};
 ghost use Rattle.ficus_ids.specs.Members.{IsMember};
 ghost use Rattle.ficus_runs.specs.Numbered.{IsNumbered};
-ghost use Rattle.ficus_opening.specs.Calls.{OpensMember, OpensMembers, OpensNext};
-ghost use Rattle.ficus_opening.specs.Disks.{AreDisksOf, are_fused};
-ghost use Rattle.ficus_opening.specs.Opening.{AreOpened, opened_member};
+ghost use Rattle.ficus_opening.specs.Calls.{AreOpenedOn, OpensMember, OpensMembers, OpensNext};
+ghost use Rattle.ficus_opening.specs.Disks.{are_fused};
+ghost use Rattle.ficus_opening.specs.Opening.{opened_member};
 ghost use Rattle.ficus_opening.specs.declared.member.Member.{Member as MemberValue};
 
 use crate::WorldFault;
@@ -63,10 +63,7 @@ fn open_next<K: Keep + Drop, D: Disk>(
 ) -> Result<(), WorldFault>
     requires next { number ≡ length opened.old.members.items + 1 }
     requires pair { IsMember (length disks.old.items) number }
-    requires stables { length opened.old.stables.items ≡ length opened.old.members.items }
-    requires opened { AreOpened opened.old.members.items }
-    requires disks { AreDisksOf K.Keep D.Disk opened.old.members.items
-        opened.old.stables.items disks.old.items }
+    requires before { AreOpenedOn K.Keep D.Disk opened.old disks.old.items }
     ensures { OpensNext K.Keep D.Disk number result opened.old opened.new disks.old.items disks.new.items }
 {
     let index = usize::from(number) - 1;

@@ -1,3 +1,4 @@
+pub mod Calls
 pub mod Link
 pub mod MemSink
 pub mod MemSource

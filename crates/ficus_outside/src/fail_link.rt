@@ -1,6 +1,7 @@
-ghost use Rattle.std.specs.Prelude.{◌≡◌, ◌+◌, ◌-◌, ◌^◌, ◌<◌, ◌≤◌, ◌↔◌, ⊤, [], ◌∷◌, ◌++◌, length, slice_get, Some, Ok, Err, IfOk, OnOk, OnErr, IsErr};
+ghost use Rattle.std.specs.Prelude.{◌≡◌, ◌+◌, ◌-◌, ◌^◌, ◌<◌, ◌≤◌, ◌↔◌, ⊤, [], ◌∷◌, ◌++◌, length, slice_get, Some, Ok, Err, IfOk, OnOk, OnErr};
 ghost use Rattle.ficus_faults.specs.Calls.{fresh, called, failed, IsNextListed};
 ghost use Rattle.ficus_faults.specs.Faults.{Rose};
+ghost use Rattle.ficus_outside.specs.Calls.{FailsAsTold};
 ghost use Rattle.ficus_outside.specs.Link.{FailLinkState, OnFailed, OnMemory};
 
 use crate::{FetchFault, Link, MemLink};
@@ -76,9 +77,7 @@ impl Link for FailLink {
         ensures risen { self.old.calls.faults ≤ self.new.calls.faults }
 
         // It fails exactly where it was told.
-        ensures fails { IsErr result ↔ IsNextListed self.old.calls }
-        ensures call { OnOk result (self.new.calls ≡ called self.old.calls) }
-        ensures fault { OnErr result (self.new.calls ≡ failed self.old.calls) }
+        ensures as_told { FailsAsTold self.old.calls self.new.calls result }
     {
         if self.calls.next() {
             return Err(self.calls.raise());

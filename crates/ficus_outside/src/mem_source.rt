@@ -1,6 +1,7 @@
-ghost use Rattle.std.specs.Prelude.{◌≡◌, ◌<◌, ◌≤◌, ◌↔◌, ⊤, [], ◌++◌, length, take, drop, min, Ok, IfOk, OnOk, OnErr, IsErr, vec_len};
+ghost use Rattle.std.specs.Prelude.{◌≡◌, ◌<◌, ◌≤◌, ⊤, [], ◌++◌, length, take, drop, min, Ok, IfOk, OnOk, OnErr, vec_len};
 ghost use Rattle.ficus_faults.specs.Faults.{Rose};
-ghost use Rattle.ficus_faults.specs.Calls.{fresh, called, failed, IsNextListed};
+ghost use Rattle.ficus_faults.specs.Calls.{fresh};
+ghost use Rattle.ficus_outside.specs.Calls.{FailsAsTold};
 ghost use Rattle.ficus_outside.specs.MemSource.{SourceState};
 
 use crate::Source;
@@ -54,10 +55,8 @@ impl Source for MemSource {
         ensures counted { self.old.calls.faults ≤ self.new.calls.faults }
 
         // It fails exactly where it was told, and gives as many bytes as fit.
-        ensures fails { IsErr result ↔ IsNextListed self.old.calls }
         ensures full { IfOk result (λ count. count ≡ min (length into.new) (length self.old.left)) }
-        ensures call { OnOk result (self.new.calls ≡ called self.old.calls) }
-        ensures fault { OnErr result (self.new.calls ≡ failed self.old.calls) }
+        ensures as_told { FailsAsTold self.old.calls self.new.calls result }
     {
         if self.calls.next() {
             return Err(self.calls.raise());

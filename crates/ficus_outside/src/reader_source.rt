@@ -1,8 +1,8 @@
-ghost use Rattle.std.specs.Prelude.{◌≡◌, ◌≢◌, ◌≤◌, [], length, IfOk, IfErr, OnOk, OnErr};
+ghost use Rattle.std.specs.Prelude.{◌≡◌, ◌≢◌, IfErr, IfNone, IfSome, IsErr};
 ghost use Rattle.std.specs.Io.{ReadsAtMost};
 ghost use Rattle.std.specs.Io.KnownBytes.{ReadConsumes};
 ghost use Rattle.std.specs.IoError.{error_kind};
-ghost use Rattle.ficus_faults.specs.Faults.{Rose};
+ghost use Rattle.ficus_outside.specs.Calls.{TakesFrom};
 ghost use Rattle.ficus_outside.specs.Stream.{StreamState};
 
 use crate::Source;
@@ -37,20 +37,10 @@ impl<R: Read + Drop> ReaderSource<R> {
 }
 
 impl<R: Read + Drop> Source for ReaderSource<R> {
-    ghost tells = { ⊥ };
-
-    ghost left = { λ _. [] };
-
     ghost faults = { λ s. s.faults };
 
     fn take(&mut self, into: &mut [u8]) -> Result<usize, Failed>
-        ensures within { IfOk result (λ count. count ≤ length into.new) }
-        ensures failed { OnErr result (Rose self.old.faults self.new.faults) }
-        ensures steady { OnOk result (self.new.faults ≡ self.old.faults) }
-        ensures counted { self.old.faults ≤ self.new.faults }
-
-        // What it gives is what the reader gave, its end the reader's end, and with a fault nothing is lost.
-        ensures read { ReadConsumes self.old.known self.new.known result into.new }
+        ensures { TakesFrom self.old self.new result into.new }
     {
         match read_through(&mut self.reader, into) {
             Ok(count) => Ok(count),
@@ -66,14 +56,21 @@ fn read_through<R: Read>(reader: &mut R, into: &mut [u8]) -> io::Result<usize>
     ensures tried { IfErr result (λ error. error_kind error ≢ ErrorKind.Interrupted) }
 {
     for _ in 0..u64::MAX {
-        match reader.read(into) {
-            Ok(count) => return Ok(count),
-            Err(error) => {
-                if error.kind() != ErrorKind::Interrupted {
-                    return Err(error);
-                }
-            }
+        if let Some(answer) = unless_interrupted(reader.read(into)) {
+            return answer;
         }
     }
     Err(ErrorKind::TimedOut.into())
+}
+
+/// The answer of a call, but none where this was interrupted, and is to be made again.
+pub(crate) fn unless_interrupted(answer: io::Result<usize>) -> Option<io::Result<usize>>
+    ensures given { IfSome result (λ given. given ≡ answer) }
+    ensures settled { IfSome result (λ given. IfErr given (λ error. error_kind error ≢ ErrorKind.Interrupted)) }
+    ensures interrupted { IfNone result (IsErr answer) }
+{
+    match answer {
+        Err(error) if error.kind() == ErrorKind::Interrupted => None,
+        answer => Some(answer),
+    }
 }

@@ -1,15 +1,16 @@
-ghost use Rattle.std.specs.Prelude.{◌≡◌, ◌<◌, ◌≤◌, ◌⊎◌, List, ◌++◌, ℕ, length, take, Ok, IfOk, OnErr};
+ghost use Rattle.std.specs.Prelude.{◌≡◌, ◌<◌, ◌≤◌, ◌⊎◌, List, [], ◌++◌, ℕ, length, take, Ok, IfOk, OnErr};
 ghost use Rattle.ficus_faults.specs.Faults.{Rose};
 
 use ficus_faults::Failed;
 
 /// Where bytes go.
 pub trait Sink {
-    /// The unit type where the sink tells what was put, and the empty type where it doesn't.
-    ghost tells: { Type 0 };
+    /// The unit type where the sink tells what was put, and the empty type where it doesn't, as where an `impl` says
+    /// nothing of it.
+    ghost tells: { Type 0 } = { ⊥ };
 
     /// The bytes that were put, in order. A claim only where the sink tells it.
-    ghost written: { Self → List ℕ };
+    ghost written: { Self → List ℕ } = { λ _. [] };
 
     /// How often the sink has failed. The count stands still at 2^64 - 1.
     ghost faults: { Self → ℕ };

@@ -5,11 +5,12 @@ use ficus_faults::Failed;
 
 /// Where bytes come from.
 pub trait Source {
-    /// The unit type where the source tells what it has left, and the empty type where it doesn't.
-    ghost tells: { Type 0 };
+    /// The unit type where the source tells what it has left, and the empty type where it doesn't, as where an `impl`
+    /// says nothing of it.
+    ghost tells: { Type 0 } = { ⊥ };
 
     /// The bytes that are left, in the order in which they come. A claim only where the source tells it.
-    ghost left: { Self → List ℕ };
+    ghost left: { Self → List ℕ } = { λ _. [] };
 
     /// How often the source has failed. The count stands still at 2^64 - 1.
     ghost faults: { Self → ℕ };

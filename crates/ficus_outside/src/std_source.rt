@@ -1,6 +1,5 @@
-ghost use Rattle.std.specs.Prelude.{◌≡◌, ◌≤◌, [], length, IfOk, OnOk, OnErr};
-ghost use Rattle.std.specs.Io.KnownBytes.{ReadConsumes};
-ghost use Rattle.ficus_faults.specs.Faults.{Rose};
+ghost use Rattle.std.specs.Prelude.{◌≡◌};
+ghost use Rattle.ficus_outside.specs.Calls.{TakesFrom};
 ghost use Rattle.ficus_outside.specs.Stream.{StreamState};
 
 use crate::Source;
@@ -38,20 +37,10 @@ impl<R: Input + Clone + Drop> StdSource<R> {
 }
 
 impl<R: Input + Clone + Drop> Source for StdSource<R> {
-    ghost tells = { ⊥ };
-
-    ghost left = { λ _. [] };
-
     ghost faults = { λ s. s.faults };
 
     fn take(&mut self, into: &mut [u8]) -> Result<usize, Failed>
-        ensures within { IfOk result (λ count. count ≤ length into.new) }
-        ensures failed { OnErr result (Rose self.old.faults self.new.faults) }
-        ensures steady { OnOk result (self.new.faults ≡ self.old.faults) }
-        ensures counted { self.old.faults ≤ self.new.faults }
-
-        // What it gives is what the reader gave, its end the reader's end, and with a fault nothing is lost.
-        ensures read { ReadConsumes self.old.known self.new.known result into.new }
+        ensures { TakesFrom self.old self.new result into.new }
     {
         self.source.take(into)
     }

@@ -1,4 +1,4 @@
-ghost use Rattle.std.specs.Prelude.{◌≡◌, ◌≢◌, ◌<◌, ◌≤◌, ◌⊎◌, [], length, Ok, IfOk, IfErr, OnOk, OnErr, IsErr};
+ghost use Rattle.std.specs.Prelude.{◌≡◌, ◌≢◌, ◌<◌, ◌≤◌, ◌⊎◌, length, Ok, IfOk, IfErr, OnOk, OnErr, IsErr};
 ghost use Rattle.std.specs.Io.{WritesAtMost};
 ghost use Rattle.std.specs.Io.KnownBytes.{WriteAppends};
 ghost use Rattle.std.specs.IoError.{error_kind};
@@ -6,6 +6,7 @@ ghost use Rattle.ficus_faults.specs.Faults.{Rose};
 ghost use Rattle.ficus_outside.specs.Stream.{StreamState};
 
 use crate::Sink;
+use crate::reader_source::unless_interrupted;
 use ficus_faults::{Failed, Faults};
 use std::io;
 use std::io::{ErrorKind, Write};
@@ -45,10 +46,6 @@ impl<W: Write + Drop> WriterSink<W> {
 }
 
 impl<W: Write + Drop> Sink for WriterSink<W> {
-    ghost tells = { ⊥ };
-
-    ghost written = { λ _. [] };
-
     ghost faults = { λ s. s.faults };
 
     fn put(&mut self, bytes: &[u8]) -> Result<usize, Failed>
@@ -89,13 +86,8 @@ pub fn write_through<W: Write>(writer: &mut W, bytes: &[u8]) -> io::Result<usize
     ensures tried { IfErr result (λ error. error_kind error ≢ ErrorKind.Interrupted) }
 {
     for _ in 0..u64::MAX {
-        match writer.write(bytes) {
-            Ok(count) => return Ok(count),
-            Err(error) => {
-                if error.kind() != ErrorKind::Interrupted {
-                    return Err(error);
-                }
-            }
+        if let Some(answer) = unless_interrupted(writer.write(bytes)) {
+            return answer;
         }
     }
     Err(ErrorKind::TimedOut.into())

@@ -1,8 +1,9 @@
 // An output over a system that tells what it is asked.
+use crate::answers::puts_all;
 use crate::noting::{Note, Noting};
 use crate::system::Turn;
 use ficus_faults::Failed;
-use ficus_outside::{Output, Sink, WriterSink};
+use ficus_outside::{Output, WriterSink};
 use std::alloc::Global;
 use std::process::Abort;
 use std::test::Fail;
@@ -45,19 +46,6 @@ const ROWS: [Row; 5] = [
         asked: &[],
     },
 ];
-
-// Whether the puts of the pieces answer so.
-fn puts_all<R: Abort + Drop>(
-    sink: &mut WriterSink<Output<Noting<R>>>,
-    puts: &[(&str, Result<usize, Failed>)],
-) -> bool {
-    for (piece, answer) in puts {
-        if sink.put(piece.as_bytes()) != *answer {
-            return false;
-        }
-    }
-    true
-}
 
 // Whether the notes are of these calls.
 fn are(notes: &[Note], asked: &[(&str, Option<usize>)]) -> bool {

@@ -1,4 +1,5 @@
 // Sources and sinks over the standard streams.
+use crate::answers::puts_all;
 use crate::system::{Screen, Turn, Typed};
 use ficus_faults::Failed;
 use ficus_outside::{Sink, Source, StdSink, StdSource};
@@ -126,16 +127,6 @@ const PUT: [Put; 5] = [
         shown: "abc",
     },
 ];
-
-// Whether the puts of the pieces answer so.
-fn puts_all(sink: &mut StdSink<&Screen>, puts: &[(&str, Result<usize, Failed>)]) -> bool {
-    for (piece, answer) in puts {
-        if sink.put(piece.as_bytes()) != *answer {
-            return false;
-        }
-    }
-    true
-}
 
 // Whether a sink over the screen answers as the row says.
 fn puts(screen: &Screen, row: &Put) -> bool {

@@ -8,7 +8,7 @@ use crate::path::{Base, PART_LIMIT, Path};
 use crate::reading::read_parted;
 use crate::room::Room;
 use arrayvec::ArrayVec;
-use ficus_ids::{Id, Listed, Memory};
+use ficus_ids::{Id, Memory};
 use std::alloc::Global;
 use std::marker::Model;
 
@@ -87,9 +87,6 @@ impl PathDraft {
         for room in self.parts.as_slice() {
             parts.push(room.part()?)?;
         }
-        Ok(Path {
-            base: self.base,
-            parts: Listed::of(parts),
-        })
+        Ok(Path::through(self.base, parts))
     }
 }

@@ -1,6 +1,6 @@
 ghost use Rattle.std.specs.Prelude.{◌≡◌, ◌↔◌, IsTrue, IfOk};
 ghost use Rattle.ficus_path.specs.declared.path.PathFault.TheVariants.{Memory as OutOfMemory};
-ghost use Rattle.ficus_path.specs.Path.{IsEntry, IsNew};
+ghost use Rattle.ficus_path.specs.Path.{IsEntry, IsNew, path_from};
 
 use ficus_ids::{Id, Listed, Memory, Name};
 use std::alloc::Global;
@@ -79,6 +79,16 @@ impl Part {
 }
 
 impl Path {
+    // The path from a base through these parts.
+    pub(crate) fn through(base: Base, parts: Vec<Part>) -> Path
+        ensures { result ≡ path_from base parts.items }
+    {
+        Path {
+            base,
+            parts: Listed::of(parts),
+        }
+    }
+
     /// The same path once more.
     pub fn copy(&self, alloc: Global) -> Result<Path, Memory>
         ensures { IfOk result (λ path. path ≡ self.now) }
@@ -87,10 +97,7 @@ impl Path {
         for part in self.parts.items() {
             parts.push(part.copy()?)?;
         }
-        Ok(Path {
-            base: self.base,
-            parts: Listed::of(parts),
-        })
+        Ok(Path::through(self.base, parts))
     }
 
     /// Whether it names an entry: whether it has a part.

@@ -1,6 +1,7 @@
 ghost use Rattle.std.specs.Prelude.{◌≡◌, ◌++◌, List, ℕ, IfOk, IsErrOf};
 ghost use Rattle.ficus_ids.specs.Members.{IsCount};
 ghost use Rattle.ficus_formats.specs.Format.{Reads, ReadsAll, Spells};
+ghost use Rattle.ficus_model.specs.declared.event.Op.TheVariants.{Make};
 ghost use Rattle.ficus_record.specs.Record.{FitsRecord, op_under, record_bytes, record_format, record_under};
 ghost use Rattle.ficus_record.specs.declared.record.Record.{Record as RecordValue};
 
@@ -11,7 +12,7 @@ use crate::fields::{
 use crate::{Record, RecordFault};
 use ficus_codec::{Known, read_rows};
 use ficus_formats::{ReadFault, Reader};
-use ficus_ids::{Kind, Listed, Members};
+use ficus_ids::{Id, Kind, Listed, Members, Name};
 use ficus_model::Op;
 use std::alloc::Global;
 
@@ -22,12 +23,7 @@ fn read_op(alloc: Global, reader: &mut Reader<'_>, tag: u8) -> Result<Op, ReadFa
     match tag {
         1 => {
             let (dir, (name, kind)) = read_making(reader)?;
-            Ok(Op::Make {
-                dir,
-                name,
-                kind,
-                text: Listed::of(Vec::new(alloc)),
-            })
+            Ok(made(dir, name, kind, Listed::of(Vec::new(alloc))))
         }
         2 => {
             let (dir, (name, target)) = read_linking(reader)?;
@@ -68,14 +64,21 @@ fn read_op(alloc: Global, reader: &mut Reader<'_>, tag: u8) -> Result<Op, ReadFa
         }
         13 => {
             let (dir, (name, text)) = read_symlinking(alloc, reader)?;
-            Ok(Op::Make {
-                dir,
-                name,
-                kind: Kind::Symlink,
-                text,
-            })
+            Ok(made(dir, name, Kind::Symlink, text))
         }
         _ => Err(ReadFault::Unspelled),
+    }
+}
+
+// The making of an object of a kind, with a text, under a name in the directory.
+fn made(dir: Id, name: Name, kind: Kind, text: Listed<u8>) -> Op
+    ensures { result ≡ Make dir name kind text }
+{
+    Op::Make {
+        dir,
+        name,
+        kind,
+        text,
     }
 }
 

@@ -1,7 +1,7 @@
 -- `accept`: what was served is taken exactly where it answers the open ask; the new replica stands for the history with
 -- each Accept of it that the history allows, and fits an image.
 use Rattle.std.proofs.Common.{◌≡◌, ℕ, ◌+◌, ◌-◌, ◌^◌, ◌<◌, ◌≤◌, List, [], ◌∷◌, ◌++◌, Option, Some, None, Result, Ok, Err, cond, refl, sym, ap, ap₂, subst, ◌∙◌, inl, inr, ◌⊎◌, arith}
-use Rattle.std.specs.Prelude.{Contains, IfOk}
+use Rattle.std.specs.Prelude.{Contains, IfOk, IsErrAnd}
 use Rattle.std.proofs.lemmas.Bool.{cases_order}
 use Rattle.std.proofs.lemmas.List.Elements.{All-contains_itself, All-weaker}
 use Rattle.std.proofs.lemmas.List.Sums.{sum_by-take-le}
@@ -41,6 +41,7 @@ use Rattle.ficus_held_file_laws.specs.Laws.{AreTouched}
 use Rattle.ficus_held_file_laws.specs.Tables.{AreHeldEntries, AreHeldFiles}
 use Rattle.ficus_held_file_laws.proofs.Files.{file_of_history}
 use Rattle.ficus_held_file_laws.proofs.Merging.{files_fit, files_merged}
+use Rattle.ficus_deciding.proofs.Refusals.{refused_so}
 use Rattle.ficus_replica.specs.declared.replica.Asked.{Asked}
 use Rattle.ficus_replica.specs.declared.replica.Replica.{Replica}
 use Rattle.ficus_replica.specs.Accept.{IsOpen, MayTake, AreTablesMerged, MakesMerged, Accepted, AcceptGives, IsServed, AcceptStands, TakeGives}
@@ -368,6 +369,16 @@ accepts from number entries files old result fits gives makes = record {
       accept_gives_stands volume H old.saved.me from number entries files serve old result
       (few_members fits.fits stands) lawful stands served gives;
 }
+
+-- of the refusal of what wasn't asked for
+pub stale : {from number : ℕ} {entries : List Entry} {files : List FileReplica} {old : Replica} {refusal : Refusal}
+    {result : Result Replica Refusal} → FitsTaking old.saved entries files →
+    (refusal ≡ Stale) × (IsOpen old from number → ⊥) → IsErrAnd result (λ given. given ≡ refusal) →
+    Accepts old from number entries files result
+stale {from} {number} {entries} {files} {old} {refusal} {result} fits (is, closed) given =
+    refused_so (Accepts old from number entries files) refusal
+    (subst (λ refusal. Accepts old from number entries files (Err refusal)) (sym is)
+    (accepts from number entries files old (Err Stale) fits closed tt)) result given
 
 -- and of what is taken
 pub taken : (from number : ℕ) (entries : List Entry) (files : List FileReplica) (old : Replica)

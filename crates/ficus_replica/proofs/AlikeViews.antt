@@ -35,6 +35,7 @@ use Rattle.ficus_rules.proofs.Alikes.{alike_back}
 use Rattle.ficus_rules.proofs.Views.{bound_same, turned}
 use Rattle.ficus_deciding.proofs.Tables.{tables_bound}
 use Rattle.ficus_replica.specs.SavedOf.{IsSavedOf}
+use Rattle.ficus_replica.proofs.Allowed.{bound_in, bound_of}
 use Rattle.ficus_replica.proofs.Views.{named_made, orphan_made, stands_same, visible_versions}
 
 -- an item of a list is so, or none is
@@ -105,22 +106,7 @@ module _ (entries : List Entry) (dir : Id) (name : List ℕ) (target : Id) where
 module _ (volume : Volume) (H : List Event) (r : ℕ) where
   bound_view : (dir : Id) (name : List ℕ) (target : Id) →
       IsBound H (Knows H r) dir name target ↔ IsBoundIn (history_view volume H r) dir name target
-  bound_view dir name target = (
-    λ bound. record {
-      entry = bound.entry;
-      live = bound.live;
-      in_dir = bound.in_dir;
-      named = bound.named;
-      leads = bound.leads;
-    },
-    λ bound. record {
-      entry = bound.entry;
-      live = bound.live;
-      in_dir = bound.in_dir;
-      named = bound.named;
-      leads = bound.leads;
-    },
-  )
+  bound_view dir name target = (λ bound. bound_in volume H r bound, λ bound. bound_of volume H r bound)
 
   name_of : (object : Id) (named : HasName H (Knows H r) object) →
       IsBound H (Knows H r) named.entry.dir named.entry.name object

@@ -28,11 +28,13 @@ pub record MayBeDone (volume : Volume) (H : List Event) (r : ℕ) (op : Op) : Ty
   pub allowed : IsAllowed H (Knows H r) op
 
 module _ (volume : Volume) (H : List Event) (r : ℕ) where
-  bound_in : {dir target : Id} {name : List ℕ} → IsBound H (Knows H r) dir name target →
+  -- what is bound in the history is in its view
+  pub bound_in : {dir target : Id} {name : List ℕ} → IsBound H (Knows H r) dir name target →
       IsBoundIn (history_view volume H r) dir name target
   bound_in bound = record { entry = bound.entry; live = bound.live; in_dir = bound.in_dir; named = bound.named; leads = bound.leads }
 
-  bound_of : {dir target : Id} {name : List ℕ} → IsBoundIn (history_view volume H r) dir name target →
+  -- and the other way round
+  pub bound_of : {dir target : Id} {name : List ℕ} → IsBoundIn (history_view volume H r) dir name target →
       IsBound H (Knows H r) dir name target
   bound_of bound = record { entry = bound.entry; live = bound.live; in_dir = bound.in_dir; named = bound.named; leads = bound.leads }
 

@@ -20,6 +20,7 @@ use Rattle.ficus_held_file_laws.specs.Tables.{AreHeldEntries, AreHeldFiles}
 use Rattle.ficus_held_file_laws.proofs.Entries.{entries_once}
 use Rattle.ficus_held_file_laws.proofs.Files.{files_once}
 use Rattle.ficus_replica.specs.SavedOf.{IsSavedOf}
+use Rattle.ficus_replica.proofs.Tables.{next_saved}
 
 pub saved_of_other : (r : ℕ) (event : Event) → actor event ≢ r → is_saved r event ≡ false
 saved_of_other r event n = not_own (traits event).saves (actor event) r n
@@ -83,13 +84,7 @@ module _ {volume : Volume} {H K : List Event} {r : ℕ} {old : Saved} (is : IsSa
   pub saved_then : {next used generation : ℕ} {entries : List Entry} {files : List FileReplica} →
       next ≡ count_of r K + 1 → used ≡ written_of r K → generation ≡ generation_of r K →
       AreHeldEntries volume.members K r entries → AreHeldFiles volume.members K r files →
-      IsSavedOf volume K r (record old {
-        next = next;
-        used = used;
-        generation = generation;
-        entries = entries;
-        files = files;
-      })
+      IsSavedOf volume K r (next_saved old next used generation entries files)
   saved_then next used generation entries files = record {
     member = is.member;
     me = is.me;

@@ -22,16 +22,15 @@ pub tables_of : {saved : Saved} → FitsImage saved →
     FitsReplica saved.members saved.me saved.next saved.entries saved.files
 tables_of fits = record { tables = fits.tables; past = fits.past }
 
+-- what is saved next: so many updates, so many bytes, so many saves, and these tables
+abbrev pub next_saved : Saved → ℕ → ℕ → ℕ → List Entry → List FileReplica → Saved
+next_saved old next used generation entries files =
+    record old { next = next; used = used; generation = generation; entries = entries; files = files }
+
 pub image_then : {old : Saved} {next used generation : ℕ} {entries : List Entry} {files : List FileReplica} →
     FitsImage old → 1 ≤ next → next ≤ old.ids + 1 → used ≤ old.bytes → generation < 2 ^ 63 →
     FitsReplica old.members old.me next entries files →
-    FitsImage (record old {
-      next = next;
-      used = used;
-      generation = generation;
-      entries = entries;
-      files = files;
-    })
+    FitsImage (next_saved old next used generation entries files)
 image_then fits next_at_least next_at_most used generation tables = record {
   members = fits.members;
   me = fits.me;

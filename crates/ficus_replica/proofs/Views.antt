@@ -5,6 +5,7 @@ use Rattle.ficus_ids.specs.declared.id.Id.{Id}
 use Rattle.ficus_ids.specs.declared.kind.Kind.{Kind}
 use Rattle.ficus_ids.specs.declared.kind.Kind.TheVariants.{Dir}
 use Rattle.ficus_entry.specs.Inside.{HasLiveInside}
+use Rattle.ficus_file.specs.Version.{HasTwoTexts}
 use Rattle.ficus_file.specs.declared.file.FileReplica.{FileReplica}
 use Rattle.ficus_file.specs.declared.version.Version.{Version}
 use Rattle.ficus_model.specs.declared.event.Event.{Event}
@@ -25,7 +26,7 @@ use Rattle.ficus_held_file_laws.proofs.Files.{known_file, named_listed}
 use Rattle.ficus_held_file_laws.proofs.Orphans.{orphan_listed, unseen_uncovered, uncovered_unseen}
 use Rattle.ficus_orphan.specs.Orphan.{IsNamedBy, IsOrphanIn}
 use Rattle.ficus_rules.specs.View.{SameView, history_view}
-use Rattle.ficus_deciding.specs.View.{IsVisibleBy, held_live, held_dead, tables_view}
+use Rattle.ficus_deciding.specs.View.{HasObject, IsVisibleBy, held_live, held_dead, tables_view}
 use Rattle.ficus_replica.specs.SavedOf.{IsSavedOf}
 
 -- an object with a live name is made
@@ -176,19 +177,22 @@ module _ {volume : Volume} {H : List Event} {r : ℕ} {saved : Saved} (lawful : 
       (versions : List Version) × AreVersionsOf H (Knows H r) object versions
   visible_versions visible = let found = visible_row visible in (found.row.file.versions, found.versions)
 
+  -- what is so of a visible object's row is so of what the tables show
+  row_shown : {object : Id} {kind : Kind} (row : ListsObject saved.files object kind) →
+      IsVisible H (Knows H r) object → (fact : FileReplica → Type 0) → fact row.file → HasObject saved object fact
+  row_shown row visible fact so = record {
+    visible = history_visible visible;
+    file = row.file;
+    inside = row.inside;
+    has_id = row.has_id;
+    so = so;
+  }
+
   kinds_history : (object : Id) (kind : Kind) →
       (tables_view saved).kinds object kind ↔ (history_view volume H r).kinds object kind
   kinds_history object kind = (
     λ has. (visible_history has.visible, made_as has.file has.inside has.has_id has.so),
-    λ has.
-        let row = (row_of has.0 has.1).row in
-        record {
-          visible = history_visible has.0;
-          file = row.file;
-          inside = row.inside;
-          has_id = row.has_id;
-          so = row.of_kind;
-        },
+    λ has. let row = (row_of has.0 has.1).row in row_shown row has.0 (λ file. file.kind ≡ kind) row.of_kind,
   )
 
   conflicts_history : (object : Id) →
@@ -201,13 +205,8 @@ module _ {volume : Volume} {H : List Event} {r : ℕ} {saved : Saved} (lawful : 
     ),
     λ has.
         let found = visible_row has.0 in
-        record {
-          visible = history_visible has.0;
-          file = found.row.file;
-          inside = found.row.inside;
-          has_id = found.row.has_id;
-          so = (conflict_of_list found.row.file.versions found.versions).0 has.1;
-        },
+        row_shown found.row has.0 (λ file. HasTwoTexts file.versions)
+        ((conflict_of_list found.row.file.versions found.versions).0 has.1),
   )
 
   versions_history : (object : Id) (versions : List Version) →
@@ -220,13 +219,8 @@ module _ {volume : Volume} {H : List Event} {r : ℕ} {saved : Saved} (lawful : 
     ),
     λ has.
         let found = visible_row has.0 in
-        record {
-          visible = history_visible has.0;
-          file = found.row.file;
-          inside = found.row.inside;
-          has_id = found.row.has_id;
-          so = one_list found.row.file.versions versions found.versions has.1;
-        },
+        row_shown found.row has.0 (λ file. file.versions ≡ versions)
+        (one_list found.row.file.versions versions found.versions has.1),
   )
 
   -- this alone carries an answer over the tables to one over the history, and back

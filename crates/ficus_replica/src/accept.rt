@@ -1,4 +1,4 @@
-ghost use Rattle.std.specs.Prelude.{◌≡◌, ◌-◌, ◌^◌, ◌<◌, None, Err, IfOk, OnOk, OnErr, IsTrue, ◌↔◌};
+ghost use Rattle.std.specs.Prelude.{◌≡◌, ◌-◌, ◌^◌, ◌<◌, None, Err, IfErr, IfOk, OnOk, OnErr, IsTrue, ◌↔◌};
 
 use crate::{Asked, Replica};
 use ficus_entry::{Entries, InOrder, SharedEntry};
@@ -17,6 +17,7 @@ impl Replica {
     ghost use Rattle.ficus_replica.specs.Accept.{MakesMerged, TakeGives, Taken};
     ghost use Rattle.ficus_replica.specs.Calls.{Accepts, FitsTaking};
     ghost use Rattle.ficus_ids.specs.declared.refusal.Refusal.{Refusal as RefusalValue};
+    ghost use Rattle.ficus_ids.specs.declared.refusal.Refusal.TheVariants.{Stale};
 
     /// Takes the tables that a peer served in answer to an ask. Refused, in this order: `Stale` exactly where
     /// the open ask isn't of this peer and number; `BadMessage` exactly where the tables hold an identifier or a count
@@ -32,9 +33,7 @@ impl Replica {
         requires { FitsTaking self.now.saved entries.now files.now }
         ensures { Accepts self.now from number entries.now files.now result }
     {
-        if !self.waits_for(from, number) {
-            return Err(Refusal::Stale);
-        }
+        self.awaited(from, number)?;
         self.take_tables(alloc, entries, files)
     }
 
@@ -50,9 +49,7 @@ impl Replica {
         requires { FitsTaking self.now.saved entries.now files.now }
         ensures { Accepts self.now from number entries.now files.now result }
     {
-        if !self.waits_for(from, number) {
-            return Err(Refusal::Stale);
-        }
+        self.awaited(from, number)?;
         self.take_rows(alloc, entries, files)
     }
 
@@ -144,6 +141,18 @@ impl Replica {
         self.saved.generation += 1;
         self.ask = None;
         Ok(())
+    }
+
+    // Whether its open ask is of this peer and number: `Stale` exactly where it isn't.
+    fn awaited(&self, from: u8, number: u64) -> Result<(), Refusal>
+        ensures open { OnOk result (IsOpen self.now from number) }
+        ensures stale { IfErr result (λ refusal. (refusal ≡ Stale) × (IsOpen self.now from number → ⊥)) }
+    {
+        if self.waits_for(from, number) {
+            Ok(())
+        } else {
+            Err(Refusal::Stale)
+        }
     }
 
     /// Whether its open ask is of this peer and number.

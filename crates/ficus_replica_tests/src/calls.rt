@@ -4,7 +4,7 @@ use crate::steps::{entry_path, may_save, new_path};
 use ficus_ids::{Id, Refusal};
 use ficus_merge_files::{merge_files, merge_fits};
 use ficus_path::read_path;
-use ficus_replica::{Next, Replica};
+use ficus_replica::Replica;
 use std::alloc::Global;
 use std::test::Fail;
 
@@ -75,74 +75,22 @@ pub(crate) fn refused(
 ) -> Result<Option<Refusal>, Fail>
     requires { FitsImage replica.now.saved }
 {
-    let answer = match change {
-        Changing::Symlink => symlinked(alloc, replica)?,
-        Changing::Link | Changing::Rename => given_name(alloc, replica, change)?,
-        Changing::Remove => removed(alloc, replica)?,
-        Changing::Settle | Changing::Resolve => ended(alloc, replica, change)?,
-        Changing::Adopt | Changing::Discard => of_orphan(alloc, replica, change)?,
-    };
-    Ok(answer.err())
-}
-
-fn symlinked(alloc: Global, replica: &Replica) -> Result<Result<Next, Refusal>, Fail>
-    requires { FitsImage replica.now.saved }
-{
+    let file = entry_path(alloc, b"/f")?;
     let path = new_path(alloc, b"/g")?;
-    may_save(replica)?;
-    Ok(replica.symlink(alloc, &path, b"n"))
-}
-
-fn given_name(
-    alloc: Global,
-    replica: &Replica,
-    change: Changing,
-) -> Result<Result<Next, Refusal>, Fail>
-    requires { FitsImage replica.now.saved }
-{
-    let from = entry_path(alloc, b"/f")?;
-    let path = new_path(alloc, b"/g")?;
-    may_save(replica)?;
-    Ok(match change {
-        Changing::Link => replica.link(alloc, &from, &path),
-        _ => replica.rename(alloc, &from, &path),
-    })
-}
-
-fn removed(alloc: Global, replica: &Replica) -> Result<Result<Next, Refusal>, Fail>
-    requires { FitsImage replica.now.saved }
-{
-    let path = entry_path(alloc, b"/f")?;
-    may_save(replica)?;
-    Ok(replica.remove(alloc, &path))
-}
-
-fn ended(alloc: Global, replica: &Replica, change: Changing) -> Result<Result<Next, Refusal>, Fail>
-    requires { FitsImage replica.now.saved }
-{
-    let path = read_path(alloc, b"/f")?;
-    may_save(replica)?;
-    Ok(match change {
-        Changing::Settle => replica.settle(alloc, &path, b"n"),
-        _ => replica.resolve(alloc, &path),
-    })
-}
-
-fn of_orphan(
-    alloc: Global,
-    replica: &Replica,
-    change: Changing,
-) -> Result<Result<Next, Refusal>, Fail>
-    requires { FitsImage replica.now.saved }
-{
     let orphan = Id {
         replica: 1,
         number: 1,
     };
-    let path = new_path(alloc, b"/g")?;
     may_save(replica)?;
-    Ok(match change {
+    let answer = match change {
+        Changing::Symlink => replica.symlink(alloc, &path, b"n"),
+        Changing::Link => replica.link(alloc, &file, &path),
+        Changing::Rename => replica.rename(alloc, &file, &path),
+        Changing::Remove => replica.remove(alloc, &file),
+        Changing::Settle => replica.settle(alloc, &file, b"n"),
+        Changing::Resolve => replica.resolve(alloc, &file),
         Changing::Adopt => replica.adopt(alloc, orphan, &path),
-        _ => replica.discard(alloc, orphan),
-    })
+        Changing::Discard => replica.discard(alloc, orphan),
+    };
+    Ok(answer.err())
 }

@@ -23,7 +23,8 @@ use Rattle.ficus_script.specs.declared.order.Order.{Order}
 use Rattle.ficus_script.specs.declared.order.Order.TheVariants.{Star, Ring}
 use Rattle.ficus_script.specs.Arguments.{Nothing, OnePath, PathAndKind, PathAndText, TwoPaths, OneNumber, OneOrder, TwoReplicas, Arming}
 use Rattle.ficus_script.specs.Arguments.{AreArguments, IsReplicaNumber, Begins, IsReadingBehind, IsReadingWords, BeginsPath, BeginsText, argument_words, left_of}
-use Rattle.ficus_script.proofs.Cuts.{join_first, one_first_word, spaced}
+use Rattle.ficus_script.specs.Line.{spaced}
+use Rattle.ficus_script.proofs.Cuts.{join_first, one_first_word}
 use Rattle.ficus_script.proofs.Letters.{are_letters, letters_free}
 use Rattle.ficus_script.proofs.Numbers.{IsFreeOf-number, IsFreeOf-replica, same_number, same_replica, first_digit}
 

@@ -27,9 +27,9 @@ use Rattle.ficus_path.specs.Text.{quoted_text}
 use Rattle.ficus_path.proofs.TextLaws.{quoted_text_injective}
 use Rattle.ficus_script.specs.Script.{IsCommandLine, IsStepLine}
 use Rattle.ficus_script.specs.Command.{IsCommand, IsCommandOf, IsSpelled, IsSpelledStep, IsStep, Spelling, of_replica, spelling_of, replica_words, spelling_text, command_text}
-use Rattle.ficus_script.specs.Line.{IsReadingAt, IsReadingOf, led_by}
+use Rattle.ficus_script.specs.Line.{IsCut, IsReadingAt, IsReadingOf, led_by, spaced}
 use Rattle.ficus_script.proofs.ArgumentLaws.{one_arguments}
-use Rattle.ficus_script.proofs.Cuts.{IsCut, join_first, one_cut, one_first_word, spaced}
+use Rattle.ficus_script.proofs.Cuts.{join_first, one_cut, one_first_word}
 use Rattle.ficus_script.proofs.Letters.{are_letters, letters_free}
 use Rattle.ficus_script.proofs.Numbers.{IsFreeOf-replica, first_digit_of_replica}
 

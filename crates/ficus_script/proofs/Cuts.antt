@@ -7,13 +7,8 @@ use Rattle.std.proofs.lemmas.List.{append-nil}
 use Rattle.ficus_path.specs.Spelling.{IsEndOr}
 use Rattle.ficus_path.proofs.CutLaws.{IsFreeOf, cut_same}
 use Rattle.ficus_script.specs.Arguments.{IsReplicaNumber, bytes_of, left_of}
-use Rattle.ficus_script.specs.Line.{led_by}
+use Rattle.ficus_script.specs.Line.{IsCut, led_by, spaced}
 use Rattle.ficus_script.proofs.Numbers.{IsFreeOf-replica, same_replica}
-
--- what stands behind a word: nothing, or a space (32) and the rest
-abbrev pub spaced : Option (List ℕ) → List ℕ
-spaced None = []
-spaced (Some rest) = 32 ∷ rest
 
 IsEndOr-spaced : (rest : Option (List ℕ)) → IsEndOr 32 (spaced rest)
 IsEndOr-spaced None = tt
@@ -54,13 +49,6 @@ pub leading_number : (line front : List ℕ) (behind : Option (Bor (List ℕ))) 
 leading_number line front behind replica rest number free cut same =
     one_first_word front (decimal replica) (bytes_of behind) (Some rest) free (IsFreeOf-replica replica number) (sym (cut_whole line front behind cut)
     ∙ same)
-
--- The line is cut into the number of a replica, if one leads it, the next word, and what is left.
-pub record IsCut (line : List ℕ) (by : Option ℕ) (verb : List ℕ) (left : Option (List ℕ)) : Type 0 where
-  pub number : IfSome by IsReplicaNumber
-  pub free : IsFreeOf 32 verb
-  pub whole : line ≡ led_by by (verb ++ spaced left)
-  pub none : IfNone by ((replica : ℕ) (rest : List ℕ) → IsReplicaNumber replica → line ≡ led_by (Some replica) rest → ⊥)
 
 pub cut_line : (line words verb : List ℕ) (by : Option ℕ) (behind : Option (Bor (List ℕ))) → IfSome by IsReplicaNumber →
     line ≡ led_by by words →

@@ -1,9 +1,10 @@
 -- What reading a line comes to.
-use Rattle.std.specs.Prelude.{◌≡◌, ℕ, List, [], ◌∷◌, ◌++◌, filter, Option, Some, None, Result, Ok, Err}
+use Rattle.std.specs.Prelude.{◌≡◌, ◌≢◌, ℕ, List, [], ◌∷◌, ◌++◌, filter, All, Option, Some, None, IfSome, IfNone, Result, Ok, Err}
 use Rattle.std.specs.Fmt.{decimal}
 use Rattle.ficus_script.specs.declared.command.Command.{Command}
 use Rattle.ficus_script.specs.declared.line.LineFault.{LineFault}
 use Rattle.ficus_script.specs.declared.line.LineFault.TheVariants.{NotCommand, Memory}
+use Rattle.ficus_script.specs.Arguments.{IsReplicaNumber}
 use Rattle.ficus_script.specs.Command.{IsCommand, IsSpelled, IsSpelledStep, Spelling, spelling_of}
 use Rattle.ficus_script.specs.declared.fault.ScriptFault.{ScriptFault}
 use Rattle.ficus_script.specs.declared.fault.ScriptFault.TheVariants as script_fault
@@ -19,6 +20,18 @@ fault_at Memory line = script_fault.Memory
 abbrev pub led_by : Option ℕ → List ℕ → List ℕ
 led_by None text = text
 led_by (Some replica) text = decimal replica ++ 32 ∷ text
+
+-- what stands behind a word: nothing, or a space and the rest
+abbrev pub spaced : Option (List ℕ) → List ℕ
+spaced None = []
+spaced (Some rest) = 32 ∷ rest
+
+-- the line is cut into the number of a replica, if one leads it, the next word, and what is left
+pub record IsCut (line : List ℕ) (by : Option ℕ) (verb : List ℕ) (left : Option (List ℕ)) : Type 0 where
+  pub number : IfSome by IsReplicaNumber
+  pub free : All (λ byte. byte ≢ 32) verb
+  pub whole : line ≡ led_by by (verb ++ spaced left)
+  pub none : IfNone by ((replica : ℕ) (rest : List ℕ) → IsReplicaNumber replica → line ≡ led_by (Some replica) rest → ⊥)
 
 -- the command with this spelling, `NotCommand` where none has it, or memory was refused for one that has it, a step
 abbrev pub IsReadingAt : Spelling → Result Command LineFault → Type 0

@@ -1,7 +1,7 @@
 ghost use Rattle.std.specs.Prelude.{◌≡◌, ◌↔◌, ℕ, List, Some, IsTrue, IfSome, IfNone};
-ghost use Rattle.ficus_script.specs.Arguments.{IsReplicaNumber};
+ghost use Rattle.ficus_script.specs.Arguments.{IsReplicaNumber, bytes_of};
 ghost use Rattle.ficus_script.specs.declared.line.LineFault.TheVariants.{Memory as OutOfMemory};
-ghost use Rattle.ficus_script.specs.Line.{fault_at, led_by, IsReadingBy, IsReadingOf};
+ghost use Rattle.ficus_script.specs.Line.{fault_at, led_by, IsCut, IsReadingBy, IsReadingOf};
 ghost use Rattle.ficus_script.specs.Script.{IsCommandLine, IsStepLine, SpellsStep};
 
 use crate::arguments::read_arguments;
@@ -60,8 +60,7 @@ pub(crate) fn read_command(
 ) -> Result<Command, LineFault>
     ensures { IsReadingOf line.now result }
 {
-    let (by, words) = cut_replica(line);
-    let (verb, behind) = cut_at(words, b' ');
+    let (by, verb, behind) = cut_line(line);
     let Some(shape) = read_arguments(behind, paths) else {
         return Err(LineFault::NotCommand);
     };
@@ -72,8 +71,7 @@ pub(crate) fn read_command(
 pub(crate) fn is_command(line: &[u8], paths: &mut LinePaths) -> bool
     ensures { IsTrue result ↔ IsCommandLine line.now }
 {
-    let (by, words) = cut_replica(line);
-    let (verb, behind) = cut_at(words, b' ');
+    let (by, verb, behind) = cut_line(line);
     match read_arguments(behind, paths) {
         Some(shape) => is_command_of(by, verb, paths, &shape),
         None => false,
@@ -101,12 +99,21 @@ pub(crate) fn read_step(
 pub(crate) fn is_step(line: &[u8], paths: &mut LinePaths) -> bool
     ensures { IsTrue result ↔ IsStepLine line.now }
 {
-    let (by, words) = cut_replica(line);
-    let (verb, behind) = cut_at(words, b' ');
+    let (by, verb, behind) = cut_line(line);
     match read_arguments(behind, paths) {
         Some(shape) => is_step_of(by, verb, paths, &shape),
         None => false,
     }
+}
+
+// The number of a replica that leads the line, or none, the next word, and what stands behind it and a space, if
+// anything does.
+fn cut_line(line: &[u8]) -> (Option<u8>, &[u8], Option<&[u8]>)
+    ensures { IsCut line.now result.0 result.1.now (bytes_of result.2) }
+{
+    let (by, words) = cut_replica(line);
+    let (verb, behind) = cut_at(words, b' ');
+    (by, verb, behind)
 }
 
 // The number of a replica that leads the line, and what stands behind it and a space; or none, and the line.

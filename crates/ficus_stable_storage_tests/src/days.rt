@@ -4,8 +4,8 @@ ghost use Rattle.ficus_durable_state.specs.Saved.{FitsImage};
 ghost use Rattle.ficus_stable_storage.specs.Stable.{IsReady};
 
 use crate::records::{DAY, changes, copies};
-use crate::saves::{empty, first, holds, makes, saves_after, shows, told};
-use ficus_disk::{Disk, MemDisk, Pair, TraceDisk};
+use crate::saves::{first, holds, makes, saves_after, shows, told};
+use ficus_disk::{Disk, MemDisk, Pair, TraceDisk, fresh_pair};
 use ficus_ids::Refusal;
 use ficus_journal::Journal;
 use ficus_keeper::Keep;
@@ -120,7 +120,7 @@ fn each_save_is_found(rt: HostRuntime) -> Result<(), Fail> {
 fn keeps_changes(alloc: Global, count: u8) -> Result<bool, Refusal> {
     let bodies = changes(alloc, count)?;
     let mut now = first(alloc)?;
-    keeps::<Journal, MemDisk>(alloc, &mut empty(alloc), &mut now, &bodies)
+    keeps::<Journal, MemDisk>(alloc, &mut fresh_pair(alloc), &mut now, &bodies)
 }
 
 #[test]
@@ -167,7 +167,7 @@ fn seventy_go_on(alloc: Global, kept: usize) -> Result<bool, Refusal> {
     if bodies.len() != 70 || kept > bodies.len() {
         return Ok(false);
     }
-    goes_on(alloc, &mut empty(alloc), &mut now, &bodies, kept)
+    goes_on(alloc, &mut fresh_pair(alloc), &mut now, &bodies, kept)
 }
 
 #[test]

@@ -1,7 +1,7 @@
 // Bytes that stand on the disks, and what is opened of them.
 use crate::records::{ASK, COLLECT, DISCARD, INSIDE, LINK, MAKE};
-use crate::saves::{empty, told};
-use ficus_disk::{Disk, MemDisk, Pair};
+use crate::saves::told;
+use ficus_disk::{Disk, MemDisk, Pair, fresh_pair};
 use ficus_ids::Refusal;
 use ficus_journal::Journal;
 use ficus_keeper::{Keep, StoreFault};
@@ -49,7 +49,7 @@ fn opens<K: Keep + Drop, D: Disk>(alloc: Global, disks: &mut Pair<D>) -> Result<
 // The generation that is opened once these bytes are made an image on two disks that were found empty. None where they
 // weren't.
 fn opens_with<K: Keep + Drop>(alloc: Global, image: &[u8]) -> Option<Result<u64, StoreFault>> {
-    let mut disks = empty(alloc);
+    let mut disks = fresh_pair(alloc);
     if K::make(alloc, &mut disks, image).is_err() {
         return None;
     }
@@ -75,8 +75,8 @@ const IMAGES: &[(&[u8], Result<u64, StoreFault>)] = &[
 fn only_an_image_of_its_generation_is_opened(rt: HostRuntime) -> Result<(), Fail> {
     let alloc = rt.alloc();
     let nothing = Err(StoreFault::NoImage);
-    assert!(rt; opens::<TwoSlot, MemDisk>(alloc, &mut empty(alloc)) == nothing);
-    assert!(rt; opens::<Journal, MemDisk>(alloc, &mut empty(alloc)) == nothing);
+    assert!(rt; opens::<TwoSlot, MemDisk>(alloc, &mut fresh_pair(alloc)) == nothing);
+    assert!(rt; opens::<Journal, MemDisk>(alloc, &mut fresh_pair(alloc)) == nothing);
     for (place, (image, opened)) in IMAGES.iter().enumerate() {
         assert!(rt; opens_as(alloc, image, *opened), "{place}");
     }
@@ -117,7 +117,7 @@ fn puts<K: Keep + Drop, D: Disk>(
 
 /// The fresh image in version 1, with these records behind it.
 pub(crate) fn log_of(alloc: Global, bodies: &[&[u8]]) -> Result<Pair<MemDisk>, Refusal> {
-    let mut disks = empty(alloc);
+    let mut disks = fresh_pair(alloc);
     if Journal::make(alloc, &mut disks, FRESH).is_err() {
         return Err(Refusal::Store);
     }

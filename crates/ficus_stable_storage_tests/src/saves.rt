@@ -5,7 +5,7 @@ ghost use Rattle.ficus_stable_storage.specs.Leads.Holds.{Leads};
 ghost use Rattle.ficus_durable_state.specs.Saved.{FitsImage};
 ghost use Rattle.ficus_stable_storage.specs.Stable.{IsReady, MayFollow};
 
-use ficus_disk::{Disk, MemDisk, Pair};
+use ficus_disk::{Disk, Pair};
 use ficus_durable_state::{BYTE_LIMIT, Saved, UPDATE_LIMIT};
 use ficus_ids::{Members, Memory, Refusal};
 use ficus_image::encode_image;
@@ -40,17 +40,6 @@ fn unfit(fault: RecordFault) -> Refusal {
     match fault {
         RecordFault::Memory => Refusal::Memory,
         _ => Refusal::NoMail,
-    }
-}
-
-/// Two empty disks.
-pub(crate) fn empty(alloc: Global) -> Pair<MemDisk>
-    ensures a { ⟦<MemDisk as Disk>⟧.seen result.a ≡ [] }
-    ensures b { ⟦<MemDisk as Disk>⟧.seen result.b ≡ [] }
-{
-    Pair {
-        a: MemDisk::new(alloc),
-        b: MemDisk::new(alloc),
     }
 }
 

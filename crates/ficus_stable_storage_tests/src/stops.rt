@@ -5,8 +5,8 @@ ghost use Rattle.ficus_durable_state.specs.Saved.{FitsImage};
 use crate::days::plays;
 use crate::kept::{disk_of, log_of};
 use crate::records::{MAKE, changes};
-use crate::saves::{Stop, after, empty, first, holds, makes, saves_next, told};
-use ficus_disk::{Disk, MemDisk, Pair};
+use crate::saves::{Stop, after, first, holds, makes, saves_next, told};
+use ficus_disk::{Disk, MemDisk, Pair, fresh_pair};
 use ficus_ids::Refusal;
 use ficus_journal::Journal;
 use ficus_keeper::Keep;
@@ -94,7 +94,7 @@ fn wrong<K: Keep + Drop>(
     table: &[Row],
 ) -> Result<Option<Stop>, Refusal> {
     let mut was = first(alloc)?;
-    let mut disks = empty(alloc);
+    let mut disks = fresh_pair(alloc);
     match first_saves::<K>(alloc, &mut disks, &mut was, count) {
         Ok(()) => wrong_after::<K>(alloc, &mut disks, &was, calls, table),
         Err(refusal) => Err(refusal),

@@ -1,5 +1,5 @@
 -- What rows show under edits.
-use Rattle.std.proofs.Common.{◌≡◌, ℕ, zero, suc, ◌+◌, ◌<◌, ◌≤◌, true, false, List, [], ◌∷◌, length, map, get_or, slice_get, Some, None, set, drop, ◌∙◌, refl, sym, ap, subst, arith, inl, inr}
+use Rattle.std.proofs.Common.{◌≡◌, ℕ, zero, suc, ◌+◌, ◌<◌, ◌≤◌, true, false, List, [], ◌∷◌, length, map, get_or, slice_get, Option, Some, None, set, drop, ◌∙◌, refl, sym, ap, subst, arith, inl, inr}
 use Rattle.std.specs.Prelude.{position, ◌==◌}
 use Rattle.std.specs.List.{position_or_len}
 use Rattle.std.proofs.Math.Seq.{drop-cons}
@@ -84,20 +84,10 @@ module _ {F R S : Type 0} (formed : F → R → S) (seen : R → S) where
       slice_get (overlaid formed seen edits rows) i ≡ Some (shown formed seen (form_at edits i) row)
   overlaid_at edits rows i row at = shown_at 0 i edits rows i row (omega arith) at
 
-  -- by the search for an edit at its index
-  pub shown_plain : (edits : List (Edit F)) (rows : List R) (i : ℕ) (row : R) → slice_get rows i ≡ Some row →
-      position (λ edit. edit.index == i) edits ≡ None → slice_get (overlaid formed seen edits rows) i ≡ Some (seen row)
-  shown_plain edits rows i row at none =
-      overlaid_at edits rows i row at ∙
-      ap (λ form. Some (shown formed seen form row)) (form_none edits i none)
-
-  pub shown_formed : (edits : List (Edit F)) (rows : List R) (i place : ℕ) (row : R) (d : Edit F) →
-      slice_get rows i ≡ Some row → position (λ edit. edit.index == i) edits ≡ Some place → d ≡ get_or edits place d →
-      slice_get (overlaid formed seen edits rows) i ≡ Some (formed d.form row)
-  shown_formed edits rows i place row d at some is =
-      overlaid_at edits rows i row at ∙
-      ap (λ form. Some (shown formed seen form row))
-      (form_by edits i place d some ∙ ap (λ (edit : Edit F). Some edit.form) (sym is))
+  -- by the form that was found for it
+  pub shown_by : (edits : List (Edit F)) (rows : List R) (i : ℕ) (row : R) (form : Option F) → slice_get rows i ≡ Some row →
+      form ≡ form_at edits i → slice_get (overlaid formed seen edits rows) i ≡ Some (shown formed seen form row)
+  shown_by edits rows i row form at is = rw is (overlaid_at edits rows i row at)
 
   no_edits : (start : ℕ) (rows : List R) → shown_from formed seen start [] rows ≡ map seen rows
   no_edits start [] = refl

@@ -1,4 +1,5 @@
 ghost use Rattle.std.specs.Prelude.{◌≡◌, ◌<◌, ◌==◌, position, vec_len, vec_capacity, None};
+ghost use Rattle.std.specs.Option.{option_copied};
 ghost use Rattle.ficus_table.specs.Edits.{put_in, form_at};
 
 use std::mem;
@@ -15,6 +16,14 @@ pub(crate) fn place_of<F>(edits: &[Edit<F>], index: usize) -> Option<usize>
     ensures { result ≡ position (λ edit. edit.index == index) edits.now }
 {
     edits.iter().position(|edit| edit.index == index)
+}
+
+/// The form that the row at an index has, if there is an edit at it.
+pub(crate) fn form_of<F>(edits: &[Edit<F>], index: usize) -> Option<&F>
+    ensures { option_copied result ≡ form_at edits.now index }
+{
+    let place = place_of(edits, index)?;
+    Some(&edits[place].form)
 }
 
 /// One more edit, in place of an earlier one at its index, whose form it gives back. Takes no memory.

@@ -1,7 +1,8 @@
-ghost use Rattle.std.specs.Prelude.{◌≡◌, ◌↔◌, ◌<◌, ◌*◌, ◌++◌, [], map, IsTrue, IfOk, OnOk, OnErr};
+ghost use Rattle.std.specs.Prelude.{◌≡◌, ◌↔◌, ◌<◌, ◌*◌, ◌++◌, [], map, IsTrue, OnOk, OnErr};
 ghost use Rattle.std.specs.Option.{option_copied};
 ghost use Rattle.ficus_ids.specs.Rising.{IsRisingBy, ReplacesBy};
 ghost use Rattle.ficus_table.specs.SideBySide.{as_list};
+ghost use Rattle.ficus_table.specs.Table.{ReplacesIn};
 
 use crate::entire::Entire;
 use crate::in_order::{each_of, rows_of};
@@ -9,7 +10,6 @@ use crate::table::putting;
 use crate::{InOrder, Row, SideBySide, Table};
 use ficus_ids::Memory;
 use ficus_persistent::PersistentList;
-use std::alloc::Global;
 
 /// Whether so many changes to a table of this count take longer one after the other than all rows anew: each makes a
 /// way down the nodes anew, in which there are about as many as the count has binary digits.
@@ -39,59 +39,44 @@ impl<R: Row> Table<R> {
     // The rows with these ones, each in place of the one with its identifier.
     fn replaced(&self, rows: &[R]) -> Result<PersistentList<R>, Memory>
         requires { IsRisingBy (λ row. R.id_of (R.seen row)) rows.now }
-        ensures replaced { IfOk result (λ list.
-            ReplacesBy R.id_of self.now.items (map R.seen rows.now) (map R.seen list)) }
-        ensures rising { IfOk result (IsRisingBy (λ row. R.id_of (R.seen row))) }
+        ensures { ReplacesIn R.id_of R.seen self.now.items rows.now result }
     {
-        let list = self.whole()?;
-        if list.is_empty() {
+        if self.is_empty() {
             // Spares the memory for a walk along both.
             return PersistentList::of(self.allocator(), rows);
         }
-        if are_many(rows.len(), list.len()) {
-            merged(self.allocator(), &list, rows)
+        if are_many(rows.len(), self.len()) {
+            self.merged(rows)
         } else {
-            put_each(self.allocator(), &list, rows)
+            self.put_each(rows)
         }
     }
-}
 
-// The list with these rows, put in one after the other.
-fn put_each<R: Row>(
-    alloc: Global,
-    list: &PersistentList<R>,
-    rows: &[R],
-) -> Result<PersistentList<R>, Memory>
-    requires list { IsRisingBy (λ row. R.id_of (R.seen row)) list.now }
-    requires rows { IsRisingBy (λ row. R.id_of (R.seen row)) rows.now }
-    ensures replaced { IfOk result (λ more.
-        ReplacesBy R.id_of (map R.seen list.now) (map R.seen rows.now) (map R.seen more)) }
-    ensures rising { IfOk result (IsRisingBy (λ row. R.id_of (R.seen row))) }
-{
-    let mut list = list.copy()?;
-    for row in rows {
-        list = putting(&list, alloc, row.copied()?)?;
+    // The same, put in one after the other.
+    fn put_each(&self, rows: &[R]) -> Result<PersistentList<R>, Memory>
+        requires { IsRisingBy (λ row. R.id_of (R.seen row)) rows.now }
+        ensures { ReplacesIn R.id_of R.seen self.now.items rows.now result }
+    {
+        let mut list = self.whole()?;
+        for row in rows {
+            list = putting(&list, self.allocator(), row.copied()?)?;
+        }
+        Ok(list)
     }
-    Ok(list)
-}
 
-// The list with these rows, built anew in one walk along both.
-fn merged<R: Row>(
-    alloc: Global,
-    list: &PersistentList<R>,
-    rows: &[R],
-) -> Result<PersistentList<R>, Memory>
-    requires list { IsRisingBy (λ row. R.id_of (R.seen row)) list.now }
-    requires rows { IsRisingBy (λ row. R.id_of (R.seen row)) rows.now }
-    ensures replaced { IfOk result (λ more.
-        ReplacesBy R.id_of (map R.seen list.now) (map R.seen rows.now) (map R.seen more)) }
-    ensures rising { IfOk result (IsRisingBy (λ row. R.id_of (R.seen row))) }
-{
-    let mine = InOrder::of(rows_of(alloc, list)?);
-    let theirs = InOrder::of(each_of(alloc, rows)?);
-    let mut merged = Vec::with_capacity(alloc, mine.len().saturating_add(theirs.len()))?;
-    merge(&mut merged, &mine, &theirs)?;
-    PersistentList::of(alloc, &merged)
+    // The same, built anew in one walk along both.
+    fn merged(&self, rows: &[R]) -> Result<PersistentList<R>, Memory>
+        requires { IsRisingBy (λ row. R.id_of (R.seen row)) rows.now }
+        ensures { ReplacesIn R.id_of R.seen self.now.items rows.now result }
+    {
+        let alloc = self.allocator();
+        let list = self.whole()?;
+        let mine = InOrder::of(rows_of(alloc, &list)?);
+        let theirs = InOrder::of(each_of(alloc, rows)?);
+        let mut merged = Vec::with_capacity(alloc, mine.len().saturating_add(theirs.len()))?;
+        merge(&mut merged, &mine, &theirs)?;
+        PersistentList::of(alloc, &merged)
+    }
 }
 
 // Puts the rows of both into an empty list, theirs where both have an identifier.

@@ -6,10 +6,10 @@ ghost use Rattle.std.specs.Option.{option_copied};
 ghost use Rattle.ficus_ids.specs.Rising.{IsRisingBy, HoldsBy, HoldsUnderBy, IsFoundAtBy, IsPlaceBy};
 ghost use Rattle.ficus_ids.specs.Rising.{Adds, PutsBy, LeavesOutBy};
 ghost use Rattle.ficus_table.specs.Edits.{room_of};
-ghost use Rattle.ficus_table.specs.Table.{IsEdited, KeepsId};
+ghost use Rattle.ficus_table.specs.Table.{HoldsFrom, IsEdited, KeepsId};
 
 use crate::Row;
-use crate::edit::{Edit, place_of, put};
+use crate::edit::{Edit, form_of, put};
 use crate::in_order::copies_of;
 use crate::search::search;
 use ficus_ids::{Id, Memory};
@@ -90,9 +90,9 @@ impl<R: Row> Table<R> {
         ensures { slice_get self.now.items index ≡ Some result.now }
     {
         let row = self.list.at(index);
-        match place_of(&self.edits, index) {
+        match form_of(&self.edits, index) {
             None => row.look(),
-            Some(place) => row.formed(&self.edits[place].form),
+            Some(form) => row.formed(form),
         }
     }
 
@@ -103,9 +103,9 @@ impl<R: Row> Table<R> {
         ensures { IfOk result (λ row. slice_get self.now.items index ≡ Some (R.seen row)) }
     {
         let row = self.list.at(index);
-        match place_of(&self.edits, index) {
+        match form_of(&self.edits, index) {
             None => row.copied(),
-            Some(place) => row.reformed(self.allocator(), &self.edits[place].form),
+            Some(form) => row.reformed(self.allocator(), form),
         }
     }
 
@@ -281,10 +281,7 @@ impl<R: Row> Table<R> {
     // Holds these rows from now on.
     pub(crate) fn hold(&mut self, list: PersistentList<R>) -> Result<(), Memory>
         requires { IsRisingBy (λ row. R.id_of (R.seen row)) list }
-        ensures items { OnOk result (self.new.items ≡ map R.seen list) }
-        ensures edited { OnOk result (self.new.edited ≡ []) }
-        ensures kept { OnErr result (self.new ≡ self.old) }
-        ensures rising { IsRisingBy R.id_of self.new.items }
+        ensures { HoldsFrom R.id_of (map R.seen list) self.old self.new result }
     {
         if list.len() > self.edits.capacity() {
             return self.hold_afresh(list);
@@ -298,10 +295,7 @@ impl<R: Row> Table<R> {
     // in it.
     fn hold_afresh(&mut self, list: PersistentList<R>) -> Result<(), Memory>
         requires { IsRisingBy (λ row. R.id_of (R.seen row)) list }
-        ensures items { OnOk result (self.new.items ≡ map R.seen list) }
-        ensures edited { OnOk result (self.new.edited ≡ []) }
-        ensures kept { OnErr result (self.new ≡ self.old) }
-        ensures rising { IsRisingBy R.id_of self.new.items }
+        ensures { HoldsFrom R.id_of (map R.seen list) self.old self.new result }
     {
         // Tells that the identifiers rise.
         let _count = self.len();

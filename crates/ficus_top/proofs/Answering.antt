@@ -17,8 +17,8 @@ use Rattle.ficus_top.specs.Ends.{Ends, EndsFront}
 use Rattle.ficus_top.specs.Headline.{Answers, AnswersFront, fuses_of}
 use Rattle.ficus_loop.specs.Serving.{IsCut}
 use Rattle.ficus_loop.specs.Serving.IsCut.{Uncut, CutIn}
-use Rattle.ficus_top.proofs.Returning.{final_throughout, nothing_returns}
-use Rattle.ficus_loop.proofs.Serves.{front_where}
+use Rattle.ficus_top.proofs.Ends.{front_ends_where}
+use Rattle.ficus_top.proofs.Returning.{sound_of}
 
 -- what a command has done that was cut short leaves a lawful history lawful
 cut_lawful : {may : Type 0} {volume : Volume} {W after : ModelWorld} {last : List Answer} {commands : List Command}
@@ -39,14 +39,12 @@ module _ {D tells : Type 0} {disk : Disk D} {Rest : (ℕ → FuseState) → Type
       let ended = subst (λ (given : List Command). Ends tells disk Rest volume
       (start earlier volume.members 0 (fuses_of disk.armings volume.members old)) given before after old new) same
       ends in
-      let lawful_after = run_lawful ended.serves.run (start_lawful volume earlier lawful) in
       record {
         commands = commands;
         read = read;
         ends = ended;
-        lawful = lawful_after;
-        no_return = nothing_returns ended.after.events;
-        final = final_throughout volume ended.after.events lawful_after;
+        sound = sound_of volume ended.after.events
+            (run_lawful ended.serves.run (start_lawful volume earlier lawful));
       }
 
   pub front_of : {may : Type 0} {commands some : List Command} → IsLawful volume earlier → IsScript script commands
@@ -57,15 +55,12 @@ module _ {D tells : Type 0} {disk : Disk D} {Rest : (ℕ → FuseState) → Type
       let ended = subst (λ (given : List Command). EndsFront tells may disk Rest volume
       (start earlier volume.members 0 (fuses_of disk.armings volume.members old)) given before after old new) same
       front in
-      let lawful_after =
-      cut_lawful ended.serves.cut (run_lawful ended.serves.run (start_lawful volume earlier lawful)) in
       record {
         commands = commands;
         read = read;
         ends = ended;
-        lawful = lawful_after;
-        no_return = nothing_returns ended.after.events;
-        final = final_throughout volume ended.after.events lawful_after;
+        sound = sound_of volume ended.after.events
+            (cut_lawful ended.serves.cut (run_lawful ended.serves.run (start_lawful volume earlier lawful)));
       }
 
   -- what may be may be wherever this is so
@@ -75,19 +70,6 @@ module _ {D tells : Type 0} {disk : Disk D} {Rest : (ℕ → FuseState) → Type
   answers_where may other further front = record {
     commands = front.commands;
     read = front.read;
-    ends = record {
-      after = front.ends.after;
-      serves = front_where further front.ends.serves;
-      linked = front.ends.linked;
-      disks = front.ends.disks;
-      done = front.ends.done;
-      fuses = front.ends.fuses;
-      standings = front.ends.standings;
-      pending = front.ends.pending;
-      stand = front.ends.stand;
-      outlasts = front.ends.outlasts;
-    };
-    lawful = front.lawful;
-    no_return = front.no_return;
-    final = front.final;
+    ends = front_ends_where further front.ends;
+    sound = front.sound;
   }

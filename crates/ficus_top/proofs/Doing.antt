@@ -1,20 +1,18 @@
 -- What the program does in a mode, by how the run ended.
-use Rattle.std.proofs.Common.{◌≡◌, ◌⊎◌, ℕ, ◌<◌, ◌≤◌, List, [], Option, Result, Ok, Err, refl, sym, ap, subst, inl, inr, arith, length}
+use Rattle.std.proofs.Common.{◌≡◌, ◌≢◌, ◌⊎◌, ℕ, ◌<◌, ◌≤◌, List, [], Option, Result, Ok, Err, refl, sym, ap, subst, inl, inr, arith, length}
 use Rattle.std.specs.declared.alloc.Global.{Global}
-use Rattle.std.specs.Prelude.{IfErr, IsErrAnd, IsErrOf, OnErr, OnOk, Vec, vec_items}
-use Rattle.ficus_durable_state.specs.declared.saved.Saved.{Saved}
-use Rattle.ficus_disk.specs.declared.disk.Disk.{Ghosts as Disk}
+use Rattle.std.specs.Prelude.{IfErr, IsErrOf, OnErr, OnOk, Vec, vec_items}
 use Rattle.ficus_disk.specs.declared.pair.Pair.{Pair}
-use Rattle.ficus_outside.specs.declared.sink.Sink.{Ghosts as Sink}
-use Rattle.ficus_outside.specs.declared.source.Source.{Ghosts as Source}
 use Rattle.ficus_model.specs.Lawful.{Volume}
 use Rattle.ficus_model.specs.declared.event.Event.{Event}
 use Rattle.ficus_top.specs.Summary.Keeper.{kept_in}
 use Rattle.ficus_top.specs.Codes.{IsCode, IsIdleCode}
-use Rattle.ficus_top.specs.Ending.{IsAnswering, IsIdle, IsInterruption, IsOfJoining, IsOfMaking, IsUntouched, TakesAsEnded, TakesAsEndedIn}
+use Rattle.ficus_top.specs.Ending.{IsAnswering, IsIdle, IsInterruption, IsOfJoining, IsOfMaking, IsUntouched, TakesAsEnded, TakesAsEndedIn, TellsOfStreams}
+use Rattle.ficus_top.specs.Storing.{TellsOfMaking, TellsOfOpening}
 use Rattle.ficus_top.specs.Grammar.{Grammar, of_commands, of_volumes}
 use Rattle.ficus_top.specs.Headline.{CarriesOutNothing}
 use Rattle.ficus_top.specs.Making.{MakesVolume, volume_of}
+use Rattle.ficus_top.specs.Modes.Gen.{IsGenCode}
 use Rattle.ficus_top.specs.Modes.Init.{DoesInit, IsInitCode}
 use Rattle.ficus_top.specs.Modes.Replay.{DoesReplay, IsReplayCode, StaysUnmade}
 use Rattle.ficus_top.specs.Killed.{KilledFrontOf, KilledOf}
@@ -24,7 +22,7 @@ use Rattle.ficus_opening.specs.Rests.{AllRest, OthersRest, OthersStay}
 use Rattle.ficus_opening.proofs.Rests.{all_rest_none}
 use Rattle.ficus_opening.proofs.Made.{none_in_part}
 use Rattle.ficus_opening.proofs.Others.{all_others_rest, others_none}
-use Rattle.ficus_top.specs.Program.{Does, EndsAsAnyMode}
+use Rattle.ficus_top.specs.Program.{Does, EndsAsAny, RunsProgram}
 use Rattle.ficus_top.specs.Reading.{TakesUntil}
 use Rattle.ficus_top.specs.Modes.Volumes.{AnswersVolumesFrontOf, AnswersVolumesOf, DoesVolumes, IsVolumesCode}
 use Rattle.ficus_top.specs.Script.{AnswersFrontOf, AnswersOf, AnswersScript, HasIn, ReadsIn}
@@ -35,33 +33,25 @@ use Rattle.ficus_top.specs.declared.fault.Fault.{Fault}
 use Rattle.ficus_top.specs.declared.fault.Fault.TheVariants.{Words, Reading, Storing, Answering}
 use Rattle.ficus_top.specs.declared.fault.ReadingFault.TheVariants as reading
 use Rattle.ficus_top.specs.declared.status.Status.{Status}
+use Rattle.ficus_words.specs.Grammar.{Text}
+use Rattle.ficus_words.specs.Mode.{AreNoWords}
+use Rattle.ficus_words.specs.declared.fault.WordsFault.{WordsFault}
 use Rattle.ficus_words.specs.declared.fault.WordsFault.TheVariants as word
 use Rattle.ficus_words.specs.declared.mode.Mode.{Mode}
 use Rattle.ficus_words.specs.declared.mode.Mode.TheVariants.{Init, Run, Check, Replay, Volumes, Gen}
 use Rattle.ficus_words.specs.declared.mode.Size.{Size}
 use Rattle.ficus_opening.specs.Fuses.{AreUnarmed}
-use Rattle.ficus_opening.specs.Opening.{AreEmpty, AreMadeInPart, AreSynced, IsAtFault, IsFirstBad, IsFirstOccupied, IsUnfailed, Opens, SeenSame, StandsOn, Steady}
+use Rattle.ficus_opening.specs.Opening.{AreEmpty, AreMadeInPart, AreSynced, IsAtFault, IsUnfailed, StandsOn, Steady}
 use Rattle.ficus_opening.specs.declared.fault.WorldFault.{WorldFault}
 use Rattle.ficus_opening.specs.declared.fault.WorldFault.TheVariants as world
 use Rattle.ficus_opening.proofs.Steadies.{steady_none}
 use Rattle.ficus_top.proofs.Answering.{answers_where}
 use Rattle.ficus_top.proofs.Codes.{done_of_code, idle_of_code, image_of_code, is_code, line_of_code, occupied_of_code, prefix_of_code, replica_of_code, sink_of_code, source_of_code, store_of_code, untouched_of_code, usage_of_code}
 use Rattle.ficus_top.proofs.Earlier.{not_at_fault}
-use Rattle.ficus_top.proofs.Stored.{idle_both}
+use Rattle.ficus_top.proofs.Stored.{idle_both, if_idle}
+use Rattle.ficus_top.proofs.Storing.{making_unasked, opening_unread}
 use Rattle.ficus_top.proofs.Endings.{AreUsed, Excludes, IsStored, bad_line_comes, bad_line_told, complete_of_code, excludes_commands, excludes_volumes, made_of_code, nothing_left, refusal_comes, too_long_comes, too_long_of_code, within_of_code}
 use Rattle.ficus_loop.proofs.Places.{not_occupied}
-
--- what was seen of a source, a sink and disks
-abbrev pub seen_of : {S K D : Type 0} → Source S → S → S → Sink K → K → K → Disk D → Vec (Pair D) Global
-    → Vec (Pair D) Global → Seen S K D
-seen_of source in_old in_new sink out_old out_new disk old new = record {
-  source = source;
-  input = record { old = in_old; new = in_new };
-  sink = sink;
-  output = record { old = out_old; new = out_new };
-  disk = disk;
-  disks = record { old = old; new = new };
-}
 
 -- how a run ended, as numbers
 abbrev pub status_of : {Done : Type 0} → Result Done Fault → Status
@@ -122,10 +112,6 @@ module _ {Done : Type 0} where
   making_touches P (Err (Storing fault)) making = λ untouched. absurd untouched
   making_touches P (Err (Answering fault)) making = absurd making
 
-  pub if_idle : {P : Type 0} (ended : Result Done Fault) → P → IfErr ended (λ fault. IsIdle fault → P)
-  if_idle (Ok done) holds = tt
-  if_idle (Err fault) holds = λ idle. holds
-
   -- where no command was carried out nothing was put, and no disk armed
   pub put_nothing : {D Output : Type 0} (stays : Type 0) (armings : D → Option ℕ) (old new : Output)
       (old_disks new_disks : List (Pair D)) (ended : Result Done Fault)
@@ -171,15 +157,11 @@ idle_either (inl six) = inr (inr (inl six))
 idle_either (inr seven) = inr (inr (inr (inl seven)))
 
 module _ {S K D Done : Type 0} (seen : Seen S K D) (ended : Result Done Fault) where
-  -- what is known in every mode by how the run ended
+  -- what is known by how the run ended, whatever the words were
   pub record EndedAsAny : Type 0 where
-    pub used : AreUsed ended
-    pub read_fault : IsErrOf ended (Reading reading.Source) → SourceFailed seen
-    pub read_fault_comes : seen.source.faults seen.input.old < seen.source.faults seen.input.new
-        → IsErrOf ended (Reading reading.Source)
-    pub write_fault : IsErrOf ended (Answering answering.Sink) → SinkFailed seen
-    pub write_fault_comes : seen.sink.faults seen.output.old < seen.sink.faults seen.output.new
-        → IsErrOf ended (Answering answering.Sink)
+    pub streams : TellsOfStreams (seen.source.faults seen.input.old) (seen.source.faults seen.input.new)
+        (seen.sink.faults seen.output.old) (seen.sink.faults seen.output.new) ended
+    pub open streams use *
     pub store_fault : (r : ℕ) → IsErrOf ended (Storing (world.Store r))
         → IsAtFault seen.disk.faults (disks_before seen) (disks_after seen) r
     pub idle : IfErr ended (λ fault. IsIdle fault → seen.output.new ≡ seen.output.old)
@@ -187,12 +169,9 @@ module _ {S K D Done : Type 0} (seen : Seen S K D) (ended : Result Done Fault) w
         → Steady seen.disk.armings (disks_before seen) (disks_after seen))
     pub untouched : IfErr ended (λ fault. IsUntouched fault → seen.disks.new ≡ seen.disks.old)
     pub pairs : length (disks_after seen) ≡ length (disks_before seen)
-    pub source_counted : seen.source.faults seen.input.old ≤ seen.source.faults seen.input.new
-    pub sink_counted : seen.sink.faults seen.output.old ≤ seen.sink.faults seen.output.new
 
-  pub any_of : EndedAsAny → EndsAsAnyMode seen (status_of ended)
+  pub any_of : EndedAsAny → EndsAsAny seen (status_of ended)
   any_of facts = record {
-    used = λ code. facts.used word.Usage (usage_of_code ended code);
     read_fault = λ code. facts.read_fault (source_of_code ended code);
     read_fault_comes = λ rose. ap code_of (facts.read_fault_comes rose);
     write_fault = λ code. facts.write_fault (sink_of_code ended code);
@@ -205,9 +184,26 @@ module _ {S K D Done : Type 0} (seen : Seen S K D) (ended : Result Done Fault) w
     pairs = facts.pairs;
     line = line_of_code ended;
     replica = replica_of_code ended;
-    source_counted = facts.source_counted;
-    sink_counted = facts.sink_counted;
+    counted = (facts.source_counted, facts.sink_counted);
   }
+
+  -- where nothing was asked of the source and of the sink, no fault of theirs is told
+  pub unasked_streams : seen.input.new ≡ seen.input.old → seen.output.new ≡ seen.output.old
+      → (IsErrOf ended (Reading reading.Source) → ⊥) → (IsErrOf ended (Answering answering.Sink) → ⊥)
+      → TellsOfStreams (seen.source.faults seen.input.old) (seen.source.faults seen.input.new)
+      (seen.sink.faults seen.output.old) (seen.sink.faults seen.output.new) ended
+  unasked_streams unread silent no_source no_sink = record {
+    read_fault = λ is. absurd (no_source is);
+    read_fault_comes = λ rose. absurd (omega (arith, rose, ap seen.source.faults unread));
+    write_fault = λ is. absurd (no_sink is);
+    write_fault_comes = λ rose. absurd (omega (arith, rose, ap seen.sink.faults silent));
+    source_counted = omega (arith, ap seen.source.faults unread);
+    sink_counted = omega (arith, ap seen.sink.faults silent);
+  }
+
+  -- the words were those of a mode
+  pub used_code : AreUsed ended → code_of ended ≢ 1
+  used_code used code = used word.Usage (usage_of_code ended code)
 
   module _ (grammar : Grammar) (excludes : Excludes grammar) (used : AreUsed ended)
       (read_fault : IsErrOf ended (Reading reading.Source) → SourceFailed seen)
@@ -253,21 +249,15 @@ module _ {S K D Done : Type 0} (seen : Seen S K D) (ended : Result Done Fault) w
       → Steady seen.disk.faults (disks_before seen) (disks_after seen)
 
   -- what is known of a run that makes a volume of so many members
-  makes_of : (members : ℕ)
-      → ((r : ℕ) → IsErrOf ended (Storing (world.Occupied r))
-      → IsFirstOccupied seen.disk.seen (disks_before seen) r × (r ≤ members))
-      → ((r : ℕ) → r ≤ members → IsFirstOccupied seen.disk.seen (disks_before seen) r
-      → IsErrAnd ended (λ fault. (fault ≡ Storing (world.Occupied r)) ⊎ IsInterruption fault))
-      → ((r : ℕ) → r ≤ members → IsFirstOccupied seen.disk.seen (disks_before seen) r
-      → SeenSame seen.disk.seen (disks_before seen) (disks_after seen))
-      → ((r : ℕ) → r ≤ members → IsFirstOccupied seen.disk.seen (disks_before seen) r
-      → AllRest seen.disk (disks_before seen) (disks_after seen)) → MakesVolume members seen (status_of ended)
-  makes_of members occupied comes held rests = record {
-    occupied = λ code. (occupied (replica_of ended) (occupied_of_code ended code)).0;
-    is_member = λ code. (occupied (replica_of ended) (occupied_of_code ended code)).1;
-    occupied_comes = λ r within first. refusal_comes ended (world.Occupied r) (comes r within first);
-    held = held;
-    rests = rests;
+  makes_of : (members : ℕ) → TellsOfMaking seen.disk members ended (disks_before seen) (disks_after seen)
+      → seen.disk.tells → MakesVolume members seen (status_of ended)
+  makes_of members told tells = record {
+    occupied = λ code. (told.occupied tells (replica_of ended) (occupied_of_code ended code)).0;
+    is_member = λ code. (told.occupied tells (replica_of ended) (occupied_of_code ended code)).1;
+    occupied_comes = λ r within first.
+        refusal_comes ended (world.Occupied r) (told.occupied_comes tells r within first);
+    held = told.held tells;
+    rests = told.rests tells;
   }
 
   -- where nothing is done no disk has failed, unless the code says so
@@ -312,63 +302,50 @@ module _ {S K D Done : Type 0} (seen : Seen S K D) (ended : Result Done Fault) w
       → seen.output.new ≡ seen.output.old → Steady seen.disk.armings (disks_before seen) (disks_after seen)
       → ((r : ℕ) → IsErrOf ended (Storing (world.Store r))
       → IsAtFault seen.disk.faults (disks_before seen) (disks_after seen) r)
-      → (seen.disk.tells → (r : ℕ) → IsErrOf ended (Storing (world.Occupied r))
-      → IsFirstOccupied seen.disk.seen (disks_before seen) r × (r ≤ size.members))
-      → (seen.disk.tells → (r : ℕ) → r ≤ size.members → IsFirstOccupied seen.disk.seen (disks_before seen) r
-      → IsErrAnd ended (λ fault. (fault ≡ Storing (world.Occupied r)) ⊎ IsInterruption fault))
+      → TellsOfMaking seen.disk size.members ended (disks_before seen) (disks_after seen)
       → (seen.disk.tells → OnOk ended (StandsOn kept_in seen.disk.seen (volume_of size) [] (disks_after seen)))
       → ((r : ℕ) → IsErrOf ended (Storing (world.Store r)) → r ≤ size.members)
-      → (seen.disk.tells → (r : ℕ) → r ≤ size.members → IsFirstOccupied seen.disk.seen (disks_before seen) r
-      → SeenSame seen.disk.seen (disks_before seen) (disks_after seen))
       → OnOk ended (Steady seen.disk.faults (disks_before seen) (disks_after seen)) → Spares
       → (seen.disk.tells → AreSynced seen.disk.seen seen.disk.may_leave (disks_before seen) size.members
       → OnOk ended (AreSynced seen.disk.seen seen.disk.may_leave (disks_after seen) size.members))
-      → (seen.disk.tells → (r : ℕ) → r ≤ size.members → IsFirstOccupied seen.disk.seen (disks_before seen) r
-      → AllRest seen.disk (disks_before seen) (disks_after seen))
       → (seen.disk.tells → AreEmpty seen.disk.seen (disks_before seen) size.members
       → AreSynced seen.disk.seen seen.disk.may_leave (disks_before seen) size.members
       → OnErr ended (AreMadeInPart kept_in seen.disk.may_leave (volume_of size) (disks_after seen)))
       → OthersStay size.members (disks_before seen) (disks_after seen) → DoesInit size seen (status_of ended)
-  init_of size making unread silent unarmed fault occupied comes made member held steady spared synced rests partly
-      others = record {
-        codes = making_code ended making;
-        unread = unread;
-        silent = silent;
-        unarmed = unarmed;
-        unfailed = unfailed_where ended making steady spared;
-        member = λ code. member (replica_of ended) (store_of_code ended code);
-        makes = λ tells. makes_of size.members (occupied tells) (comes tells) (held tells) (rests tells);
-        made = λ tells code. done_of_code ended code (made tells);
-        synced = λ tells code at_first. done_of_code ended code (synced tells at_first);
-        partly = λ tells codes empty synced. where_failed ended codes (partly tells empty synced);
-        others = others;
-        complete = λ tells empty none. made_of_code ended making (record {
-          store = λ r is. not_at_fault none r (fault r is);
-          image = making_opens_nothing ended making;
-          occupied = λ r is. not_occupied empty (occupied tells r is).0 (occupied tells r is).1;
-        });
-      }
+  init_of size making unread silent unarmed fault makes made member steady spared synced partly others = record {
+    codes = making_code ended making;
+    unread = unread;
+    silent = silent;
+    unarmed = unarmed;
+    unfailed = unfailed_where ended making steady spared;
+    member = λ code. member (replica_of ended) (store_of_code ended code);
+    makes = makes_of size.members makes;
+    made = λ tells code. done_of_code ended code (made tells);
+    synced = λ tells code at_first. done_of_code ended code (synced tells at_first);
+    partly = λ tells codes empty synced. where_failed ended codes (partly tells empty synced);
+    others = others;
+    complete = λ tells empty none. made_of_code ended making (record {
+      store = λ r is. not_at_fault none r (fault r is);
+      image = making_opens_nothing ended making;
+      occupied = λ r is. not_occupied empty (makes.occupied tells r is).0 (makes.occupied tells r is).1;
+    });
+  }
 
   pub init_ends : IfErr ended IsOfMaking → seen.input.new ≡ seen.input.old
       → seen.output.new ≡ seen.output.old → Steady seen.disk.armings (disks_before seen) (disks_after seen)
       → ((r : ℕ) → IsErrOf ended (Storing (world.Store r))
-      → IsAtFault seen.disk.faults (disks_before seen) (disks_after seen) r) → EndsAsAnyMode seen (status_of ended)
+      → IsAtFault seen.disk.faults (disks_before seen) (disks_after seen) r) → EndsAsAny seen (status_of ended)
   init_ends making unread silent unarmed fault = any_of (record {
-    used = making_used ended making;
-    read_fault = λ is. absurd (making_reads_nothing ended making is);
-    read_fault_comes = λ rose. absurd (omega (arith, rose, ap seen.source.faults unread));
-    write_fault = λ is. absurd (making_puts_nothing ended making is);
-    write_fault_comes = λ rose. absurd (omega (arith, rose, ap seen.sink.faults silent));
+    streams = unasked_streams unread silent (making_reads_nothing ended making) (making_puts_nothing ended making);
     store_fault = fault;
     idle = if_idle ended silent;
     unarmed = if_idle ended unarmed;
     untouched = making_touches _ ended making;
     pairs = unarmed.count;
-    source_counted = omega (arith, ap seen.source.faults unread);
-    sink_counted = omega (arith, ap seen.sink.faults silent);
   })
 
-  pub run_of : EndedAsAny → (seen.source.tells → TakesAsEnded (script_of seen) (left_of seen) ended)
+  pub run_of : AreUsed ended → EndedAsAny → TellsOfOpening seen.disk ended (disks_before seen) (disks_after seen)
+      → (seen.source.tells → TakesAsEnded (script_of seen) (left_of seen) ended)
       → (seen.source.tells → seen.disk.tells → OnOk ended ((volume : Volume) (H : List Event)
       → StandsOn kept_in seen.disk.seen volume H (disks_before seen) → AnswersOf seen volume H))
       → (seen.source.tells → seen.disk.tells → IfErr ended (λ fault. IsAnswering fault
@@ -376,15 +353,7 @@ module _ {S K D Done : Type 0} (seen : Seen S K D) (ended : Result Done Fault) w
       → AnswersFrontOf (fault ≡ Answering answering.Memory) seen volume H))
       → IfErr ended (λ fault. IsIdle fault → CarriesOutNothing (HoldsSame seen) seen.disk.armings seen.output.old
       seen.output.new (disks_before seen) (disks_after seen))
-      → (seen.disk.tells → (r : ℕ) → IsErrOf ended (Storing (world.Image r))
-      → IsFirstBad kept_in seen.disk.seen (disks_before seen) r)
-      → (seen.disk.tells → (r : ℕ) → IsFirstBad kept_in seen.disk.seen (disks_before seen) r
-      → IsErrAnd ended (λ fault. (fault ≡ Storing (world.Image r)) ⊎ IsInterruption fault))
-      → (seen.disk.tells → (volume : Volume) (H : List Event)
-      → StandsOn kept_in seen.disk.seen volume H (disks_before seen) → (r : ℕ)
-      → IsErrOf ended (Storing (world.Image r)) → ⊥)
-      → ((r : ℕ) → IsErrOf ended (Storing (world.Occupied r)) → ⊥) → Spares
-      → IfErr ended (λ fault. IsIdle fault → AllRest seen.disk (disks_before seen) (disks_after seen))
+      → ((r : ℕ) → IsErrOf ended (Storing (world.Occupied r)) → ⊥)
       → (seen.source.tells → seen.disk.tells → OnOk ended ((volume : Volume) (H : List Event)
       → StandsOn kept_in seen.disk.seen volume H (disks_before seen)
       → AreSynced seen.disk.seen seen.disk.may_leave (disks_before seen) volume.members → KilledOf seen volume H))
@@ -392,51 +361,45 @@ module _ {S K D Done : Type 0} (seen : Seen S K D) (ended : Result Done Fault) w
       → (volume : Volume) (H : List Event) → StandsOn kept_in seen.disk.seen volume H (disks_before seen)
       → AreSynced seen.disk.seen seen.disk.may_leave (disks_before seen) volume.members
       → KilledFrontOf (fault ≡ Answering answering.Memory) seen volume H))
-      → (seen.disk.tells → (q r : ℕ) → IsErrOf ended (Storing (world.Store q))
-      → IsFirstBad kept_in seen.disk.seen (disks_before seen) r → q ≤ r)
-      → (seen.disk.tells → (r : ℕ) → IsErrOf ended (Storing (world.Store r)) → (first : Saved)
-      → Opens kept_in seen.disk.seen (disks_before seen) first first 1 → r ≤ first.members)
-      → (seen.disk.tells → (first : Saved) → Opens kept_in seen.disk.seen (disks_before seen) first first 1
-      → OthersRest seen.disk first.members (disks_before seen) (disks_after seen))
       → DoesRun seen (status_of ended)
-  run_of any takes answers front idle image comes never never_occupied spared rests killed killed_front earlier member
-      others = record {
-        codes = run_code ended any.used never_occupied;
-        reads = λ tells. reads_of of_commands excludes_commands any.used any.read_fault (takes tells);
-        image = λ tells code. image tells (replica_of ended) (image_of_code ended code);
-        image_comes = λ tells r bad. refusal_comes ended (world.Image r) (comes tells r bad);
-        unfailed = λ code. spared (world.Image (replica_of ended)) tt (image_of_code ended code);
-        unwritten = λ codes. (idle_of_code ended (idle_either codes) idle).besides;
-        answers = λ tells told volume H stands.
-            script_answered (StaysUnopened seen (status_of ended)) volume H (takes tells)
-            (on_ok ended (λ all. all volume H stands) (answers tells told))
-            (on_fault ended (λ fault all is. all is volume H stands) (front tells told)) unopened;
-        opens = λ tells volume H stands code. never tells volume H stands (replica_of ended) (image_of_code ended code);
-        earlier = λ tells r bad code. earlier tells (replica_of ended) r (store_of_code ended code) bad;
-        member = λ tells first opens code. member tells (replica_of ended) (store_of_code ended code) first opens;
-        others = others;
-        complete = λ tells told volume H stands script none.
-            script_done of_commands excludes_commands any.used any.read_fault (takes tells) (record {
-              store = λ r is. not_at_fault none r (any.store_fault r is);
-              image = never told volume H stands;
-              occupied = never_occupied;
-            }) any.write_fault script;
-        rests = λ code. idle_of_code ended code rests;
-        killed = λ tells told volume H stands synced.
-            let put = prefix_of_code (λ may. KilledFrontOf may seen volume H) killed_where ended unopened
-            (on_fault ended (λ fault all is. all is volume H stands synced) (killed_front tells told)) in
-            record {
-              whole = λ code. done_of_code ended code
-                  (on_ok ended (λ all. all volume H stands synced) (killed tells told));
-              prefix = put.0;
-              cut = put.1;
-            };
-      }
+  run_of used any opens takes answers front idle never_occupied killed killed_front = record {
+    codes = run_code ended used never_occupied;
+    reads = λ tells. reads_of of_commands excludes_commands used any.read_fault (takes tells);
+    image = λ tells code. opens.image tells (replica_of ended) (image_of_code ended code);
+    image_comes = λ tells r bad. refusal_comes ended (world.Image r) (opens.image_comes tells r bad);
+    unfailed = λ code. opens.spared (world.Image (replica_of ended)) tt (image_of_code ended code);
+    unwritten = λ codes. (idle_of_code ended (idle_either codes) idle).besides;
+    answers = λ tells told volume H stands.
+        script_answered (StaysUnopened seen (status_of ended)) volume H (takes tells)
+        (on_ok ended (λ all. all volume H stands) (answers tells told))
+        (on_fault ended (λ fault all is. all is volume H stands) (front tells told)) unopened;
+    opens = λ tells volume H stands code.
+        opens.never_image tells volume H stands (replica_of ended) (image_of_code ended code);
+    earlier = λ tells r bad code. opens.earlier tells (replica_of ended) r (store_of_code ended code) bad;
+    member = λ tells first at code. opens.member tells (replica_of ended) (store_of_code ended code) first at;
+    others = opens.others;
+    complete = λ tells told volume H stands script none.
+        script_done of_commands excludes_commands used any.read_fault (takes tells) (record {
+          store = λ r is. not_at_fault none r (any.store_fault r is);
+          image = opens.never_image told volume H stands;
+          occupied = never_occupied;
+        }) any.write_fault script;
+    rests = λ code. idle_of_code ended code opens.rests;
+    killed = λ tells told volume H stands synced.
+        let put = prefix_of_code (λ may. KilledFrontOf may seen volume H) killed_where ended unopened
+        (on_fault ended (λ fault all is. all is volume H stands synced) (killed_front tells told)) in
+        record {
+          whole = λ code. done_of_code ended code
+              (on_ok ended (λ all. all volume H stands synced) (killed tells told));
+          prefix = put.0;
+          cut = put.1;
+        };
+  }
     where
       unopened : IfErr ended (λ fault. IsIdle fault
           → CarriesOutNothing (StaysUnopened seen (status_of ended)) seen.disk.armings seen.output.old
           seen.output.new (disks_before seen) (disks_after seen))
-      unopened = go ended idle rests (unfailed_idle spared any.untouched)
+      unopened = go ended idle opens.rests (unfailed_idle opens.spared any.untouched)
         where
           go : (result : Result Done Fault)
               → IfErr result (λ fault. IsIdle fault → CarriesOutNothing (HoldsSame seen) seen.disk.armings
@@ -465,7 +428,8 @@ module _ {S K D Done : Type 0} (seen : Seen S K D) (ended : Result Done Fault) w
       on_fault (Ok done) makes holds = tt
       on_fault (Err fault) makes holds = makes fault holds
 
-  pub replay_of : (size : Size) → EndedAsAny
+  pub replay_of : (size : Size) → AreUsed ended → EndedAsAny
+      → TellsOfMaking seen.disk size.members ended (disks_before seen) (disks_after seen)
       → (seen.source.tells → TakesAsEnded (script_of seen) (left_of seen) ended)
       → (seen.source.tells → seen.disk.tells → OnOk ended (AnswersOf seen (volume_of size) []))
       → (seen.source.tells → seen.disk.tells → IfErr ended (λ fault. IsAnswering fault
@@ -475,52 +439,46 @@ module _ {S K D Done : Type 0} (seen : Seen S K D) (ended : Result Done Fault) w
       → (seen.disk.tells_fuse → AreUnarmed seen.disk.fuse (disks_before seen) → (r : ℕ)
       → IsErrOf ended (Storing (world.Store r)) → ⊥)
       → (seen.disk.tells → (r : ℕ) → IsErrOf ended (Storing (world.Image r)) → ⊥)
-      → (seen.disk.tells → (r : ℕ) → IsErrOf ended (Storing (world.Occupied r))
-      → IsFirstOccupied seen.disk.seen (disks_before seen) r × (r ≤ size.members))
-      → (seen.disk.tells → (r : ℕ) → r ≤ size.members → IsFirstOccupied seen.disk.seen (disks_before seen) r
-      → IsErrAnd ended (λ fault. (fault ≡ Storing (world.Occupied r)) ⊎ IsInterruption fault))
-      → (seen.disk.tells → (r : ℕ) → r ≤ size.members → IsFirstOccupied seen.disk.seen (disks_before seen) r
-      → SeenSame seen.disk.seen (disks_before seen) (disks_after seen))
       → Spares
-      → (seen.disk.tells → (r : ℕ) → r ≤ size.members → IsFirstOccupied seen.disk.seen (disks_before seen) r
-      → AllRest seen.disk (disks_before seen) (disks_after seen))
       → (seen.disk.tells → AreEmpty seen.disk.seen (disks_before seen) size.members
       → AreSynced seen.disk.seen seen.disk.may_leave (disks_before seen) size.members → IfErr ended (λ fault. IsIdle fault
       → AreMadeInPart kept_in seen.disk.may_leave (volume_of size) (disks_after seen)))
       → (seen.disk.tells → (r : ℕ) → IsErrOf ended (Storing (world.Store r)) → r ≤ size.members)
       → (seen.disk.tells → OthersRest seen.disk size.members (disks_before seen) (disks_after seen))
       → DoesReplay size seen (status_of ended)
-  replay_of size any takes answers front idle unfailing never occupied comes held spared rests partly member others =
-      record {
-        codes = replay_code ended any.used;
-        reads = λ tells. reads_of of_commands excludes_commands any.used any.read_fault (takes tells);
-        makes = λ tells. makes_of size.members (occupied tells) (comes tells) (held tells) (rests tells);
-        unfailed = λ codes. elim codes [
-          | inl image ↦ spared (world.Image (replica_of ended)) tt (image_of_code ended image)
-          | inr occupied ↦ spared (world.Occupied (replica_of ended)) tt (occupied_of_code ended occupied)
-        ];
-        opens = λ tells code. never tells (replica_of ended) (image_of_code ended code);
-        answers = λ tells told.
-            script_answered (StaysUnmade size seen (status_of ended)) (volume_of size) [] (takes tells) (answers tells told)
-            (front tells told) (idle_both ended
-            (λ nothing unmade. record { put = nothing.put; unarmed = nothing.unarmed; besides = unmade }) idle unmade);
-        unmade = λ code. idle_of_code ended (inr (inr (inl code))) unmade;
-        member = λ tells code. member tells (replica_of ended) (store_of_code ended code);
-        others = others;
-        complete = λ tells told empty script none.
-            script_done of_commands excludes_commands any.used any.read_fault (takes tells) (record {
-              store = λ r is. not_at_fault none r (any.store_fault r is);
-              image = never told;
-              occupied = λ r is. not_occupied empty (occupied told r is).0 (occupied told r is).1;
-            }) any.write_fault script;
-        complete_by_fuses = λ tells told fused empty unarmed script.
-            script_done of_commands excludes_commands any.used any.read_fault (takes tells) (record {
-              store = unfailing fused unarmed;
-              image = never told;
-              occupied = λ r is. not_occupied empty (occupied told r is).0 (occupied told r is).1;
-            }) any.write_fault script;
-      }
+  replay_of size used any makes takes answers front idle unfailing never spared partly member others = record {
+    codes = replay_code ended used;
+    reads = λ tells. reads_of of_commands excludes_commands used any.read_fault (takes tells);
+    makes = makes_of size.members makes;
+    unfailed = λ codes. elim codes [
+      | inl image ↦ spared (world.Image (replica_of ended)) tt (image_of_code ended image)
+      | inr occupied ↦ spared (world.Occupied (replica_of ended)) tt (occupied_of_code ended occupied)
+    ];
+    opens = λ tells code. never tells (replica_of ended) (image_of_code ended code);
+    answers = λ tells told.
+        script_answered (StaysUnmade size seen (status_of ended)) (volume_of size) [] (takes tells) (answers tells told)
+        (front tells told) (idle_both ended
+        (λ nothing unmade. record { put = nothing.put; unarmed = nothing.unarmed; besides = unmade }) idle unmade);
+    unmade = λ code. idle_of_code ended (inr (inr (inl code))) unmade;
+    member = λ tells code. member tells (replica_of ended) (store_of_code ended code);
+    others = others;
+    complete = λ tells told empty script none.
+        done tells told empty (λ r is. not_at_fault none r (any.store_fault r is)) script;
+    complete_by_fuses = λ tells told fused empty unarmed script.
+        done tells told empty (unfailing fused unarmed) script;
+  }
     where
+      -- a script is answered where the disks are empty and none fails, unless memory was wanted
+      done : seen.source.tells → seen.disk.tells → AreEmpty seen.disk.seen (disks_before seen) size.members
+          → ((r : ℕ) → IsErrOf ended (Storing (world.Store r)) → ⊥) → HasIn of_commands seen
+          → (code_of ended ≡ 0) ⊎ (code_of ended ≡ 3)
+      done tells told empty none script =
+          script_done of_commands excludes_commands used any.read_fault (takes tells) (record {
+            store = none;
+            image = never told;
+            occupied = λ r is. not_occupied empty (makes.occupied told r is).0 (makes.occupied told r is).1;
+          }) any.write_fault script
+
       unmade : IfErr ended (λ fault. IsIdle fault → StaysUnmade size seen (status_of ended))
       unmade = go ended refl partly (unfailed_idle spared any.untouched)
         where
@@ -568,15 +526,9 @@ module _ {Done : Type 0} where
 
 module _ {S K D Done : Type 0} (seen : Seen S K D) (ended : Result Done Fault) (joining : IfErr ended IsOfJoining)
     (untouched : seen.disks.new ≡ seen.disks.old)
-    (read_fault : IsErrOf ended (Reading reading.Source) → SourceFailed seen)
-    (read_fault_comes : seen.source.faults seen.input.old < seen.source.faults seen.input.new
-    → IsErrOf ended (Reading reading.Source))
-    (write_fault : IsErrOf ended (Answering answering.Sink) → SinkFailed seen)
-    (write_fault_comes : seen.sink.faults seen.output.old < seen.sink.faults seen.output.new
-    → IsErrOf ended (Answering answering.Sink))
-    (idle : IfErr ended (λ fault. IsIdle fault → seen.output.new ≡ seen.output.old))
-    (source_counted : seen.source.faults seen.input.old ≤ seen.source.faults seen.input.new)
-    (sink_counted : seen.sink.faults seen.output.old ≤ seen.sink.faults seen.output.new) where
+    (streams : TellsOfStreams (seen.source.faults seen.input.old) (seen.source.faults seen.input.new)
+    (seen.sink.faults seen.output.old) (seen.sink.faults seen.output.new) ended)
+    (idle : IfErr ended (λ fault. IsIdle fault → seen.output.new ≡ seen.output.old)) where
   unarmed_still : Steady seen.disk.armings (disks_before seen) (disks_after seen)
   unarmed_still =
       subst (λ (disks : Vec (Pair D) Global). Steady seen.disk.armings (disks_before seen) (vec_items disks))
@@ -588,21 +540,18 @@ module _ {S K D Done : Type 0} (seen : Seen S K D) (ended : Result Done Fault) (
 
   any_joined : EndedAsAny seen ended
   any_joined = record {
-    used = joining_used ended joining;
-    read_fault = read_fault;
-    read_fault_comes = read_fault_comes;
-    write_fault = write_fault;
-    write_fault_comes = write_fault_comes;
+    streams = streams;
     store_fault = λ r is. absurd (joining_stores_nothing ended (world.Store r) joining is);
     idle = idle;
     unarmed = if_any IsIdle unarmed_still ended;
     untouched = if_any IsUntouched untouched ended;
     pairs = unarmed_still.count;
-    source_counted = source_counted;
-    sink_counted = sink_counted;
   }
 
-  pub joined_ends : EndsAsAnyMode seen (status_of ended)
+  pub joined_used : AreUsed ended
+  joined_used = joining_used ended joining
+
+  pub joined_ends : EndsAsAny seen (status_of ended)
   joined_ends = any_of seen ended any_joined
 
   pub volumes_of : (size : Size) (count : ℕ)
@@ -613,7 +562,7 @@ module _ {S K D Done : Type 0} (seen : Seen S K D) (ended : Result Done Fault) (
   volumes_of size count takes answers front = record {
     codes = joining_code ended joining;
     reads = λ tells.
-        reads_of seen ended (of_volumes count) (excludes_volumes count) any_joined.used read_fault (takes tells);
+        reads_of seen ended (of_volumes count) (excludes_volumes count) joined_used streams.read_fault (takes tells);
     untouched = untouched;
     answers = λ tells code. (
       done_of_code ended code (answers tells),
@@ -622,12 +571,12 @@ module _ {S K D Done : Type 0} (seen : Seen S K D) (ended : Result Done Fault) (
     prefix = λ tells. (put tells).0;
     cut = λ tells. (put tells).1;
     complete = λ tells script.
-        script_done seen ended (of_volumes count) (excludes_volumes count) any_joined.used read_fault (takes tells)
+        script_done seen ended (of_volumes count) (excludes_volumes count) joined_used streams.read_fault (takes tells)
         (record {
           store = λ r is. joining_stores_nothing ended (world.Store r) joining is;
           image = λ r is. joining_stores_nothing ended (world.Image r) joining is;
           occupied = λ r is. joining_stores_nothing ended (world.Occupied r) joining is;
-        }) write_fault script;
+        }) streams.write_fault script;
   }
     where
       put : seen.source.tells → (code_of ended ≡ 5 → AnswersVolumesFrontOf seen size count)
@@ -635,6 +584,40 @@ module _ {S K D Done : Type 0} (seen : Seen S K D) (ended : Result Done Fault) (
       put tells =
           prefix_of_code (λ may. AnswersVolumesFrontOf seen size count) (λ may other further same. same) ended idle
           (front tells)
+
+-- a summary ends with no code of a run in which nothing was done
+summary_code : {code : ℕ} → IsGenCode code → IsCode code
+summary_code (inl zero) = inl zero
+summary_code (inr (inl three)) = inr (inr (inr (inl three)))
+summary_code (inr (inr five)) = inr (inr (inr (inr (inr (inl five)))))
+
+summary_not_idle : {code : ℕ} → IsGenCode code → IsIdleCode code → ⊥
+summary_not_idle codes idle = grind arith
+
+module _ {S K D : Type 0} (seen : Seen S K D) (status : Status) (codes : IsGenCode status.code) where
+  pub summary_used : status.code ≢ 1
+  summary_used one = summary_not_idle codes (inl (inl one))
+
+  pub summary_ends : seen.input.new ≡ seen.input.old → seen.disks.new ≡ seen.disks.old
+      → (status.code ≡ 5 → SinkFailed seen)
+      → (seen.sink.faults seen.output.old < seen.sink.faults seen.output.new → status.code ≡ 5)
+      → (status.line ≡ 0) × (status.replica ≡ 0)
+      → seen.sink.faults seen.output.old ≤ seen.sink.faults seen.output.new → EndsAsAny seen status
+  summary_ends unread untouched write_fault comes numbers counted = record {
+    read_fault = λ four. absurd (summary_not_idle codes (inl (inr (inl four))));
+    read_fault_comes = λ rose. absurd (omega (arith, rose, ap seen.source.faults unread));
+    write_fault = write_fault;
+    write_fault_comes = comes;
+    store_fault = λ six. absurd (summary_not_idle codes (inr (inr (inl six))));
+    codes = summary_code codes;
+    idle = λ idle. absurd (summary_not_idle codes idle);
+    untouched = λ none. untouched;
+    unarmed = λ idle. absurd (summary_not_idle codes idle);
+    pairs = ap (λ (disks : Vec (Pair D) Global). length (vec_items disks)) untouched;
+    line = λ other. numbers.0;
+    replica = λ none. numbers.1;
+    counted = (omega (arith, ap seen.source.faults unread), counted);
+  }
 
 -- where memory was refused before anything was asked of the outside, all is as each mode does
 module _ {S K D : Type 0} (seen : Seen S K D) (unread : seen.input.new ≡ seen.input.old)
@@ -678,38 +661,50 @@ module _ {S K D : Type 0} (seen : Seen S K D) (unread : seen.input.new ≡ seen.
     below = omega arith;
   }
 
-  any : EndedAsAny seen unread_end
-  any = record {
-    used = λ fault is. cc;
-    read_fault = λ is. absurd (cc is);
-    read_fault_comes = λ rose. absurd (omega (arith, rose, ap seen.source.faults unread));
-    write_fault = λ is. absurd (cc is);
-    write_fault_comes = λ rose. absurd (omega (arith, rose, ap seen.sink.faults silent));
-    store_fault = λ r is. absurd (cc is);
+  opening_now : TellsOfOpening {Done = Unit {0}} seen.disk unread_end (disks_before seen) (disks_after seen)
+  opening_now =
+      subst (λ (disks : Vec (Pair D) Global). TellsOfOpening {Done = Unit {0}} seen.disk unread_end (disks_before seen)
+      (vec_items disks)) (sym untouched) (opening_unread seen.disk reading.Memory (disks_before seen))
+
+  making_now : (fault : Fault) → IsInterruption fault → (members : ℕ)
+      → TellsOfMaking {Done = Unit {0}} seen.disk members (Err fault) (disks_before seen) (disks_after seen)
+  making_now fault interrupts members =
+      subst (λ (disks : Vec (Pair D) Global). TellsOfMaking {Done = Unit {0}} seen.disk members (Err fault)
+      (disks_before seen) (vec_items disks)) (sym untouched)
+      (making_unasked seen.disk members fault interrupts (disks_before seen))
+
+  -- no fault of the outside is told
+  asked_nothing : (fault : Fault) → (IsErrOf {T = Unit {0}} (Err fault) (Reading reading.Source) → ⊥)
+      → (IsErrOf {T = Unit {0}} (Err fault) (Answering answering.Sink) → ⊥)
+      → ((r : ℕ) → IsErrOf {T = Unit {0}} (Err fault) (Storing (world.Store r)) → ⊥)
+      → EndedAsAny {Done = Unit {0}} seen (Err fault)
+  asked_nothing fault no_source no_sink no_store = record {
+    streams = unasked_streams seen (Err fault) unread silent no_source no_sink;
+    store_fault = λ r is. absurd (no_store r is);
     idle = λ idle. silent;
     unarmed = λ idle. unarmed;
     untouched = λ none. untouched;
     pairs = unarmed.count;
-    source_counted = omega (arith, ap seen.source.faults unread);
-    sink_counted = omega (arith, ap seen.sink.faults silent);
   }
+
+  any : EndedAsAny seen unread_end
+  any = asked_nothing (Reading reading.Memory) (λ is. cc is) (λ is. cc is) (λ r is. cc is)
+
+  used : AreUsed unread_end
+  used = λ fault is. cc is
 
   pub nothing_done : (mode : Mode) → Does mode seen (record { code = 3; line = 0; replica = 0 })
   nothing_done (Init size root) =
       init_of seen unmade_end size tt unread silent unarmed (λ r is. absurd (cc is))
-      (λ tells r is. absurd (cc is)) (λ tells r within first. inr tt) (λ tells. tt) (λ r is. absurd (cc is))
-      (λ tells r within first. held tells) tt (λ fault unfailed is. unfailed_now) (λ tells at_first. tt)
-      (λ tells r within first. rests_now)
+      (making_now (Storing world.Memory) tt size.members) (λ tells. tt) (λ r is. absurd (cc is)) tt
+      (λ fault unfailed is. unfailed_now) (λ tells at_first. tt)
       (λ tells empty synced.
       none_in_part kept_in seen.disk (volume_of size) (disks_before seen) (disks_after seen) rests_now empty synced)
       (others_now size.members)
   nothing_done (Run root) =
-      run_of seen unread_end any (λ tells. takes) (λ tells told. tt)
-      (λ tells told is. absurd is) (λ idle. record { put = silent; unarmed = unarmed; besides = held })
-      (λ tells r is. absurd (cc is)) (λ tells r bad. inr tt) (λ tells volume H stands r is. cc) (λ r is. cc)
-      (λ fault unfailed is. unfailed_now) (λ idle. rests_now) (λ tells told. tt) (λ tells told is. absurd is)
-      (λ tells q r is bad. absurd (cc is)) (λ tells r is first opens. absurd (cc is))
-      (λ tells first opens. all_others_rest seen.disk first.members (disks_before seen) (disks_after seen) rests_now)
+      run_of seen unread_end used any opening_now (λ tells. takes) (λ tells told. tt) (λ tells told is. absurd is)
+      (λ idle. record { put = silent; unarmed = unarmed; besides = held }) (λ r is. cc) (λ tells told. tt)
+      (λ tells told is. absurd is)
   nothing_done (Check root) = record {
     codes = inr (inl refl);
     unread = unread;
@@ -721,10 +716,10 @@ module _ {S K D : Type 0} (seen : Seen S K D) (unread : seen.input.new ≡ seen.
     complete = λ sink none. inr refl;
   }
   nothing_done (Replay size) =
-      replay_of seen unread_end size any (λ tells. takes) (λ tells told. tt)
-      (λ tells told is. absurd is) (λ idle. record { put = silent; unarmed = unarmed; besides = tt })
-      (λ fused none r is. cc) (λ tells r is. cc) (λ tells r is. absurd (cc is)) (λ tells r within first. inr tt)
-      (λ tells r within first. held tells) (λ fault unfailed is. unfailed_now) (λ tells r within first. rests_now)
+      replay_of seen unread_end size used any (making_now (Reading reading.Memory) tt size.members) (λ tells. takes)
+      (λ tells told. tt) (λ tells told is. absurd is)
+      (λ idle. record { put = silent; unarmed = unarmed; besides = tt }) (λ fused none r is. cc) (λ tells r is. cc)
+      (λ fault unfailed is. unfailed_now)
       (λ tells empty synced idle.
       none_in_part kept_in seen.disk (volume_of size) (disks_before seen) (disks_after seen) rests_now empty synced)
       (λ tells r is. absurd (cc is))
@@ -732,7 +727,7 @@ module _ {S K D : Type 0} (seen : Seen S K D) (unread : seen.input.new ≡ seen.
   nothing_done (Volumes size count) = record {
     codes = inr (inr (inl refl));
     reads = λ tells.
-        reads_of seen unread_end (of_volumes count) (excludes_volumes count) any.used (λ is. absurd (cc is)) takes;
+        reads_of seen unread_end (of_volumes count) (excludes_volumes count) used (λ is. absurd (cc is)) takes;
     untouched = untouched;
     answers = λ tells code. absurd (cc code);
     prefix = λ tells code. absurd (cc code);
@@ -746,4 +741,24 @@ module _ {S K D : Type 0} (seen : Seen S K D) (unread : seen.input.new ≡ seen.
     told = λ tells code. absurd (cc code);
     prefix = λ tells code. absurd (cc code);
     silent = λ code. silent;
+  }
+
+  -- and so it ends where the words were refused
+  pub refused : (words : List Text) (fault : WordsFault) → (fault ≡ word.Usage → AreNoWords words)
+      → RunsProgram words seen (status_of {Done = Unit {0}} (Err (Words fault)))
+  refused words word.Usage none = record {
+    usage = λ code. none refl;
+    usage_comes = λ no_words. inl refl;
+    unasked = λ no_words. (unread, silent, untouched);
+    does = λ mode are. absurd (none refl mode are);
+    ends = any_of seen (Err (Words word.Usage)) (asked_nothing (Words word.Usage) (λ is. cc is) (λ is. cc is)
+        (λ r is. cc is));
+  }
+  refused words word.Memory none = record {
+    usage = λ code. absurd (cc code);
+    usage_comes = λ no_words. inr refl;
+    unasked = λ no_words. (unread, silent, untouched);
+    does = λ mode are. nothing_done mode;
+    ends = any_of seen (Err (Words word.Memory)) (asked_nothing (Words word.Memory) (λ is. cc is) (λ is. cc is)
+        (λ r is. cc is));
   }

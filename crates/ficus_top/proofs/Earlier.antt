@@ -8,16 +8,13 @@ use Rattle.ficus_model.specs.Lawful.{Volume}
 use Rattle.ficus_model.specs.declared.event.Event.{Event}
 use Rattle.ficus_script.specs.declared.command.Command.{Command}
 use Rattle.ficus_runs.specs.Fuses.{FuseState}
-use Rattle.ficus_runs.specs.Outcome.{Outcome}
 use Rattle.ficus_runs.specs.Start.{start}
-use Rattle.ficus_world.specs.Disks.{DisksFollow}
 use Rattle.ficus_opening.specs.Opening.{IsAtFault, Steady}
-use Rattle.ficus_world.proofs.Disks.{follows_steady, follows_then}
 use Rattle.ficus_runs.proofs.Numbers.{number_exists}
 use Rattle.ficus_loop.proofs.Places.{fuses_same}
-use Rattle.ficus_opening.proofs.Steadies.{steady_back, steady_trans}
 use Rattle.ficus_top.specs.Ends.{Ends, EndsFront, NoneFailed}
 use Rattle.ficus_top.specs.Headline.{fuses_of}
+use Rattle.ficus_top.proofs.Ends.{ends_behind, front_ends_behind}
 
 -- whether the members' disks have a fuse stays
 pub fuses_of_same : {D : Type 0} (armings : D → Option ℕ) {old new : List (Pair D)} → Steady armings old new
@@ -39,58 +36,24 @@ not_at_fault {D} {faults} {old} {new} none r fault =
     absurd (omega (arith, rose.sum below.0 below.1, one_fault r, same.a, same.b))
 
 module _ {D : Type 0} (disk : Disk D) {old middle new : List (Pair D)} (steady : Steady disk.faults old middle)
-    (unarmed : Steady disk.armings old middle) where
-  follows_since : {outcomes : List Outcome} → DisksFollow disk.faults disk.armings outcomes middle new
-      → DisksFollow disk.faults disk.armings outcomes old new
-  follows_since follows =
-      follows_then (follows_steady steady.count (λ r was now at_was at_now.
-      (steady.each r was now at_was at_now, unarmed.each r was now at_was at_now))) follows
+    (unarmed : Steady disk.armings old middle) {tells : Type 0} {Rest Before : (ℕ → FuseState) → Type 0} {volume : Volume}
+    (earlier : List Event) {commands : List Command} {before after : List ℕ}
+    (rests : (F : ℕ → FuseState) → Before F → Rest F) where
+  -- so what was answered from the restarts of the members on
+  pub ends_since : Ends tells disk Rest volume
+      (start earlier volume.members 0 (fuses_of disk.armings volume.members middle)) commands before after middle new
+      → Ends tells disk Before volume
+      (start earlier volume.members 0 (fuses_of disk.armings volume.members old)) commands before after old new
+  ends_since ends =
+      subst (λ (fused : List Bool). Ends tells disk Before volume
+      (start earlier volume.members 0 fused) commands before after old new)
+      (fuses_of_same disk.armings unarmed volume.members) (ends_behind disk steady unarmed rests ends)
 
-  none_failed_since : NoneFailed disk.faults old new → NoneFailed disk.faults middle new
-  none_failed_since none = record {
-    steady = steady_trans disk.faults middle old new (steady_back disk.faults old middle steady) none.steady;
-    each = none.each;
-  }
-
-  module _ {tells : Type 0} {Rest Before : (ℕ → FuseState) → Type 0} {volume : Volume} (earlier : List Event)
-      {commands : List Command} {before after : List ℕ} (rests : (F : ℕ → FuseState) → Before F → Rest F) where
-    -- so what was answered from the restarts of the members on
-    pub ends_since : Ends tells disk Rest volume
-        (start earlier volume.members 0 (fuses_of disk.armings volume.members middle)) commands before after middle new
-        → Ends tells disk Before volume
-        (start earlier volume.members 0 (fuses_of disk.armings volume.members old)) commands before after old new
-    ends_since ends =
-        subst (λ (fused : List Bool). Ends tells disk Before volume
-        (start earlier volume.members 0 fused) commands before after old new)
-        (fuses_of_same disk.armings unarmed volume.members) (record {
-          after = ends.after;
-          serves = ends.serves;
-          linked = ends.linked;
-          disks = follows_since ends.disks;
-          done = λ none. ends.done (none_failed_since none);
-          fuses = λ F at_first. ends.fuses F (rests F at_first);
-          standings = ends.standings;
-          pending = ends.pending;
-          stand = ends.stand;
-          outlasts = ends.outlasts;
-        })
-
-    pub front_since : {may : Type 0} → EndsFront tells may disk Rest volume
-        (start earlier volume.members 0 (fuses_of disk.armings volume.members middle)) commands before after middle new
-        → EndsFront tells may disk Before volume
-        (start earlier volume.members 0 (fuses_of disk.armings volume.members old)) commands before after old new
-    front_since {may} front =
-        subst (λ (fused : List Bool). EndsFront tells may disk Before volume
-        (start earlier volume.members 0 fused) commands before after old new)
-        (fuses_of_same disk.armings unarmed volume.members) (record {
-          after = front.after;
-          serves = front.serves;
-          linked = front.linked;
-          disks = follows_since front.disks;
-          done = λ none. front.done (none_failed_since none);
-          fuses = λ F at_first. front.fuses F (rests F at_first);
-          standings = front.standings;
-          pending = front.pending;
-          stand = front.stand;
-          outlasts = front.outlasts;
-        })
+  pub front_since : {may : Type 0} → EndsFront tells may disk Rest volume
+      (start earlier volume.members 0 (fuses_of disk.armings volume.members middle)) commands before after middle new
+      → EndsFront tells may disk Before volume
+      (start earlier volume.members 0 (fuses_of disk.armings volume.members old)) commands before after old new
+  front_since {may} front =
+      subst (λ (fused : List Bool). EndsFront tells may disk Before volume
+      (start earlier volume.members 0 fused) commands before after old new)
+      (fuses_of_same disk.armings unarmed volume.members) (front_ends_behind disk steady unarmed rests front)

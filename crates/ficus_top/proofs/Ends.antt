@@ -28,7 +28,7 @@ use Rattle.ficus_world.proofs.Disks.{follows_steady, follows_then}
 use Rattle.ficus_keeper.specs.Kept.{Kept}
 use Rattle.ficus_loop.specs.Trail.{FrontOn, RunOn}
 use Rattle.ficus_top.specs.Killed.{EndsFrontOn, EndsOn}
-use Rattle.ficus_top.specs.Ends.{AllUp, Ends, EndsFront, NoneFailed, StandNow}
+use Rattle.ficus_top.specs.Ends.{AllUp, Ends, EndsFront, LeavesDisks, NoneFailed, StandNow}
 use Rattle.ficus_loop.specs.Serving.{ServesWorld, ServesWorldFront}
 use Rattle.ficus_loop.proofs.Places.{none_caused}
 use Rattle.ficus_top.proofs.Members.{run_spares}
@@ -127,35 +127,40 @@ module _ {K D : Type 0} {tells : Type 0} {keep : Keep K} {disk : Disk D} {volume
         record {
           after = served.after;
           serves = served.serves;
-          linked = linked;
-          disks = served.disks;
-          done = done_where_none served.serves.run up pairs linked served.disks;
-          fuses = permitted keep disk before old_disks slots told (all_outcomes served.serves.outcomes)
-              served.fuses.permit;
-          standings = served.stands.standings;
-          pending = pend served.after served.stands;
-          stand = stand served.after served.stands;
-          outlasts = outlast served.after served.stands;
+          leaves = record {
+            linked = linked;
+            disks = served.disks;
+            done = done_where_none served.serves.run up pairs linked served.disks;
+            fuses = permitted keep disk before old_disks slots told (all_outcomes served.serves.outcomes)
+                served.fuses.permit;
+            standings = served.stands.standings;
+            pending = pend served.after served.stands;
+            stand = stand served.after served.stands;
+            outlasts = outlast served.after served.stands;
+          };
         }
 
     -- and of first commands
     abbrev pub front_ends : {may : Type 0} → AllUp W → length W.standings ≤ length old_disks
         → ServesWorldFront tells may keep disk volume W before commands world old new old_disks new_disks
         → EndsFront tells may disk (StandNow keep disk before old_disks) volume W commands old new old_disks new_disks
-    front_ends up pairs front = record {
-      after = front.after;
-      serves = front.serves;
-      linked = none_caused nothing front.caused;
-      disks = front.disks;
-      done = front_done_where_none front.serves.more_outcomes front.serves.run up pairs
-          (none_caused nothing front.caused) front.disks;
-      fuses = permitted keep disk before old_disks slots told
-          (all_outcomes front.serves.outcomes ++ front.serves.more_outcomes) front.fuses;
-      standings = front.stands.standings;
-      pending = pend front.after front.stands;
-      stand = stand front.after front.stands;
-      outlasts = outlast front.after front.stands;
-    }
+    front_ends up pairs front =
+        let linked = none_caused nothing front.caused in
+        record {
+          after = front.after;
+          serves = front.serves;
+          leaves = record {
+            linked = linked;
+            disks = front.disks;
+            done = front_done_where_none front.serves.more_outcomes front.serves.run up pairs linked front.disks;
+            fuses = permitted keep disk before old_disks slots told
+                (all_outcomes front.serves.outcomes ++ front.serves.more_outcomes) front.fuses;
+            standings = front.stands.standings;
+            pending = pend front.after front.stands;
+            stand = stand front.after front.stands;
+            outlasts = outlast front.after front.stands;
+          };
+        }
 
     -- each command with the disks
     module _ (same : keep.kept ≡ kept_in) where
@@ -200,39 +205,34 @@ module _ {D : Type 0} (disk : Disk D) {old_disks mid_disks new_disks : List (Pai
     each = none.each;
   }
 
-  module _ {tells : Type 0} {Rest Before : (ℕ → FuseState) → Type 0} {volume : Volume} {W : ModelWorld}
-      {commands : List Command} {old new : List ℕ} (rests : (F : ℕ → FuseState) → Before F → Rest F) where
-    -- what was served over disks that nothing had happened to before
-    abbrev pub ends_behind : Ends tells disk Rest volume W commands old new mid_disks new_disks
-        → Ends tells disk Before volume W commands old new old_disks new_disks
-    ends_behind ends = record {
-      after = ends.after;
-      serves = ends.serves;
-      linked = ends.linked;
-      disks = follows_behind ends.disks;
-      done = λ none. ends.done (none_behind none);
-      fuses = λ F before. ends.fuses F (rests F before);
-      standings = ends.standings;
-      pending = ends.pending;
-      stand = ends.stand;
-      outlasts = ends.outlasts;
-    }
+  module _ {Rest Before : (ℕ → FuseState) → Type 0} {volume : Volume} (rests : (F : ℕ → FuseState) → Before F → Rest F)
+    where
+      -- what became of what was asked of disks to which nothing had happened before
+      pub leaves_behind : {after : ModelWorld} {outcomes : List (List Outcome)} {all : List Outcome}
+          → LeavesDisks disk Rest volume after outcomes all mid_disks new_disks
+          → LeavesDisks disk Before volume after outcomes all old_disks new_disks
+      leaves_behind leaves = record {
+        linked = leaves.linked;
+        disks = follows_behind leaves.disks;
+        done = λ none. leaves.done (none_behind none);
+        fuses = λ F before. leaves.fuses F (rests F before);
+        standings = leaves.standings;
+        pending = leaves.pending;
+        stand = leaves.stand;
+        outlasts = leaves.outlasts;
+      }
 
-    abbrev pub front_ends_behind : {may : Type 0}
-        → EndsFront tells may disk Rest volume W commands old new mid_disks new_disks
-        → EndsFront tells may disk Before volume W commands old new old_disks new_disks
-    front_ends_behind ends = record {
-      after = ends.after;
-      serves = ends.serves;
-      linked = ends.linked;
-      disks = follows_behind ends.disks;
-      done = λ none. ends.done (none_behind none);
-      fuses = λ F before. ends.fuses F (rests F before);
-      standings = ends.standings;
-      pending = ends.pending;
-      stand = ends.stand;
-      outlasts = ends.outlasts;
-    }
+      -- what was served over such disks
+      module _ {tells : Type 0} {W : ModelWorld} {commands : List Command} {old new : List ℕ} where
+        abbrev pub ends_behind : Ends tells disk Rest volume W commands old new mid_disks new_disks
+            → Ends tells disk Before volume W commands old new old_disks new_disks
+        ends_behind ends = record { after = ends.after; serves = ends.serves; leaves = leaves_behind ends.leaves }
+
+        abbrev pub front_ends_behind : {may : Type 0}
+            → EndsFront tells may disk Rest volume W commands old new mid_disks new_disks
+            → EndsFront tells may disk Before volume W commands old new old_disks new_disks
+        front_ends_behind front =
+            record { after = front.after; serves = front.serves; leaves = leaves_behind front.leaves }
 
 -- what may be may be wherever this is so
 abbrev pub front_ends_where : {may other : Type 0} → (may → other) → {D : Type 0} {tells : Type 0} {disk : Disk D}
@@ -240,15 +240,5 @@ abbrev pub front_ends_where : {may other : Type 0} → (may → other) → {D : 
     {old_disks new_disks : List (Pair D)}
     → EndsFront tells may disk Rest volume W commands old new old_disks new_disks
     → EndsFront tells other disk Rest volume W commands old new old_disks new_disks
-front_ends_where further ends = record {
-  after = ends.after;
-  serves = front_where further ends.serves;
-  linked = ends.linked;
-  disks = ends.disks;
-  done = ends.done;
-  fuses = ends.fuses;
-  standings = ends.standings;
-  pending = ends.pending;
-  stand = ends.stand;
-  outlasts = ends.outlasts;
-}
+front_ends_where further ends =
+    record { after = ends.after; serves = front_where further ends.serves; leaves = ends.leaves }

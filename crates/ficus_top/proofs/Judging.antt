@@ -20,7 +20,7 @@ use Rattle.ficus_opening.proofs.Steadies.{fault_behind, set_at, steady_none, ste
 use Rattle.ficus_top.specs.Codes.{IsCode, IsIdleCode, IsUntouchedCode, NamesReplica}
 use Rattle.ficus_top.specs.Ends.{NoneFailed}
 use Rattle.ficus_top.specs.Modes.Check.{AreJudged, DoesCheck, FailsAs, IsCheckCode, PutsJudgements, PutsJudgementsFront, StaysUnwritten}
-use Rattle.ficus_top.specs.Program.{EndsAsAnyMode}
+use Rattle.ficus_top.specs.Program.{EndsAsAny}
 use Rattle.ficus_top.specs.Seen.{Seen, SinkFailed, disks_after, disks_before, put_after, put_before}
 use Rattle.ficus_top.specs.Status.{code_of}
 use Rattle.ficus_top.specs.declared.fault.Fault.TheVariants.{Storing}
@@ -167,9 +167,8 @@ module _ {S K D : Type 0} (seen : Seen S K D) (status : Status) (codes : IsCheck
 
     pub check_ends : (seen.sink.faults seen.output.old < seen.sink.faults seen.output.new → status.code ≡ 5)
         → status.line ≡ 0 → (status.code ≢ 6 → status.replica ≡ 0)
-        → seen.sink.faults seen.output.old ≤ seen.sink.faults seen.output.new → EndsAsAnyMode seen status
+        → seen.sink.faults seen.output.old ≤ seen.sink.faults seen.output.new → EndsAsAny seen status
     check_ends comes line replica counted = record {
-      used = λ one. untouched_none codes (inl (inl one));
       read_fault = λ four. absurd (untouched_none codes (inl (inr (inl four))));
       read_fault_comes = λ rose. absurd (omega (arith, rose, ap seen.source.faults unread));
       write_fault = write_fault;
@@ -182,6 +181,8 @@ module _ {S K D : Type 0} (seen : Seen S K D) (status : Status) (codes : IsCheck
       pairs = unwritten.unarmed.count;
       line = λ other. line;
       replica = λ none. replica (λ six. none (inl six));
-      source_counted = omega (arith, ap seen.source.faults unread);
-      sink_counted = counted;
+      counted = (omega (arith, ap seen.source.faults unread), counted);
     }
+
+    pub check_used : status.code ≢ 1
+    check_used one = untouched_none codes (inl (inl one))

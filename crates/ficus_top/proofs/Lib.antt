@@ -13,6 +13,7 @@ pub mod Resting
 pub mod Returning
 pub mod Stopping
 pub mod Stored
+pub mod Storing
 pub mod WordLaws
 pub mod Kills
 pub mod KilledRuns

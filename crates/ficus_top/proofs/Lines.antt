@@ -1,5 +1,6 @@
 -- A script has no more lines, and no more commands, than bytes.
-use Rattle.std.proofs.Common.{◌≡◌, ℕ, suc, ◌+◌, ◌≤◌, ◌==◌, List, [], ◌∷◌, length, refl, ap, inl, inr, arith, length-append}
+use Rattle.std.proofs.Common.{◌≡◌, ℕ, suc, ◌+◌, ◌≤◌, ◌==◌, List, [], ◌∷◌, length, Err, refl, ap, inl, inr, arith, length-append}
+use Rattle.std.specs.Prelude.{IsErrOf}
 use Rattle.std.specs.List.{All, AllByRecursion, AllZip, onto_first, filter}
 use Rattle.std.proofs.lemmas.Bool.{cases_Bool}
 use Rattle.std.proofs.lemmas.List.{length-map}
@@ -8,6 +9,8 @@ use Rattle.ficus_script.specs.declared.command.Command.{Command}
 use Rattle.ficus_script.specs.Command.{command_text}
 use Rattle.ficus_script.specs.Script.{lines_of, is_kept, IsScript, IsFirstBad}
 use Rattle.ficus_script.specs.VolumeLine.{IsVolumeScript, SpellsLine}
+use Rattle.ficus_script.specs.declared.fault.ScriptFault.{ScriptFault}
+use Rattle.ficus_script.specs.declared.fault.ScriptFault.TheVariants.{BadLine}
 use Rattle.ficus_script.specs.declared.volume_line.VolumeLine.{VolumeLine}
 use Rattle.ficus_top.specs.Graft.Runs.{IsLineOf}
 
@@ -75,7 +78,7 @@ pub are_lines_of : (volumes : ℕ) (bytes : List ℕ) (lines : List VolumeLine) 
 are_lines_of volumes bytes lines script =
     All-from_recursion (IsLineOf volumes) lines (each_line volumes lines (filter is_kept (lines_of bytes)) script)
 
-pub bad_line_within : (may : List ℕ → Type 0) (bytes : List ℕ) (number : ℕ) → IsFirstBad may bytes number
+bad_line_within : (may : List ℕ → Type 0) (bytes : List ℕ) (number : ℕ) → IsFirstBad may bytes number
     → number ≤ length bytes
 bad_line_within may bytes number first =
     omega (
@@ -86,3 +89,10 @@ bad_line_within may bytes number first =
       length-append first.before
           (first.bad ∷ first.behind),
     )
+
+-- nor has the line that is told as the first bad one a greater number
+pub told_within : {T : Type 0} (may : List ℕ → Type 0) (bytes : List ℕ) (fault : ScriptFault) (line : ℕ)
+    → fault ≡ BadLine line
+    → ((number : ℕ) → IsErrOf {T = T} {E = ScriptFault} (Err fault) (BadLine number) → IsFirstBad may bytes number)
+    → line ≤ length bytes
+told_within may bytes fault line is told = bad_line_within may bytes line (told line (ap Err is))

@@ -43,6 +43,11 @@ module _ {S T : Type 0} (made : Result S WorldFault) (result : Result T Fault) (
       so (Occupied q) (inr interrupts) = absurd interrupts
       so (Image q) (inr interrupts) = absurd interrupts
 
+-- what holds is so of a run that carried out nothing
+pub if_idle : {Done P : Type 0} (ended : Result Done Fault) → P → IfErr ended (λ fault. IsIdle fault → P)
+if_idle (Ok done) holds = tt
+if_idle (Err fault) holds = λ idle. holds
+
 -- what is known of a run that carried out nothing, as one fact
 pub idle_both : {Done P Q R : Type 0} (ended : Result Done Fault) → (P → Q → R)
     → IfErr ended (λ fault. IsIdle fault → P) → IfErr ended (λ fault. IsIdle fault → Q)

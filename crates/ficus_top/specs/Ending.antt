@@ -1,9 +1,12 @@
 -- What is known of a run by how it ended.
-use Rattle.std.specs.Prelude.{◌≡◌, List, ℕ, Result, Ok, Err}
+use Rattle.std.specs.Prelude.{◌≡◌, ◌<◌, ◌≤◌, List, ℕ, Result, Ok, Err, IsErrOf}
+use Rattle.ficus_faults.specs.Faults.{Rose}
+use Rattle.ficus_loop.specs.declared.fault.AnsweringFault.TheVariants.{Sink}
 use Rattle.ficus_top.specs.Grammar.{Grammar, of_commands}
 use Rattle.ficus_top.specs.Reading.{TakesAll, TakesUntilIn}
 use Rattle.ficus_top.specs.declared.fault.Fault.{Fault}
 use Rattle.ficus_top.specs.declared.fault.Fault.TheVariants.{Words, Reading, Storing, Answering}
+use Rattle.ficus_top.specs.declared.fault.ReadingFault.TheVariants.{Source}
 use Rattle.ficus_opening.specs.declared.fault.WorldFault.TheVariants.{Memory, Store, Image, Occupied}
 
 -- all that the source had was taken, and it was a script of this grammar
@@ -22,6 +25,16 @@ TakesAsEndedIn grammar old new (Err (Answering fault)) = TakesScriptIn grammar o
 
 abbrev pub TakesAsEnded : {Done : Type 0} → List ℕ → List ℕ → Result Done Fault → Type 0
 TakesAsEnded old new ended = TakesAsEndedIn of_commands old new ended
+
+-- a fault of the source or of the sink is told only where it has failed, and wherever its count rose; no count falls
+pub record TellsOfStreams {Done : Type 0} (source_old source_new sink_old sink_new : ℕ) (result : Result Done Fault) :
+    Type 0 where
+  pub read_fault : IsErrOf result (Reading Source) → Rose source_old source_new
+  pub read_fault_comes : source_old < source_new → IsErrOf result (Reading Source)
+  pub write_fault : IsErrOf result (Answering Sink) → Rose sink_old sink_new
+  pub write_fault_comes : sink_old < sink_new → IsErrOf result (Answering Sink)
+  pub source_counted : source_old ≤ source_new
+  pub sink_counted : sink_old ≤ sink_new
 
 -- the fault came while commands were answered
 abbrev pub IsAnswering : Fault → Type 0

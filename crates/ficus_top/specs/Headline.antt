@@ -28,6 +28,12 @@ NothingReturns H =
 abbrev pub IsFinalThroughout : ℕ → List Event → Type 0
 IsFinalThroughout members H = (first : ℕ) → IsFinal members (take first H)
 
+-- the history is lawful, nothing removed returns in it, and what is given up is given up for good
+pub record IsSound (volume : Volume) (H : List Event) : Type 0 where
+  pub lawful : IsLawful volume H
+  pub no_return : NothingReturns H
+  pub final : IsFinalThroughout volume.members H
+
 -- whether the disks of each of so many members have a fuse
 abbrev pub fuses_of : {D : Type 0} → (D → Option ℕ) → ℕ → List (Pair D) → List Bool
 fuses_of armings members disks = take members (fuses_in armings disks)
@@ -43,8 +49,7 @@ pub record AreFusesAtRest {D : Type 0} (disk : Disk D) (members : ℕ) (earlier 
 
 -- The source's bytes are a script, and the run over its commands was served, behind this earlier history, from the
 -- restarts of all members on: over a sink that tells, what was put are the texts of its answers, in order, and nothing
--- else; and the disks stand for what it led to. The history is lawful, nothing removed returns in it, and what is given
--- up is given up for good.
+-- else; and the disks stand for what it led to. The history is sound.
 pub record Answers {D : Type 0} (tells : Type 0) (disk : Disk D) (Rest : (ℕ → FuseState) → Type 0)
     (volume : Volume) (earlier : List Event) (script old new : List ℕ) (old_disks new_disks : List (Pair D)) :
     Type 0 where
@@ -53,9 +58,8 @@ pub record Answers {D : Type 0} (tells : Type 0) (disk : Disk D) (Rest : (ℕ �
   pub ends : Ends tells disk Rest volume
       (start earlier volume.members 0 (fuses_of disk.armings volume.members old_disks)) commands old new old_disks
       new_disks
-  pub lawful : IsLawful volume ends.after.events
-  pub no_return : NothingReturns ends.after.events
-  pub final : IsFinalThroughout volume.members ends.after.events
+  pub sound : IsSound volume ends.after.events
+  pub open sound use *
 
 -- The same of some first ones of its commands: over a sink that tells, what was put is a front of the texts of their
 -- answers, which ends in the last of them at the earliest. Where this may be, the next command was cut short.
@@ -67,9 +71,8 @@ pub record AnswersFront {D : Type 0} (tells may : Type 0) (disk : Disk D) (Rest 
   pub ends : EndsFront tells may disk Rest volume
       (start earlier volume.members 0 (fuses_of disk.armings volume.members old_disks)) commands old new old_disks
       new_disks
-  pub lawful : IsLawful volume ends.after.events
-  pub no_return : NothingReturns ends.after.events
-  pub final : IsFinalThroughout volume.members ends.after.events
+  pub sound : IsSound volume ends.after.events
+  pub open sound use *
 
 -- no command was carried out: nothing was put and no disk was armed, and this stays too
 pub record CarriesOutNothing {D Output : Type 0} (stays : Type 0) (armings : D → Option ℕ) (old new : Output)

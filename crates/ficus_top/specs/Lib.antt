@@ -7,6 +7,7 @@ pub mod Codes
 pub mod Reading
 pub mod Headline
 pub mod Ending
+pub mod Storing
 pub mod Status
 pub mod Script
 pub mod Making

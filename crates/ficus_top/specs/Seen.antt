@@ -23,6 +23,18 @@ pub record Seen (S K D : Type 0) : Type 1 where
   pub disks : Change (Vec (Pair D) Global)
 
 module _ {S K D : Type 0} where
+  -- what was seen of a source, a sink and disks
+  abbrev pub seen_of : Source S → S → S → Sink K → K → K → Disk D → Vec (Pair D) Global → Vec (Pair D) Global
+      → Seen S K D
+  seen_of source in_old in_new sink out_old out_new disk old new = record {
+    source = source;
+    input = record { old = in_old; new = in_new };
+    sink = sink;
+    output = record { old = out_old; new = out_new };
+    disk = disk;
+    disks = record { old = old; new = new };
+  }
+
   -- what the source had
   abbrev pub script_of : Seen S K D → List ℕ
   script_of seen = seen.source.left seen.input.old

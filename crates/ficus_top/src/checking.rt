@@ -41,7 +41,10 @@ pub(crate) fn check<K: Sink, D: Disk>(
 {
     let mut judgements = [Checked::Empty; 8];
     match judge_all(alloc, disks, &mut judgements) {
-        Ok(()) => tell_all(alloc, &judgements, output),
+        Ok(()) => match put_text(alloc, &judgements, output) {
+            Ok(()) => Status::of(Ok(())),
+            Err(fault) => Status::of(Err(Fault::Answering(fault))),
+        },
         Err(fault) => Status::of(Err(Fault::Storing(fault))),
     }
 }
@@ -69,25 +72,6 @@ fn judge_all<D: Disk>(
 }
 
 // Puts a line of each replica.
-fn tell_all<K: Sink>(alloc: Global, judgements: &[Checked], output: &mut K) -> Status
-    ensures codes { (result.code ≡ 0) ⊎ (result.code ≡ 3) ⊎ (result.code ≡ 5) }
-    ensures told { K.tells → result.code ≡ 0
-        → K.written output.new ≡ K.written output.old ++ checked_text judgements.now }
-    ensures prefix { K.tells → result.code ≡ 5
-        → PutsFront (K.written output.old) (checked_text judgements.now) (K.written output.new) }
-    ensures silent { result.code ≡ 3 → output.new ≡ output.old }
-    ensures write_fault { result.code ≡ 5 → Rose (K.faults output.old) (K.faults output.new) }
-    ensures write_fault_comes { K.faults output.old < K.faults output.new → result.code ≡ 5 }
-    ensures numbers { (result.line ≡ 0) × (result.replica ≡ 0) }
-    ensures counted { K.faults output.old ≤ K.faults output.new }
-{
-    match put_text(alloc, judgements, output) {
-        Ok(()) => Status::of(Ok(())),
-        Err(fault) => Status::of(Err(Fault::Answering(fault))),
-    }
-}
-
-// The same, with the fault itself.
 fn put_text<K: Sink>(
     alloc: Global,
     judgements: &[Checked],

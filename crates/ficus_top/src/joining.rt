@@ -1,15 +1,13 @@
-ghost use Rattle.std.specs.Prelude.{◌<◌, ◌≤◌, ◌≡◌, IfErr, IsErrOf, OnOk};
-ghost use Rattle.ficus_faults.specs.Faults.{Rose};
+ghost use Rattle.std.specs.Prelude.{◌≡◌, IfErr, OnOk};
 ghost use Rattle.ficus_top.specs.Graft.Crossing.{AreFew};
-ghost use Rattle.ficus_top.specs.Ending.{IsAnswering, IsIdle, IsOfJoining, TakesAsEndedIn};
+ghost use Rattle.ficus_top.specs.Ending.{IsAnswering, IsIdle, IsOfJoining, TakesAsEndedIn, TellsOfStreams};
 ghost use Rattle.ficus_top.specs.Grammar.{of_volumes};
 ghost use Rattle.ficus_top.specs.Making.{FitsSize, volume_of};
 ghost use Rattle.ficus_top.specs.Modes.Volumes.{AnswersVolumes, AnswersVolumesFront};
 
-use crate::fault::{Fault, ReadingFault};
+use crate::fault::Fault;
 use crate::fresh_lines::answer_fresh;
 use crate::read::read_volume_lines;
-use ficus_loop::AnsweringFault;
 use ficus_outside::{Sink, Source};
 use ficus_words::Size;
 use std::alloc::Global;
@@ -32,16 +30,8 @@ pub(crate) fn join<S: Source, K: Sink>(
         → AnswersVolumesFront K.tells (volume_of size) count (S.left input.old) (K.written output.old)
         (K.written output.new)) }
     ensures idle { IfErr result (λ fault. IsIdle fault → output.new ≡ output.old) }
-    ensures read_fault { IsErrOf result (Fault.Reading ReadingFault.Source)
-        → Rose (S.faults input.old) (S.faults input.new) }
-    ensures read_fault_comes { S.faults input.old < S.faults input.new
-        → IsErrOf result (Fault.Reading ReadingFault.Source) }
-    ensures write_fault { IsErrOf result (Fault.Answering AnsweringFault.Sink)
-        → Rose (K.faults output.old) (K.faults output.new) }
-    ensures write_fault_comes { K.faults output.old < K.faults output.new
-        → IsErrOf result (Fault.Answering AnsweringFault.Sink) }
-    ensures source_counted { S.faults input.old ≤ S.faults input.new }
-    ensures sink_counted { K.faults output.old ≤ K.faults output.new }
+    ensures streams { TellsOfStreams (S.faults input.old) (S.faults input.new) (K.faults output.old)
+        (K.faults output.new) result }
 {
     let lines = read_volume_lines(alloc, input, count)?;
     answer_fresh(

@@ -1,28 +1,28 @@
-ghost use Rattle.std.specs.Prelude.{◌≡◌, ◌⊎◌, ◌<◌, ◌≤◌, All, ℕ, List, [], length, IfErr, IsErrAnd, IsErrOf, OnOk};
+ghost use Rattle.std.specs.Prelude.{◌≡◌, ◌<◌, ◌≤◌, All, ℕ, List, [], length, IfErr, IsErrOf, OnOk};
 ghost use Rattle.ficus_faults.specs.Faults.{Rose};
 ghost use Rattle.ficus_model.specs.Lawful.{Volume};
 ghost use Rattle.ficus_model.specs.declared.event.Event.{Event as EventValue};
 ghost use Rattle.ficus_runs.specs.ModelWorld.{ModelWorld};
 ghost use Rattle.ficus_runs.specs.Start.{start};
-ghost use Rattle.ficus_durable_state.specs.declared.saved.Saved.{Saved as SavedValue};
 ghost use Rattle.ficus_script.specs.Command.{IsCommand};
 ghost use Rattle.ficus_top.specs.Summary.Keeper.{keeper, kept_in};
-ghost use Rattle.ficus_top.specs.Ending.{IsAnswering, IsIdle, IsInterruption, IsOfRunning, IsUntouched, TakesAsEnded};
+ghost use Rattle.ficus_top.specs.Ending.{IsAnswering, IsIdle, IsOfRunning, IsUntouched, TakesAsEnded, TellsOfStreams};
 ghost use Rattle.ficus_top.specs.Ends.{AllUp, Ends, EndsFront, StandNow};
 ghost use Rattle.ficus_top.specs.Killed.{EndsFrontKilled, EndsFrontOn, EndsKilled, EndsOn, KilledAnswers, KilledAnswersFront};
 ghost use Rattle.ficus_top.specs.Headline.{Answers, AnswersFront, AreFusesAtRest, CarriesOutNothing, fuses_of};
 ghost use Rattle.ficus_top.specs.Making.{FitsSize, volume_of};
+ghost use Rattle.ficus_top.specs.Storing.{TellsOfMaking, TellsOfOpening};
 ghost use Rattle.ficus_loop.specs.Serving.{script_limit};
 ghost use Rattle.ficus_loop.specs.Serving.{serving_limit};
 ghost use Rattle.ficus_world.specs.Disks.{IsBacked};
-ghost use Rattle.ficus_opening.specs.Rests.{AllRest, OthersRest, OthersStay};
+ghost use Rattle.ficus_opening.specs.Rests.{OthersRest, OthersStay};
 ghost use Rattle.ficus_world.specs.World.{WorldStandsFor};
 ghost use Rattle.ficus_opening.specs.Fuses.{AreUnarmed};
-ghost use Rattle.ficus_opening.specs.Opening.{AreEmpty, AreMadeInPart, AreSynced, IsAtFault, IsFirstBad, IsFirstOccupied, IsUnfailed, Opens, SeenSame, StandsOn, Steady};
+ghost use Rattle.ficus_opening.specs.Opening.{AreEmpty, AreMadeInPart, AreSynced, IsAtFault, IsUnfailed, SeenSame, StandsOn, Steady};
 ghost use Rattle.ficus_opening.specs.declared.fault.WorldFault.{WorldFault as WorldFaultValue};
 ghost use Rattle.ficus_words.specs.declared.fault.WordsFault.{WordsFault as WordsFaultValue};
 
-use crate::fault::{Fault, ReadingFault};
+use crate::fault::Fault;
 use crate::making::make;
 use crate::read::read_commands;
 use crate::summary::Keeper;
@@ -66,40 +66,14 @@ pub(crate) fn run<S: Source, K: Sink, D: Disk>(
         → KilledAnswersFront K.tells (fault ≡ Fault.Answering AnsweringFault.Memory) D.Disk
         (AreFusesAtRest D.Disk volume.members H disks.old.items) volume H (S.left input.old) (K.written output.old)
         (K.written output.new) disks.old.items disks.new.items) }
-    ensures rests { IfErr result (λ fault. IsIdle fault → AllRest D.Disk disks.old.items disks.new.items) }
     ensures idle { IfErr result (λ fault. IsIdle fault → CarriesOutNothing (D.tells
         → SeenSame D.seen disks.old.items disks.new.items) D.armings output.old output.new disks.old.items
         disks.new.items) }
     ensures untouched { IfErr result (λ fault. IsUntouched fault → disks.new ≡ disks.old) }
-    ensures pairs { length disks.new.items ≡ length disks.old.items }
-    ensures failed { (r : ℕ) → IsErrOf result (Fault.Storing (WorldFault.Store r))
-        → IsAtFault D.faults disks.old.items disks.new.items r }
-    ensures image { D.tells → (r : ℕ) → IsErrOf result (Fault.Storing (WorldFault.Image r))
-        → IsFirstBad kept_in D.seen disks.old.items r }
-    ensures image_comes { D.tells → (r : ℕ) → IsFirstBad kept_in D.seen disks.old.items r
-        → IsErrAnd result (λ fault. (fault ≡ Fault.Storing (WorldFault.Image r)) ⊎ IsInterruption fault) }
-    ensures never_image { D.tells → (volume : Volume) (H : List EventValue)
-        → StandsOn kept_in D.seen volume H disks.old.items → (r : ℕ)
-        → IsErrOf result (Fault.Storing (WorldFault.Image r)) → ⊥ }
-    ensures earlier { D.tells → (q r : ℕ) → IsErrOf result (Fault.Storing (WorldFault.Store q))
-        → IsFirstBad kept_in D.seen disks.old.items r → q ≤ r }
-    ensures member { D.tells → (r : ℕ) → IsErrOf result (Fault.Storing (WorldFault.Store r)) → (first : SavedValue)
-        → Opens kept_in D.seen disks.old.items first first 1 → r ≤ first.members }
-    ensures others { D.tells → (first : SavedValue) → Opens kept_in D.seen disks.old.items first first 1
-        → OthersRest D.Disk first.members disks.old.items disks.new.items }
+    ensures opens { TellsOfOpening D.Disk result disks.old.items disks.new.items }
     ensures never_occupied { (r : ℕ) → IsErrOf result (Fault.Storing (WorldFault.Occupied r)) → ⊥ }
-    ensures spared { (fault : WorldFaultValue) → IsUnfailed fault → IsErrOf result (Fault.Storing fault)
-        → Steady D.faults disks.old.items disks.new.items }
-    ensures read_fault { IsErrOf result (Fault.Reading ReadingFault.Source)
-        → Rose (S.faults input.old) (S.faults input.new) }
-    ensures read_fault_comes { S.faults input.old < S.faults input.new
-        → IsErrOf result (Fault.Reading ReadingFault.Source) }
-    ensures write_fault { IsErrOf result (Fault.Answering AnsweringFault.Sink)
-        → Rose (K.faults output.old) (K.faults output.new) }
-    ensures write_fault_comes { K.faults output.old < K.faults output.new
-        → IsErrOf result (Fault.Answering AnsweringFault.Sink) }
-    ensures source_counted { S.faults input.old ≤ S.faults input.new }
-    ensures sink_counted { K.faults output.old ≤ K.faults output.new }
+    ensures streams { TellsOfStreams (S.faults input.old) (S.faults input.new) (K.faults output.old)
+        (K.faults output.new) result }
 {
     let commands = read_commands(alloc, input)?;
     run_on(alloc, disks, &commands, output)
@@ -135,14 +109,7 @@ pub(crate) fn replay<S: Source, K: Sink, D: Disk>(
     ensures unfailing { D.tells_fuse → AreUnarmed D.fuse disks.old.items → (r : ℕ)
         → IsErrOf result (Fault.Storing (WorldFault.Store r)) → ⊥ }
     ensures never_image { D.tells → (r : ℕ) → IsErrOf result (Fault.Storing (WorldFault.Image r)) → ⊥ }
-    ensures occupied { D.tells → (r : ℕ) → IsErrOf result (Fault.Storing (WorldFault.Occupied r))
-        → IsFirstOccupied D.seen disks.old.items r × (r ≤ size.members) }
-    ensures occupied_comes { D.tells → (r : ℕ) → r ≤ size.members → IsFirstOccupied D.seen disks.old.items r
-        → IsErrAnd result (λ fault. (fault ≡ Fault.Storing (WorldFault.Occupied r)) ⊎ IsInterruption fault) }
-    ensures held { D.tells → (r : ℕ) → r ≤ size.members → IsFirstOccupied D.seen disks.old.items r
-        → SeenSame D.seen disks.old.items disks.new.items }
-    ensures rests { D.tells → (r : ℕ) → r ≤ size.members → IsFirstOccupied D.seen disks.old.items r
-        → AllRest D.Disk disks.old.items disks.new.items }
+    ensures makes { TellsOfMaking D.Disk size.members result disks.old.items disks.new.items }
     ensures partly { D.tells → AreEmpty D.seen disks.old.items size.members
         → AreSynced D.seen D.may_leave disks.old.items size.members → IfErr result (λ fault. IsIdle fault
         → AreMadeInPart kept_in D.may_leave (volume_of size) disks.new.items) }
@@ -150,16 +117,8 @@ pub(crate) fn replay<S: Source, K: Sink, D: Disk>(
     ensures others { D.tells → OthersRest D.Disk size.members disks.old.items disks.new.items }
     ensures spared { (fault : WorldFaultValue) → IsUnfailed fault → IsErrOf result (Fault.Storing fault)
         → Steady D.faults disks.old.items disks.new.items }
-    ensures read_fault { IsErrOf result (Fault.Reading ReadingFault.Source)
-        → Rose (S.faults input.old) (S.faults input.new) }
-    ensures read_fault_comes { S.faults input.old < S.faults input.new
-        → IsErrOf result (Fault.Reading ReadingFault.Source) }
-    ensures write_fault { IsErrOf result (Fault.Answering AnsweringFault.Sink)
-        → Rose (K.faults output.old) (K.faults output.new) }
-    ensures write_fault_comes { K.faults output.old < K.faults output.new
-        → IsErrOf result (Fault.Answering AnsweringFault.Sink) }
-    ensures source_counted { S.faults input.old ≤ S.faults input.new }
-    ensures sink_counted { K.faults output.old ≤ K.faults output.new }
+    ensures streams { TellsOfStreams (S.faults input.old) (S.faults input.new) (K.faults output.old)
+        (K.faults output.new) result }
 {
     let commands = read_commands(alloc, input)?;
     make(alloc, size, disks)?;
@@ -202,30 +161,12 @@ fn run_on<K: Sink, D: Disk>(
         (AreFusesAtRest D.Disk volume.members H disks.old.items) volume
         (start H volume.members 0 (fuses_of D.armings volume.members disks.old.items)) commands.now
         (K.written output.old) (K.written output.new) disks.old.items disks.new.items) }
-    ensures rests { IfErr result (λ fault. IsIdle fault → AllRest D.Disk disks.old.items disks.new.items) }
     ensures idle { IfErr result (λ fault. IsIdle fault → output.new ≡ output.old) }
     ensures unarmed { IfErr result (λ fault. IsIdle fault → Steady D.armings disks.old.items disks.new.items) }
-    ensures pairs { length disks.new.items ≡ length disks.old.items }
     ensures same { D.tells → IfErr result (λ fault. IsIdle fault → SeenSame D.seen disks.old.items disks.new.items) }
-    ensures failed { (r : ℕ) → IsErrOf result (Fault.Storing (WorldFault.Store r))
-        → IsAtFault D.faults disks.old.items disks.new.items r }
-    ensures image { D.tells → (r : ℕ) → IsErrOf result (Fault.Storing (WorldFault.Image r))
-        → IsFirstBad kept_in D.seen disks.old.items r }
-    ensures image_comes { D.tells → (r : ℕ) → IsFirstBad kept_in D.seen disks.old.items r
-        → IsErrAnd result (λ fault. (fault ≡ Fault.Storing (WorldFault.Image r)) ⊎ IsInterruption fault) }
-    ensures never_image { D.tells → (volume : Volume) (H : List EventValue)
-        → StandsOn kept_in D.seen volume H disks.old.items → (r : ℕ)
-        → IsErrOf result (Fault.Storing (WorldFault.Image r)) → ⊥ }
-    ensures earlier { D.tells → (q r : ℕ) → IsErrOf result (Fault.Storing (WorldFault.Store q))
-        → IsFirstBad kept_in D.seen disks.old.items r → q ≤ r }
-    ensures member { D.tells → (r : ℕ) → IsErrOf result (Fault.Storing (WorldFault.Store r)) → (first : SavedValue)
-        → Opens kept_in D.seen disks.old.items first first 1 → r ≤ first.members }
-    ensures others { D.tells → (first : SavedValue) → Opens kept_in D.seen disks.old.items first first 1
-        → OthersRest D.Disk first.members disks.old.items disks.new.items }
+    ensures opens { TellsOfOpening D.Disk result disks.old.items disks.new.items }
     ensures unfailing { D.tells_fuse → AreUnarmed D.fuse disks.old.items → (r : ℕ)
         → IsErrOf result (Fault.Storing (WorldFault.Store r)) → ⊥ }
-    ensures spared { (fault : WorldFaultValue) → IsUnfailed fault → IsErrOf result (Fault.Storing fault)
-        → Steady D.faults disks.old.items disks.new.items }
     ensures kinds { IfErr result IsOfRunning }
     ensures write_fault { IsErrOf result (Fault.Answering AnsweringFault.Sink)
         → Rose (K.faults output.old) (K.faults output.new) }

@@ -1,6 +1,6 @@
 -- What `clap` makes of the words is what they spell word by word.
 use Rattle.std.proofs.Common.{◌≡◌, ◌∙◌, ℕ, Bool, cond, codes, true, false, refl, sym, ap, ap₂, subst, List, [], ◌∷◌, ◌++◌, drop, Option, Some, None, IfSome, inl, inr, true≢false, append-nil}
-use Rattle.std.specs.List.{fold}
+use Rattle.std.specs.List.{flat_map, fold}
 use Rattle.std.specs.Str.{bytes_eq}
 use Rattle.std.proofs.lemmas.Bool.{cases_Bool}
 use Rattle.std.proofs.lemmas.Slice.Eq.{bytes_eq-Decides}
@@ -257,36 +257,24 @@ agrees (word ∷ words) readable =
 
 -- ---- the whole parse
 
+-- no rule gives a value by itself
 abbrev pub HaveNoDefaults : List Rule → Type 0
-HaveNoDefaults [] = ⊤
-HaveNoDefaults (a ∷ rules) = ((is_empty a.defaults ≡ true) × (a.defaults ≡ [])) × HaveNoDefaults rules
+HaveNoDefaults rules = flat_map (λ a. a.defaults) rules ≡ []
 
 pub none_by_default : HaveNoDefaults the_rules
-none_by_default = (
-  (refl, refl),
-  (
-    (refl, refl),
-    (
-      (refl, refl),
-      (
-        (refl, refl),
-        (
-          (refl, refl),
-          (
-            (refl, refl),
-            (
-              (refl, refl),
-              (
-                (refl, refl),
-                tt,
-              ),
-            ),
-          ),
-        ),
-      ),
-    ),
-  ),
-)
+none_by_default = refl
+
+-- so neither the first nor one of the others does
+first_none : (a : Rule) (rules : List Rule) → HaveNoDefaults (a ∷ rules) → a.defaults ≡ []
+first_none a rules = front a.defaults
+  where
+    front : (d : List Text) → d ++ flat_map (λ b. b.defaults) rules ≡ [] → d ≡ []
+    front [] empty = refl
+    front (text ∷ d) empty = absurd (cons≢nil text _ empty)
+
+others_none : (a : Rule) (rules : List Rule) → HaveNoDefaults (a ∷ rules) → HaveNoDefaults rules
+others_none a rules empty =
+    ap (λ (d : List Text). d ++ flat_map (λ b. b.defaults) rules) (sym (first_none a rules empty)) ∙ empty
 
 pub kept_without : (held : List Row) (a : Rule) → a.defaults ≡ [] → with_default held a ≡ held
 kept_without held a empty = ap (λ (d : List Text). cond (has_row a.id held) held (default_rows a.id (reading_by a) d held)) empty
@@ -300,13 +288,15 @@ pub no_default_faults : (rules : List Rule) (held : List Row) → HaveNoDefaults
 unfolding defaults_fault
 no_default_faults [] held empty = refl
 no_default_faults (a ∷ rules) held empty =
-    ap₂ or_else (ap (λ b. cond b [] (given_default_fault a a.defaults)) (or_right (has_row a.id held) (is_empty a.defaults) empty.0.0))
-    (ap (λ r. defaults_fault r rules) (kept_without held a empty.0.1) ∙ no_default_faults rules held empty.1)
+    ap₂ or_else (ap (λ b. cond b [] (given_default_fault a a.defaults))
+    (or_right (has_row a.id held) (is_empty a.defaults) (ap is_empty (first_none a rules empty))))
+    (ap (λ r. defaults_fault r rules) (kept_without held a (first_none a rules empty))
+    ∙ no_default_faults rules held (others_none a rules empty))
 
 pub no_default_rows : (rules : List Rule) (held : List Row) → HaveNoDefaults rules → fold with_default held rules ≡ held
 no_default_rows [] held empty = refl
-no_default_rows (a ∷ rules) held empty = ap (λ r. fold with_default r rules) (kept_without held a empty.0.1)
-    ∙ no_default_rows rules held empty.1
+no_default_rows (a ∷ rules) held empty = ap (λ r. fold with_default r rules) (kept_without held a (first_none a rules empty))
+    ∙ no_default_rows rules held (others_none a rules empty)
 
 -- the command has no subcommand that the words could enter
 pub enters_none : (stop : Option (Text × List Text)) →

@@ -10,18 +10,24 @@ use Rattle.ficus_keeper.specs.declared.keep.Keep.{Ghosts as Keep}
 use Rattle.ficus_runs.specs.Numbered.{IsNumbered}
 use Rattle.ficus_stable_storage.specs.declared.stable.Stable.{Stable}
 use Rattle.ficus_world.specs.Acts.{Acts, ActsOn, StaysAt}
-use Rattle.ficus_opening.specs.Disks.{AreDisksOf}
+use Rattle.ficus_world.specs.Calls.{KeepsNext}
+use Rattle.ficus_world.specs.Post.{Outbox}
+use Rattle.ficus_model.specs.declared.event.Event.{Event}
+use Rattle.ficus_opening.specs.declared.member.Pending.{Pending}
+use Rattle.ficus_opening.specs.Disks.{AreDisksOf, ArePairsOf}
 use Rattle.ficus_world.specs.Disks.{IsBacked}
 use Rattle.ficus_world.specs.Kills.{IsSettled, Passes, WritesAt}
-use Rattle.ficus_opening.specs.Rests.{OthersStay}
+use Rattle.ficus_opening.specs.Rests.{OthersStay, RestsAt}
 use Rattle.ficus_world.specs.Kills.Passes.{Idles, Joins}
 use Rattle.ficus_world.specs.Kills.Touches.{TouchesNone, TouchesOne, WritesOne}
 use Rattle.ficus_opening.specs.declared.member.Member.{Member}
-use Rattle.ficus_world.specs.World.{Backed, Whole, backed_by}
-use Rattle.ficus_world.proofs.Disks.{follows_none}
+use Rattle.ficus_world.specs.World.{Backed, Whole, backed_by, whole_of}
+use Rattle.ficus_world.proofs.Disks.{disks_same, follows_none}
 use Rattle.ficus_world.proofs.Fuses.{fuses_none}
+use Rattle.ficus_opening.proofs.Openings.{pairs_of}
 use Rattle.ficus_opening.proofs.Rests.{rests_count}
-use Rattle.ficus_world.proofs.Kills.{rests_same, writes_count, touches_others}
+use Rattle.ficus_world.proofs.Keeps.{kept_count, kept_grows}
+use Rattle.ficus_world.proofs.Kills.{rests_same, touches_others, writes_count}
 use Rattle.ficus_world.proofs.Moved.{same_refusal}
 use Rattle.ficus_opening.proofs.Others.{others_none, others_then}
 use Rattle.ficus_world.proofs.Pulling.{stays}
@@ -31,11 +37,8 @@ module _ {K D : Type 0} {keep : Keep K} {disk : Disk D} where
   still_backed : {old new : Whole} {stables : List (Stable K)} {x : List (Pair D)} → new.members ≡ old.members
       → IsBacked keep disk (backed_by old stables) x → IsBacked keep disk (backed_by new stables) x
   still_backed {old} {new} {stables} {x} same backed =
-      let count = ap (λ (list : List Member). length list) same in
-      record {
-        pairs = omega (arith, count, backed.pairs);
-        disks = subst (λ (list : List Member). AreDisksOf keep disk list stables x) (sym same) backed.disks;
-      }
+      subst (λ (list : List Member). IsBacked keep disk (backed_by (record new { members = list }) stables) x) (sym same)
+      (record { pairs = backed.pairs; disks = backed.disks })
 
   -- nothing is done
   pub acts_none : {A : Type 0} {most : ℕ} {result : Result A Refusal} {world : Backed K} {x : List (Pair D)}
@@ -102,7 +105,7 @@ module _ {K D : Type 0} {keep : Keep K} {disk : Disk D} where
         touches = TouchesOne member ready.rests;
         backed = record {
           pairs = omega (arith, backed.pairs, pairs);
-          disks = ready.disks world.members backed.disks;
+          disks = ready.disks world.members world.members refl backed.disks;
         };
       }
 
@@ -126,6 +129,32 @@ module _ {K D : Type 0} {keep : Keep K} {disk : Disk D} where
           disks = are;
         };
       }
+
+  -- room is taken, and then it does, or fails to
+  pub kept_acts : {A B : Type 0} {by : ℕ} {next : Pending} {result : Result A Refusal} {kept : Result B Refusal}
+      {old now : Whole} {members : List Member} {reserved events : List Event}
+      {stables mid_stables new_stables : List (Stable K)} {x y z : List (Pair D)} (after : Outbox) → old ≡ now
+      → reserved ≡ old.events → (was : Member) → IsNumbered now.members by was → length stables ≡ length now.members
+      → IsBacked keep disk (backed_by now stables) x → StaysAt keep disk by stables mid_stables x y
+      → KeepsNext keep disk by next kept old.members members reserved events mid_stables new_stables y z
+      → (ArePairsOf keep disk old.members x → RestsAt disk by x y
+      → WritesAt keep disk by old (whole_of members events after) y z
+      → WritesAt keep disk by old (whole_of members events after) x z) → result ≢ Err Memory
+      → Acts keep disk 1 result (backed_by now stables) (backed_by (whole_of members events after) new_stables) x z
+  kept_acts {A} {B} {by} {next} {result} {kept} {old} {now} {members} {reserved} {events} {stables} {mid_stables}
+      {new_stables} {x} {y} {z} after same stores was is counted backed stays keeps joins no_memory =
+      subst (λ (w : Whole). IsNumbered w.members by was → length stables ≡ length w.members
+      → IsBacked keep disk (backed_by w stables) x
+      → Acts keep disk 1 result (backed_by w stables) (backed_by (whole_of members events after) new_stables) x z) same
+      (λ is counted backed.
+      let kept_next = subst (λ (list : List Event). KeepsNext keep disk by next kept old.members members list events
+      mid_stables new_stables y z) stores keeps in
+      saved_acts old (whole_of members events after)
+      (kept_grows old by next members events kept kept_next.stored kept_next.kept)
+      (kept_count old by next members events kept was is kept_next.held kept_next.pending)
+      (kept_next.count ∙ stays.count) no_memory
+      (joins (pairs_of keep disk old.members stables x counted backed.disks) stays.rests (kept_next.writes old.post after))
+      kept_next.disks backed) is counted backed
 
   module _ {tells : Type 0} where
     -- none
@@ -167,7 +196,7 @@ module _ {K D : Type 0} {keep : Keep K} {disk : Disk D} where
   pub stays_same : (by : ℕ) {stables : List (Stable K)} {x : List (Pair D)} (pair : Pair D) → IsNumbered x by pair
       → StaysAt keep disk by stables stables x x
   stays_same by {x = x} pair is = record {
-    disks = λ members are. are;
+    disks = disks_same;
     follows = λ members. record { disks = follows_none; fuses = fuses_none };
     rests = rests_same disk by x pair is;
     count = refl;

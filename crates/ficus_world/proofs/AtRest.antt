@@ -7,11 +7,10 @@ use Rattle.ficus_keeper.specs.Fuses.{found_again, fuses_of}
 use Rattle.ficus_keeper.specs.declared.keep.Keep.{Ghosts as Keep}
 use Rattle.ficus_model.specs.Lawful.{Volume}
 use Rattle.ficus_replica.specs.SavedOf.{fresh_saved}
-use Rattle.ficus_stable_storage.specs.declared.stable.Stable.{Stable}
 use Rattle.ficus_runs.specs.Fuses.{FuseState}
 use Rattle.ficus_runs.specs.Numbered.{IsNumbered}
 use Rattle.ficus_opening.specs.declared.member.Member.{Member}
-use Rattle.ficus_opening.specs.Disks.{AreDisksOf}
+use Rattle.ficus_opening.specs.Disks.{ArePairsOf}
 use Rattle.ficus_world.specs.Fuses.{AreAtRest, FuseStands, FusesStand, StandsSo, at_rest}
 use Rattle.ficus_opening.specs.Fuses.{AreRegular, AreUnarmed}
 use Rattle.ficus_opening.specs.Opening.{AreMade, AreOpened, AreRead, Steady}
@@ -21,9 +20,7 @@ use Rattle.ficus_world.proofs.Saves.{up_ready}
 
 -- how the fuses stand of the members of a world that was opened
 module _ {K D : Type 0} (keep : Keep K) (disk : Disk D) (told : disk.tells) (members : List Member)
-    (stables : List (Stable K)) (old new : List (Pair D)) (counted : length stables ≡ length members)
-    (opened : AreOpened members)
-    (are : AreDisksOf keep disk members stables new)
+    (old new : List (Pair D)) (opened : AreOpened members) (own : ArePairsOf keep disk members new)
     (same : Steady disk.seen old new) (none : AreUnarmed disk.fuse new)
     (regular : AreRegular keep.Regular disk.seen old (length members)) where
   stands_opened : (r : ℕ) (member : Member) (pair : Pair D) → IsNumbered members r member → IsNumbered new r pair
@@ -32,11 +29,10 @@ module _ {K D : Type 0} (keep : Keep K) (disk : Disk D) (told : disk.tells) (mem
       let first = number_exists members 1
       (record { at_least = omega arith; at_most = omega (arith, at.member.at_least, at.member.at_most) }) in
       let up = (opened.each r first.0 member first.1 at).up in
-      let stable = number_exists stables r (subst (λ n. IsMember n r) (sym counted) at.member) in
+      let of = own.each r member pair at at_pair in
       let was = number_exists old r (subst (λ n. IsMember n r) same.count at_pair.member) in
       let seen = same.each r was.0 pair was.1 at_pair in
-      let ready = up_ready keep disk member stable.0 pair
-      up ((are.each r member stable.0 pair at stable.1 at_pair).holds told) in
+      let ready = up_ready keep disk member of.0 pair up (of.1.holds told) in
       let is = regular.each r was.0 was.1 at.member.at_most in
       record {
         generation = refl;

@@ -30,14 +30,15 @@ use Rattle.ficus_world.specs.declared.exchange.Delivery.{Delivery}
 use Rattle.ficus_opening.specs.declared.member.Member.{Member}
 use Rattle.ficus_world.specs.declared.post.Behind.{Behind}
 use Rattle.ficus_world.specs.declared.taking.Fitting.{Fitting}
+use Rattle.ficus_world.specs.declared.taking.Taking.{Taking}
 use Rattle.ficus_world.specs.declared.taking.Fitting.TheVariants as fitting
 use Rattle.ficus_world.specs.Acts.{Acts}
 use Rattle.ficus_world.specs.Kills.Touches.{TouchesNone}
-use Rattle.ficus_opening.specs.Disks.{AreDisksOf, IsPairOf}
-use Rattle.ficus_world.specs.Disks.{CarriedOn, IsBacked}
+use Rattle.ficus_opening.specs.Disks.{IsPairOf}
+use Rattle.ficus_world.specs.Disks.{CarriedOn, DisksPass, IsBacked}
 use Rattle.ficus_world.specs.Fuses.{FuseStands, FusesFollow, FusesStand}
 use Rattle.ficus_opening.specs.declared.member.Pending.{Pending}
-use Rattle.ficus_world.specs.Moves.{FindsTaker, IsPlaced, IsTaking, IsWaiting, TakesFitting, TakesPiece, TakesSpelled, TakesTables, advanced, collected, not_saved, parts_held, pending_of, saved, spelled_with}
+use Rattle.ficus_world.specs.Moves.{FindsTaker, GivesTaking, IsPlaced, IsTaking, IsWaiting, TakesFitting, TakesPiece, TakesSpelled, TakesTables, advanced, collected, not_saved, parts_held, pending_of, saved, spelled_with}
 use Rattle.ficus_world.specs.Moves.FindsTaker.{AnswersNone, FindsIt, OfAnotherState, OfOtherPieces, TakerDown}
 use Rattle.ficus_world.specs.Moves.TakesFitting.{IsHeld, IsOneMore, IsTheLast}
 use Rattle.ficus_world.specs.Moves.TakesSpelled.{SpellsNone, SpellsTables}
@@ -45,7 +46,7 @@ use Rattle.ficus_world.specs.Moves.TakesTables.{Takes, TakesNot}
 use Rattle.ficus_world.specs.Post.{Outbox}
 use Rattle.ficus_world.specs.World.{IsSoundMember, IsUpIn, IsWorld, Whole, backed_by, whole_of}
 use Rattle.ficus_world.proofs.Carrying.{carried_none, carried_then, or_refused}
-use Rattle.ficus_world.proofs.Disks.{follows_none}
+use Rattle.ficus_world.proofs.Disks.{OthersStay, disks_moved, follows_none, others_as, set_as}
 use Rattle.ficus_world.proofs.Placing.{joined_one}
 use Rattle.ficus_world.proofs.SoundWorlds.{member_more, world_after}
 
@@ -61,20 +62,17 @@ module _ (members : List Member) (by : ℕ) (was : Member) (is : IsNumbered memb
       → ((r ≡ by) × (member ≡ now)) ⊎ ((by ≢ r) × IsNumbered members r member)
   which r member at = replaced members by r now member is.member.at_least at
 
-  module _ {K D : Type 0} (keep : Keep K) (disk : Disk D) (stables : List (Stable K)) (disks : List (Pair D)) where
-    pub holding_disks : AreDisksOf keep disk members stables disks → AreDisksOf keep disk holding stables disks
-    holding_disks are = record {
-      each = λ r member stable pair at at_stable at_pair. go r member stable pair at_stable at_pair (which r member at);
-    }
-      where
-        go : (r : ℕ) (member : Member) (stable : Stable K) (pair : Pair D) → IsNumbered stables r stable
-            → IsNumbered disks r pair → ((r ≡ by) × (member ≡ now)) ⊎ ((by ≢ r) × IsNumbered members r member)
-            → IsPairOf keep disk member stable pair
-        go r member stable pair at_stable at_pair (inr (differs, stays)) = are.each r member stable pair stays at_stable at_pair
-        go r member stable pair at_stable at_pair (inl (here, swapped)) =
-            let of = are.each r was stable pair (subst (λ n. IsNumbered members n was) (sym here) is) at_stable at_pair in
-            subst (λ (m : Member). IsPairOf keep disk m stable pair) (sym swapped)
-            (record { fused = of.fused; holds = of.holds })
+  -- to its keeper too
+  holding_disks : {K D : Type 0} (keep : Keep K) (disk : Disk D) (stables : List (Stable K)) (disks : List (Pair D))
+      → DisksPass keep disk (λ before after. (before ≡ members) × (after ≡ holding)) stables stables disks disks
+  holding_disks keep disk stables disks =
+      disks_moved by
+      (λ before after held. subst (λ (l : List Member). OthersStay by l after) (sym held.0)
+      (others_as now is.member.at_least held.1)) (λ r x differs at. at) (λ r x differs at. at)
+      (λ before after held own member stable pair at at_stable at_pair.
+      let of = own was stable pair (subst (λ (l : List Member). IsNumbered l by was) (sym held.0) is) at_stable at_pair in
+      subst (λ (m : Member). IsPairOf keep disk m stable pair)
+      (sym (set_as members now member is.member.at_least held.1 at)) (record { fused = of.fused; holds = of.holds }))
 
   module _ {K D : Type 0} (keep : Keep K) (disk : Disk D) (disks : List (Pair D)) where
     holding_stand : (F : ℕ → FuseState) → FusesStand keep disk F members disks → FusesStand keep disk F holding disks
@@ -144,8 +142,8 @@ piece_acts {keep = keep} {disk = disk} {old = old} {new = new} {stables = stable
       touches = TouchesNone;
       backed = record {
         pairs = omega (arith, members, backed.pairs);
-        disks = subst (λ (w : Whole). AreDisksOf keep disk w.members stables x) (sym same)
-            (holding_disks old.members by was is (Some parts) keep disk stables x backed.disks);
+        disks = holding_disks old.members by was is (Some parts) keep disk stables x old.members new.members
+            (refl, ap (λ (w : Whole). w.members) same) backed.disks;
       };
     }
 
@@ -333,6 +331,15 @@ module _ {K D : Type 0} (keep : Keep K) (disk : Disk D) (came : Delivery) (head 
         fits_last (Ok answer) does = IsTheLast placed.0 placed.1 does
         fits_last (Err refusal.Memory) does = tt
         fits_last (Err r) does = IsTheLast placed.0 placed.1 does
+
+-- whatever is given of a taking in a world, is given of it in the same world
+pub taking_in : (came : Delivery) (head : PieceHead) (bytes : List ℕ) (result : Result Taking Refusal)
+    {one other : Whole} → one ≡ other → ((was : Member) → IsNumbered one.members came.to was
+    → GivesTaking came head.index (spelled_with was head bytes) one result) → (was : Member)
+    → IsNumbered other.members came.to was → GivesTaking came head.index (spelled_with was head bytes) other result
+taking_in came head bytes result same gives =
+    subst (λ (w : Whole). (was : Member) → IsNumbered w.members came.to was
+    → GivesTaking came head.index (spelled_with was head bytes) w result) same gives
 
 -- What becomes of a member that takes tables.
 module _ {came : Delivery} {index : ℕ} {bytes noted : List ℕ} {old : Whole} {next : Pending}

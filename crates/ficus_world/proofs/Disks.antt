@@ -21,8 +21,8 @@ use Rattle.ficus_runs.specs.Outcome.{Outcome, armings_in, is_arming, is_store_fa
 use Rattle.ficus_opening.specs.declared.member.Member.{Member}
 use Rattle.ficus_opening.specs.declared.member.MemberState.{MemberState}
 use Rattle.ficus_opening.specs.declared.member.MemberState.TheVariants.{Up, Down}
-use Rattle.ficus_opening.specs.Disks.{AreDisksOf, HoldsFor, IsPairOf, are_fused}
-use Rattle.ficus_world.specs.Disks.{DisksFollow, PairFollows}
+use Rattle.ficus_opening.specs.Disks.{HoldsFor, IsPairAt, IsPairOf, are_fused}
+use Rattle.ficus_world.specs.Disks.{DisksFollow, DisksPass, DisksStay, PairFollows}
 use Rattle.ficus_world.specs.Moves.{still_pending}
 use Rattle.ficus_runs.proofs.Numbers.{number_exists, number_once}
 use Rattle.ficus_runs.proofs.Replaced.{replaced}
@@ -177,15 +177,16 @@ pub set_as : {A : Type 0} {by : ℕ} {new : List A} (list : List A) (now found :
     → IsNumbered new by found → found ≡ now
 set_as {by = by} list now found one set is = set_here by list now found one (subst (λ l. IsNumbered l by found) set is)
 
-module _ {K D : Type 0} {keep : Keep K} {disk : Disk D} {old new : List Member} {stables : List (Stable K)}
-    {disks : List (Pair D)} (by : ℕ) (others : OthersStay by old new)
-    (before : AreDisksOf keep disk old stables disks) where
-  disks_moved : (now_stables : List (Stable K)) (now_disks : List (Pair D)) → OthersStay by stables now_stables
-      → OthersStay by disks now_disks → ((member : Member) (stable : Stable K) (pair : Pair D)
-      → IsNumbered new by member → IsNumbered now_stables by stable → IsNumbered now_disks by pair
-      → IsPairOf keep disk member stable pair)
-      → AreDisksOf keep disk new now_stables now_disks
-  disks_moved now_stables now_disks other_stables other_disks here = record {
+-- where all members but one stay, with their keepers and pairs, it is enough that the pair of this one is its own still
+module _ {K D : Type 0} {keep : Keep K} {disk : Disk D} {Stand : List Member → List Member → Type 0} (by : ℕ)
+    {stables : List (Stable K)} {disks : List (Pair D)}
+    (others : (old new : List Member) → Stand old new → OthersStay by old new) where
+  pub disks_moved : {now_stables : List (Stable K)} {now_disks : List (Pair D)} → OthersStay by stables now_stables
+      → OthersStay by disks now_disks
+      → ((old new : List Member) → Stand old new → IsPairAt keep disk by old stables disks
+      → IsPairAt keep disk by new now_stables now_disks)
+      → DisksPass keep disk Stand stables now_stables disks now_disks
+  disks_moved {now_stables} {now_disks} other_stables other_disks here old new stand before = record {
     each = λ r member stable pair is is_stable is_pair. go r member stable pair is is_stable is_pair (cases_eq r by);
   }
     where
@@ -193,38 +194,51 @@ module _ {K D : Type 0} {keep : Keep K} {disk : Disk D} {old new : List Member} 
           → IsNumbered now_stables r stable → IsNumbered now_disks r pair → (r ≡ by) ⊎ (r ≢ by)
           → IsPairOf keep disk member stable pair
       go r member stable pair is is_stable is_pair (inl same) =
-          here member stable pair (subst (λ n. IsNumbered new n member) same is)
+          here old new stand (before.each by) member stable pair (subst (λ n. IsNumbered new n member) same is)
           (subst (λ n. IsNumbered now_stables n stable) same is_stable)
           (subst (λ n. IsNumbered now_disks n pair) same is_pair)
       go r member stable pair is is_stable is_pair (inr differs) =
           let other : by ≢ r = λ same. differs (sym same) in
-          before.each r member stable pair (others r member other is) (other_stables r stable other is_stable)
+          before.each r member stable pair (others old new stand r member other is) (other_stables r stable other is_stable)
           (other_disks r pair other is_pair)
 
-  -- where a member, its stable and its pair change, it is enough that they belong together
+  -- where a member, its keeper and its pair change
   pub disks_set : (stable : Stable K) (pair : Pair D) → 1 ≤ by
-      → ((member : Member) → IsNumbered new by member
-      → IsPairOf keep disk member stable pair)
-      → AreDisksOf keep disk new (slice_set stables (by - 1) stable) (slice_set disks (by - 1) pair)
+      → ((old new : List Member) → Stand old new → IsPairAt keep disk by old stables disks → (member : Member)
+      → IsNumbered new by member → IsPairOf keep disk member stable pair)
+      → DisksPass keep disk Stand stables (slice_set stables (by - 1) stable) disks (slice_set disks (by - 1) pair)
   disks_set stable pair one here =
-      disks_moved (slice_set stables (by - 1) stable) (slice_set disks (by - 1) pair)
-      (others_set by stables stable one) (others_set by disks pair one)
-      (λ member found found_pair is is_stable is_pair.
+      disks_moved (others_set by stables stable one) (others_set by disks pair one)
+      (λ old new stand own member found found_pair is is_stable is_pair.
       subst (λ z. IsPairOf keep disk member z found_pair)
       (sym (set_here by stables stable found one is_stable))
       (subst (λ z. IsPairOf keep disk member stable z)
-      (sym (set_here by disks pair found_pair one is_pair)) (here member is)))
+      (sym (set_here by disks pair found_pair one is_pair)) (here old new stand own member is)))
 
-  -- the same where its stable stays
+  -- where its keeper stays
   pub disks_set_pair : (pair : Pair D) → 1 ≤ by
-      → ((member : Member) (stable : Stable K) → IsNumbered new by member → IsNumbered stables by stable
+      → ((old new : List Member) → Stand old new → IsPairAt keep disk by old stables disks → (member : Member)
+      (stable : Stable K) → IsNumbered new by member → IsNumbered stables by stable
       → IsPairOf keep disk member stable pair)
-      → AreDisksOf keep disk new stables (slice_set disks (by - 1) pair)
+      → DisksPass keep disk Stand stables stables disks (slice_set disks (by - 1) pair)
   disks_set_pair pair one here =
-      disks_moved stables (slice_set disks (by - 1) pair) (λ r x differs is. is) (others_set by disks pair one)
-      (λ member stable found_pair is is_stable is_pair.
+      disks_moved (λ r x differs is. is) (others_set by disks pair one)
+      (λ old new stand own member stable found_pair is is_stable is_pair.
       subst (λ z. IsPairOf keep disk member stable z)
-      (sym (set_here by disks pair found_pair one is_pair)) (here member stable is is_stable))
+      (sym (set_here by disks pair found_pair one is_pair)) (here old new stand own member stable is is_stable))
+
+-- the same members
+pub same_numbered : {old new : List Member} (r : ℕ) (member : Member) → new ≡ old → IsNumbered new r member
+    → IsNumbered old r member
+same_numbered r member same is = subst (λ (l : List Member). IsNumbered l r member) same is
+
+-- the same disks are those of the same members
+pub disks_same : {K D : Type 0} {keep : Keep K} {disk : Disk D} {stables : List (Stable K)} {disks : List (Pair D)}
+    → DisksStay keep disk stables stables disks disks
+disks_same old new same are = record {
+  each = λ r member stable pair is is_stable is_pair.
+      are.each r member stable pair (same_numbered r member same is) is_stable is_pair;
+}
 
 -- whether a pair is fused stays where its armings do
 pub fused_same : {D : Type 0} (armings : D → Option ℕ) {old new : Pair D} → PairSame armings old new

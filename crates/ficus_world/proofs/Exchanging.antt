@@ -28,7 +28,7 @@ use Rattle.ficus_script.specs.declared.answer.Answer.TheVariants.{Done}
 use Rattle.ficus_durable_state.specs.Tables.{FitsTables}
 use Rattle.ficus_wire.specs.Message.{FitsMessage, message_bytes, messages_of_tables, piece_message, sizes_of}
 use Rattle.ficus_wire.specs.declared.message.Message.{Message}
-use Rattle.ficus_runs.specs.Actions.{ModelAction, Wants, with_event, with_post, with_standing}
+use Rattle.ficus_runs.specs.Actions.{GivesOnly, ModelAction, Wants, with_event, with_post, with_standing}
 use Rattle.ficus_runs.specs.Actions.Adds.{Added}
 use Rattle.ficus_runs.specs.Actions.Saves.{Saved, NotSaved}
 use Rattle.ficus_runs.specs.Actions.Posts.{IsPosted as HasPosted, NotPosted}
@@ -403,6 +403,16 @@ module _ (tells : Type 0) (told : tells) (volume : Volume) (W : ModelWorld) (old
               SendsEach tells (length old.events) 0 (map message_bytes list) served_world result left) same_messages
               sends)
 
+          -- before them all else was done
+          serve_begins : {result : Result Answer Refusal} {left : Effect ModelWorld}
+              → First (PostsEach (length W.events) 0 (map size_of messages))
+              (λ posted. GivesOnly (mailed (length W.posted + 1) (length messages))) served_model result left
+              → HandlesUp (AnAsk position server) W result left
+          serve_begins posts =
+              Goes (Says (up, refl))
+              (Goes (Says (served, served_now, refl))
+              (Goes (Says (room_in _ (subst (HasRoomFor old) sized room), refl)) (Goes Added (Goes (Says refl) posts))))
+
           follow_served : (result : Result Answer Refusal) (left : Effect Whole)
               → SendsAnswers tells old (answers_of old came peer) served_world result left
               → FollowsIn volume W old (HandlesUp (AnAsk position server)) result left
@@ -410,11 +420,7 @@ module _ (tells : Type 0) (told : tells) (volume : Volume) (W : ModelWorld) (old
               let follows = posted (Err r) left sends in
               record {
                 after = follows.after;
-                does =
-                    Goes (Says (up, refl))
-                    (Goes (Says (served, served_now, refl))
-                    (Goes (Says (room_in _ (subst (HasRoomFor old) sized room), refl))
-                    (Goes Added (Goes (Says refl) (Ends follows.does)))));
+                does = serve_begins (Ends follows.does);
                 caused = follows.caused;
                 stored = omega (arith, follows.stored, one_stored W.events old.events serve stored_serve);
                 stands = follows.stands;
@@ -427,13 +433,8 @@ module _ (tells : Type 0) (told : tells) (volume : Volume) (W : ModelWorld) (old
               record {
                 after = follows.after;
                 does =
-                    Goes (Says (up, refl))
-                    (Goes (Says (served, served_now, refl))
-                    (Goes (Says (room_in _ (subst (HasRoomFor old) sized room), refl))
-                    (Goes Added
-                    (Goes (Says refl)
-                    (Goes follows.does
-                    (Says (subst (λ n. Gives (mailed n (length messages)) result) first told_as)))))));
+                    serve_begins
+                    (Goes follows.does (Says (subst (λ n. Gives (mailed n (length messages)) result) first told_as)));
                 caused =
                     both_caused middle.outcomes [] follows.caused (steady_caused middle.after.post.faults);
                 stored = omega (arith, follows.stored, one_stored W.events old.events serve stored_serve);

@@ -61,7 +61,7 @@ use Rattle.ficus_world.specs.Moves.Reopens.{ReopenedAsWas, ReopenedAsPending, No
 use Rattle.ficus_world.specs.World.{Whole, IsUpIn, WorldStandsFor}
 use Rattle.ficus_runs.proofs.Agreement.{alike_answer_along, look_answer_along}
 use Rattle.ficus_world.proofs.Exchanging.{ask_lifts, give_lifts, gives_each_lift, gives_some_lift}
-use Rattle.ficus_world.proofs.Lifts.{one_stored, two_stored, Lifts, CutLifts, first_lifts, cut_lifts, gives_lifts, nothing_lifts, stays}
+use Rattle.ficus_world.proofs.Lifts.{one_stored, two_stored, Lifts, CutLifts, first_lifts, cut_lifts, gives_lifts, nothing_lifts, part_first, stays}
 use Rattle.ficus_world.proofs.Outcomes.{steady_caused}
 use Rattle.ficus_world.proofs.Pending.{comes_now, pending_comes}
 use Rattle.ficus_world.proofs.Standing.{Comes, member_of, member_from, member_stands, standing_of, fuses_of, fuses_stand, raise, replica_stands, up_in, up_from, saved_stands, unsaved_stands, unopened_stands, reopened_stands, found_reopened_stands}
@@ -490,14 +490,7 @@ module _ (tells : Type 0) (told : tells) (volume : Volume) where
   pull_cut_lifts : (by to : ℕ) → CutLifts volume (CutShort tells (command.Pull by to))
       (DoesPart volume (command.Pull by to))
   pull_cut_lifts by to W old stands left (InFirst same) =
-      let follows = nothing_lifts volume W old stands left same in
-      record {
-        after = follows.after;
-        does = InFirst follows.does;
-        caused = follows.caused;
-        stored = follows.stored;
-        stands = follows.stands;
-      }
+      part_first volume (nothing_lifts volume W old stands left same)
   pull_cut_lifts by to W old stands left
       (InRest {left = last} (FindsBoth {one = one} {two = two} peers is is_too up up_too) cut) =
       let follows = pulling_cut by to W old stands last cut in

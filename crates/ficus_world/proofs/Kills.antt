@@ -6,7 +6,6 @@ use Rattle.std.proofs.lemmas.List.{length-set}
 use Rattle.ficus_disk.specs.Crash.{Only, Within}
 use Rattle.ficus_disk.specs.declared.disk.Disk.{Ghosts as Disk}
 use Rattle.ficus_disk.specs.declared.pair.Pair.{Pair}
-use Rattle.ficus_ids.specs.Members.{IsMember}
 use Rattle.ficus_keeper.specs.Moments.{LeavesOnly, PairSpans, Spans}
 use Rattle.ficus_keeper.specs.declared.keep.Keep.{Ghosts as Keep}
 use Rattle.ficus_durable_state.specs.declared.saved.Saved.{Saved}
@@ -18,13 +17,12 @@ use Rattle.ficus_runs.specs.Numbered.{IsNumbered}
 use Rattle.ficus_opening.specs.declared.member.Member.{Member}
 use Rattle.ficus_opening.specs.declared.member.MemberState.TheVariants.{Up, Down}
 use Rattle.ficus_opening.specs.declared.member.MemberState.{MemberState}
-use Rattle.ficus_opening.specs.Disks.{AreDisksOf, HoldsFor}
+use Rattle.ficus_opening.specs.Disks.{ArePairsOf, HoldsFor}
 use Rattle.ficus_world.specs.Disks.{IsAfterSave, SavesAt}
 use Rattle.ficus_world.specs.World.{IsWorld, Whole}
 use Rattle.ficus_opening.specs.Rests.{OthersStay, RestsAt}
 use Rattle.ficus_world.specs.Kills.{IsSavedOr, IsSettled, SavesOn, Touches, WritesAt, latest}
 use Rattle.ficus_world.specs.Kills.Touches.{TouchesNone, TouchesOne, WritesOne}
-use Rattle.ficus_runs.proofs.Numbers.{number_exists}
 use Rattle.ficus_opening.proofs.Others.{others_none, others_one}
 use Rattle.ficus_opening.proofs.Rests.{rests_none, spans_then}
 use Rattle.ficus_world.proofs.Disks.{set_here}
@@ -85,13 +83,12 @@ saved_or next event (Err failed) was now old new after stored kept = inr (after.
 module _ {K D : Type 0} (keep : Keep K) (disk : Disk D) (by : ℕ) where
   -- a save of a member that is up
   pub writes_at : {T E : Type 0} {next : Saved} {result : Result T E} (old new : Whole) (event : Event)
-      {stables : List (Stable K)} {x z : List (Pair D)} → SavesAt by next result old.members new.members
+      {x z : List (Pair D)} → SavesAt by next result old.members new.members
       → OnOk result (new.events ≡ old.events ++ event ∷ []) → OnErr result (new.events ≡ old.events)
-      → AreDisksOf keep disk old.members stables x
-      → IsMember (length stables) by
+      → ArePairsOf keep disk old.members x
       → ((was : Member) → IsNumbered old.members by was → next.generation ≡ was.replica.saved.generation + 1)
       → SavesOn keep disk by next x z → WritesAt keep disk by old new x z
-  writes_at {next = next} {result = result} old new event {stables = stables} saves stored kept are member above on =
+  writes_at {next = next} {result = result} old new event saves stored kept own above on =
       record {
         was = saves.was;
         is = saves.is;
@@ -106,9 +103,8 @@ module _ {K D : Type 0} (keep : Keep K) (disk : Disk D) (by : ℕ) where
         now_pair = on.now;
         set_pair = on.set;
         between = λ told moments.
-            let stable = number_exists stables by member in
-            let ready = up_ready keep disk saves.was stable.0
-            on.was saves.up ((are.each by saves.was stable.0 on.was saves.is stable.1 on.is).holds told) in
+            let of = own.each by saves.was on.was saves.is on.is in
+            let ready = up_ready keep disk saves.was of.0 on.was saves.up (of.1.holds told) in
             on.between told saves.was.replica.saved ready.holds;
         spans = on.spans;
       }
@@ -119,11 +115,9 @@ module _ {K D : Type 0} (keep : Keep K) (disk : Disk D) (by : ℕ) where
       (left_now : disk.tells_moments → (d : D) (t : ℕ) (c : List ℕ) → t ≤ disk.moment d → disk.may_leave d c
       → disk.left_since d t c)
       (earlier : (d : D) (t u : ℕ) (c : List ℕ) → t ≤ u → disk.left_since d u c → disk.left_since d t c) where
-    pub rests_then_writes : {old new : Whole} {stables : List (Stable K)} {x y z : List (Pair D)}
-        → AreDisksOf keep disk old.members stables x
-        → IsMember (length stables) by → RestsAt disk by x y → WritesAt keep disk by old new y z
-        → WritesAt keep disk by old new x z
-    rests_then_writes {stables = stables} {x = x} {z = z} are member rests writes =
+    pub rests_then_writes : {old new : Whole} {x y z : List (Pair D)} → ArePairsOf keep disk old.members x
+        → RestsAt disk by x y → WritesAt keep disk by old new y z → WritesAt keep disk by old new x z
+    rests_then_writes {x = x} {z = z} own rests writes =
         let middle : writes.pair ≡ rests.now =
         set_here by x rests.now writes.pair rests.is.member.at_least
         (subst (λ (list : List (Pair D)). IsNumbered list by writes.pair) rests.set writes.is_pair) in
@@ -146,10 +140,8 @@ module _ {K D : Type 0} (keep : Keep K) (disk : Disk D) (by : ℕ) where
               writes.set_pair ∙ ap (λ (list : List (Pair D)). slice_set list (by - 1) writes.now_pair) rests.set
               ∙ set_again x (by - 1) rests.now writes.now_pair;
           between = λ told moments.
-              let stable = number_exists stables by member in
-              let ready = up_ready keep disk writes.was
-              stable.0 rests.was writes.up
-              ((are.each by writes.was stable.0 rests.was writes.is stable.1 rests.is).holds told) in
+              let of = own.each by writes.was rests.was writes.is rests.is in
+              let ready = up_ready keep disk writes.was of.0 rests.was writes.up (of.1.holds told) in
               let crossing = subst
               (λ (p : Pair D). (a b : List ℕ) → disk.left_since writes.now_pair.a (disk.moment p.a) a
               → disk.left_since writes.now_pair.b (disk.moment p.b) b
@@ -182,16 +174,13 @@ module _ {K D : Type 0} (keep : Keep K) (disk : Disk D) where
   holds_latest stable pair saved (Down None) holds = holds
   holds_latest stable pair saved (Down (Some pending)) holds = holds
 
-  pub settled_so : (world : Whole) (stables : List (Stable K)) (disks : List (Pair D)) → IsWorld world
-      → length stables ≡ length world.members
-      → AreDisksOf keep disk world.members stables disks
+  pub settled_so : (world : Whole) (disks : List (Pair D)) → IsWorld world → ArePairsOf keep disk world.members disks
       → IsSettled keep disk world disks
-  settled_so world stables disks sound count are = record {
+  settled_so world disks sound own = record {
     sound = sound;
     holds = λ told r member pair is is_pair.
-        let stable = number_exists stables r (subst (λ n. IsMember n r) (sym count) is.member) in
-        holds_latest stable.0 pair member.replica.saved member.state
-        ((are.each r member stable.0 pair is stable.1 is_pair).holds told);
+        let of = own.each r member pair is is_pair in
+        holds_latest of.0 pair member.replica.saved member.state (of.1.holds told);
   }
 
 -- what a command that is no pull does touches no other pairs

@@ -62,20 +62,24 @@ module _ (volume : Volume) where
           stands = then.stands;
         }
 
+  -- what follows the model where it is cut short, follows what does that first
+  pub part_first : {A : Type 0} {W : ModelWorld} {old : Whole} {action : ModelAction A} {part : Cut ModelWorld}
+      {more : A → Cut ModelWorld} {left : Effect Whole} → FollowsPart volume W old part left
+      → FollowsPart volume W old (CutFirst action part more) left
+  part_first follows = record {
+    after = follows.after;
+    does = InFirst follows.does;
+    caused = follows.caused;
+    stored = follows.stored;
+    stands = follows.stands;
+  }
+
   module _ {A : Type 0} {code : WholeAction A} {action : ModelAction A} {cut : Cut Whole} {part : Cut ModelWorld}
       {behind : A → Cut Whole} {more : A → Cut ModelWorld} where
     pub cut_lifts : Lifts volume code action → CutLifts volume cut part
         → ((a : A) → CutLifts volume (behind a) (more a))
         → CutLifts volume (CutFirst code cut behind) (CutFirst action part more)
-    cut_lifts lifts cuts later W old stands left (InFirst is) =
-        let follows = cuts W old stands left is in
-        record {
-          after = follows.after;
-          does = InFirst follows.does;
-          caused = follows.caused;
-          stored = follows.stored;
-          stands = follows.stands;
-        }
+    cut_lifts lifts cuts later W old stands left (InFirst is) = part_first (cuts W old stands left is)
     cut_lifts lifts cuts later W old stands left (InRest {a = a} {middle = middle} {left = last} is next) =
         let follows = lifts W old stands (Ok a) middle is in
         let then = later a follows.after middle.after follows.stands last next in

@@ -1,7 +1,7 @@
 -- What becomes of a member whose disks are opened again.
 use Rattle.std.proofs.Common.{◌≡◌, ℕ, ◌+◌, ◌-◌, ◌≤◌, List, [], ◌∷◌, ◌++◌, length, Result, Ok, Err, Some, refl, sym, ap, subst, ◌∙◌, inl, inr, append_assoc, arith}
 use Rattle.std.specs.Prelude.{slice_set, IfOk, IsErrOf}
-use Rattle.std.proofs.lemmas.List.{append-nil, set-get_or}
+use Rattle.std.proofs.lemmas.List.{append-nil, length-append, length-set, set-get_or}
 use Rattle.std.proofs.lemmas.Option.{get_or_from_slice_get}
 use Rattle.ficus_disk.specs.declared.disk.Disk.{Ghosts as Disk}
 use Rattle.ficus_disk.specs.declared.pair.Pair.{Pair}
@@ -32,10 +32,11 @@ use Rattle.ficus_world.specs.Fuses.{FusesStand, IsReadBy, at_rest}
 use Rattle.ficus_world.specs.Moves.{CarriesOut, IsLike, restarted, still_pending}
 use Rattle.ficus_world.specs.Moves.FindsMember.{Finds}
 use Rattle.ficus_world.specs.Moves.Reopens.{NoImageFound, NotReopened, ReopenedAsPending, ReopenedAsWas}
-use Rattle.ficus_world.specs.World.{IsPendingSound, IsSoundMember, Whole, whole_of}
+use Rattle.ficus_world.specs.World.{IsPendingSound, IsSoundMember, IsWorld, Whole, whole_of}
+use Rattle.ficus_runs.proofs.Numbers.{number_exists}
 use Rattle.ficus_world.proofs.Disks.{follows_alike}
 use Rattle.ficus_world.proofs.Fuses.{fuses_found, fuses_never, fuses_opened}
-use Rattle.ficus_world.proofs.SoundWorlds.{keep_down_sound, member_more, restarted_sound}
+use Rattle.ficus_world.proofs.SoundWorlds.{keep_down_sound, member_more, restarted_sound, world_after}
 
 -- a member in its own place changes nothing
 pub set_own : {A : Type 0} (list : List A) (r : ℕ) (x : A) → IsNumbered list r x → slice_set list (r - 1) x ≡ list
@@ -126,6 +127,54 @@ back_sound count events by was read result now stored sound fits NothingRead =
 back_sound count events by was read result now stored sound fits NotOpened =
     member_more (keep_down_sound sound) (omega arith)
 back_sound count events by was read result now stored sound fits NoMemory = member_more sound (omega arith)
+
+-- the member that was opened again is in its place, and the events are stored to which it comes
+pub record HasComeBack (old : Whole) (by : ℕ) (read : Result Saved StoreFault) (result : Result Answer Refusal)
+    (members : List Member) (events : List Event) : Type 0 where
+  pub was : Member
+  pub is : IsNumbered old.members by was
+  pub now : Member
+  pub stored : List Event
+  pub comes : ComesBack by was read result now stored
+  pub set : members ≡ slice_set old.members (by - 1) now
+  pub happened : events ≡ old.events ++ stored
+
+-- so it is where room was taken before
+pub has_come_back : {old group : Whole} {by : ℕ} {read : Result Saved StoreFault} {result : Result Answer Refusal}
+    {members : List Member} {reserved events : List Event} → old ≡ group → IsMember (length group.members) by
+    → reserved ≡ old.events
+    → ((was : Member) → IsNumbered old.members by was → (now : Member) × (stored : List Event)
+    × ComesBack by was read result now stored × (members ≡ slice_set old.members (by - 1) now)
+    × (events ≡ reserved ++ stored)) → HasComeBack old by read result members events
+has_come_back {old} {group} {by} same member stores comes =
+    let found = number_exists old.members by (subst (λ (w : Whole). IsMember (length w.members) by) (sym same) member) in
+    let back = comes found.0 found.1 in
+    record {
+      was = found.0;
+      is = found.1;
+      now = back.0;
+      stored = back.1;
+      comes = back.2;
+      set = back.3;
+      happened = back.4 ∙ ap (λ (list : List Event). list ++ back.1) stores;
+    }
+
+module _ {old : Whole} {by : ℕ} {read : Result Saved StoreFault} {result : Result Answer Refusal} {members : List Member}
+    {events : List Event} (back : HasComeBack old by read result members events) where
+  -- there are as many members
+  pub back_count : length members ≡ length old.members
+  back_count = ap (λ (list : List Member). length list) back.set ∙ length-set old.members (by - 1) back.now
+
+  -- the world is one still
+  pub back_world : IfOk read (λ saved. FitsImage saved) → IsWorld old → IsWorld (whole_of members events old.post)
+  back_world fits world =
+      let sound = back_sound (length old.members) (length old.events) by back.was read result back.now back.stored
+      (world.sound by back.was back.is) fits back.comes in
+      let longer = length-append old.events back.stored in
+      subst (λ (list : List Event). IsWorld (whole_of members list old.post)) (sym back.happened)
+      (world_after old (old.events ++ back.stored) by back.was back.now back.is world
+      (subst (λ n. IsSoundMember (length old.members) n by back.now) (sym longer) sound) (omega (arith, longer)) members
+      back.set)
 
 -- where memory was refused, it is as it was
 pub back_same : (by : ℕ) (was : Member) (read : Result Saved StoreFault) (result : Result Answer Refusal)

@@ -25,11 +25,11 @@ use Rattle.ficus_opening.specs.declared.member.Member.{Member}
 use Rattle.ficus_opening.specs.declared.member.MemberState.{MemberState}
 use Rattle.ficus_opening.specs.declared.member.MemberState.TheVariants.{Up, Down}
 use Rattle.ficus_opening.specs.declared.member.Pending.{Pending}
-use Rattle.ficus_opening.specs.Disks.{AreDisksOf, HoldsFor, IsPairOf, are_fused}
-use Rattle.ficus_world.specs.Disks.{DisksFollow, DisksReopen, DisksStay, IsAfterOpening, IsAfterSave, IsReadAt, SavesAt, save_outcome}
+use Rattle.ficus_opening.specs.Disks.{HoldsFor, IsPairOf, are_fused}
+use Rattle.ficus_world.specs.Disks.{DisksFollow, DisksPass, DisksStay, IsAfterOpening, IsAfterSave, IsReadAt, ReopensAt, SavesAt, save_outcome}
 use Rattle.ficus_wire.specs.Parts.{HeldParts}
 use Rattle.ficus_world.specs.World.{IsPendingSound, IsSoundMember}
-use Rattle.ficus_world.proofs.Disks.{disks_set, disks_set_pair, follows_at, fused_same, holds_down, holds_still, others_as, set_as}
+use Rattle.ficus_world.proofs.Disks.{disks_set, disks_set_pair, follows_at, fused_same, holds_down, holds_still, others_as, same_numbered, set_as}
 
 -- one thing happened to one member's disks
 once_here : (by : ℕ) → 0 + cond (by == by) 1 0 ≡ 1
@@ -149,21 +149,21 @@ module _ {K D : Type 0} (keep : Keep K) (disk : Disk D) where
   }
 
   -- the disks of all, where one member has saved, or failed to
-  pub disks_saved : {T E : Type 0} (by : ℕ) (next : Saved) (result : Result T E) {old new : List Member}
-      {stables : List (Stable K)} {disks : List (Pair D)} (stable now_stable : Stable K) (pair now_pair : Pair D)
-      → IsNumbered stables by stable → IsNumbered disks by pair → PairSame disk.armings pair now_pair
+  pub disks_saved : {T E : Type 0} (by : ℕ) (next : Saved) (result : Result T E) {stables : List (Stable K)}
+      {disks : List (Pair D)} (stable now_stable : Stable K) (pair now_pair : Pair D) → IsNumbered stables by stable
+      → IsNumbered disks by pair → PairSame disk.armings pair now_pair
       → (disk.tells → OnOk result (IsReady keep.kept keep.fits disk.seen disk.may_leave now_stable now_pair next))
       → (disk.tells → (saved : Saved) → Holds (found_in keep.kept disk.seen pair) saved
       → HoldsOneOf keep.kept disk.may_leave now_pair (Some saved) (Some next))
-      → SavesAt by next result old new → AreDisksOf keep disk old stables disks
-      → AreDisksOf keep disk new (slice_set stables (by - 1) now_stable) (slice_set disks (by - 1) now_pair)
-  disks_saved by next result {old} {new} {stables} {disks} stable now_stable pair now_pair is_stable is_pair same ready
-      crash saves are =
+      → DisksPass keep disk (SavesAt by next result) stables (slice_set stables (by - 1) now_stable) disks
+      (slice_set disks (by - 1) now_pair)
+  disks_saved by next result {stables} {disks} stable now_stable pair now_pair is_stable is_pair same ready crash =
       let one = is_pair.member.at_least in
-      disks_set by (others_as saves.now one saves.set) are now_stable now_pair one (λ member is.
+      disks_set by (λ old new saves. others_as saves.now one saves.set) now_stable now_pair one
+      (λ old new saves own member is.
       subst (λ z. IsPairOf keep disk z now_stable now_pair) (sym (set_as old saves.now member one saves.set is))
       (pair_saved next result saves.was saves.now stable now_stable pair now_pair same ready crash saves.up
-      saves.after (are.each by saves.was stable pair saves.is is_stable is_pair)))
+      saves.after (own saves.was stable pair saves.is is_stable is_pair)))
 
   -- what is ready stays so where a read gives the same
   ready_seen : (stable : Stable K) (pair now_pair : Pair D) (saved : Saved) → PairSame disk.seen pair now_pair
@@ -223,27 +223,28 @@ module _ {K D : Type 0} (keep : Keep K) (disk : Disk D) where
       (stable now_stable : Stable K) (pair now_pair : Pair D) → IsNumbered stables by stable
       → IsNumbered disks by pair → PairSame disk.armings pair now_pair → PairWithin disk.may_leave pair now_pair
       → (disk.tells → IsReady keep.kept keep.fits disk.seen disk.may_leave now_stable now_pair read)
-      → DisksReopen keep disk by (Ok read) stables (slice_set stables (by - 1) now_stable) disks
+      → DisksPass keep disk (ReopensAt by (Ok read)) stables (slice_set stables (by - 1) now_stable) disks
       (slice_set disks (by - 1) now_pair)
-  disks_read by read {stables} {disks} stable now_stable pair now_pair is_stable is_pair same within ready old new
-      reopens are =
+  disks_read by read {stables} {disks} stable now_stable pair now_pair is_stable is_pair same within ready =
       let one = is_pair.member.at_least in
-      disks_set by (others_as reopens.now one reopens.set) are now_stable now_pair one (λ member is.
+      disks_set by (λ old new reopens. others_as reopens.now one reopens.set) now_stable now_pair one
+      (λ old new reopens own member is.
       subst (λ z. IsPairOf keep disk z now_stable now_pair) (sym (set_as old reopens.now member one reopens.set is))
       (pair_read read reopens.was reopens.now stable now_stable pair now_pair same within ready reopens.after
-      (are.each by reopens.was stable pair reopens.is is_stable is_pair)))
+      (own reopens.was stable pair reopens.is is_stable is_pair)))
 
   -- the same where nothing was read
   pub disks_not_read : (by : ℕ) (fault : StoreFault) {stables : List (Stable K)} {disks : List (Pair D)}
       (pair now_pair : Pair D) → IsNumbered disks by pair → PairSame disk.armings pair now_pair
       → PairWithin disk.may_leave pair now_pair → (disk.tells → PairLeft disk.seen disk.may_leave pair now_pair)
-      → DisksReopen keep disk by (Err fault) stables stables disks (slice_set disks (by - 1) now_pair)
-  disks_not_read by fault {stables} {disks} pair now_pair is_pair same within left old new reopens are =
+      → DisksPass keep disk (ReopensAt by (Err fault)) stables stables disks (slice_set disks (by - 1) now_pair)
+  disks_not_read by fault {stables} {disks} pair now_pair is_pair same within left =
       let one = is_pair.member.at_least in
-      disks_set_pair by (others_as reopens.now one reopens.set) are now_pair one (λ member stable is is_stable.
+      disks_set_pair by (λ old new reopens. others_as reopens.now one reopens.set) now_pair one
+      (λ old new reopens own member stable is is_stable.
       subst (λ z. IsPairOf keep disk z stable now_pair) (sym (set_as old reopens.now member one reopens.set is))
       (pair_not_read fault reopens.was reopens.now stable pair now_pair same within left reopens.after
-      (are.each by reopens.was stable pair reopens.is is_stable is_pair)))
+      (own reopens.was stable pair reopens.is is_stable is_pair)))
 
   -- what is held of a member once its disks are opened again: what it had, or what is pending
   held_again : (state : MemberState) (saved : Saved) (stable : Stable K) (pair now_pair : Pair D)
@@ -303,9 +304,10 @@ module _ {K D : Type 0} (keep : Keep K) (disk : Disk D) where
       → Arms (disk.armings pair.b) (disk.armings now_pair.b) → (disk.tells → PairSame disk.seen pair now_pair)
       → PairWithin disk.may_leave pair now_pair
       → DisksStay keep disk stables stables disks (slice_set disks (by - 1) now_pair)
-  disks_armed by {stables} {disks} pair now_pair is_pair arms_a arms_b same within members are =
-      disks_set_pair by (λ r x differs is. is) are now_pair is_pair.member.at_least (λ member stable is is_stable.
-      let of = are.each by member stable pair is is_stable is_pair in
+  disks_armed by {stables} {disks} pair now_pair is_pair arms_a arms_b same within =
+      disks_set_pair by (λ old new stay r x differs is. same_numbered r x stay is) now_pair is_pair.member.at_least
+      (λ old new stay own member stable is is_stable.
+      let of = own member stable pair (same_numbered by member stay is) is_stable is_pair in
       record {
         fused = of.fused ∙ sym (armed_fused disk.armings pair now_pair arms_a arms_b);
         holds = λ told. holds_still keep disk member.state member.replica.saved stable stable pair now_pair

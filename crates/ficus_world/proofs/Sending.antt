@@ -54,8 +54,8 @@ use Rattle.ficus_world.specs.Moves.TakesTables.{Refuses, Takes, TakesNot}
 use Rattle.ficus_runs.specs.Numbered.{IsNumbered}
 use Rattle.ficus_runs.proofs.Serving.{some_pieces}
 use Rattle.ficus_world.specs.Post.{Outbox, IsSent, HasFailed, lies_behind}
-use Rattle.ficus_world.specs.World.{IsSound, IsWorld, Whole, smallest_message, whole_of}
-use Rattle.ficus_world.proofs.Carrying.{AreQuiet, carried_first, carried_none, carried_then, goes_on, or_memory, quiet_carried, quiet_done, quiet_failure, quiet_follows, quiet_fuses, quiet_none, quiet_then}
+use Rattle.ficus_world.specs.World.{Backed, IsSound, IsWorld, Whole, smallest_message, whole_of}
+use Rattle.ficus_world.proofs.Carrying.{AreQuiet, carried_first, carried_none, carried_then, goes_on, or_memory, quiet_carried, quiet_done, quiet_failure, quiet_follows, quiet_fuses, quiet_none, quiet_then, whole_is}
 use Rattle.ficus_world.proofs.Disks.{follows_then}
 use Rattle.ficus_world.proofs.Fuses.{fuses_then}
 use Rattle.ficus_world.proofs.SoundWorlds.{AreCounted, counted_in, each_counted, more_stored, world_posted}
@@ -439,6 +439,77 @@ module _ (tells : Type 0) (old : Whole) (came : Delivery) (state pieces : ℕ) (
         (serve_counted tells old came peer asked serves.1 place serves.4 serves.5 after_serving world result link
         (sends_all result sent))
 
+-- What the code that serves an ask has come to: what it serves, the event of that, which is stored, and what the posts of
+-- its messages come to.
+pub record HasPosted (tells : Type 0) (old : Whole) (came : Delivery) (state pieces : ℕ) (asked : Behind)
+    (result : Result (Unit {0}) Refusal) (events : List Event) (new : Outbox) : Type 0 where
+  pub messages : List (List ℕ)
+  pub serves : HasServed old came state messages
+  pub counted : pieces ≡ length messages
+  pub place : IsNumbered old.post.behind came.number asked
+  pub stored : events ≡ old.events ++ event.Serve came.to asked.position state pieces ∷ []
+  pub link : OnErr result (result ≡ Err refusal.Link)
+  pub sent : (world : Whole)
+      → Carried (SendsEach tells (length old.events) 0 messages (with_post world old.post)) result (with_post world new)
+
+-- so it is where room was taken before
+pub has_posted : (tells : Type 0) (came : Delivery) (state : ℕ) (messages : List (List ℕ))
+    (result : Result (Unit {0}) Refusal) {pieces position : ℕ} {asked : Behind} {old now : Whole}
+    {reserved events : List Event} {room new : Outbox} → old ≡ now → HasServed now came state messages
+    → pieces ≡ length messages → reserved ≡ old.events → room ≡ old.post → IsNumbered room.behind came.number asked
+    → position ≡ length reserved → events ≡ reserved ++ event.Serve came.to asked.position state pieces ∷ []
+    → OnErr result (result ≡ Err refusal.Link)
+    → ((world : Whole)
+    → Carried (SendsEach tells position 0 messages (with_post world room)) result (with_post world new))
+    → HasPosted tells old came state pieces asked result events new
+has_posted tells came state messages result {pieces} {position} {asked} {old} {now} {reserved} {events} {room} {new} same
+    serves counted stores posts place at stored link sent = record {
+      messages = messages;
+      serves = subst (λ (w : Whole). HasServed w came state messages) (sym same) serves;
+      counted = counted;
+      place = subst (λ (p : Outbox). IsNumbered p.behind came.number asked) posts place;
+      stored =
+          stored ∙ ap (λ (list : List Event). list ++ event.Serve came.to asked.position state pieces ∷ []) stores;
+      link = link;
+      sent = λ world.
+          subst (λ n. Carried (SendsEach tells n 0 messages (with_post world old.post)) result (with_post world new))
+          (at ∙ ap (λ (list : List Event). length list) stores)
+          (subst (λ (p : Outbox). Carried (SendsEach tells position 0 messages (with_post world p)) result (with_post world new))
+          posts (sent world));
+    }
+
+module _ {tells : Type 0} {old : Whole} {came : Delivery} {state pieces : ℕ} {asked : Behind} {events : List Event}
+    {new : Outbox} where
+  -- the world is one still
+  pub posted_world : {result : Result (Unit {0}) Refusal}
+      → HasPosted tells old came state pieces asked result events new → IsWorld old
+      → IsWorld (whole_of old.members events new)
+  posted_world {result} posted world =
+      subst (λ (list : List Event). IsWorld (whole_of old.members list new)) (sym posted.stored)
+      (served_world tells old came state pieces posted.messages posted.serves posted.counted asked posted.place new world
+      result posted.link posted.sent)
+
+  -- the ask was served, or the link has failed
+  pub posted_failed : {now : Whole} {r : Refusal} → HasPosted tells old came state pieces asked (Err r) events new
+      → old ≡ now → Carried (ServesAsk tells came now) (Err r) (whole_of old.members events new)
+  posted_failed {r = r} posted same =
+      subst (λ (w : Whole). Carried (ServesAsk tells came w) (Err r) (whole_of old.members events new)) same
+      (subst (λ (list : List Event). Carried (ServesAsk tells came old) (Err r) (whole_of old.members list new))
+      (sym posted.stored)
+      (served_failed tells old came state pieces posted.messages posted.serves posted.counted asked posted.place new r
+      posted.link posted.sent))
+
+  pub posted_done : {now : Whole} {first : ℕ} → HasPosted tells old came state pieces asked (Ok tt) events new
+      → old ≡ now → first ≡ length old.post.posts + 1
+      → Carried (ServesAsk tells came now) (Ok (mailed first pieces)) (whole_of old.members events new)
+  posted_done {first = first} posted same is =
+      subst (λ (w : Whole). Carried (ServesAsk tells came w) (Ok (mailed first pieces)) (whole_of old.members events new))
+      same
+      (subst (λ (list : List Event). Carried (ServesAsk tells came old) (Ok (mailed first pieces))
+      (whole_of old.members list new)) (sym posted.stored)
+      (served_done tells old came state pieces posted.messages posted.serves posted.counted asked posted.place new
+      posted.sent first is))
+
 -- a fetch that fails
 pub fetch_failed : (tells : Type 0) (old : Whole) (number : ℕ) (post : Outbox) → IsMember (length old.post.posts) number
     → (r : Refusal) → ((r ≢ refusal.Memory) → (r ≡ refusal.Link) × HasFailed old.post post)
@@ -535,6 +606,21 @@ module _ {K D : Type 0} (tells : Type 0) {keep : Keep K} {disk : Disk D} (number
     give_handled message reads result new y handles =
         carried_then (FetchesMail tells number) (HandlesMessage tells number) old middle new x x y result
         (fetched_read (Ok message) reads) handles
+
+-- the same of a letter, as the code reads it
+pub give_letter : {K D B : Type 0} (tells : Type 0) {keep : Keep K} {disk : Disk D} (number : ℕ) {one other : Backed B}
+    {bytes read : List ℕ} {middle : Whole} {x : List (Pair D)} → one ≡ other → middle.members ≡ one.whole.members
+    → Carried (FetchesBytes tells number one.whole) (Ok bytes) middle → read ≡ bytes → (letter found : Letter)
+    → Reads (length middle.members) read (Ok (message_of letter)) → letter ≡ found → (result : Result Answer Refusal)
+    (new : Whole) (y : List (Pair D))
+    → CarriedOn keep disk (HandlesMessage tells number (message_of found)) result middle new x y
+    → CarriedOn keep disk (GivesMessage tells number) result other.whole new x y
+give_letter tells {keep} {disk} number {one} {other} {bytes} {read} {middle} {x} same members fetches read_is letter found
+    reads is result new y handles =
+    subst (λ (w : Whole). CarriedOn keep disk (GivesMessage tells number) result w new x y) (whole_is same)
+    (give_handled tells number one.whole x bytes middle members fetches (message_of found)
+    (subst (λ (list : List ℕ). Reads (length middle.members) list (Ok (message_of found))) read_is
+    (subst (λ (l : Letter). Reads (length middle.members) read (Ok (message_of l))) is reads)) result new y handles)
 
 -- the serving of an ask leaves the disks as they are
 pub serves_carried : {K D : Type 0} (tells : Type 0) {keep : Keep K} {disk : Disk D} (came : Delivery)

@@ -1,5 +1,5 @@
 -- The disks of a world stand for what the world stands for.
-use Rattle.std.proofs.Common.{◌≡◌, ℕ, List, length, Some, None, sym, subst, inl, inr}
+use Rattle.std.proofs.Common.{ℕ, List, length, Some, None, sym, subst, inl, inr}
 use Rattle.ficus_disk.specs.declared.disk.Disk.{Ghosts as Disk}
 use Rattle.ficus_disk.specs.declared.pair.Pair.{Pair}
 use Rattle.ficus_ids.specs.Members.{IsMember}
@@ -17,11 +17,11 @@ use Rattle.ficus_runs.specs.ModelWorld as model
 use Rattle.ficus_runs.specs.Numbered.{IsNumbered}
 use Rattle.ficus_opening.specs.declared.member.MemberState.{MemberState}
 use Rattle.ficus_opening.specs.declared.member.MemberState.TheVariants as state
-use Rattle.ficus_opening.specs.Disks.{AreDisksOf, HoldsFor}
+use Rattle.ficus_opening.specs.Disks.{ArePairsOf, HoldsFor}
 use Rattle.ficus_world.specs.Stand.{ArePending, DisksOutlast, DisksStand, KeepsFor}
 use Rattle.ficus_opening.specs.Stand.{KeepsOf}
 use Rattle.ficus_opening.specs.declared.member.Pending.{Pending}
-use Rattle.ficus_world.specs.World.{Backed, Whole, IsPendingFor, IsPendingSound, IsWorld, StateStandsFor, WorldStandsFor}
+use Rattle.ficus_world.specs.World.{Whole, IsPendingFor, IsPendingSound, IsWorld, StateStandsFor, WorldStandsFor}
 use Rattle.ficus_runs.proofs.Numbers.{number_exists}
 use Rattle.ficus_world.proofs.Standing.{member_from, member_stands, raise, replica_stands}
 
@@ -63,22 +63,20 @@ module _ {K D : Type 0} (keep : Keep K) (disk : Disk D) (volume : Volume) where
     keeps_for count events stood modelled is sound holds = absurd is
 
   -- so it is of each member
-  pub disks_outlast_for : disk.tells → (W : ModelWorld) (world : Backed K) (disks : List (Pair D)) → IsWorld world.whole
-      → length world.stables ≡ length world.whole.members → WorldStandsFor volume W world.whole
-      → AreDisksOf keep disk world.whole.members world.stables disks
+  pub disks_outlast_for : disk.tells → (W : ModelWorld) (whole : Whole) (disks : List (Pair D)) → IsWorld whole
+      → WorldStandsFor volume W whole → ArePairsOf keep disk whole.members disks
       → DisksOutlast keep.kept disk.may_leave volume W disks
-  disks_outlast_for told W backed disks world count stands are = record {
+  disks_outlast_for told W whole disks world stands own = record {
     each = λ r pair standing at stood a b left_a left_b.
-        let whole = backed.whole in
         let here = member_from volume W whole stands r (subst (λ n. IsMember n r) stands.standings stood.member) in
         let member = number_exists whole.members r here in
-        let stable = number_exists backed.stables r (subst (λ n. IsMember n r) (sym count) here) in
+        let of = own.each r member.0 pair member.1 at in
         let sound = world.sound r member.0 member.1 in
         keeps_for W.events stands.lawful (raise volume W whole stands) r member.0.replica
-        (replica_stands volume W whole stands r member.0 member.1) sound.replica.fits stable.0 pair a b left_a left_b
+        (replica_stands volume W whole stands r member.0 member.1) sound.replica.fits of.0 pair a b left_a left_b
         (length whole.members) (length whole.events) member.0.state standing
         (member_stands volume W whole stands r member.0 member.1 standing stood) sound.pending
-        ((are.each r member.0 stable.0 pair member.1 stable.1 at).holds told);
+        (of.1.holds told);
   }
 
   -- what a read gives is what a crash may leave too

@@ -421,25 +421,37 @@ module _ (volume : Volume) (W : ModelWorld) (old : Whole) (stands : WorldStandsF
       (record (event_in old stored) { members = slice_set old.members (to - 1) peer }))
       (set_same W.standings to model.Up (up_in to peer is up)) changed)
 
+  -- what was posted changes alone
+  posted_stands : (posted : List model.Posted) (total : ℕ) (post : Outbox)
+      → IsRunWorld volume (record W { posted = posted; total = total }) → post.total ≡ total
+      → length posted ≡ length post.behind → length post.posts ≡ length post.behind
+      → ((number : ℕ) (place : Behind) (bytes : List ℕ) → IsNumbered post.behind number place
+      → IsNumbered post.posts number bytes
+      → IsPosted volume (record W { posted = posted; total = total }) number (place.position + raise) place.index bytes)
+      → WorldStandsFor volume (record W { posted = posted; total = total }) (post_in old post)
+  posted_stands posted total post run total_is posted_as_many counted mail = record {
+    count = stands.count;
+    members = stands.members;
+    standings = stands.standings;
+    fuses = stands.fuses;
+    lawful = stands.lawful;
+    stored = stands.stored;
+    began = stands.began;
+    each = stands.each;
+    run = run;
+    served = stands.served;
+    total = total_is;
+    posted = posted_as_many;
+    counted = counted;
+    mail = mail;
+  }
+
   -- the link fails
   pub failed_stands : (post : Outbox) → HasFailed old.post post → WorldStandsFor volume W (post_in old post)
   failed_stands post failed =
-      subst (λ (p : Outbox). WorldStandsFor volume W (post_in old p)) (sym failed.same) (record {
-        count = stands.count;
-        members = stands.members;
-        standings = stands.standings;
-        fuses = stands.fuses;
-        lawful = stands.lawful;
-        stored = stands.stored;
-        began = stands.began;
-        each = stands.each;
-        run = stands.run;
-        served = stands.served;
-        total = stands.total;
-        posted = stands.posted;
-        counted = stands.counted;
-        mail = stands.mail;
-      })
+      subst (λ (p : Outbox). WorldStandsFor volume W (post_in old p)) (sym failed.same)
+      (posted_stands W.posted W.total (record old.post { faults = post.faults }) stands.run stands.total stands.posted
+      stands.counted stands.mail)
 
   -- the message behind a position is posted
   module _ {tells : Type 0} (told : tells) (place index position size : ℕ) (bytes : List ℕ) (number : ℕ) (post : Outbox)
@@ -488,40 +500,29 @@ module _ (volume : Volume) (W : ModelWorld) (old : Whole) (stands : WorldStandsF
         absurd (omega (arith, post.member.at_most, last.0, stands.counted))
 
     pub sent_stands : WorldStandsFor volume world_after (post_in old post)
-    sent_stands = record {
-      count = stands.count;
-      members = stands.members;
-      standings = stands.standings;
-      fuses = stands.fuses;
-      lawful = stands.lawful;
-      stored = stands.stored;
-      began = stands.began;
-      each = stands.each;
-      run = (world_kept volume).post W (behind position index) size stands.run;
-      served = stands.served;
-      total = omega (arith, stands.total, sent.total, sized);
-      posted =
-          omega (
-            arith,
-            length_push W.posted (behind position index),
-            length_push old.post.behind (lies_behind place index),
-            ap (λ (list : List Behind). length list) sent.behind_is,
-            stands.posted,
-          );
-      counted =
-          omega (
-            arith,
-            sent.counted,
-            length_push old.post.behind (lies_behind place index),
-            ap (λ (list : List Behind). length list) sent.behind_is,
-            stands.counted,
-          );
-      mail = λ n found_place found before posts.
-          mail_posted n found_place found
-          (number_cases old.post.behind (lies_behind place index)
-          (subst (λ list. IsNumbered list n found_place) sent.behind_is before))
-          (number_cases old.post.posts bytes (subst (λ list. IsNumbered list n found) (sent.told told) posts));
-    }
+    sent_stands =
+        posted_stands world_after.posted world_after.total post
+        ((world_kept volume).post W (behind position index) size stands.run)
+        (omega (arith, stands.total, sent.total, sized))
+        (omega (
+          arith,
+          length_push W.posted (behind position index),
+          length_push old.post.behind (lies_behind place index),
+          ap (λ (list : List Behind). length list) sent.behind_is,
+          stands.posted,
+        ))
+        (omega (
+          arith,
+          sent.counted,
+          length_push old.post.behind (lies_behind place index),
+          ap (λ (list : List Behind). length list) sent.behind_is,
+          stands.counted,
+        ))
+        (λ n found_place found before posts.
+        mail_posted n found_place found
+        (number_cases old.post.behind (lies_behind place index)
+        (subst (λ list. IsNumbered list n found_place) sent.behind_is before))
+        (number_cases old.post.posts bytes (subst (λ list. IsNumbered list n found) (sent.told told) posts)))
 
 -- a member restarts with what was pending
 module _ (volume : Volume) (W : ModelWorld) (old : Whole) (stands : WorldStandsFor volume W old) (r : ℕ) (was : Member)

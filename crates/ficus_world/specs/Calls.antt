@@ -14,7 +14,7 @@ use Rattle.ficus_keeper.specs.declared.fault.StoreFault.TheVariants as store_fau
 use Rattle.ficus_keeper.specs.declared.keep.Keep.{Ghosts as Keep}
 use Rattle.ficus_model.specs.Lawful.{Volume}
 use Rattle.ficus_model.specs.declared.event.Event.{Event}
-use Rattle.ficus_opening.specs.Disks.{AreDisksOf}
+use Rattle.ficus_opening.specs.Disks.{AreDisksOf, ArePairsOf}
 use Rattle.ficus_opening.specs.Fuses.{AreRegular, AreUnarmed}
 use Rattle.ficus_opening.specs.Opening.{AreRead, IsAtFault, IsFirstBad, IsStoreFault, IsUnfailed, Opens, SeenSame, StandsOn, Steady, Unfailing, fuses_in}
 use Rattle.ficus_opening.specs.Rests.{AllRest, AreLeft, OthersStay, RestsAt}
@@ -37,10 +37,10 @@ use Rattle.ficus_script.specs.declared.command.Command.TheVariants.{Restart}
 use Rattle.ficus_stable_storage.specs.declared.stable.Stable.{Stable}
 use Rattle.ficus_wire.specs.Message.{piece_limit}
 use Rattle.ficus_world.specs.Acts.{Acts, ActsOn, SavesNext, StaysAt}
-use Rattle.ficus_world.specs.Disks.{CarriedOn, DisksComeTo, DisksFollow, DisksReopen, DisksSave, DisksStay, IsBacked, IsHeldBy, IsPreparedAt, IsReadAt}
+use Rattle.ficus_world.specs.Disks.{CarriedOn, DisksComeTo, DisksFollow, DisksPass, DisksStay, IsBacked, IsHeldBy, IsPreparedAt, IsReadAt, ReopensAt, SavesAt}
 use Rattle.ficus_world.specs.Disks.{save_outcome}
 use Rattle.ficus_world.specs.Follows.{FollowsOn, StopsOn, TellsFor}
-use Rattle.ficus_world.specs.Fuses.{AreAtRest, FusesStand, IsReadBy, at_rest}
+use Rattle.ficus_world.specs.Fuses.{AreAtRest, FusesFollow, FusesStand, IsReadBy, at_rest}
 use Rattle.ficus_world.specs.Kills.{Passes, SavesOn, WritesAt}
 use Rattle.ficus_world.specs.Moves.{GivesMessage, GivesMessages, GivesSomeMessages, HasCollected, KeepsAsk, parts_after, restarted}
 use Rattle.ficus_world.specs.Post.{HasRoom, Outbox, PostState}
@@ -126,7 +126,11 @@ pub record Steps {E K D : Type 0} (tells : Type 0) (keep : Keep K) (disk : Disk 
 -- member `by` saves what was prepared, or its disks fail
 pub record CommitsAt {T E K D : Type 0} (keep : Keep K) (disk : Disk D) (by : ℕ) (next : Saved) (result : Result T E)
     (old_stables new_stables : List (Stable K)) (old new : List (Pair D)) : Type 0 where
-  pub disks : DisksSave keep disk by next result old_stables new_stables old new
+  -- Of whatever members the disks were, they are those of the members after the save, and so are their fuses.
+  pub disks : DisksPass keep disk (SavesAt by next result) old_stables new_stables old new
+  pub fuses : (old_members new_members : List Member) → SavesAt by next result old_members new_members
+      → ArePairsOf keep disk old_members old
+      → FusesFollow keep disk (save_outcome by result ∷ []) old_members new_members old new
   pub follows : DisksFollow disk.faults disk.armings (save_outcome by result ∷ []) old new
   pub saves : SavesOn keep disk by next old new
   pub count : length new_stables ≡ length old_stables
@@ -154,13 +158,13 @@ pub record ReopensPair {K D : Type 0} (keep : Keep K) (disk : Disk D) (by : ℕ)
     (old_stables new_stables : List (Stable K)) (old new : List (Pair D)) : Type 0 where
   pub fits : IfOk result (λ read. FitsImage read)
   pub read : disk.tells → (count events : ℕ) (members : List Member) (was : Member)
-      → IsHeldBy keep disk count events by members was old_stables old → IsReadAt was result
+      → IsHeldBy keep disk count events by members was old → IsReadAt was result
   -- The world is as it was, or the member has risen with what was read, or it is down.
-  pub disks : DisksReopen keep disk by result old_stables new_stables old new
+  pub disks : DisksPass keep disk (ReopensAt by result) old_stables new_stables old new
   -- Where the disks tell their fuses, they are opened, and these decide which of the two is read.
   pub never : disk.tells_fuse → IsErrOf result store_fault.Failed → ⊥
   pub by_fuse : disk.tells_fuse → disk.tells → (count events : ℕ) (members : List Member) (was : Member)
-      (F : ℕ → FuseState) → IsHeldBy keep disk count events by members was old_stables old
+      (F : ℕ → FuseState) → IsHeldBy keep disk count events by members was old
       → FusesStand keep disk F members old
       → IfOk result (λ read. IsReadBy (F by).will_find was read × FusesStand keep disk
       (with_fuses F by (at_rest read.generation)) (slice_set members (by - 1) (restarted was read)) new)

@@ -20,7 +20,7 @@ use Rattle.ficus_runs.specs.Answers.{OrMemory}
 use Rattle.ficus_runs.specs.Numbered.{IsNumbered}
 use Rattle.ficus_runs.specs.Outcome.{Outcome, IsSaved, SaveFails, armings_in, store_failures}
 use Rattle.ficus_runs.specs.Sequence.{Effect}
-use Rattle.ficus_opening.specs.Disks.{AreDisksOf}
+use Rattle.ficus_opening.specs.Disks.{AreDisksOf, ArePairsOf}
 use Rattle.ficus_opening.specs.declared.member.Member.{Member}
 use Rattle.ficus_opening.specs.declared.member.Pending.{Pending}
 use Rattle.ficus_world.specs.declared.member.Rising.{Rising}
@@ -149,34 +149,24 @@ pub record ReopensAt (by : ℕ) (result : Result Saved StoreFault) (old new : Li
   pub after : IsAfterOpening was result now
   pub set : new ≡ slice_set old (by - 1) now
 
+-- whatever old and new members stand so to one another, disks that are those of the old are those of the new
+abbrev pub DisksPass : {K D : Type 0} → Keep K → Disk D → (List Member → List Member → Type 0) → List (Stable K)
+    → List (Stable K) → List (Pair D) → List (Pair D) → Type 0
+DisksPass keep disk Stand old_stables new_stables old_disks new_disks =
+    (old new : List Member) → Stand old new → AreDisksOf keep disk old old_stables old_disks
+    → AreDisksOf keep disk new new_stables new_disks
+
 -- disks that are those of some members are so still
 abbrev pub DisksStay : {K D : Type 0} → Keep K → Disk D → List (Stable K) → List (Stable K) → List (Pair D)
     → List (Pair D) → Type 0
-DisksStay keep disk old_stables new_stables old new =
-    (members : List Member) → AreDisksOf keep disk members old_stables old
-    → AreDisksOf keep disk members new_stables new
+DisksStay keep disk = DisksPass keep disk (λ old new. new ≡ old)
 
--- of whatever members they are, the disks are those of the members after a save, and so are their fuses
-abbrev pub DisksSave : {K D T E : Type 0} → Keep K → Disk D → ℕ → Saved → Result T E → List (Stable K)
-    → List (Stable K) → List (Pair D) → List (Pair D) → Type 0
-DisksSave keep disk by next result old_stables new_stables old_disks new_disks =
-    (old new : List Member) → SavesAt by next result old new → AreDisksOf keep disk old old_stables old_disks
-    → AreDisksOf keep disk new new_stables new_disks
-    × FusesFollow keep disk (save_outcome by result ∷ []) old new old_disks new_disks
-
--- and of the members where the disks of one were opened again
-abbrev pub DisksReopen : {K D : Type 0} → Keep K → Disk D → ℕ → Result Saved StoreFault → List (Stable K)
-    → List (Stable K) → List (Pair D) → List (Pair D) → Type 0
-DisksReopen keep disk by result old_stables new_stables old_disks new_disks =
-    (old new : List Member) → ReopensAt by result old new → AreDisksOf keep disk old old_stables old_disks
-    → AreDisksOf keep disk new new_stables new_disks
-
--- this is a sound member of some whose disks these are
+-- this is a sound member of some whose pairs these are
 pub record IsHeldBy {K D : Type 0} (keep : Keep K) (disk : Disk D) (count events by : ℕ) (members : List Member)
-    (was : Member) (stables : List (Stable K)) (under : List (Pair D)) : Type 0 where
+    (was : Member) (under : List (Pair D)) : Type 0 where
   pub is : IsNumbered members by was
   pub sound : IsSoundMember count events by was
-  pub disks : AreDisksOf keep disk members stables under
+  pub pairs : ArePairsOf keep disk members under
 
 -- What a member that was this one comes to, which events are stored, and what is answered, by what was read of its
 -- disks.

@@ -178,6 +178,12 @@ pub record IsAsking (old : Whole) (by to : ℕ) (was : Member) (asked : Replica)
   pub gives : AskGives was.replica to asked
   pub fits : FitsMessage (length old.members) (ask_of by to asked)
 
+-- so it asks, and this is noted of that
+abbrev pub AsksWith : ℕ → ℕ → List ℕ → Replica → Whole → Type 0
+AsksWith by to noted asked old =
+    (was : Member) × IsAsking old by to was asked
+    × IsSoundNext (length old.members) (length old.events) by noted was.replica asked
+
 -- what a save left, and a post behind it
 abbrev pub saved_then : ℕ → Effect Whole → Effect Whole
 saved_then by left = record { outcomes = IsSaved by ∷ left.outcomes; after = left.after }

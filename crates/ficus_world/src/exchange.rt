@@ -8,9 +8,8 @@ ghost use Rattle.ficus_runs.specs.Sequence.{unchanged};
 ghost use Rattle.std.specs.List.{range_with_len};
 ghost use Rattle.ficus_world.specs.Disks.{Carried, CarriedOn, IsBacked};
 ghost use Rattle.ficus_world.specs.Acts.{Acts};
-ghost use Rattle.ficus_world.specs.Moves.{FetchesBytes, IsAsking, KeepsAsk, MayAsk, ask_of, messages_read};
-ghost use Rattle.ficus_world.specs.World.{IsSoundNext, backed_by, event_limit, most_events};
-ghost use Rattle.ficus_opening.specs.declared.member.Member.{Member as MemberValue};
+ghost use Rattle.ficus_world.specs.Moves.{AsksWith, FetchesBytes, KeepsAsk, MayAsk, ask_of, messages_read};
+ghost use Rattle.ficus_world.specs.World.{backed_by, event_limit, most_events};
 ghost use Rattle.ficus_world.specs.Calls.{AsksPeer, GivesEach, GivesMail, MakesReady};
 
 use crate::World;
@@ -161,9 +160,7 @@ impl<L: Link + Drop> Group<L> {
     fn asking(&self, alloc: Global, by: u8, to: u8) -> Result<(Asking, Vec<u8>), Memory>
         requires room { length self.now.events < event_limit }
         requires may { MayAsk self.now by to }
-        ensures asks { IfOk result (λ asked. (was : MemberValue) × IsAsking self.now by to was asked.0.replica
-            × IsSoundNext (length self.now.members) (length self.now.events) by asked.1.items was.replica
-            asked.0.replica) }
+        ensures asks { IfOk result (λ asked. AsksWith by to asked.1.items asked.0.replica self.now) }
         ensures message { IfOk result (λ asked. asked.0.message.items ≡ message_bytes (ask_of by to asked.0.replica)) }
     {
         let replica = self.member(by).replica.ask(to)?;
@@ -193,9 +190,7 @@ impl<L: Link + Drop> Group<L> {
         requires room { length self.old.events < event_limit }
         requires stables { length stables.old.items ≡ length self.old.members }
         requires backed { IsBacked K.Keep D.Disk (backed_by self.old stables.old.items) disks.old.items }
-        requires asking { (was : MemberValue) × IsAsking self.old by to was asking.replica
-            × IsSoundNext (length self.old.members) (length self.old.events) by noted.items was.replica
-            asking.replica }
+        requires asking { AsksWith by to noted.items asking.replica self.old }
         requires message { asking.message.items ≡ message_bytes (ask_of by to asking.replica) }
         ensures asks { CarriedOn K.Keep D.Disk (KeepsAsk L.tells by to) result self.old self.new disks.old.items
             disks.new.items }

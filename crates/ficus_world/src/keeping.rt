@@ -86,7 +86,7 @@ pub(crate) fn keep<K: Keep + Drop, D: Disk>(
     next: Pending,
 ) -> Result<(), Refusal>
     requires member { IsMember (length members.old.items) by }
-    requires stable { IsMember (length stables.old.items) by }
+    requires stables { length stables.old.items ≡ length members.old.items }
     requires pair { IsMember (length disks.old.items) by }
     requires up { (was : MemberValue) → IsNumbered members.old.items by was → was.state ≡ IsUp }
     requires prepared { (body : List ℕ)
@@ -95,8 +95,7 @@ pub(crate) fn keep<K: Keep + Drop, D: Disk>(
         → Leads body was.replica.saved next.replica.saved) }
     requires room { 1 ≤ history.old.room }
     requires few { length history.old.events < event_limit + most_events }
-    requires disks { AreDisksOf K.Keep D.Disk members.old.items stables.old.items
-        disks.old.items }
+    requires disks { AreDisksOf K.Keep D.Disk members.old.items stables.old.items disks.old.items }
     ensures { KeepsNext K.Keep D.Disk by next result members.old.items members.new.items history.old.events
         history.new.events stables.old.items stables.new.items disks.old.items disks.new.items }
 {

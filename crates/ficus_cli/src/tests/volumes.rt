@@ -48,19 +48,31 @@ const OCCUPIED_AT_2: Status = Status {
     replica: 2,
 };
 
+/// A volume is made.
+const MADE: Call<'static> = Call {
+    words: INIT,
+    lines: "",
+    ended: DONE,
+};
+
+/// A volume isn't opened, since replica 1 has no image, or since replica 2 has none.
+const NOT_OPENED_AT_1: Call<'static> = Call {
+    words: RUN,
+    lines: "1 ls /",
+    ended: NO_IMAGE_AT_1,
+};
+
+const NOT_OPENED_AT_2: Call<'static> = Call {
+    words: RUN,
+    lines: "1 ls /",
+    ended: NO_IMAGE_AT_2,
+};
+
 const DAYS_WORK: Volume = Volume {
     held: &[],
     calls: &[
-        Call {
-            words: RUN,
-            lines: "",
-            ended: NO_IMAGE_AT_1,
-        },
-        Call {
-            words: INIT,
-            lines: "",
-            ended: DONE,
-        },
+        NOT_OPENED_AT_1,
+        MADE,
         Call {
             words: INIT,
             lines: "",
@@ -175,27 +187,15 @@ pull 2 1
 const OTHERS: [Volume; 5] = [
     Volume {
         held: &[DEAD_AT_2],
-        calls: &[Call {
-            words: RUN,
-            lines: "1 ls /",
-            ended: NO_IMAGE_AT_1,
-        }],
+        calls: &[NOT_OPENED_AT_1],
     },
     Volume {
         held: &[LIVE_AT_1],
-        calls: &[Call {
-            words: RUN,
-            lines: "1 ls /",
-            ended: NO_IMAGE_AT_2,
-        }],
+        calls: &[NOT_OPENED_AT_2],
     },
     Volume {
         held: &[LIVE_AT_1, LIVE_AT_1],
-        calls: &[Call {
-            words: RUN,
-            lines: "1 ls /",
-            ended: NO_IMAGE_AT_2,
-        }],
+        calls: &[NOT_OPENED_AT_2],
     },
     Volume {
         held: &[NOTHING, Held { a: b"", b: b"x" }],
@@ -215,11 +215,7 @@ const OTHERS: [Volume; 5] = [
     Volume {
         held: &[NOTHING, NOTHING, NOTHING, Held { a: b"x", b: b"" }],
         calls: &[
-            Call {
-                words: INIT,
-                lines: "",
-                ended: DONE,
-            },
+            MADE,
             Call {
                 words: RUN,
                 lines: "3 ls /\n    ok 0\n4 ls /\n    no member",

@@ -34,6 +34,11 @@ count_both {A} test (one ∷ list) =
     go false is first second rest =
         omega (arith, first, second, rest, ap {B = ℕ} (λ b. cond b 1 0) is, ap {B = ℕ} (λ b. cond (not b) 1 0) is)
 
+-- so neither those that pass nor the others are more than all
+pub count_either : {A : Type 0} (test : A → Bool) (list : List A) (limit : ℕ) → length list < limit
+    → (count_by test list < limit) × (count_by (λ one. not (test one)) list < limit)
+count_either test list limit few = (omega (arith, few, count_both test list), omega (arith, few, count_both test list))
+
 live_so : (entry : Entry) → entry.state ≡ Live → is_live entry ≡ true
 live_so entry live = rw live refl
 

@@ -1,14 +1,13 @@
 -- The mode `volumes`: fresh volumes are made in memory, and a script is run over them.
 use Rattle.std.specs.Prelude.{◌≡◌, ◌⊎◌, ℕ, List, []}
 use Rattle.ficus_ids.specs.Members.{IsMember}
-use Rattle.ficus_model.specs.Lawful.{IsLawful, Volume}
-use Rattle.ficus_model.specs.declared.event.Event.{Event}
+use Rattle.ficus_model.specs.Lawful.{Volume}
 use Rattle.ficus_top.specs.Fresh.{AnswersFresh, AnswersFreshFront}
 use Rattle.ficus_script.specs.VolumeLine.{IsVolumeScript}
 use Rattle.ficus_script.specs.declared.volume_line.VolumeLine.{VolumeLine}
 use Rattle.ficus_words.specs.declared.mode.Size.{Size}
 use Rattle.ficus_top.specs.Grammar.{of_volumes}
-use Rattle.ficus_top.specs.Headline.{IsFinalThroughout, NothingReturns}
+use Rattle.ficus_top.specs.Headline.{IsSound}
 use Rattle.ficus_top.specs.Making.{volume_of}
 use Rattle.ficus_top.specs.Script.{HasIn, ReadsIn}
 use Rattle.ficus_top.specs.Seen.{Seen, left_of, put_after, put_before, script_of}
@@ -16,12 +15,6 @@ use Rattle.ficus_top.specs.declared.status.Status.{Status}
 
 abbrev pub IsVolumesCode : ℕ → Type 0
 IsVolumesCode code = (code ≡ 0) ⊎ (code ≡ 2) ⊎ (code ≡ 3) ⊎ (code ≡ 4) ⊎ (code ≡ 5) ⊎ (code ≡ 8)
-
--- the history is lawful, nothing removed returns in it, and what is given up is given up for good
-pub record IsSound (volume : Volume) (H : List Event) : Type 0 where
-  pub lawful : IsLawful volume H
-  pub no_return : NothingReturns H
-  pub final : IsFinalThroughout volume.members H
 
 -- The bytes are a script over so many volumes, whose lines were answered over fresh ones of this size. The history of
 -- each is sound.

@@ -1,5 +1,5 @@
-use Rattle.std.proofs.Common.{rules, refl, subst}
-use Rattle.ficus_formats.specs.Format.{Fails}
+use Rattle.std.proofs.Common.{rules, subst}
+use Rattle.ficus_formats.specs.Format.{Begins, Fails}
 use Rattle.ficus_formats.proofs.Reading.{passed}
 use Rattle.ficus_codec.specs.Formats.{tables}
 use Rattle.ficus_codec.proofs.tables.read_tables.Goals as goal
@@ -10,11 +10,11 @@ returns-in_err-entries c =
     (subst (λ members. Fails (tables members) c.args.reader.now c.in_err-entries.field-0.0) c.none.ensures
     c.in_err-entries.ensures)
 
-pub of_rows-requires : goal.of_rows-requires
-of_rows-requires c = search rules
+pub tables_of-requires : goal.tables_of-requires
+tables_of-requires c = record { entries = search rules; files = search rules }
 
-pub of_rows-requires-2 : goal.of_rows-requires-2
-of_rows-requires-2 c = search rules
-
-pub same-entries : goal.same-entries
-same-entries c = refl
+pub returns : goal.returns
+returns c =
+    rw (c.in_ok-tables.ensures, c.items.ensures, c.items-2.ensures)
+    (subst (λ members. Begins (tables members) c.args.reader.now (c.in_ok-entries.entries, c.in_ok-entries.files)
+    c.read_rows-2.new.reader) c.none.ensures c.in_ok-entries.ensures)

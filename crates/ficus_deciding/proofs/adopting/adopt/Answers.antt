@@ -1,25 +1,13 @@
-use Rattle.std.proofs.Common.{◌≡◌, Ok, refl, sym, ◌∙◌, inl, inr, rules}
-use Rattle.std.proofs.lemmas.Bool.{false≢true}
-use Rattle.ficus_ids.specs.declared.id.Id.{Id}
+use Rattle.std.proofs.Common.{refl, ap, inl, inr}
 use Rattle.ficus_model.specs.declared.event.Op.TheVariants.{Adopt}
-use Rattle.ficus_path.specs.declared.path.Path.{Path}
 use Rattle.ficus_rules.specs.Adopt.{AdoptRule}
-use Rattle.ficus_rules.specs.Rule.{RefusesNothing}
-use Rattle.ficus_rules.specs.View.{View, IsTakenIn, IsWithinIn}
-use Rattle.ficus_rules.specs.Walk.{ParentRule, last_name}
+use Rattle.ficus_rules.specs.Walk.{ParentRule}
 use Rattle.ficus_rules.proofs.Rules.{behind, passed}
 use Rattle.ficus_rules.proofs.Walks.{parent_never, parent_once}
+use Rattle.ficus_deciding.specs.NewName.{NewNameRule}
 use Rattle.ficus_deciding.specs.View.{tables_view}
-use Rattle.ficus_deciding.proofs.Refusals.{isnt, stopped, wanted}
+use Rattle.ficus_deciding.proofs.Refusals.{isnt, step_stopped, stopped, wanted}
 use Rattle.ficus_deciding.proofs.adopting.adopt.Goals as goal
-
--- where no test of it is met the rule refuses nothing
-adopt_none : (view : View) (orphan : Id) (path : Path) (dir : Id) → view.orphans orphan →
-    ParentRule view path (Ok dir) → (IsWithinIn view orphan dir → ⊥) → (IsTakenIn view dir (last_name path) → ⊥) →
-    (view.spent → ⊥) → RefusesNothing (AdoptRule view orphan path)
-adopt_none view orphan path dir is led outside free left refusal refuses =
-    passed left (passed free (passed outside (behind (parent_once view path) dir led
-    (passed (λ none. none is) refuses))))
 
 pub returns-in_err-dir : goal.returns-in_err-dir
 returns-in_err-dir c =
@@ -47,56 +35,26 @@ returns-then-branch c =
       inr (c.in_ok-dir.dir, c.in_ok-dir.ensures, inl (c.in_ok-is_within.ensures.within.0 c.if-branch.true, refl)),
     )
 
-pub returns-then-is_taken : goal.returns-then-is_taken
-returns-then-is_taken c =
-    inr (
-      c.if-not-is_orphan_here.ensures.0 refl,
-      inr (
-        c.in_ok-dir.dir,
-        c.in_ok-dir.ensures,
-        inr (
-          λ within. false≢true (sym c.if-branch.false ∙ c.in_ok-is_within.ensures.within.1 within),
-          inl (c.if-is_taken.ensures.0 refl, refl),
-        ),
-      ),
-    )
-
-pub returns-then-is_spent : goal.returns-then-is_spent
-returns-then-is_spent c =
-    inr (
-      c.if-not-is_orphan_here.ensures.0 refl,
-      inr (
-        c.in_ok-dir.dir,
-        c.in_ok-dir.ensures,
-        inr (
-          λ within. false≢true (sym c.if-branch.false ∙ c.in_ok-is_within.ensures.within.1 within),
-          inr (isnt c.if-is_taken.ensures, inl (c.if-is_spent.ensures.0 refl, refl)),
-        ),
-      ),
-    )
-
 pub returns-in_err-name : goal.returns-in_err-name
 returns-in_err-name c =
     let view = tables_view c.args.saved.now in
     let path = c.args.path.now in
-    wanted _ (AdoptRule view c.args.orphan path) _ c.from_residual-in_err-name.ensures.1
-    (inl (adopt_none view c.args.orphan path c.in_ok-dir.dir (c.if-not-is_orphan_here.ensures.0 refl)
-    c.in_ok-dir.ensures (λ within. false≢true (sym c.if-branch.false ∙ c.in_ok-is_within.ensures.within.1 within))
-    (isnt c.if-is_taken.ensures) (isnt c.if-is_spent.ensures)))
+    let dir = c.in_ok-dir.dir in
+    let orphan = c.if-not-is_orphan_here.ensures.0 refl in
+    let outside = isnt (rw c.if-branch.false at c.in_ok-is_within.ensures.within) in
+    step_stopped _ (NewNameRule view dir path) (AdoptRule view c.args.orphan path) inl
+    (λ refusal stops. inr (orphan, inr (dir, c.in_ok-dir.ensures, inr (outside, stops))))
+    (λ refusal refuses. passed outside (behind (parent_once view path) dir c.in_ok-dir.ensures
+    (passed (λ none. none orphan) refuses))) _ c.in_err-name.ensures _ c.from_residual-in_err-name.ensures.1
 
 pub returns : goal.returns
 returns c =
-    let named : c.in_ok-name.name ≡ last_name c.args.path.now = search rules in (
+    let outside = isnt (rw c.if-branch.false at c.in_ok-is_within.ensures.within) in
+    let name = c.in_ok-name.ensures in (
       c.if-not-is_orphan_here.ensures.0 refl,
       (
         c.in_ok-dir.dir,
         c.in_ok-dir.ensures,
-        (
-          λ within. false≢true (sym c.if-branch.false ∙ c.in_ok-is_within.ensures.within.1 within),
-          (
-            isnt c.if-is_taken.ensures,
-            (isnt c.if-is_spent.ensures, λ i. Adopt c.args.orphan c.in_ok-dir.dir (named i)),
-          ),
-        ),
+        (outside, (name.0, (name.1.0, ap (Adopt c.args.orphan c.in_ok-dir.dir) name.1.1))),
       ),
     )

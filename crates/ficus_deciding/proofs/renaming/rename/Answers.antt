@@ -1,24 +1,14 @@
-use Rattle.std.proofs.Common.{◌≡◌, Ok, refl, sym, ◌∙◌, inl, inr, rules}
-use Rattle.std.proofs.lemmas.Bool.{false≢true}
+use Rattle.std.proofs.Common.{refl, inl, inr}
 use Rattle.ficus_model.specs.declared.event.Op.TheVariants.{Move}
-use Rattle.ficus_path.specs.declared.path.Path.{Path}
 use Rattle.ficus_rules.specs.Rename.{RenameRule}
-use Rattle.ficus_rules.specs.Rule.{RefusesNothing}
-use Rattle.ficus_rules.specs.View.{View, IsTakenIn, IsWithinIn}
-use Rattle.ficus_rules.specs.Walk.{Places, PlacesRule, last_name}
+use Rattle.ficus_rules.specs.Walk.{PlacesRule}
 use Rattle.ficus_rules.proofs.Rules.{behind, passed}
 use Rattle.ficus_rules.proofs.Walks.{places_never, places_once}
 use Rattle.ficus_deciding.specs.Files.{places_as}
+use Rattle.ficus_deciding.specs.NewName.{NewNameRule}
 use Rattle.ficus_deciding.specs.View.{tables_view}
-use Rattle.ficus_deciding.proofs.Refusals.{isnt, stopped, wanted}
+use Rattle.ficus_deciding.proofs.Refusals.{isnt, step_stopped, stopped, wanted}
 use Rattle.ficus_deciding.proofs.renaming.rename.Goals as goal
-
--- where no test of it is met the rule refuses nothing
-rename_none : (view : View) (from path : Path) (places : Places) → PlacesRule view from path (Ok places) →
-    (IsWithinIn view places.found.object places.dir → ⊥) → (IsTakenIn view places.dir (last_name path) → ⊥) →
-    (view.spent → ⊥) → RefusesNothing (RenameRule view from path)
-rename_none view from path places walked outside free left refusal refuses =
-    passed left (passed free (passed outside (behind (places_once view from path) places walked refuses)))
 
 pub returns-in_err-places : goal.returns-in_err-places
 returns-in_err-places c =
@@ -46,65 +36,45 @@ returns-then-branch c =
       inl (c.in_ok-is_within.ensures.within.0 c.if-branch.true, refl),
     )
 
-pub returns-then-is_taken : goal.returns-then-is_taken
-returns-then-is_taken c =
-    inr (
-      places_as c.in_ok-places.places,
-      c.in_ok-places.ensures.rule,
-      inr (
-        λ within. false≢true (sym c.if-branch.false ∙ c.in_ok-is_within.ensures.within.1 within),
-        inl (c.if-is_taken.ensures.0 refl, refl),
-      ),
-    )
-
-pub returns-then-is_spent : goal.returns-then-is_spent
-returns-then-is_spent c =
-    inr (
-      places_as c.in_ok-places.places,
-      c.in_ok-places.ensures.rule,
-      inr (
-        λ within. false≢true (sym c.if-branch.false ∙ c.in_ok-is_within.ensures.within.1 within),
-        inr (isnt c.if-is_taken.ensures, inl (c.if-is_spent.ensures.0 refl, refl)),
-      ),
-    )
+pub returns-in_err-name : goal.returns-in_err-name
+returns-in_err-name c =
+    let view = tables_view c.args.saved.now in
+    let places = places_as c.in_ok-places.places in
+    let outside = isnt (rw c.if-branch.false at c.in_ok-is_within.ensures.within) in
+    step_stopped _ (NewNameRule view places.dir c.args.path.now) (RenameRule view c.args.from.now c.args.path.now) inl
+    (λ refusal stops. inr (places, c.in_ok-places.ensures.rule, inr (outside, stops)))
+    (λ refusal refuses. passed outside
+    (behind (places_once view c.args.from.now c.args.path.now) places c.in_ok-places.ensures.rule refuses)) _ c.in_err-name.ensures _
+    c.from_residual-in_err-name.ensures.1
 
 pub returns-in_err-entries : goal.returns-in_err-entries
 returns-in_err-entries c =
     let view = tables_view c.args.saved.now in
     let from = c.args.from.now in
     let path = c.args.path.now in
+    let outside = isnt (rw c.if-branch.false at c.in_ok-is_within.ensures.within) in
     wanted _ (RenameRule view from path) _ c.from_residual-in_err-entries.ensures.1
-    (inl (rename_none view from path (places_as c.in_ok-places.places) c.in_ok-places.ensures.rule
-    (λ within. false≢true (sym c.if-branch.false ∙ c.in_ok-is_within.ensures.within.1 within))
-    (isnt c.if-is_taken.ensures) (isnt c.if-is_spent.ensures)))
-
-pub returns-in_err-name : goal.returns-in_err-name
-returns-in_err-name c =
-    let view = tables_view c.args.saved.now in
-    let from = c.args.from.now in
-    let path = c.args.path.now in
-    wanted _ (RenameRule view from path) _ c.from_residual-in_err-name.ensures.1
-    (inl (rename_none view from path (places_as c.in_ok-places.places) c.in_ok-places.ensures.rule
-    (λ within. false≢true (sym c.if-branch.false ∙ c.in_ok-is_within.ensures.within.1 within))
-    (isnt c.if-is_taken.ensures) (isnt c.if-is_spent.ensures)))
+    (inl (λ refusal refuses. passed c.in_ok-name.ensures.1.0 (passed c.in_ok-name.ensures.0 (passed outside
+    (behind (places_once view from path) (places_as c.in_ok-places.places) c.in_ok-places.ensures.rule refuses)))))
 
 pub returns : goal.returns
 returns c =
     let places = places_as c.in_ok-places.places in
-    let listed = rw c.last_name-old.ensures at c.in_ok-entries.ensures in
-    let named : c.in_ok-name.name ≡ last_name c.args.path.now = search rules in (
+    let outside = isnt (rw c.if-branch.false at c.in_ok-is_within.ensures.within) in
+    let name = c.in_ok-name.ensures in
+    let listed = rw c.last_name-old.ensures at c.in_ok-entries.ensures in (
       places,
       c.in_ok-places.ensures.rule,
       (
-        λ within. false≢true (sym c.if-branch.false ∙ c.in_ok-is_within.ensures.within.1 within),
+        outside,
         (
-          isnt c.if-is_taken.ensures,
+          name.0,
           (
-            isnt c.if-is_spent.ensures,
+            name.1.0,
             (
               c.in_ok-entries.entries.items,
               listed,
-              λ i. Move (c.of.ensures i) places.dir (named i) places.found.object,
+              λ i. Move (c.of.ensures i) places.dir (name.1.1 i) places.found.object,
             ),
           ),
         ),

@@ -10,7 +10,7 @@ use Rattle.ficus_rules.proofs.Rules.{refusal_along}
 use Rattle.ficus_rules.proofs.Walks.{versioned_never}
 use Rattle.ficus_deciding.specs.Files.{ResolvedWithin}
 use Rattle.ficus_deciding.specs.View.{tables_view}
-use Rattle.ficus_deciding.proofs.Refusals.{isnt, is_resolved, not_resolved, over_limits, stopped}
+use Rattle.ficus_deciding.proofs.Refusals.{isnt, is_resolved, not_resolved, stopped}
 use Rattle.ficus_deciding.proofs.resolving.resolve.Goals as goal
 
 pub returns-in_err-file : goal.returns-in_err-file
@@ -38,12 +38,12 @@ returns-in_err-bytes c =
     (λ refused. inr (file, walked, inr (conflict, not_resolved view file (Resolve file) _ refused)))
     c.in_err-bytes.ensures)
 
-pub returns-in_err-within_limits : goal.returns-in_err-within_limits
-returns-in_err-within_limits c =
+pub returns-in_err-within : goal.returns-in_err-within
+returns-in_err-within c =
     let view = tables_view c.args.saved.now in
     let file = c.in_ok-file.file.now.id in
     let bytes = c.in_ok-bytes.bytes in
-    let limits = rw c.items.ensures at c.in_err-within_limits.ensures in
+    let limits = rw c.items.ensures at c.in_err-within.ensures in
     stopped _ (LimitsRule view (length bytes) (Gives {B = Unit {0}} tt)) (ResolveRule view c.args.path.now)
     (limits_never {B = Unit {0}} view (length bytes) tt)
     (λ refusal over. inr (
@@ -54,7 +54,7 @@ returns-in_err-within_limits c =
         inr (
           bytes,
           is_resolved view file bytes c.in_ok-bytes.ensures,
-          over_limits view (length bytes) (Resolve file bytes) refusal over,
+          over,
         ),
       ),
-    )) _ limits _ c.from_residual-in_err-within_limits.ensures.1
+    )) _ limits _ c.from_residual-in_err-within.ensures.1

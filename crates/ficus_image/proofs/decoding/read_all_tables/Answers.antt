@@ -1,17 +1,20 @@
-use Rattle.std.proofs.Common.{◌≡◌, false}
-use Rattle.std.specs.Prelude.{◌==◌}
-use Rattle.ficus_formats.proofs.Reading.{passed_all, none_spelled, more_left}
+use Rattle.std.proofs.Common.{rules, subst, Err}
+use Rattle.ficus_formats.specs.Format.{ReadsAll, Spells}
+use Rattle.ficus_formats.proofs.Reading.{passed_all}
 use Rattle.ficus_codec.specs.Formats.{tables}
-use Rattle.ficus_codec.proofs.TableFormats.{unique-tables}
 use Rattle.ficus_image.proofs.decoding.read_all_tables.Goals as goal
 
-pub returns-in_err-tables : goal.returns-in_err-tables
-returns-in_err-tables c =
+pub returns-in_err-entries : goal.returns-in_err-entries
+returns-in_err-entries c =
     passed_all (tables c.args.members) c.args.reader _ _ c.from_residual.ensures.1
-    (none_spelled (tables c.args.members) c.args.reader _ c.in_err-tables.ensures)
+    (subst (λ members. ReadsAll (tables members) c.args.reader (Err c.in_err-entries.field-0.0)) c.none.ensures
+    c.in_err-entries.ensures)
 
-pub returns-else-is_empty : goal.returns-else-is_empty
-returns-else-is_empty c = λ unspelled.
-    more_left (tables c.args.members) c.args.reader c.in_ok-tables.tables _
-    (unique-tables c.args.members c.count.ensures.valid) c.in_ok-tables.ensures
-    (λ none. let no : false ≡ (0 == 0) = rw none at c.if-is_empty.ensures in cc)
+pub tables_of-requires : goal.tables_of-requires
+tables_of-requires c = record { entries = search rules; files = search rules }
+
+pub returns : goal.returns
+returns c =
+    rw (c.in_ok-tables.ensures, c.items.ensures, c.items-2.ensures)
+    (subst (λ members. Spells (tables members) (c.in_ok-entries.entries, c.in_ok-entries.files) c.args.reader)
+    c.none.ensures c.in_ok-entries.ensures)

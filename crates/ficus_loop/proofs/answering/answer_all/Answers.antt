@@ -1,11 +1,11 @@
-use Rattle.std.proofs.Common.{◌≡◌, List, length, take, refl, ◌∙◌, subst, arith}
+use Rattle.std.proofs.Common.{◌≡◌, ◌+◌, ◌*◌, List, take, refl, ◌∙◌, subst, arith}
 use Rattle.std.proofs.lemmas.List.{take_all}
 use Rattle.std.proofs.lemmas.Result.{err_from_is_err_and}
 use Rattle.ficus_script.specs.declared.command.Command.{Command}
 use Rattle.ficus_loop.specs.Serving.{ServesWorld}
 use Rattle.ficus_world.specs.Follows.{TellsFor}
-use Rattle.ficus_opening.specs.Rests.{OthersStay}
-use Rattle.ficus_opening.proofs.Others.{others_none, others_then}
+use Rattle.ficus_loop.specs.SweepFollows.{most_swept}
+use Rattle.ficus_loop.proofs.Backing.{backed_none, backed_then}
 use Rattle.ficus_loop.proofs.Faults.{untold}
 use Rattle.ficus_loop.proofs.Serves.{command_at, world_none, world_more, front_next}
 use Rattle.ficus_loop.proofs.answering.answer_all.Goals as goal
@@ -13,11 +13,7 @@ use Rattle.ficus_loop.proofs.answering.answer_all.Goals as goal
 pub loop-command-init : goal.loop-command-init
 loop-command-init g c = record {
   served = λ told tell volume W stands. world_none W _ _ _ stands;
-  backed = c.requires.backed;
-  members = refl;
-  others = others_none (length c.args.world.now.whole.members) c.args.disks.now.items;
-  pairs = refl;
-  grows = omega arith;
+  disks = backed_none (most_swept * 0) c.args.world.now c.args.disks.now.items c.requires.backed;
   steady = refl;
 }
 
@@ -29,15 +25,7 @@ loop-command-preserved g c = record {
       (c.loop-command.invariant.served told tell volume W stands)
       (c.in_ok-answer_one.ensures.answer told
       (command_at (TellsFor g.D.Disk.tells) _ _ _ c.loop-command-test.true c.command-item.is tell) volume);
-  backed = c.answer_one.ensures.backed;
-  members = c.answer_one.ensures.members ∙ c.loop-command.invariant.members;
-  others =
-      others_then (length c.args.world.now.whole.members) c.args.disks.now.items c.loop-command.disks.items
-      c.answer_one.new.disks.items c.loop-command.invariant.others
-      (subst (λ n. OthersStay n c.loop-command.disks.items c.answer_one.new.disks.items)
-      c.loop-command.invariant.members c.answer_one.ensures.others);
-  pairs = c.answer_one.ensures.pairs ∙ c.loop-command.invariant.pairs;
-  grows = omega arith;
+  disks = backed_then _ (omega arith) c.loop-command.invariant.disks c.answer_one.ensures.disks;
   steady = untold _ _ _ _ _ c.answer_one.ensures.told c.answer_one.ensures.counted c.in_ok-answer_one.was
       ∙ c.loop-command.invariant.steady;
 }
@@ -64,10 +52,8 @@ returns-clause-answers g c = λ told tell volume W stands.
 
 pub returns-in_err-answer_one-clause-others : goal.returns-in_err-answer_one-clause-others
 returns-in_err-answer_one-clause-others g c =
-    others_then (length c.args.world.now.whole.members) c.args.disks.now.items c.loop-command.disks.items
-    c.answer_one.new.disks.items c.loop-command.invariant.others
-    (subst (λ n. OthersStay n c.loop-command.disks.items c.answer_one.new.disks.items)
-    c.loop-command.invariant.members c.answer_one.ensures.others)
+    (backed_then (most_swept * (c.loop-command.command-index + 1)) (omega arith) c.loop-command.invariant.disks
+    c.answer_one.ensures.disks).others
 
 pub returns-clause-others : goal.returns-clause-others
-returns-clause-others g c = c.loop-command.invariant.others
+returns-clause-others g c = c.loop-command.invariant.disks.others

@@ -1,13 +1,12 @@
-use Rattle.std.proofs.Common.{◌≡◌, ◌+◌, ◌*◌, ◌≤◌, length, take}
+use Rattle.std.proofs.Common.{◌≡◌, ◌*◌, take}
 use Rattle.std.specs.Prelude.{All}
 use Rattle.ficus_model.specs.Lawful.{Volume}
 use Rattle.ficus_runs.specs.ModelWorld.{ModelWorld}
+use Rattle.ficus_loop.specs.Calls.{StaysBacked}
 use Rattle.ficus_loop.specs.Serving.{ServesWorld}
 use Rattle.ficus_loop.specs.SweepFollows.{most_swept}
-use Rattle.ficus_world.specs.Disks.{IsBacked}
 use Rattle.ficus_world.specs.Follows.{TellsFor}
-use Rattle.ficus_opening.specs.Rests.{OthersStay}
-use Rattle.ficus_world.specs.World.{WorldStandsFor, foreseen}
+use Rattle.ficus_world.specs.World.{WorldStandsFor}
 use Rattle.ficus_loop.proofs.answering.answer_all.Given as goal
 
 -- the commands so far were served, and the disks are still those of the world; few enough events are foreseen; no fault of
@@ -19,10 +18,6 @@ invariant-loop-command g l = record {
       → ServesWorld g.K.Sink.tells g.P.Keep g.D.Disk volume W l.fn.world.whole
       (take l.command-index l.commands) l.world.whole (g.K.Sink.written l.fn.output) (g.K.Sink.written l.output)
       l.fn.disks.items l.disks.items;
-  backed : IsBacked g.P.Keep g.D.Disk l.world l.disks.items;
-  members : length l.world.whole.members ≡ length l.fn.world.whole.members;
-  others : OthersStay (length l.fn.world.whole.members) l.fn.disks.items l.disks.items;
-  pairs : length l.disks.items ≡ length l.fn.disks.items;
-  grows : foreseen l.world.whole ≤ foreseen l.fn.world.whole + most_swept * l.command-index;
+  disks : StaysBacked g.P.Keep g.D.Disk (most_swept * l.command-index) l.fn.world l.world l.fn.disks.items l.disks.items;
   steady : g.K.Sink.faults l.output ≡ g.K.Sink.faults l.fn.output;
 }

@@ -11,39 +11,39 @@ pub returns-in_err-answer-clause-front : goal.returns-in_err-answer-clause-front
 returns-in_err-answer-clause-front g c = λ told tells_for.
     let p = err_from_is_err_and c.from_residual.result c.from_residual.ensures.1 in
     rw p.1 (λ volume W stands.
-    let on = c.in_err-answer.ensures.stays told volume W stands in
+    let on = c.in_err-answer.ensures.answers.stays told volume W stands in
     world_stopped W c.args.world.now.whole c.args.command.now c.carry_out.new.world.whole _ _
     c.args.disks.now.items c.carry_out.new.disks.items p.2 on
     (λ disks_told. trail_to g.P.Keep g.D.Disk g.met.D.Disk.only_now volume g.L.Link.tells told disks_told W
     c.args.world.now.whole c.carry_out.new.world.whole c.args.disks.now.items c.carry_out.new.disks.items stands
-    c.carry_out.ensures.passes on.stops.after on.stops.stands
+    c.carry_out.ensures.answers.passes on.stops.after on.stops.stands
     (part_extends volume c.args.command.now W
     (record { outcomes = on.outcomes; after = on.stops.after }) on.stops.does) on.stops.stored) refl)
 
 pub returns-clause-answer : goal.returns-clause-answer
 returns-clause-answer g c = λ told tells_for.
     on_ok_weaker c.put_answer.result (λ put volume W stands.
-    let on = c.in_ok-answer.ensures.stands told tells_for volume W stands in
+    let on = c.in_ok-answer.ensures.answers.stands told tells_for volume W stands in
     world_one W c.args.world.now.whole c.args.command.now c.in_ok-answer.answer c.carry_out.new.world.whole
     c.args.disks.now.items c.carry_out.new.disks.items on
     (λ disks_told. trail_to g.P.Keep g.D.Disk g.met.D.Disk.only_now volume g.L.Link.tells told disks_told W
     c.args.world.now.whole c.carry_out.new.world.whole c.args.disks.now.items c.carry_out.new.disks.items stands
-    c.carry_out.ensures.passes on.follows.after on.follows.stands (step_extends on.follows.step) on.follows.stored) _ _
+    c.carry_out.ensures.answers.passes on.follows.after on.follows.stands (step_extends on.follows.step) on.follows.stored) _ _
     put) c.put_answer.ensures.put
 
 pub returns-clause-front : goal.returns-clause-front
 returns-clause-front g c = λ told tells_for.
     if_front c.put_answer.result (λ fault put volume W stands.
-    let on = c.in_ok-answer.ensures.stands told tells_for volume W stands in
+    let on = c.in_ok-answer.ensures.answers.stands told tells_for volume W stands in
     world_front W c.args.world.now.whole c.args.command.now c.in_ok-answer.answer c.carry_out.new.world.whole
     c.args.disks.now.items c.carry_out.new.disks.items on
     (λ disks_told. trail_to g.P.Keep g.D.Disk g.met.D.Disk.only_now volume g.L.Link.tells told disks_told W
     c.args.world.now.whole c.carry_out.new.world.whole c.args.disks.now.items c.carry_out.new.disks.items stands
-    c.carry_out.ensures.passes on.follows.after on.follows.stands (step_extends on.follows.step) on.follows.stored) _ _
+    c.carry_out.ensures.answers.passes on.follows.after on.follows.stands (step_extends on.follows.step) on.follows.stored) _ _
     put) c.put_answer.ensures.front
 
-pub returns-in_err-answer-clause-others : goal.returns-in_err-answer-clause-others
-returns-in_err-answer-clause-others g c = c.carry_out.ensures.others
+pub returns-in_err-answer-clause-disks : goal.returns-in_err-answer-clause-disks
+returns-in_err-answer-clause-disks g c = c.carry_out.ensures.disks
 
-pub returns-clause-others : goal.returns-clause-others
-returns-clause-others g c = c.carry_out.ensures.others
+pub returns-clause-disks : goal.returns-clause-disks
+returns-clause-disks g c = c.carry_out.ensures.disks

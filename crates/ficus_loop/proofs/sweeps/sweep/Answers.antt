@@ -1,13 +1,13 @@
-use Rattle.std.proofs.Common.{Err, length, map, sym, subst, ap, ◌∙◌}
+use Rattle.std.proofs.Common.{Err, map, sym, subst, ap, ◌∙◌}
 use Rattle.std.proofs.lemmas.Result.{err_from_is_err_and}
 use Rattle.ficus_ids.specs.Members.{IsCount}
 use Rattle.ficus_runs.specs.Sweep.{command_of, sweep_steps}
-use Rattle.ficus_loop.specs.SweepFollows.{FollowsSweep}
+use Rattle.ficus_loop.specs.SweepFollows.{FollowsSweep, most_swept}
+use Rattle.ficus_loop.proofs.Backing.{backed_none}
 use Rattle.ficus_loop.proofs.SweepCommands.{commands_of, few_commands, of_sweep}
 use Rattle.ficus_loop.proofs.SweepFollowing.{stops_first, swept_of_result}
 use Rattle.ficus_world.specs.Kills.Passes.{Idles}
 use Rattle.ficus_world.specs.Kills.Touches.{TouchesNone}
-use Rattle.ficus_opening.proofs.Others.{others_none}
 use Rattle.ficus_loop.proofs.sweeps.sweep.Goals as goal
 
 pub returns-in_err-steps-clause-follows : goal.returns-in_err-steps-clause-follows
@@ -50,9 +50,12 @@ returns-clause-swept g c = λ told volume W stands.
     (c.deref.ensures.value ∙ c.in_ok-steps.ensures ∙ ap (λ n. map command_of (sweep_steps c.args.order n))
     (c.count.ensures.value ∙ c.members.ensures ∙ stands.members)) volume W stands)
 
-pub returns-in_err-steps-clause-others : goal.returns-in_err-steps-clause-others
-returns-in_err-steps-clause-others g c =
-    others_none (length c.args.world.now.whole.members) c.args.disks.now.items
+pub returns-in_err-steps-clause-disks : goal.returns-in_err-steps-clause-disks
+returns-in_err-steps-clause-disks g c =
+    backed_none most_swept c.args.world.now c.args.disks.now.items c.requires.backed
+
+pub returns-clause-disks : goal.returns-clause-disks
+returns-clause-disks g c = c.take_steps.ensures.disks
 
 pub settled-requires : goal.settled-requires
 settled-requires g c = c.requires.backed.disks

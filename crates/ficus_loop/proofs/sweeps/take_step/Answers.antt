@@ -4,6 +4,7 @@ use Rattle.ficus_world.specs.Follows.{FollowsOn, StopsOn}
 use Rattle.ficus_runs.specs.Sweep.{command_of}
 use Rattle.ficus_loop.specs.SweepFollows.{FollowsStep, swept_of}
 use Rattle.ficus_loop.proofs.SweepFollowing.{step_stops, step_follows, tells_for}
+use Rattle.ficus_loop.proofs.Backing.{step_backed}
 use Rattle.ficus_loop.proofs.FewSteps.{steps_give_few}
 use Rattle.ficus_loop.proofs.SweepCommands.{is_step}
 use Rattle.ficus_loop.proofs.sweeps.take_step.Goals as goal
@@ -27,6 +28,12 @@ returns-clause-follows g c = λ told sweep_step same volume W stands.
     c.step.new.self.whole c.args.disks.now.items c.step.new.disks.items) same
     (c.in_ok-answer.ensures.stands told (tells_for g.D.Disk.tells sweep_step c.args.step.now same) volume W stands) in
     step_follows sweep_step c.args.report c.in_ok-answer.answer c.report_of.result on c.report_of.ensures.reports
+
+pub returns-in_err-answer-clause-disks : goal.returns-in_err-answer-clause-disks
+returns-in_err-answer-clause-disks g c = step_backed c.step.ensures
+
+pub returns-clause-disks : goal.returns-clause-disks
+returns-clause-disks g c = step_backed c.step.ensures
 
 pub step-requires-clause-step : goal.step-requires-clause-step
 step-requires-clause-step g c = is_step c.args.step.now c.requires.step

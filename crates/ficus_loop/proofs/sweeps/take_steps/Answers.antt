@@ -1,23 +1,19 @@
-use Rattle.std.proofs.Common.{List, length, get_or, Ok, Err, refl, sym, subst, ap, ◌∙◌, arith}
+use Rattle.std.proofs.Common.{◌*◌, List, get_or, Ok, Err, refl, sym, subst, ap, ◌∙◌, arith}
 use Rattle.std.proofs.lemmas.Result.{err_from_is_err_and}
 use Rattle.ficus_runs.specs.Sweep.{SweepStep, Collecting, Sweeps, none_swept}
-use Rattle.ficus_loop.specs.SweepFollows.{FollowsAction, FollowsSweep, IsSweepCommand, swept_of}
+use Rattle.ficus_loop.specs.SweepFollows.{FollowsAction, FollowsSweep, IsSweepCommand, most_swept, swept_of}
+use Rattle.ficus_loop.proofs.Backing.{backed_none, backed_then, backed_within}
 use Rattle.ficus_loop.proofs.SweepFollowing.{all_taken, last_step, next_step, no_steps, step_is, within_steps}
 use Rattle.ficus_world.specs.Kills.Passes.{Idles, Joins}
 use Rattle.ficus_world.specs.Kills.Touches.{TouchesNone}
-use Rattle.ficus_opening.specs.Rests.{OthersStay}
-use Rattle.ficus_opening.proofs.Others.{others_none, others_then}
+use Rattle.ficus_world.specs.World.{most_unforeseen}
 use Rattle.ficus_loop.proofs.sweeps.take_steps.Goals as goal
 
 pub loop-step-init : goal.loop-step-init
 loop-step-init g c = record {
   done = λ told some same volume W stands. no_steps W _ _ stands;
   passes = Idles c.settled.ensures TouchesNone;
-  backed = c.requires.backed;
-  members = refl;
-  others = others_none (length c.args.world.now.whole.members) c.args.disks.now.items;
-  pairs = refl;
-  grows = omega arith;
+  disks = backed_none (most_unforeseen * 0) c.args.world.now c.args.disks.now.items c.requires.backed;
   few = record { pulls = omega arith; entries = omega arith; files = omega arith };
 }
 
@@ -38,15 +34,7 @@ loop-step-preserved g c = record {
       (c.in_ok-report.ensures.follows told (get_or some c.loop-step.step-index (Collecting 0)) is volume
       first.follows.after first.follows.stands) c.in_ok-report.report refl;
   passes = Joins c.loop-step.invariant.passes c.take_step.ensures.passes;
-  backed = c.take_step.ensures.backed;
-  members = c.take_step.ensures.members ∙ c.loop-step.invariant.members;
-  others =
-      others_then (length c.args.world.now.whole.members) c.args.disks.now.items c.loop-step.disks.items
-      c.take_step.new.disks.items c.loop-step.invariant.others
-      (subst (λ n. OthersStay n c.loop-step.disks.items c.take_step.new.disks.items) c.loop-step.invariant.members
-      c.take_step.ensures.others);
-  pairs = c.take_step.ensures.pairs ∙ c.loop-step.invariant.pairs;
-  grows = omega (arith, c.take_step.ensures.grows, c.loop-step.invariant.grows);
+  disks = backed_then _ (omega arith) c.loop-step.invariant.disks c.take_step.ensures.disks;
   few = c.in_ok-report.ensures.few c.loop-step.step-index c.loop-step.invariant.few;
 }
 
@@ -75,15 +63,13 @@ returns-clause-follows g c = λ told some same volume W stands.
 pub returns-in_err-report-clause-passes : goal.returns-in_err-report-clause-passes
 returns-in_err-report-clause-passes g c = Joins c.loop-step.invariant.passes c.take_step.ensures.passes
 
-pub returns-in_err-report-clause-others : goal.returns-in_err-report-clause-others
-returns-in_err-report-clause-others g c =
-    others_then (length c.args.world.now.whole.members) c.args.disks.now.items c.loop-step.disks.items
-    c.take_step.new.disks.items c.loop-step.invariant.others
-    (subst (λ n. OthersStay n c.loop-step.disks.items c.take_step.new.disks.items) c.loop-step.invariant.members
-    c.take_step.ensures.others)
+pub returns-in_err-report-clause-disks : goal.returns-in_err-report-clause-disks
+returns-in_err-report-clause-disks g c =
+    backed_then most_swept (omega arith) c.loop-step.invariant.disks c.take_step.ensures.disks
 
-pub returns-clause-others : goal.returns-clause-others
-returns-clause-others g c = c.loop-step.invariant.others
+pub returns-clause-disks : goal.returns-clause-disks
+returns-clause-disks g c =
+    backed_within most_swept (omega arith) c.loop-step.invariant.disks
 
 pub settled-requires : goal.settled-requires
 settled-requires g c = c.requires.backed.disks

@@ -1,12 +1,11 @@
-use Rattle.std.proofs.Common.{◌≡◌, ◌+◌, ◌*◌, ◌≤◌, List, length, map, take, Ok}
+use Rattle.std.proofs.Common.{◌≡◌, ◌*◌, List, map, take, Ok}
 use Rattle.ficus_model.specs.Lawful.{Volume}
 use Rattle.ficus_runs.specs.ModelWorld.{ModelWorld}
 use Rattle.ficus_runs.specs.Sweep.{SweepStep, Sweeps, command_of, none_swept}
+use Rattle.ficus_loop.specs.Calls.{StaysBacked}
 use Rattle.ficus_loop.specs.SweepFollows.{CountsFew, FollowsAction, swept_of}
-use Rattle.ficus_world.specs.Disks.{IsBacked}
-use Rattle.ficus_opening.specs.Rests.{OthersStay}
 use Rattle.ficus_world.specs.Kills.{Passes}
-use Rattle.ficus_world.specs.World.{WorldStandsFor, foreseen, most_unforeseen}
+use Rattle.ficus_world.specs.World.{WorldStandsFor, most_unforeseen}
 use Rattle.ficus_loop.proofs.sweeps.take_steps.Given as goal
 
 -- the steps so far are done, and the disks are still those of the world; few enough events are foreseen, and none was
@@ -19,10 +18,7 @@ invariant-loop-step g l = record {
       (Sweeps volume (take l.step-index some) none_swept) (Ok (swept_of l.report)) l.world.whole l.fn.disks.items
       l.disks.items;
   passes : Passes g.L.Link.tells g.K.Keep g.D.Disk l.fn.world.whole l.world.whole l.fn.disks.items l.disks.items;
-  backed : IsBacked g.K.Keep g.D.Disk l.world l.disks.items;
-  members : length l.world.whole.members ≡ length l.fn.world.whole.members;
-  others : OthersStay (length l.fn.world.whole.members) l.fn.disks.items l.disks.items;
-  pairs : length l.disks.items ≡ length l.fn.disks.items;
-  grows : foreseen l.world.whole ≤ foreseen l.fn.world.whole + most_unforeseen * l.step-index;
+  disks : StaysBacked g.K.Keep g.D.Disk (most_unforeseen * l.step-index) l.fn.world l.world l.fn.disks.items
+      l.disks.items;
   few : CountsFew l.step-index l.report;
 }

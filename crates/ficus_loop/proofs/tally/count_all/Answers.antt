@@ -1,8 +1,10 @@
-use Rattle.std.proofs.Common.{List, refl, ◌∙◌, subst, arith}
+use Rattle.std.proofs.Common.{◌*◌, List, refl, subst, arith}
 use Rattle.std.proofs.lemmas.List.{take_all}
 use Rattle.ficus_script.specs.declared.command.Command.{Command}
+use Rattle.ficus_loop.specs.SweepFollows.{most_swept}
 use Rattle.ficus_loop.specs.Tally.{Tallies}
 use Rattle.ficus_world.specs.Follows.{TellsFor}
+use Rattle.ficus_loop.proofs.Backing.{backed_none, backed_then}
 use Rattle.ficus_loop.proofs.Serves.{command_at}
 use Rattle.ficus_loop.proofs.Tallying.{tallies_more, tallies_none}
 use Rattle.ficus_loop.proofs.tally.count_all.Goals as goal
@@ -11,10 +13,7 @@ pub loop-command-init : goal.loop-command-init
 loop-command-init g c = record {
   counted = λ told tell volume W stands. tallies_none W _ _ _ stands;
   few = refl;
-  backed = c.requires.backed;
-  members = refl;
-  pairs = refl;
-  grows = omega arith;
+  disks = backed_none (most_swept * 0) c.args.world.now c.args.disks.now.items c.requires.backed;
 }
 
 pub loop-command-preserved : goal.loop-command-preserved
@@ -26,10 +25,7 @@ loop-command-preserved g c = record {
       (c.in_ok-count_one.ensures.answer told
       (command_at (TellsFor g.D.Disk.tells) _ _ _ c.loop-command-test.true c.command-item.is tell) volume);
   few = omega (arith, c.in_ok-count_one.ensures.more, c.loop-command.invariant.few);
-  backed = c.count_one.ensures.backed;
-  members = c.count_one.ensures.members ∙ c.loop-command.invariant.members;
-  pairs = c.count_one.ensures.pairs ∙ c.loop-command.invariant.pairs;
-  grows = omega arith;
+  disks = backed_then _ (omega arith) c.loop-command.invariant.disks c.count_one.ensures.disks;
 }
 
 pub returns : goal.returns

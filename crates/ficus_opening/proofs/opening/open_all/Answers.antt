@@ -5,7 +5,7 @@ use Rattle.ficus_ids.specs.Members.{IsCount}
 use Rattle.ficus_opening.specs.declared.member.Member.{Member as MemberValue}
 use Rattle.ficus_opening.specs.declared.fault.WorldFault.TheVariants.{Memory}
 use Rattle.ficus_runs.proofs.Numbers.{number_exists, number_once}
-use Rattle.ficus_opening.proofs.Openings.{held_of, more_next, next_fails, one_next}
+use Rattle.ficus_opening.proofs.Openings.{held_of, more_next, next_fails, one_next, opened_none}
 use Rattle.ficus_opening.proofs.Others.{others_then, others_within}
 use Rattle.ficus_opening.proofs.Steadies.{number_at, steady_trans}
 use Rattle.ficus_opening.proofs.Rests.{all_rest_then}
@@ -17,7 +17,6 @@ loop-before-init g c = record {
   opened = c.in_ok-open_next.ensures.opened;
   counted =
       c.in_ok-open_next.ensures.members.count ∙ ap (λ (l : List MemberValue). length l + 1) c.in_ok-opened.ensures.members;
-  stables = c.in_ok-open_next.ensures.stables;
   says = λ first one.
       let counted =
       c.in_ok-open_next.ensures.members.count
@@ -25,7 +24,6 @@ loop-before-init g c = record {
       let here =
       number_at c.open_next.new.opened.members.items 0 c.index.result.now (omega (arith, counted)) c.index.ensures in
       ap (λ (m : MemberValue). m.replica.saved.members) (number_once one here) ∙ sym c.count-count.ensures.value;
-  disks = c.in_ok-open_next.ensures.disks;
   same = c.open_next.ensures.looked.same;
   faults = c.in_ok-open_next.ensures.looked.asked.steady;
   armings = c.open_next.ensures.looked.asked.armings;
@@ -38,18 +36,14 @@ pub open_next-requires-in-loop-before-clause-next :
     goal.open_next-requires-in-loop-before-clause-next
 open_next-requires-in-loop-before-clause-next g c = omega (arith, c.loop-before.invariant.counted)
 
-pub open_next-requires-in-loop-before-clause-stables :
-    goal.open_next-requires-in-loop-before-clause-stables
-open_next-requires-in-loop-before-clause-stables g c =
-    c.loop-before.invariant.stables ∙ sym c.loop-before.invariant.counted
+pub open_next-requires-in-loop-before-clause-before :
+    goal.open_next-requires-in-loop-before-clause-before
+open_next-requires-in-loop-before-clause-before g c = c.loop-before.invariant.opened
 
-pub open_next-requires-in-loop-before-clause-opened :
-    goal.open_next-requires-in-loop-before-clause-opened
-open_next-requires-in-loop-before-clause-opened g c = c.loop-before.invariant.opened
-
-pub open_next-requires-in-loop-before-clause-disks :
-    goal.open_next-requires-in-loop-before-clause-disks
-open_next-requires-in-loop-before-clause-disks g c = c.loop-before.invariant.disks
+pub open_next-requires-clause-before : goal.open_next-requires-clause-before
+open_next-requires-clause-before g c =
+    opened_none g.K.Keep g.D.Disk c.in_ok-opened.opened c.args.disks.now.items c.in_ok-opened.ensures.members
+    c.in_ok-opened.ensures.stables
 
 pub loop-before-preserved : goal.loop-before-preserved
 loop-before-preserved g c =
@@ -62,14 +56,12 @@ loop-before-preserved g c =
     record {
       opened = next.opened;
       counted = omega (arith, next.members.count, was.counted);
-      stables = next.stables;
       says = λ first one.
           let there =
           number_exists c.loop-before.opened.members.items 1
           (record { at_least = omega arith; at_most = omega (arith, was.counted, c.loop-before.auto.before) }) in
           ap (λ (m : MemberValue). m.replica.saved.members) (number_once one (next.members.stays 1 there.0 there.1))
           ∙ was.says there.0 there.1;
-      disks = next.disks;
       same = λ told. steady_trans g.D.Disk.seen old mid new (was.same told) (looked.same told);
       faults = steady_trans g.D.Disk.faults old mid new was.faults looked.asked.steady;
       armings = steady_trans g.D.Disk.armings old mid new was.armings looked.asked.armings;
@@ -88,8 +80,6 @@ returns-in_err-opened g c =
       opened = tt;
       counted = tt;
       count = tt;
-      stables = tt;
-      disks = tt;
       image = λ told r is. absurd (cc);
       never = λ r is. absurd (cc);
       others = tt;
@@ -122,9 +112,8 @@ returns-in_err-open_next-2 g c =
     (next_fails fault
     (λ told.
     more_next g.K.Keep.kept g.D.Disk.seen c.one_saved.ensures old mid members c.loop-before.before c.count-count.result
-    (was.same told) was.opened
-    (held_of g.K.Keep g.D.Disk members c.loop-before.opened.stables.items mid (was.stables ∙ sym was.counted) was.opened
-    was.disks told) was.counted c.loop-before.auto.before c.loop-before-test.true
+    (was.same told) was.opened.opened
+    (held_of g.K.Keep g.D.Disk c.loop-before.opened mid was.opened told) was.counted c.loop-before.auto.before c.loop-before-test.true
     (omega (
       arith,
       c.loop-before-test.true,
@@ -155,8 +144,6 @@ returns g c =
       opened = was.opened;
       counted = λ first one. was.says first one ∙ c.count-count.ensures.value ∙ all;
       count = subst IsCount all c.count-count.ensures.valid;
-      stables = was.stables ∙ sym was.counted;
-      disks = was.disks;
       image = λ told r is. absurd (cc);
       never = λ r is. absurd (cc);
       others = others_within c.loop-before.before (length members) c.args.disks.now.items c.loop-before.disks.items

@@ -1,6 +1,6 @@
 use Rattle.std.proofs.Common.{◌≡◌, ℕ, ◌+◌, ◌-◌, ◌<◌, List, length, get_or, subst, sym, ap, ◌∙◌, arith}
 use Rattle.std.specs.Prelude.{Err, slice_set, IsErrOf}
-use Rattle.std.proofs.lemmas.List.{get_or-set_same, length_push}
+use Rattle.std.proofs.lemmas.List.{get_or-set_same}
 use Rattle.std.proofs.lemmas.Result.{err_from_is_err_and}
 use Rattle.ficus_opening.proofs.check.Owning.{holds_same}
 use Rattle.ficus_disk.specs.declared.disk.Disk.{Ghosts as Disk}
@@ -8,7 +8,6 @@ use Rattle.ficus_disk.specs.declared.pair.Pair.{Pair}
 use Rattle.ficus_ids.specs.Members.{IsMember}
 use Rattle.ficus_keeper.specs.declared.keep.Keep.{Ghosts as Keep}
 use Rattle.ficus_runs.specs.Numbered.{IsNumbered}
-use Rattle.ficus_stable_storage.specs.declared.stable.Stable.{Stable}
 use Rattle.ficus_opening.specs.Disks.{are_fused}
 use Rattle.ficus_opening.specs.Calls.{OpensNext}
 use Rattle.ficus_opening.specs.Opening.{DisksLooked, IsBad}
@@ -18,7 +17,7 @@ use Rattle.ficus_opening.specs.declared.fault.WorldFault.{WorldFault}
 use Rattle.ficus_opening.specs.declared.opening.Opened.{Opened}
 use Rattle.ficus_opening.specs.declared.member.Member.{Member as MemberValue}
 use Rattle.ficus_opening.proofs.Faults.{same_err, same_image}
-use Rattle.ficus_opening.proofs.Openings.{disks_more, held_of, none_held, none_may, one_more, opened_more}
+use Rattle.ficus_opening.proofs.Openings.{held_of, more_opened, none_held, none_may, one_more, opened_more}
 use Rattle.ficus_opening.proofs.Steadies.{number_at}
 use Rattle.ficus_opening.proofs.Others.{others_one}
 use Rattle.ficus_opening.proofs.Asking.{err_as, looked_err, looked_one, looked_then, never_store}
@@ -56,8 +55,6 @@ unopened : {K D : Type 0} {keep : Keep K} {disk : Disk D} {number : ℕ} {fault 
 unopened image never others named looked = record {
   opened = tt;
   members = tt;
-  stables = tt;
-  disks = tt;
   image = image;
   never = never;
   others = others;
@@ -99,13 +96,12 @@ returns-then-not-is_of_their_volume g c =
     (λ tells r is.
     let number = same_image c.args.number r (same_err {T = Unit {0}} _ _ is) in
     let held =
-    held_of g.K.Keep g.D.Disk opened.members.items opened.stables.items disks c.requires.stables c.requires.opened
-    c.requires.disks tells in
+    held_of g.K.Keep g.D.Disk opened disks c.requires.before tells in
     let holds =
     holds_same g.K.Keep.kept g.D.Disk.seen pair c.open_one.new.pair read (c.open_one.ensures.looked.same tells)
     (c.in_ok-stable.ensures.ready tells).holds in
     let bad =
-    none_may g.K.Keep.kept g.D.Disk.seen opened.members.items disks c.requires.opened held c.one_saved.ensures
+    none_may g.K.Keep.kept g.D.Disk.seen opened.members.items disks c.requires.before.opened held c.one_saved.ensures
     c.args.number pair read next.at holds c.requires.next c.is_of_their_volume.result
     c.if-not-is_of_their_volume.true (λ none. c.is_of_their_volume.ensures.first (c.deref.ensures.value ∙ none))
     (λ first one. c.is_of_their_volume.ensures.behind first
@@ -138,31 +134,22 @@ returns g c =
     c.requires.pair c.index_mut.ensures.value in
     record {
       opened =
-          rw entered.members
-          (opened_more opened.members.items read c.is_fused-fused.result c.args.number c.requires.next c.requires.opened
-          c.in_ok-stable.ensures.fits c.in_ok-stable.ensures.own
-          (λ first one. (c.is_of_their_volume.ensures.behind first
-          (subst (λ (l : List MemberValue). IsNumbered l 1 first) (sym c.deref.ensures.value) one)).0
-          c.if-not-is_of_their_volume.false));
-      members = rw entered.members (one_more opened.members.items _);
-      stables = omega (
-        arith,
-        ap (λ (l : List (Stable g.row.K.Denot)). length l) entered.stables,
-        length_push opened.stables.items c.in_ok-stable.field-0.stable,
-        c.requires.stables,
-        c.requires.next,
-      );
-      disks =
-          rw (entered.members, entered.stables)
-          (disks_more g.K.Keep g.D.Disk opened.members.items opened.stables.items disks (c.from-index.result - 1) read
-          c.is_fused-fused.result c.in_ok-stable.field-0.stable after c.requires.stables
-          (omega (arith, c.from-index.ensures, c.requires.next)) c.requires.disks
+          more_opened g.K.Keep g.D.Disk opened c.enter.new.opened disks (c.from-index.result - 1) read
+          c.is_fused-fused.result c.in_ok-stable.field-0.stable after c.requires.before
+          (omega (arith, c.from-index.ensures, c.requires.next)) entered.members entered.stables
           (c.is_fused-fused.ensures
           ∙ ap (λ (p : Pair g.row.D.Denot). are_fused g.D.Disk.armings p)
           (c.index.ensures
           ∙ get_or-set_same disks (c.from-index.result - 1) after c.index.result.now
           (omega (arith, c.from-index.ensures, c.requires.pair.at_least, c.requires.pair.at_most))))
-          c.in_ok-stable.ensures.ready);
+          c.in_ok-stable.ensures.ready
+          (rw entered.members
+          (opened_more opened.members.items read c.is_fused-fused.result c.args.number c.requires.next
+          c.requires.before.opened c.in_ok-stable.ensures.fits c.in_ok-stable.ensures.own
+          (λ first one. (c.is_of_their_volume.ensures.behind first
+          (subst (λ (l : List MemberValue). IsNumbered l 1 first) (sym c.deref.ensures.value) one)).0
+          c.if-not-is_of_their_volume.false)));
+      members = rw entered.members (one_more opened.members.items _);
       image = λ tells r is. absurd (cc);
       never = λ r is. absurd (cc);
       others = next.others;

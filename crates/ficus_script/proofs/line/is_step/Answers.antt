@@ -1,20 +1,15 @@
 use Rattle.std.proofs.lemmas.Bool.{false≢true}
 use Rattle.ficus_script.proofs.CommandLaws.{step_line, line_step, no_arguments}
-use Rattle.ficus_script.proofs.Cuts.{cut_line}
 use Rattle.ficus_script.proofs.line.is_step.Goals as goal
 
 pub returns-in-Some : goal.returns-in-Some
-returns-in-Some c =
-    let cut = cut_line c.args.line.now _ _ _ _ c.cut_replica-by.ensures.number
-    c.cut_replica-by.ensures.whole c.cut_replica-by.ensures.none c.cut_at.ensures.front c.cut_at.ensures.whole in (
-      λ yes. step_line c.args.line.now _ _ _ cut _ c.in-Some.ensures (c.is_step_of.ensures.0 yes),
-      λ spelled. c.is_step_of.ensures.1 (line_step c.args.line.now _ _ _ cut _ c.in-Some.ensures spelled),
-    )
+returns-in-Some c = (
+  λ yes. step_line c.args.line.now _ _ _ c.cut_line-by.ensures _ c.in-Some.ensures (c.is_step_of.ensures.0 yes),
+  λ spelled. c.is_step_of.ensures.1 (line_step c.args.line.now _ _ _ c.cut_line-by.ensures _ c.in-Some.ensures spelled),
+)
 
 pub returns-in-None : goal.returns-in-None
-returns-in-None c =
-    let cut = cut_line c.args.line.now _ _ _ _ c.cut_replica-by.ensures.number
-    c.cut_replica-by.ensures.whole c.cut_replica-by.ensures.none c.cut_at.ensures.front c.cut_at.ensures.whole in (
-      λ yes. absurd (false≢true yes),
-      λ spelled. absurd (no_arguments c.args.line.now _ _ _ cut c.in-None.ensures (spelled.0, spelled.1, spelled.2)),
-    )
+returns-in-None c = (
+  λ yes. absurd (false≢true yes),
+  λ spelled. absurd (no_arguments c.args.line.now _ _ _ c.cut_line-by.ensures c.in-None.ensures (spelled.0, spelled.1, spelled.2)),
+)

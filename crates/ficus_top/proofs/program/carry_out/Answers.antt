@@ -1,10 +1,10 @@
 use Rattle.std.proofs.Common.{◌≡◌, refl, sym, subst}
 use Rattle.ficus_words.specs.declared.mode.Mode.{Mode}
 use Rattle.ficus_top.specs.Program.{DoesIn}
-use Rattle.ficus_top.specs.Seen.{Seen}
+use Rattle.ficus_top.specs.Seen.{Seen, seen_of}
 use Rattle.ficus_top.specs.declared.status.Status.{Status}
-use Rattle.ficus_top.proofs.Doing.{EndedAsAny, any_of, armed_nothing, init_ends, init_of, joined_ends, put_nothing, replay_of, run_of, seen_of, status_of, volumes_of}
-use Rattle.ficus_top.proofs.Judging.{check_ends, check_of}
+use Rattle.ficus_top.proofs.Doing.{EndedAsAny, any_of, armed_nothing, init_ends, init_of, joined_ends, joined_used, making_used, put_nothing, replay_of, run_of, status_of, summary_ends, summary_used, used_code, volumes_of}
+use Rattle.ficus_top.proofs.Judging.{check_ends, check_of, check_used}
 use Rattle.ficus_top.proofs.program.carry_out.Goals as goal
 
 -- what is done in this mode is told by the status
@@ -20,9 +20,10 @@ returns-in-Init g c =
     c.args.disks.now c.init.new.disks in
     in_mode seen (status_of c.init.result) c.in-Init.is c.of.ensures (record {
       does = init_of seen c.init.result c.in-Init.size c.init.ensures.kinds refl refl c.init.ensures.unarmed
-          c.init.ensures.failed c.init.ensures.occupied c.init.ensures.occupied_comes c.init.ensures.made
-          c.init.ensures.member c.init.ensures.held c.init.ensures.steady c.init.ensures.spared
-          c.init.ensures.synced c.init.ensures.rests c.init.ensures.partly c.init.ensures.others;
+          c.init.ensures.failed c.init.ensures.makes c.init.ensures.made c.init.ensures.member
+          c.init.ensures.steady c.init.ensures.spared c.init.ensures.synced c.init.ensures.partly
+          c.init.ensures.others;
+      used = used_code seen c.init.result (making_used c.init.result c.init.ensures.kinds);
       ends = init_ends seen c.init.result c.init.ensures.kinds refl refl c.init.ensures.unarmed c.init.ensures.failed;
     })
 
@@ -31,24 +32,18 @@ returns-in-Run g c =
     let seen = seen_of g.S.Source c.args.input.now c.run.new.input g.K.Sink c.args.output.now c.run.new.output g.D.Disk
     c.args.disks.now c.run.new.disks in
     let any : EndedAsAny seen c.run.result = record {
-      used = c.run.ensures.usage;
-      read_fault = c.run.ensures.read_fault;
-      read_fault_comes = c.run.ensures.read_fault_comes;
-      write_fault = c.run.ensures.write_fault;
-      write_fault_comes = c.run.ensures.write_fault_comes;
-      store_fault = c.run.ensures.failed;
+      streams = c.run.ensures.streams;
+      store_fault = c.run.ensures.opens.failed;
       idle = put_nothing _ _ _ _ _ _ c.run.result c.run.ensures.idle;
       unarmed = armed_nothing _ _ _ _ _ _ c.run.result c.run.ensures.idle;
       untouched = c.run.ensures.untouched;
-      pairs = c.run.ensures.pairs;
-      source_counted = c.run.ensures.source_counted;
-      sink_counted = c.run.ensures.sink_counted;
+      pairs = c.run.ensures.opens.pairs;
     } in
     in_mode seen (status_of c.run.result) c.in-Run.is c.of-in-Run.ensures (record {
-      does = run_of seen c.run.result any c.run.ensures.takes c.run.ensures.answers c.run.ensures.prefix
-          c.run.ensures.idle c.run.ensures.image c.run.ensures.image_comes c.run.ensures.never_image
-          c.run.ensures.never_occupied c.run.ensures.spared c.run.ensures.rests c.run.ensures.killed
-          c.run.ensures.front_killed c.run.ensures.earlier c.run.ensures.member c.run.ensures.others;
+      does = run_of seen c.run.result c.run.ensures.usage any c.run.ensures.opens c.run.ensures.takes
+          c.run.ensures.answers c.run.ensures.prefix c.run.ensures.idle c.run.ensures.never_occupied
+          c.run.ensures.killed c.run.ensures.front_killed;
+      used = used_code seen c.run.result c.run.ensures.usage;
       ends = any_of seen c.run.result any;
     })
 
@@ -60,6 +55,8 @@ returns-in-Check g c =
     in_mode seen c.check.result c.in-Check.is refl (record {
       does = check_of seen c.check.result ended.codes refl ended.unwritten ended.silent ended.write_fault
           ended.store_fault ended.unfailed ended.told ended.prefix;
+      used = check_used seen c.check.result ended.codes refl ended.unwritten ended.silent ended.write_fault
+          ended.store_fault;
       ends = check_ends seen c.check.result ended.codes refl ended.unwritten ended.silent ended.write_fault
           ended.store_fault ended.write_fault_comes ended.line ended.replica ended.counted;
     })
@@ -70,24 +67,19 @@ returns-in-Replay g c =
     g.D.Disk
     c.args.disks.now c.replay.new.disks in
     let any : EndedAsAny seen c.replay.result = record {
-      used = c.replay.ensures.usage;
-      read_fault = c.replay.ensures.read_fault;
-      read_fault_comes = c.replay.ensures.read_fault_comes;
-      write_fault = c.replay.ensures.write_fault;
-      write_fault_comes = c.replay.ensures.write_fault_comes;
+      streams = c.replay.ensures.streams;
       store_fault = c.replay.ensures.failed;
       idle = put_nothing _ _ _ _ _ _ c.replay.result c.replay.ensures.idle;
       unarmed = armed_nothing _ _ _ _ _ _ c.replay.result c.replay.ensures.idle;
       untouched = c.replay.ensures.untouched;
       pairs = c.replay.ensures.pairs;
-      source_counted = c.replay.ensures.source_counted;
-      sink_counted = c.replay.ensures.sink_counted;
     } in
     in_mode seen (status_of c.replay.result) c.in-Replay.is c.of-in-Replay.ensures (record {
-      does = replay_of seen c.replay.result c.in-Replay.size any c.replay.ensures.takes c.replay.ensures.answers
-          c.replay.ensures.prefix c.replay.ensures.idle c.replay.ensures.unfailing c.replay.ensures.never_image
-          c.replay.ensures.occupied c.replay.ensures.occupied_comes c.replay.ensures.held c.replay.ensures.spared
-          c.replay.ensures.rests c.replay.ensures.partly c.replay.ensures.member c.replay.ensures.others;
+      does = replay_of seen c.replay.result c.in-Replay.size c.replay.ensures.usage any c.replay.ensures.makes
+          c.replay.ensures.takes c.replay.ensures.answers c.replay.ensures.prefix c.replay.ensures.idle
+          c.replay.ensures.unfailing c.replay.ensures.never_image c.replay.ensures.spared c.replay.ensures.partly
+          c.replay.ensures.member c.replay.ensures.others;
+      used = used_code seen c.replay.result c.replay.ensures.usage;
       ends = any_of seen c.replay.result any;
     })
 
@@ -98,9 +90,27 @@ returns-in-Volumes g c =
     c.args.disks.now c.args.disks.now in
     let ended = c.join.ensures in
     in_mode seen (status_of c.join.result) c.in-Volumes.is c.of-in-Volumes.ensures (record {
-      does = volumes_of seen c.join.result ended.kinds refl ended.read_fault ended.read_fault_comes ended.write_fault
-          ended.write_fault_comes ended.idle ended.source_counted ended.sink_counted c.in-Volumes.size
+      does = volumes_of seen c.join.result ended.kinds refl ended.streams ended.idle c.in-Volumes.size
           c.in-Volumes.count ended.takes ended.answers ended.prefix;
-      ends = joined_ends seen c.join.result ended.kinds refl ended.read_fault ended.read_fault_comes ended.write_fault
-          ended.write_fault_comes ended.idle ended.source_counted ended.sink_counted;
+      used = used_code seen c.join.result (joined_used seen c.join.result ended.kinds refl ended.streams ended.idle);
+      ends = joined_ends seen c.join.result ended.kinds refl ended.streams ended.idle;
+    })
+
+pub returns-in-Gen : goal.returns-in-Gen
+returns-in-Gen g c =
+    let seen = seen_of g.S.Source c.args.input.now c.args.input.now g.K.Sink c.args.output.now c.tell.new.output
+    g.D.Disk c.args.disks.now c.args.disks.now in
+    let ended = c.tell.ensures in
+    in_mode seen c.tell.result c.in-Gen.is refl (record {
+      does = record {
+        codes = ended.codes;
+        unread = refl;
+        untouched = refl;
+        told = ended.told;
+        prefix = ended.prefix;
+        silent = ended.silent;
+      };
+      used = summary_used seen c.tell.result ended.codes;
+      ends = summary_ends seen c.tell.result ended.codes refl refl ended.write_fault ended.write_fault_comes
+          ended.numbers ended.counted;
     })

@@ -1,10 +1,10 @@
-use Rattle.std.proofs.Common.{Err, ap, arith}
+use Rattle.std.proofs.Common.{◌≤◌, Err, ap, length, arith}
 use Rattle.std.proofs.lemmas.Result.{err_from_is_err_and}
 use Rattle.ficus_script.specs.Script.{MayStand}
 use Rattle.ficus_script.specs.VolumeLine.{IsVolumeLine}
 use Rattle.ficus_top.specs.Grammar.{of_volumes}
 use Rattle.ficus_top.proofs.Endings.{takes_in}
-use Rattle.ficus_top.proofs.Lines.{are_lines_of, bad_line_within, volume_lines_within}
+use Rattle.ficus_top.proofs.Lines.{are_lines_of, told_within, volume_lines_within}
 use Rattle.ficus_top.proofs.read.read_volume_lines.Goals as goal
 
 pub returns-in-Ok-clause-each : goal.returns-in-Ok-clause-each
@@ -21,13 +21,10 @@ returns-in-Ok-clause-count g c =
 
 pub overflow_cast-result : goal.overflow_cast-result
 overflow_cast-result g c =
-    let line = c.in-Err-BadLine.line in
-    let bad = c.in-Err-BadLine.ensures.bad_line line (ap Err c.in-Err-BadLine.field-0-is) in
-    omega (
-      arith,
-      bad_line_within (MayStand (IsVolumeLine c.args.volumes)) c.deref.result.now line bad,
-      c.in_ok-bytes.ensures.limit,
-    )
+    let within : c.in-Err-BadLine.line ≤ length c.deref.result.now =
+    told_within (MayStand (IsVolumeLine c.args.volumes)) c.deref.result.now _ c.in-Err-BadLine.line
+    c.in-Err-BadLine.field-0-is c.in-Err-BadLine.ensures.bad_line in
+    omega (arith, within, c.in_ok-bytes.ensures.limit)
 
 pub returns-in_err-bytes-clause-until : goal.returns-in_err-bytes-clause-until
 returns-in_err-bytes-clause-until g c = λ tells.

@@ -1,8 +1,7 @@
 use Rattle.std.proofs.lemmas.Result.{IfErr-weaker, err_from_is_err_and, on_ok_weaker}
-use Rattle.ficus_opening.proofs.Rests.{all_rest_none}
-use Rattle.ficus_opening.proofs.Others.{all_others_rest}
 use Rattle.ficus_top.proofs.Answering.{answers_of, front_of}
 use Rattle.ficus_top.proofs.Kills.{killed_answers, killed_front}
+use Rattle.ficus_top.proofs.Storing.{opening_unread}
 use Rattle.ficus_top.proofs.running.run.Goals as goal
 
 pub returns-clause-answers : goal.returns-clause-answers
@@ -29,12 +28,7 @@ returns-clause-front_killed g c = λ source_tells tells.
     killed_front {new = c.run_on.new.disks.items} (c.in_ok-commands.ensures.script source_tells).1
     c.deref.ensures.value (front answering volume H stands synced)) (c.run_on.ensures.front_killed tells)
 
-pub returns-in_err-commands-clause-rests : goal.returns-in_err-commands-clause-rests
-returns-in_err-commands-clause-rests g c =
+pub returns-in_err-commands-clause-opens : goal.returns-in_err-commands-clause-opens
+returns-in_err-commands-clause-opens g c =
     let given = err_from_is_err_and c.from_residual.result c.from_residual.ensures.1 in
-    rw given.1 (λ idle. all_rest_none g.D.Disk c.args.disks.now.items)
-
-pub returns-in_err-commands-clause-others : goal.returns-in_err-commands-clause-others
-returns-in_err-commands-clause-others g c = λ told first opens.
-    all_others_rest g.D.Disk first.members c.args.disks.now.items c.args.disks.now.items
-    (all_rest_none g.D.Disk c.args.disks.now.items)
+    rw (given.1, given.2) (opening_unread g.D.Disk c.in_err-commands.field-0.0 c.args.disks.now.items)

@@ -1,4 +1,4 @@
-use Rattle.std.proofs.Common.{length, ap, subst, ◌∙◌, arith}
+use Rattle.std.proofs.Common.{Ok, Err, length, ap, ◌∙◌, arith}
 use Rattle.std.specs.List.{range_with_len}
 use Rattle.std.proofs.lemmas.List.{length-map}
 use Rattle.std.proofs.lemmas.List.FromFn.{length-range_with_len}
@@ -7,12 +7,9 @@ use Rattle.ficus_model.specs.declared.event.Event.TheVariants.{Restart}
 use Rattle.ficus_runs.proofs.Up.{up_first}
 use Rattle.ficus_loop.specs.declared.fault.AnsweringFault.{AnsweringFault}
 use Rattle.ficus_top.specs.declared.fault.Fault.TheVariants.{Answering}
-use Rattle.ficus_opening.specs.Rests.{OthersStay}
-use Rattle.ficus_opening.specs.declared.fault.WorldFault.TheVariants.{Image, Store}
-use Rattle.ficus_opening.proofs.Others.{all_others_rest, others_then, stay_rests}
 use Rattle.ficus_top.proofs.Ends.{ends_behind, front_ends_behind, front_ends_where, opened_stands}
 use Rattle.ficus_top.proofs.Resting.{rests_open}
-use Rattle.ficus_top.proofs.Stored.{handed_on, told_on}
+use Rattle.ficus_top.proofs.Storing.{opening_answered, opening_handed}
 use Rattle.ficus_loop.proofs.Opening.{opened_neighbours}
 use Rattle.ficus_top.specs.Summary.Keeper.{kept_in}
 use Rattle.ficus_top.specs.Headline.{fuses_of}
@@ -50,27 +47,6 @@ returns-clause-answers g c = λ told volume H on.
     ends_behind g.D.Disk {mid_disks = c.open.new.disks.items} c.in_ok-world.ensures.steady c.open.ensures.armings rests
     (c.in_ok-answer_on.ensures.answers told volume _ stands (up_first volume.members).each)
 
-pub returns-in_err-answer_on-clause-pairs : goal.returns-in_err-answer_on-clause-pairs
-returns-in_err-answer_on-clause-pairs g c = c.answer_on.ensures.pairs ∙ c.open.ensures.pairs
-
-pub returns-clause-pairs : goal.returns-clause-pairs
-returns-clause-pairs g c = c.answer_on.ensures.pairs ∙ c.open.ensures.pairs
-
-pub returns-in_err-world-clause-image_comes : goal.returns-in_err-world-clause-image_comes
-returns-in_err-world-clause-image_comes g c = λ tells r bad.
-    let given = err_from_is_err_and c.from_residual.result c.from_residual.ensures.1 in
-    told_on c.open.result c.from_residual.result _ _ c.in_err-world.was given.1 given.2 (Image r)
-    (c.open.ensures.image_comes tells r bad)
-
-pub returns-in_err-answer_on-clause-image_comes : goal.returns-in_err-answer_on-clause-image_comes
-returns-in_err-answer_on-clause-image_comes g c = λ tells r bad. absurd (c.in_ok-world.ensures.image_comes tells r bad)
-
-pub returns-in_err-world-clause-spared : goal.returns-in_err-world-clause-spared
-returns-in_err-world-clause-spared g c = λ fault unfailed is.
-    let given = err_from_is_err_and c.from_residual.result c.from_residual.ensures.1 in
-    c.open.ensures.spared fault unfailed
-    (handed_on c.open.result c.from_residual.result _ _ c.in_err-world.was given.1 given.2 fault is)
-
 pub returns-clause-killed : goal.returns-clause-killed
 returns-clause-killed g c = λ told volume H on synced.
     let stands = opened_stands H _ c.new.ensures.total (c.in_ok-world.ensures.stands told volume H on) in
@@ -104,39 +80,19 @@ returns-in_err-answer_on-clause-front_killed g c = λ told.
           c.open.new.disks.items on synced c.open.ensures.rests) ran.runs;
     })
 
-pub returns-in_err-world-clause-rests : goal.returns-in_err-world-clause-rests
-returns-in_err-world-clause-rests g c =
+pub returns-in_err-world-clause-opens : goal.returns-in_err-world-clause-opens
+returns-in_err-world-clause-opens g c =
     let given = err_from_is_err_and c.from_residual.result c.from_residual.ensures.1 in
-    rw given.1 (λ idle. c.open.ensures.rests)
+    opening_handed g.D.Disk c.open.result c.from_residual.result _ _ c.in_err-world.was given.1 given.2 c.open.ensures
 
-pub returns-in_err-world-clause-earlier : goal.returns-in_err-world-clause-earlier
-returns-in_err-world-clause-earlier g c = λ tells q r is.
-    let given = err_from_is_err_and c.from_residual.result c.from_residual.ensures.1 in
-    c.open.ensures.earlier tells q r
-    (handed_on c.open.result c.from_residual.result _ _ c.in_err-world.was given.1 given.2 (Store q) is)
+pub returns-in_err-answer_on-clause-opens : goal.returns-in_err-answer_on-clause-opens
+returns-in_err-answer_on-clause-opens g c =
+    let given = err_from_is_err_and c.from_residual-in_err-answer_on.result
+    c.from_residual-in_err-answer_on.ensures.1 in
+    rw (given.1, given.2)
+    (opening_answered g.D.Disk (Err (Answering c.in_err-answer_on.field-0.0)) tt c.in_ok-world.ensures
+    c.answer_on.ensures.others c.answer_on.ensures.pairs)
 
-pub returns-in_err-world-clause-member : goal.returns-in_err-world-clause-member
-returns-in_err-world-clause-member g c = λ tells r is.
-    let given = err_from_is_err_and c.from_residual.result c.from_residual.ensures.1 in
-    c.open.ensures.member tells r
-    (handed_on c.open.result c.from_residual.result _ _ c.in_err-world.was given.1 given.2 (Store r) is)
-
-pub returns-in_err-world-clause-others : goal.returns-in_err-world-clause-others
-returns-in_err-world-clause-others g c = λ told first opens.
-    all_others_rest g.D.Disk first.members c.args.disks.now.items c.open.new.disks.items c.open.ensures.rests
-
-pub returns-in_err-answer_on-clause-others : goal.returns-in_err-answer_on-clause-others
-returns-in_err-answer_on-clause-others g c = λ told first opens.
-    stay_rests g.D.Disk first.members c.args.disks.now.items c.answer_on.new.disks.items
-    (subst (λ n. OthersStay n c.args.disks.now.items c.answer_on.new.disks.items)
-    (c.in_ok-world.ensures.counted told first opens)
-    (others_then (length c.in_ok-world.world.whole.members) c.args.disks.now.items c.open.new.disks.items
-    c.answer_on.new.disks.items c.in_ok-world.ensures.others c.answer_on.ensures.others))
-
-pub returns-clause-others : goal.returns-clause-others
-returns-clause-others g c = λ told first opens.
-    stay_rests g.D.Disk first.members c.args.disks.now.items c.answer_on.new.disks.items
-    (subst (λ n. OthersStay n c.args.disks.now.items c.answer_on.new.disks.items)
-    (c.in_ok-world.ensures.counted told first opens)
-    (others_then (length c.in_ok-world.world.whole.members) c.args.disks.now.items c.open.new.disks.items
-    c.answer_on.new.disks.items c.in_ok-world.ensures.others c.answer_on.ensures.others))
+pub returns-clause-opens : goal.returns-clause-opens
+returns-clause-opens g c =
+    opening_answered g.D.Disk (Ok tt) tt c.in_ok-world.ensures c.answer_on.ensures.others c.answer_on.ensures.pairs

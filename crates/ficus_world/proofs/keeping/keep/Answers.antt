@@ -1,10 +1,15 @@
-use Rattle.std.proofs.Common.{Err, Ok, refl}
+use Rattle.std.proofs.Common.{Err, Ok, refl, subst, sym}
+use Rattle.ficus_ids.specs.Members.{IsMember}
 use Rattle.ficus_stable_storage.proofs.leads.Led.{led_next}
 use Rattle.ficus_runs.proofs.Numbers.{number_exists}
+use Rattle.ficus_opening.proofs.Openings.{pairs_of}
 use Rattle.ficus_world.specs.World.{whole_of}
 use Rattle.ficus_world.proofs.Saves.{saves_held, saves_pending, up_ready}
 use Rattle.ficus_world.proofs.Kills.{writes_at}
 use Rattle.ficus_world.proofs.keeping.keep.Goals as goal
+
+pub commit_at-requires-clause-member : goal.commit_at-requires-clause-member
+commit_at-requires-clause-member g c = subst (λ n. IsMember n c.args.by) (sym c.requires.stables) c.requires.member
 
 pub commit_at-requires-clause-prepared : goal.commit_at-requires-clause-prepared
 commit_at-requires-clause-prepared g c =
@@ -27,12 +32,15 @@ returns-in-Ok g c =
     let was = number_exists old c.args.by c.requires.member in
     let up = c.requires.up was.0 was.1 in
     let set = c.hold.ensures was.0 was.1 in
-    let saved =
-    c.in-Ok.ensures.disks old new (saves_held c.args.by c.args.next was.0 was.1 up _ tt set) c.requires.disks in
+    let own = pairs_of g.K.Keep g.D.Disk old c.args.stables.now.items c.args.disks.now.items c.requires.stables
+    c.requires.disks in
     record {
       held = c.hold.ensures;
       stored = c.push.ensures.events;
-      followed = record { disks = c.in-Ok.ensures.follows; fuses = saved.1 };
+      followed = record {
+        disks = c.in-Ok.ensures.follows;
+        fuses = c.in-Ok.ensures.fuses old new (saves_held c.args.by c.args.next was.0 was.1 up _ tt set) own;
+      };
       pending = tt;
       kept = tt;
       counted = tt;
@@ -40,9 +48,9 @@ returns-in-Ok g c =
       writes = λ post after.
           writes_at g.K.Keep g.D.Disk c.args.by {T = Unit {0}} {E = Unit {0}} {result = Ok tt}
           (whole_of old c.args.history.now.events post) (whole_of new c.push.new.self.events after) c.args.next.event
-          (saves_held c.args.by c.args.next was.0 was.1 up _ tt set) c.push.ensures.events tt c.requires.disks
-          c.requires.stable (λ was is. led_next _ _ _ (c.requires.prepared.2 was is)) c.commit_at.ensures.saves;
-      disks = saved.0;
+          (saves_held c.args.by c.args.next was.0 was.1 up _ tt set) c.push.ensures.events tt own
+          (λ was is. led_next _ _ _ (c.requires.prepared.2 was is)) c.commit_at.ensures.saves;
+      disks = c.in-Ok.ensures.disks old new (saves_held c.args.by c.args.next was.0 was.1 up _ tt set) c.requires.disks;
       count = c.commit_at.ensures.count;
     }
 
@@ -53,21 +61,24 @@ returns-in-Err g c =
     let was = number_exists old c.args.by c.requires.member in
     let up = c.requires.up was.0 was.1 in
     let set = c.put_down.ensures was.0 was.1 in
-    let saved =
-    c.in-Err.ensures.disks old new (saves_pending c.args.by c.args.next was.0 was.1 up _ set) c.requires.disks in
+    let own = pairs_of g.K.Keep g.D.Disk old c.args.stables.now.items c.args.disks.now.items c.requires.stables
+    c.requires.disks in
     record {
       held = tt;
       stored = tt;
       followed = tt;
       pending = c.put_down.ensures;
       kept = refl;
-      counted = record { disks = c.in-Err.ensures.follows; fuses = saved.1 };
+      counted = record {
+        disks = c.in-Err.ensures.follows;
+        fuses = c.in-Err.ensures.fuses old new (saves_pending c.args.by c.args.next was.0 was.1 up _ set) own;
+      };
       refused = refl;
       writes = λ post after.
           writes_at g.K.Keep g.D.Disk c.args.by {T = Unit {0}} {E = Unit {0}} {result = Err tt}
           (whole_of old c.args.history.now.events post) (whole_of new c.args.history.now.events after) c.args.next.event
-          (saves_pending c.args.by c.args.next was.0 was.1 up tt set) tt refl c.requires.disks c.requires.stable
+          (saves_pending c.args.by c.args.next was.0 was.1 up tt set) tt refl own
           (λ was is. led_next _ _ _ (c.requires.prepared.2 was is)) c.commit_at.ensures.saves;
-      disks = saved.0;
+      disks = c.in-Err.ensures.disks old new (saves_pending c.args.by c.args.next was.0 was.1 up _ set) c.requires.disks;
       count = c.commit_at.ensures.count;
     }

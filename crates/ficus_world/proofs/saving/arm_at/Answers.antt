@@ -29,8 +29,8 @@ returns g c =
         rests = rests_calls g.D.Disk g.met.D.Disk.left_now pair (record { a = c.arm.new.self; b = c.arm-2.new.self })
             a.keeps.crash b.keeps.crash a.keeps.moments b.keeps.moments;
       };
-      disks = λ stables members are.
+      disks = λ stables.
           disks_armed g.K.Keep g.D.Disk c.args.by pair _ is_pair a.arms b.arms
           (λ told. record { a = a.keeps.seen told; b = b.keeps.seen told })
-          (record { a = a.keeps.crash; b = b.keeps.crash }) members are;
+          (record { a = a.keeps.crash; b = b.keeps.crash });
     }

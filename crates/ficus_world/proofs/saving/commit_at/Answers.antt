@@ -28,19 +28,19 @@ returns g c =
     (sym c.index_mut.ensures.value) in
     let is_pair = number_read c.args.disks.now.items c.args.by pair _ c.requires.pair (sym c.index_mut-2.ensures.value) in
     record {
-      disks = λ old new saves are.
+      disks =
+          disks_saved g.K.Keep g.D.Disk c.args.by c.args.next.now c.commit.result _ _ _ _ is_stable is_pair
+          commits.armings commits.ready commits.crash;
+      fuses = λ old new saves own.
+          let of = own.each c.args.by saves.was pair saves.is is_pair in
           let holds : g.D.Disk.tells → Holds (found_in g.K.Keep.kept g.D.Disk.seen pair) saves.was.replica.saved = λ told.
-          (up_ready g.K.Keep g.D.Disk saves.was stable pair saves.up
-          ((are.each c.args.by saves.was _ _ saves.is is_stable is_pair).holds told)).holds in (
-            disks_saved g.K.Keep g.D.Disk c.args.by c.args.next.now c.commit.result _ _ _ _ is_stable is_pair
-                commits.armings commits.ready commits.crash saves are,
-            fuses_saved g.K.Keep g.D.Disk c.args.by c.args.next.now pair c.commit.new.disks is_pair
-                g.met.D.Disk.seen_may_be_left commits.regular c.commit.result saves
-                (λ told. let follows = c.requires.prepared.2 told _ _ is_stable is_pair in
-                led_next _ _ _ follows.leads
-                ∙ ap (λ n. n + 1) (same_generation _ follows.saved saves.was.replica.saved follows.ready.holds (holds told)))
-                (λ fused told regular. commits.by_fuse fused told regular saves.was.replica.saved (holds told)),
-          );
+          (up_ready g.K.Keep g.D.Disk saves.was of.0 pair saves.up (of.1.holds told)).holds in
+          fuses_saved g.K.Keep g.D.Disk c.args.by c.args.next.now pair c.commit.new.disks is_pair
+          g.met.D.Disk.seen_may_be_left commits.regular c.commit.result saves
+          (λ told. let follows = c.requires.prepared.2 told _ _ is_stable is_pair in
+          led_next _ _ _ follows.leads
+          ∙ ap (λ n. n + 1) (same_generation _ follows.saved saves.was.replica.saved follows.ready.holds (holds told)))
+          (λ fused told regular. commits.by_fuse fused told regular saves.was.replica.saved (holds told));
       follows = save_follows c.args.by is_pair c.commit.result commits.risen commits.armings commits.failed;
       saves = record {
         was = pair;

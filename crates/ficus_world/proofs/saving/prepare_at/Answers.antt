@@ -1,6 +1,6 @@
 use Rattle.std.proofs.Common.{◌-◌, sym, ◌∙◌, refl}
 use Rattle.std.proofs.lemmas.List.{length-set}
-use Rattle.ficus_world.proofs.Disks.{disks_set, follows_at, fused_same, holds_still, pair_follows_none}
+use Rattle.ficus_world.proofs.Disks.{disks_set, follows_at, fused_same, holds_still, pair_follows_none, same_numbered}
 use Rattle.ficus_runs.proofs.Numbers.{number_read}
 use Rattle.ficus_world.proofs.Fuses.{fuses_prepared}
 use Rattle.ficus_opening.proofs.Rests.{rests_pair}
@@ -13,10 +13,11 @@ returns-clause-stays g c =
     let is_pair = number_read c.args.disks.now.items c.args.by c.index_mut-2.result.now _ c.requires.pair
     (sym c.index_mut-2.ensures.value) in
     record {
-      disks = λ members are.
-          disks_set c.args.by (λ r x differs is. is) are c.prepare.new.self c.prepare.new.disks c.requires.member.at_least
-          (λ member is.
-          let was = are.each c.args.by member _ _ is is_stable is_pair in
+      disks =
+          disks_set c.args.by (λ old new stay r x differs is. same_numbered r x stay is) c.prepare.new.self
+          c.prepare.new.disks c.requires.member.at_least
+          (λ old new stay own member is.
+          let was = own member _ _ (same_numbered c.args.by member stay is) is_stable is_pair in
           record {
             fused = was.fused ∙ sym (fused_same g.D.Disk.armings c.prepare.ensures.armings);
             holds = λ told. holds_still g.K.Keep g.D.Disk member.state

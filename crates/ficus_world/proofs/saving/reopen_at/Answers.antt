@@ -50,20 +50,20 @@ returns-in-Ok g c =
     record {
       fits = found.fits;
       read = λ told count events members was held.
-          let of = held.disks.each c.args.by was stable.0 pair held.is stable.1 is_pair in
-          read_is g.K.Keep g.D.Disk c.one_saved.ensures count events c.args.by was held.sound stable.0 pair now
-          (opens.left told) (of.holds told) c.in-Ok.found.saved (found.ready told).holds;
+          let of = held.pairs.each c.args.by was pair held.is is_pair in
+          read_is g.K.Keep g.D.Disk c.one_saved.ensures count events c.args.by was held.sound of.0 pair now
+          (opens.left told) (of.1.holds told) c.in-Ok.found.saved (found.ready told).holds;
       disks =
           disks_read g.K.Keep g.D.Disk c.args.by c.in-Ok.found.saved stable.0 c.in-Ok.found.stable pair now stable.1
           is_pair opens.armings opens.crash found.ready;
       never = λ fused is. absurd (cc);
       by_fuse = λ fused told count events members was F held stand.
-          let of = held.disks.each c.args.by was stable.0 pair held.is stable.1 is_pair in
+          let of = held.pairs.each c.args.by was pair held.is is_pair in
           let holds = (found.ready told).holds in
           fuses_read g.K.Keep g.D.Disk c.one_saved.ensures c.args.by members c.args.disks.now.items was pair now
           c.in-Ok.found.saved F held.is is_pair holds
-          (read_is g.K.Keep g.D.Disk c.one_saved.ensures count events c.args.by was held.sound stable.0 pair now
-          (opens.left told) (of.holds told) c.in-Ok.found.saved holds)
+          (read_is g.K.Keep g.D.Disk c.one_saved.ensures count events c.args.by was held.sound of.0 pair now
+          (opens.left told) (of.1.holds told) c.in-Ok.found.saved holds)
           opens.crash (opens.by_fuse fused told) stand;
       opened = λ is. absurd (cc);
       follows = follows is_pair opens;
@@ -82,10 +82,9 @@ returns-in-Err g c =
     record {
       fits = tt;
       read = λ told count events members was held.
-          let stable = number_exists c.args.stables.now.items c.args.by c.requires.member in
-          let of = held.disks.each c.args.by was stable.0 pair held.is stable.1 is_pair in
-          some_image g.K.Keep g.D.Disk c.one_saved.ensures count events c.args.by was held.sound stable.0 pair now
-          (opens.left told) (of.holds told) c.in-Err.fault (λ same. fails.none told (ap Err same));
+          let of = held.pairs.each c.args.by was pair held.is is_pair in
+          some_image g.K.Keep g.D.Disk c.one_saved.ensures count events c.args.by was held.sound of.0 pair now
+          (opens.left told) (of.1.holds told) c.in-Err.fault (λ same. fails.none told (ap Err same));
       disks = disks_not_read g.K.Keep g.D.Disk c.args.by c.in-Err.fault pair now is_pair opens.armings opens.crash
           opens.left;
       never = λ fused is. let same : c.in-Err.fault ≡ Failed = cc in fails.never fused (ap Err same);

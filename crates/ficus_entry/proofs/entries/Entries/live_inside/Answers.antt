@@ -1,7 +1,5 @@
-use Rattle.std.proofs.Common.{arith}
 use Rattle.ficus_entry.specs.Inside.{HasLiveInside}
-use Rattle.ficus_entry.proofs.Within.{MatchOption-weaker, is_some_where, between_ranks}
-use Rattle.ficus_index.specs.PlaceLaws.{digest_small}
+use Rattle.ficus_entry.proofs.Within.{MatchOption-weaker, is_some_where, between_all}
 use Rattle.ficus_entry.proofs.entries.Entries.live_inside.Goals as goal
 
 pub returns : goal.returns
@@ -11,7 +9,6 @@ returns c =
     (MatchOption-weaker found c.first.ensures.some (λ t. t)
     (λ entry is. record { entry = entry.now; inside = is.0; live = is.1.0; in_dir = is.1.1 }))
     (MatchOption-weaker found c.first.ensures.none (λ none live.
-    let small = digest_small live.entry.name in
     none live.entry live.inside (live.live, live.in_dir)
-    (between_ranks c.args.dir 0 2147483648 live.entry live.in_dir (omega arith) (omega (arith, small))))
+    (rw (c.first_place.ensures, c.place_behind.ensures) (between_all c.args.dir live.entry live.in_dir)))
     (λ x t. t))

@@ -1,9 +1,10 @@
-use Rattle.std.proofs.Common.{◌≡◌, ◌+◌, arith}
+use Rattle.std.proofs.Common.{◌≡◌, ◌+◌, ◌≤◌, length, arith}
 use Rattle.std.proofs.lemmas.Grind.{common_steps}
 use Rattle.ficus_persistent.proofs.Cuts.{parted_in, cut_in_row}
 use Rattle.ficus_persistent.proofs.Rows.{length-joined_more, length_in_front}
 use Rattle.ficus_persistent.specs.Shape.{joined}
 use Rattle.ficus_persistent.proofs.tree.Tree.+partition_point.Goals as goal
+use Rattle.ficus_persistent.proofs.tree.Tree.+partition_point.Goals.{After-partition_point}
 
 pub count_of-before-requires : goal.count_of-before-requires
 count_of-before-requires g t c =
@@ -27,8 +28,10 @@ partition_point-requires g t c κs within =
       ),
     )
 
-pub overflow_add-result : goal.overflow_add-result
-overflow_add-result g t c =
+-- the place in the tree is, behind the items in front of it, one in the row
+within : (g : _) (t : _) (c : After-partition_point g t) →
+    c.count_of-before.result + c.partition_point.result ≤ length c.args.self.now.items
+within g t c =
     let row = c.as_slice-below.result.now in
     let is : c.args.self.now.items ≡ joined row = grind arith in
     let i = c.cut_through-child.result in
@@ -40,18 +43,11 @@ overflow_add-result g t c =
       is,
     )
 
+pub overflow_add-result : goal.overflow_add-result
+overflow_add-result g t c = let inside = within g t (goal.at.overflow_add-result g t c).After-partition_point in omega arith
+
 pub returns-in-Fork-clause-within : goal.returns-in-Fork-clause-within
-returns-in-Fork-clause-within g t c =
-    let row = c.as_slice-below.result.now in
-    let is : c.args.self.now.items ≡ joined row = grind arith in
-    let i = c.cut_through-child.result in
-    grind (
-      arith,
-      length-joined_more row i c.index-below-child.result c.cut_through-child.ensures.child,
-      length_in_front row (i + 1),
-      c.index-below-child.is,
-      is,
-    )
+returns-in-Fork-clause-within g t c = within g t (goal.at.returns-in-Fork-clause-within g t c).After-partition_point
 
 pub returns-in-Fork-clause-point : goal.returns-in-Fork-clause-point
 returns-in-Fork-clause-point g t c =

@@ -1,4 +1,4 @@
-use Rattle.std.proofs.Common.{◌≤◌, length, vec_capacity, arith, sym, subst}
+use Rattle.std.proofs.Common.{◌≤◌, length, vec_capacity, arith, refl, sym, subst}
 use Rattle.ficus_ids.specs.Rising.{IsRisingBy}
 use Rattle.ficus_table.specs.Edits.{IsMadeAtOnce}
 use Rattle.ficus_table.proofs.Shown.{overlaid_none}
@@ -14,11 +14,13 @@ invariant_of-self g c =
     (sound_fresh g.R.Row.id_of g.R.Row.seen g.R.Row.formed list (vec_capacity c.clear.new.self) c.requires room
     (subst IsMadeAtOnce (sym c.clear.ensures.capacity) c.self.invariant.made))
 
-pub returns-clause-items : goal.returns-clause-items
-returns-clause-items g c = rw c.clear.ensures.items (overlaid_none g.R.Row.formed g.R.Row.seen c.args.list)
-
-pub returns-clause-rising : goal.returns-clause-rising
-returns-clause-rising g c =
-    rw c.clear.ensures.items
-    (subst (IsRisingBy g.R.Row.id_of) (sym (overlaid_none g.R.Row.formed g.R.Row.seen c.args.list))
-    (rising_seen g.R.Row.id_of g.R.Row.seen g.R.Row.formed c.args.list c.requires))
+pub returns : goal.returns
+returns g c =
+    let same = overlaid_none g.R.Row.formed g.R.Row.seen c.args.list in
+    record {
+      items = rw c.clear.ensures.items same;
+      edited = rw c.clear.ensures.items refl;
+      kept = tt;
+      rising = rw c.clear.ensures.items (subst (IsRisingBy g.R.Row.id_of) (sym same)
+          (rising_seen g.R.Row.id_of g.R.Row.seen g.R.Row.formed c.args.list c.requires));
+    }

@@ -4,14 +4,12 @@ use Rattle.ficus_runs.specs.Numbered.{IsNumbered}
 use Rattle.ficus_world.specs.World.{Whole, backed_by, whole_of}
 use Rattle.ficus_world.proofs.Fuses.{comes_then}
 use Rattle.ficus_world.proofs.Sending.{as_reserved}
-use Rattle.ficus_world.proofs.Keeps.{kept_advanced, kept_count, kept_downed, kept_grows, kept_world, refused_not, saves_next}
+use Rattle.ficus_world.proofs.Kills.{rests_then_writes}
+use Rattle.ficus_world.proofs.Keeps.{kept_advanced, kept_downed, kept_world, refused_not, saves_next}
 use Rattle.std.proofs.Common.{List, length, subst}
 use Rattle.ficus_model.specs.declared.event.Event.{Event}
-use Rattle.ficus_world.specs.Kills.{WritesAt}
-use Rattle.ficus_ids.specs.Members.{IsMember}
-use Rattle.ficus_world.proofs.Kills.{rests_then_writes}
 use Rattle.ficus_world.specs.Acts.{Acts}
-use Rattle.ficus_world.proofs.Acting.{acts_none, ready_acts, saved_acts}
+use Rattle.ficus_world.proofs.Acting.{acts_none, kept_acts, ready_acts}
 use Rattle.ficus_world.proofs.group.Group.save.Goals as goal
 
 pub prepare_at-requires-clause-fits : goal.prepare_at-requires-clause-fits
@@ -46,17 +44,6 @@ returns g c =
     let stored = rw c.reserve.ensures.events at c.keep.ensures.stored in
     let kept = rw c.reserve.ensures.events at c.keep.ensures.kept in
     let before = c.prepare_at.ensures.stays.follows c.self.inside.members.items in
-    let new = whole_of c.keep.new.members.items c.keep.new.history.events c.self.inside.post.now in
-    let is = rw (← c.self.view_is) at c.requires.up.is in
-    let backed = rw (← c.self.view_is) at c.requires.backed in
-    let stays = c.prepare_at.ensures.stays in
-    let writes = subst (λ (events : List Event). WritesAt g.K.Keep g.D.Disk c.args.by
-    (whole_of c.self.inside.members.items events c.self.inside.post.now) new c.prepare_at.new.disks.items
-    c.keep.new.disks.items) c.reserve.ensures.events
-    (c.keep.ensures.writes c.self.inside.post.now c.self.inside.post.now) in
-    let stable : IsMember (length c.args.stables.now.items) c.args.by =
-    record { at_least = is.member.at_least; at_most = omega (arith, c.requires.up.is.member.at_most, c.requires.stables) }
-    in
     record {
       saves =
           rw (← c.self.view_is)
@@ -70,14 +57,11 @@ returns g c =
           c.keep.ensures.pending kept)
           (on_err_weaker c.keep.result (comes_then before) c.keep.ensures.counted) c.keep.ensures.refused);
       acts =
-          rw (← c.self.view_is)
-          (saved_acts old new
-          (kept_grows old c.args.by c.args.next c.keep.new.members.items c.keep.new.history.events c.keep.result stored kept)
-          (kept_count old c.args.by c.args.next c.keep.new.members.items c.keep.new.history.events c.keep.result
-          c.requires.up.member is c.keep.ensures.held c.keep.ensures.pending) (c.keep.ensures.count ∙ stays.count)
-          (refused_not c.keep.result c.keep.ensures.refused (λ e. cc))
+          kept_acts c.self.inside.post.now c.self.view_is c.reserve.ensures.events c.requires.up.member c.requires.up.is
+          c.requires.stables c.requires.backed c.prepare_at.ensures.stays c.keep.ensures
           (rests_then_writes g.K.Keep g.D.Disk c.args.by g.met.D.Disk.only_now g.met.D.Disk.seen_may_be_left
-          g.met.D.Disk.left_now g.met.D.Disk.left_earlier backed.disks stable stays.rests writes) c.keep.ensures.disks backed);
+          g.met.D.Disk.left_now g.met.D.Disk.left_earlier)
+          (refused_not c.keep.result c.keep.ensures.refused (λ e. cc));
     }
 
 pub returns-in_err-prepare_at : goal.returns-in_err-prepare_at
@@ -109,15 +93,11 @@ returns-in_err-reserve g c =
 pub keep-requires-clause-disks : goal.keep-requires-clause-disks
 keep-requires-clause-disks g c =
     let backed = rw (← c.self.view_is) at c.requires.backed in
-    c.prepare_at.ensures.stays.disks c.self.inside.members.items backed.disks
+    c.prepare_at.ensures.stays.disks c.self.inside.members.items c.self.inside.members.items refl backed.disks
 
-pub keep-requires-clause-stable : goal.keep-requires-clause-stable
-keep-requires-clause-stable g c =
-    let member = c.requires.up.is.member in
-    record {
-      at_least = member.at_least;
-      at_most = omega (arith, member.at_most, c.requires.stables, c.prepare_at.ensures.stays.count);
-    }
+pub keep-requires-clause-stables : goal.keep-requires-clause-stables
+keep-requires-clause-stables g c =
+    c.prepare_at.ensures.stays.count ∙ c.requires.stables ∙ sym (ap (λ (w : Whole). length w.members) c.self.view_is)
 
 pub prepare_at-requires-clause-member : goal.prepare_at-requires-clause-member
 prepare_at-requires-clause-member g c =

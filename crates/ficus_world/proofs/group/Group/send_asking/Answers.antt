@@ -1,23 +1,19 @@
-use Rattle.std.proofs.Common.{rules, ◌-◌, ◌≤◌, Err, Some, List, ℕ, length, sym, ap, subst, ◌∙◌, arith}
-use Rattle.std.proofs.lemmas.List.{length-set, length_push}
+use Rattle.std.proofs.Common.{rules, ◌≤◌, Err, Some, List, ℕ, length, refl, sym, ap, subst, ◌∙◌, arith}
+use Rattle.std.proofs.lemmas.List.{length_push}
 use Rattle.std.proofs.lemmas.Result.{err_from_is_err_and}
 use Rattle.ficus_model.specs.declared.event.Event.TheVariants.{Ask}
 use Rattle.ficus_stable_storage.specs.Leads.Holds.{Leads}
-use Rattle.ficus_runs.specs.Numbered.{IsNumbered}
 use Rattle.ficus_runs.proofs.Numbers.{number_once}
 use Rattle.ficus_opening.specs.declared.member.Member.{Member}
 use Rattle.ficus_world.specs.Disks.{CarriedOn}
-use Rattle.ficus_world.specs.Moves.{HasRoomFor, IsAsking, KeepsAsk, advanced, ask_of, downed, parts_after, pending_of, with_post}
-use Rattle.ficus_world.specs.World.{Whole, IsSoundNext, IsWorld, backed_by, smallest_message, whole_of}
+use Rattle.ficus_world.specs.Moves.{AsksWith, HasRoomFor, KeepsAsk, advanced, ask_of, downed, parts_after, pending_of, with_post}
+use Rattle.ficus_world.specs.World.{Whole, IsWorld, backed_by, smallest_message, whole_of}
 use Rattle.ficus_world.proofs.Fuses.{comes_then}
 use Rattle.ficus_world.proofs.Sending.{as_reserved, ask_sent, ask_size, some_bytes, unready, unsaved}
 use Rattle.ficus_world.proofs.SoundWorlds.{held_sound, put_down_sound, sent_counts, world_after, world_posted}
-use Rattle.ficus_ids.specs.Members.{IsMember}
-use Rattle.ficus_model.specs.declared.event.Event.{Event}
-use Rattle.ficus_world.specs.Kills.{WritesAt}
-use Rattle.ficus_world.proofs.Kills.{rests_then_writes}
 use Rattle.ficus_world.specs.Acts.{Acts}
-use Rattle.ficus_world.proofs.Acting.{ready_acts, saved_acts}
+use Rattle.ficus_world.proofs.Acting.{kept_acts, ready_acts}
+use Rattle.ficus_world.proofs.Kills.{rests_then_writes}
 use Rattle.ficus_world.proofs.Keeps.{refused_not}
 use Rattle.ficus_world.proofs.Moved.{same_refusal}
 use Rattle.ficus_ids.specs.declared.refusal.Refusal.TheVariants.{Memory}
@@ -46,9 +42,7 @@ returns-in_err-make_ready-clause-asks g c =
     let x = c.args.disks.now.items in
     let y = c.make_ready.new.disks.items in
     let old = whole_of c.self.inside.members.items c.self.inside.history.events c.self.inside.post.now in
-    let asking = subst (λ (w : Whole). (was : Member) × IsAsking w by to was c.args.asking.replica
-    × IsSoundNext (length w.members) (length w.events) by c.args.noted.items was.replica c.args.asking.replica) (sym c.self.view_is)
-    c.requires.asking in
+    let asking = subst (AsksWith by to c.args.noted.items c.args.asking.replica) (sym c.self.view_is) c.requires.asking in
     let message = c.requires.message in
     let moves = unready tells old by to asking.0 c.args.asking.replica asking.1 x y
     (c.in_err-make_ready.ensures.stays.follows old.members)
@@ -62,8 +56,7 @@ pub invariant_of-self-in_err-keep : goal.invariant_of-self-in_err-keep
 invariant_of-self-in_err-keep g c =
     let by = c.args.by in
     let old = whole_of c.self.inside.members.items c.self.inside.history.events c.self.inside.post.now in
-    let asking = subst (λ (w : Whole). (was : Member) × IsAsking w by c.args.to was c.args.asking.replica
-    × IsSoundNext (length w.members) (length w.events) by c.args.noted.items was.replica c.args.asking.replica) (sym c.self.view_is)
+    let asking = subst (AsksWith by c.args.to c.args.noted.items c.args.asking.replica) (sym c.self.view_is)
     c.requires.asking in
     let was = asking.0 in
     let world : IsWorld old = c.self.invariant in
@@ -83,9 +76,7 @@ returns-in_err-keep-clause-asks g c =
     let x = c.args.disks.now.items in
     let z = c.keep.new.disks.items in
     let old = whole_of c.self.inside.members.items c.self.inside.history.events c.self.inside.post.now in
-    let asking = subst (λ (w : Whole). (was : Member) × IsAsking w by to was c.args.asking.replica
-    × IsSoundNext (length w.members) (length w.events) by c.args.noted.items was.replica c.args.asking.replica) (sym c.self.view_is)
-    c.requires.asking in
+    let asking = subst (AsksWith by to c.args.noted.items c.args.asking.replica) (sym c.self.view_is) c.requires.asking in
     let message = c.requires.message in
     let was = asking.0 in
     let room : HasRoomFor old (ask_size by to c.args.asking.replica) =
@@ -110,9 +101,7 @@ invariant_of-self-2 g c =
     let to = c.args.to in
     let asked = c.args.asking.replica in
     let old = whole_of c.self.inside.members.items c.self.inside.history.events c.self.inside.post.now in
-    let asking = subst (λ (w : Whole). (was : Member) × IsAsking w by to was asked
-    × IsSoundNext (length w.members) (length w.events) by c.args.noted.items was.replica asked) (sym c.self.view_is)
-    c.requires.asking in
+    let asking = subst (AsksWith by to c.args.noted.items asked) (sym c.self.view_is) c.requires.asking in
     let message = c.requires.message in
     let was = asking.0 in
     let world : IsWorld old = c.self.invariant in
@@ -137,9 +126,7 @@ returns-clause-asks g c =
     let x = c.args.disks.now.items in
     let z = c.keep.new.disks.items in
     let old = whole_of c.self.inside.members.items c.self.inside.history.events c.self.inside.post.now in
-    let asking = subst (λ (w : Whole). (was : Member) × IsAsking w by to was asked
-    × IsSoundNext (length w.members) (length w.events) by c.args.noted.items was.replica asked) (sym c.self.view_is)
-    c.requires.asking in
+    let asking = subst (AsksWith by to c.args.noted.items asked) (sym c.self.view_is) c.requires.asking in
     let message = c.requires.message in
     let was = asking.0 in
     let room : HasRoomFor old (ask_size by to asked) =
@@ -163,9 +150,8 @@ keep-requires-clause-pair g c =
 
 pub keep-requires-clause-prepared : goal.keep-requires-clause-prepared
 keep-requires-clause-prepared g c =
-    let asking = subst (λ (w : Whole). (was : Member) × IsAsking w c.args.by c.args.to was c.args.asking.replica
-    × IsSoundNext (length w.members) (length w.events) c.args.by c.args.noted.items was.replica
-    c.args.asking.replica) (sym c.self.view_is) c.requires.asking in (
+    let asking = subst (AsksWith c.args.by c.args.to c.args.noted.items c.args.asking.replica) (sym c.self.view_is)
+    c.requires.asking in (
       c.args.noted.items,
       c.in_ok-make_ready.ensures.prepared,
       λ was is. subst (λ (m : Member). Leads c.args.noted.items m.replica.saved c.args.asking.replica.saved)
@@ -184,65 +170,30 @@ returns-in_err-make_ready-clause-acts g c =
 pub returns-in_err-keep-clause-acts : goal.returns-in_err-keep-clause-acts
 returns-in_err-keep-clause-acts g c =
     let refused = err_from_is_err_and c.from_residual-in_err-keep.result c.from_residual-in_err-keep.ensures.1 in
-    let old = whole_of c.self.inside.members.items c.self.inside.history.events c.self.inside.post.now in
-    let new = whole_of c.keep.new.members.items c.keep.new.history.events c.make_ready.new.post.now in
-    let member = c.requires.asking.1.is.member in
-    let is = subst (λ (w : Whole). IsNumbered w.members c.args.by c.requires.asking.0) (sym c.self.view_is)
-    c.requires.asking.1.is in
-    let backed = rw (← c.self.view_is) at c.requires.backed in
-    let stays = c.make_ready.ensures.stays in
-    let stable : IsMember (length c.args.stables.now.items) c.args.by =
-    record { at_least = member.at_least; at_most = omega (arith, member.at_most, c.requires.stables) } in
-    let writes = subst (λ (events : List Event). WritesAt g.K.Keep g.D.Disk c.args.by
-    (whole_of c.self.inside.members.items events c.self.inside.post.now) new c.make_ready.new.disks.items
-    c.keep.new.disks.items) c.in_ok-make_ready.ensures.events
-    (c.keep.ensures.writes c.self.inside.post.now c.make_ready.new.post.now) in
-    let members = ap (λ (list : List Member). length list) (c.in_err-keep.ensures.pending c.requires.asking.0 is)
-    ∙ length-set c.self.inside.members.items (c.args.by - 1) _ in
-    let grown = ap (λ (list : List Event). length list) (c.in_err-keep.ensures.kept ∙ c.in_ok-make_ready.ensures.events) in
-    rw (refused.1, refused.2, ← c.self.view_is)
-    (saved_acts old new (omega (arith, grown)) members (c.keep.ensures.count ∙ stays.count)
-    (λ is. refused_not (Err c.in_err-keep.field-0.0) c.in_err-keep.ensures.refused (λ e. cc)
-    (same_refusal c.in_err-keep.field-0.0 Memory is))
+    rw (refused.1, refused.2)
+    (kept_acts c.make_ready.new.post.now c.self.view_is c.in_ok-make_ready.ensures.events c.requires.asking.0
+    c.requires.asking.1.is c.requires.stables c.requires.backed c.make_ready.ensures.stays c.keep.ensures
     (rests_then_writes g.K.Keep g.D.Disk c.args.by g.met.D.Disk.only_now g.met.D.Disk.seen_may_be_left
-    g.met.D.Disk.left_now g.met.D.Disk.left_earlier backed.disks stable stays.rests writes) c.keep.ensures.disks backed)
+    g.met.D.Disk.left_now g.met.D.Disk.left_earlier)
+    (λ is. refused_not (Err c.in_err-keep.field-0.0) c.in_err-keep.ensures.refused (λ e. cc)
+    (same_refusal c.in_err-keep.field-0.0 Memory is)))
 
 pub returns-clause-acts : goal.returns-clause-acts
 returns-clause-acts g c =
-    let old = whole_of c.self.inside.members.items c.self.inside.history.events c.self.inside.post.now in
-    let new = whole_of c.keep.new.members.items c.keep.new.history.events c.send.new.self.now in
-    let member = c.requires.asking.1.is.member in
-    let is = subst (λ (w : Whole). IsNumbered w.members c.args.by c.requires.asking.0) (sym c.self.view_is)
-    c.requires.asking.1.is in
-    let backed = rw (← c.self.view_is) at c.requires.backed in
-    let stays = c.make_ready.ensures.stays in
-    let stable : IsMember (length c.args.stables.now.items) c.args.by =
-    record { at_least = member.at_least; at_most = omega (arith, member.at_most, c.requires.stables) } in
-    let writes = subst (λ (events : List Event). WritesAt g.K.Keep g.D.Disk c.args.by
-    (whole_of c.self.inside.members.items events c.self.inside.post.now) new c.make_ready.new.disks.items
-    c.keep.new.disks.items) c.in_ok-make_ready.ensures.events
-    (c.keep.ensures.writes c.self.inside.post.now c.send.new.self.now) in
-    let members = ap (λ (list : List Member). length list) (c.in_ok-keep.ensures.held c.requires.asking.0 is)
-    ∙ length-set c.self.inside.members.items (c.args.by - 1) _ in
-    let grown = ap (λ (list : List Event). length list) (rw c.in_ok-make_ready.ensures.events at c.in_ok-keep.ensures.stored)
-    ∙ length_push c.self.inside.history.events (Ask c.args.by c.args.to) in
-    rw (← c.self.view_is)
-    (saved_acts old new (omega (arith, grown)) members (c.keep.ensures.count ∙ stays.count) (refused_not c.send.result c.send.ensures.refused (λ e. cc))
+    kept_acts c.send.new.self.now c.self.view_is c.in_ok-make_ready.ensures.events c.requires.asking.0 c.requires.asking.1.is
+    c.requires.stables c.requires.backed c.make_ready.ensures.stays c.keep.ensures
     (rests_then_writes g.K.Keep g.D.Disk c.args.by g.met.D.Disk.only_now g.met.D.Disk.seen_may_be_left
-    g.met.D.Disk.left_now g.met.D.Disk.left_earlier backed.disks stable stays.rests writes) c.keep.ensures.disks backed)
+    g.met.D.Disk.left_now g.met.D.Disk.left_earlier)
+    (refused_not c.send.result c.send.ensures.refused (λ e. cc))
 
 pub keep-requires-clause-disks : goal.keep-requires-clause-disks
 keep-requires-clause-disks g c =
     let backed = rw (← c.self.view_is) at c.requires.backed in
-    c.make_ready.ensures.stays.disks c.self.inside.members.items backed.disks
+    c.make_ready.ensures.stays.disks c.self.inside.members.items c.self.inside.members.items refl backed.disks
 
-pub keep-requires-clause-stable : goal.keep-requires-clause-stable
-keep-requires-clause-stable g c =
-    let member = c.requires.asking.1.is.member in
-    record {
-      at_least = member.at_least;
-      at_most = omega (arith, member.at_most, c.requires.stables, c.make_ready.ensures.stays.count);
-    }
+pub keep-requires-clause-stables : goal.keep-requires-clause-stables
+keep-requires-clause-stables g c =
+    c.make_ready.ensures.stays.count ∙ c.requires.stables ∙ sym (ap (λ (w : Whole). length w.members) c.self.view_is)
 
 pub invariant_of-self : goal.invariant_of-self
 invariant_of-self g c = search rules

@@ -4,14 +4,12 @@ use Rattle.ficus_ids.specs.Members.{IsMember}
 use Rattle.ficus_ids.specs.declared.refusal.Refusal.TheVariants.{Memory}
 use Rattle.ficus_model.specs.declared.event.Event.{Event}
 use Rattle.ficus_runs.specs.Message.{Reads}
-use Rattle.ficus_wire.specs.Message.{message_of}
-use Rattle.ficus_wire.specs.declared.message.Letter.{Letter}
 use Rattle.ficus_world.specs.Disks.{Carried}
 use Rattle.ficus_world.specs.Moves.{FetchesBytes}
 use Rattle.ficus_world.specs.World.{Backed, Whole, backed_by}
 use Rattle.ficus_world.proofs.Carrying.{whole_is}
 use Rattle.ficus_world.proofs.Moved.{same_refusal}
-use Rattle.ficus_world.proofs.Sending.{fetched_some, give_handled, give_unfetched, give_unread, serves_carried, taken_tells_none}
+use Rattle.ficus_world.proofs.Sending.{fetched_some, give_letter, give_unfetched, give_unread, serves_carried, taken_tells_none}
 use Rattle.ficus_world.proofs.Acting.{acts_none, quiet_acts}
 use Rattle.ficus_world.specs.Acts.{Acts}
 use Rattle.ficus_world.proofs.world.World.give.Goals as goal
@@ -68,21 +66,13 @@ returns-in_err-from g c =
 pub returns-in-Ask : goal.returns-in-Ask
 returns-in-Ask g c =
     let tells = g.L.Link.tells in
-    let old = c.args.self.now.whole in
     let x = c.args.disks.now.items in
-    let same = subst (λ (w : Whole). c.fetch.new.self.members ≡ w.members) (whole_is c.self.view_is)
-    c.fetch.ensures.members in
-    let fetches = subst (λ (w : Whole). Carried (FetchesBytes tells c.args.mail w) (Ok c.in_ok-bytes.bytes)
-    c.fetch.new.self) (whole_is c.self.view_is) c.in_ok-bytes.ensures.fetches in
-    let read = rw c.items.ensures at c.in_ok-from.ensures in
-    let reads = subst (λ (m : Letter). Reads (length c.fetch.new.self.members) c.in_ok-bytes.bytes (Ok (message_of m)))
-    c.in-Ask.is read in
     let grows = rw c.in_ok-bytes.ensures.same at c.serve.ensures.grows in
     let members = rw c.in_ok-bytes.ensures.same at c.serve.ensures.members in
     record {
       gives =
-          give_handled tells c.args.mail old x c.in_ok-bytes.bytes c.fetch.new.self same fetches _ reads c.serve.result
-          c.serve.new.self x
+          give_letter tells c.args.mail c.self.view_is c.fetch.ensures.members c.in_ok-bytes.ensures.fetches
+          c.items.ensures _ _ c.in_ok-from.ensures c.in-Ask.is c.serve.result c.serve.new.self x
           (serves_carried tells _ c.fetch.new.self c.serve.new.self c.serve.result x c.serve.ensures.members
           c.serve.ensures.serves);
       wants = λ is. some_mail c.self.view_is c.in_ok-bytes.ensures.fetches;
@@ -95,20 +85,11 @@ returns-in-Ask g c =
 
 pub returns : goal.returns
 returns g c =
-    let tells = g.L.Link.tells in
-    let old = c.args.self.now.whole in
-    let x = c.args.disks.now.items in
-    let same = subst (λ (w : Whole). c.fetch.new.self.members ≡ w.members) (whole_is c.self.view_is)
-    c.fetch.ensures.members in
-    let fetches = subst (λ (w : Whole). Carried (FetchesBytes tells c.args.mail w) (Ok c.in_ok-bytes.bytes)
-    c.fetch.new.self) (whole_is c.self.view_is) c.in_ok-bytes.ensures.fetches in
-    let read = rw c.items.ensures at c.in_ok-from.ensures in
-    let reads = subst (λ (m : Letter). Reads (length c.fetch.new.self.members) c.in_ok-bytes.bytes (Ok (message_of m)))
-    c.in-Piece.is read in
     record {
       gives =
-          give_handled tells c.args.mail old x c.in_ok-bytes.bytes c.fetch.new.self same fetches _ reads c.take_piece.result
-          c.take_piece.new.self.whole c.take_piece.new.disks.items c.take_piece.ensures.takes;
+          give_letter g.L.Link.tells c.args.mail c.self.view_is c.fetch.ensures.members c.in_ok-bytes.ensures.fetches
+          c.items.ensures _ _ c.in_ok-from.ensures c.in-Piece.is c.take_piece.result c.take_piece.new.self.whole
+          c.take_piece.new.disks.items c.take_piece.ensures.takes;
       wants = λ is. some_mail c.self.view_is c.in_ok-bytes.ensures.fetches;
       few = taken_tells_none c.take_piece.result c.take_piece.ensures.takes;
       acts =

@@ -1,10 +1,9 @@
-use Rattle.std.proofs.Common.{◌≡◌, ◌⊎◌, ℕ, ◌≤◌, List, length, Err, subst, sym, ap, inr, ◌∙◌, arith}
+use Rattle.std.proofs.Common.{◌≡◌, ◌⊎◌, ℕ, ◌≤◌, List, length, Err, sym, ap, inr, ◌∙◌, arith}
 use Rattle.std.specs.Prelude.{IsErrOf}
 use Rattle.ficus_disk.specs.declared.disk.Disk.{Ghosts as Disk}
 use Rattle.ficus_disk.specs.declared.pair.Pair.{Pair}
 use Rattle.ficus_keeper.specs.declared.keep.Keep.{Ghosts as Keep}
 use Rattle.std.proofs.lemmas.Result.{err_from_is_err_and}
-use Rattle.ficus_ids.specs.Members.{IsMember}
 use Rattle.ficus_runs.specs.Start.{restarts}
 use Rattle.ficus_world.specs.World.{Backed, whole_of}
 use Rattle.ficus_world.specs.Post.{Outbox}
@@ -17,7 +16,7 @@ use Rattle.ficus_runs.proofs.Numbers.{number_exists}
 use Rattle.ficus_world.proofs.OpenedWorlds.{empty_post, opened_read, opened_stands, opened_world}
 use Rattle.ficus_opening.proofs.Stand.{never_bad}
 use Rattle.ficus_durable_state.specs.declared.saved.Saved.{Saved}
-use Rattle.ficus_opening.proofs.Openings.{first_is, held_of, opens_same}
+use Rattle.ficus_opening.proofs.Openings.{first_is, held_of, opened_pairs, opens_same}
 use Rattle.ficus_opening.proofs.Steadies.{number_at}
 use Rattle.ficus_world.proofs.AtRest.{fuses_at_rest}
 use Rattle.ficus_opening.proofs.Unarmed.{unfailing_none}
@@ -26,7 +25,7 @@ use Rattle.ficus_world.proofs.world.World.open.Goals as goal
 
 pub invariant_of-group : goal.invariant_of-group
 invariant_of-group g c =
-    opened_world c.in_ok-members.field-0.members.items c.in_ok-members.ensures.opened c.in_ok-members.ensures.count
+    opened_world c.in_ok-members.field-0.members.items c.in_ok-members.ensures.opened.opened c.in_ok-members.ensures.count
     c.in_ok-members.ensures.counted c.in_ok-restart_all.field-0.events c.new.result.now
     (empty_post c.new.result.now _ _ _ c.new.ensures c.requires.link)
 
@@ -97,16 +96,17 @@ returns g c =
     let opens = c.in_ok-members.ensures in
     let looked = opens.looked in
     let members = c.in_ok-members.field-0.members.items in
-    let stables = c.in_ok-members.field-0.stables.items in
+    let on = opens.opened in
     let pairs = looked.asked.armings.count in
-    let held = held_of g.K.Keep g.D.Disk members stables new opens.stables opens.opened opens.disks in
+    let own = opened_pairs g.K.Keep g.D.Disk c.in_ok-members.field-0 new on in
+    let held = held_of g.K.Keep g.D.Disk c.in_ok-members.field-0 new on in
     let events =
     c.in_ok-restart_all.ensures
     ∙ ap (λ n. restarts n)
     (opens.counted c.index.result.now
     (number_at members 0 c.index.result.now (omega (arith, opens.count.at_least)) c.index.ensures)) in
     let opened : g.D.Disk.tells → AreRead g.K.Keep.kept g.D.Disk.seen old members = λ told.
-    opened_read members opens.opened opens.count opens.counted g.K.Keep.kept g.D.Disk.seen old new (looked.same told)
+    opened_read members on.opened opens.count opens.counted g.K.Keep.kept g.D.Disk.seen old new (looked.same told)
     (omega (arith, opens.count.at_most, pairs, c.requires.pairs)) (held told) in
     record {
       members = opens.count;
@@ -114,24 +114,22 @@ returns g c =
           let one =
           number_exists members 1 (record { at_least = omega arith; at_most = omega (arith, opens.count.at_least) }) in
           let same =
-          first_is g.K.Keep.kept g.D.Disk.seen members new opens.opened (held told) c.one_saved.ensures first one.0 one.1
+          first_is g.K.Keep.kept g.D.Disk.seen members new on.opened (held told) c.one_saved.ensures first one.0 one.1
           (opens_same g.K.Keep.kept g.D.Disk.seen old new first first 1 (looked.same told) is) in
           sym (opens.counted one.0 one.1) ∙ ap (λ (s : Saved). s.members) (sym same);
       events = events;
       faults = ap (λ (p : Outbox). p.faults) c.new.ensures;
       backed = record {
         pairs = omega (arith, opens.count.at_most, pairs, c.requires.pairs);
-        disks = opens.disks;
+        disks = on.disks;
       };
       opened = opened;
-      stands = λ told volume H on.
+      stands = λ told volume H stand.
           opened_stands g.D.Disk.tells g.K.Keep.kept g.K.Keep.fits g.D.Disk.seen g.D.Disk.may_leave g.D.Disk.armings
           (whole_of members c.in_ok-restart_all.field-0.events c.new.result.now) c.one_saved.ensures volume H old new
-          (g.L.Link.total c.args.link) told on c.requires.pairs (looked.same told) looked.asked.armings opens.opened
+          (g.L.Link.total c.args.link) told stand c.requires.pairs (looked.same told) looked.asked.armings on.opened
           opens.count opens.counted (held told)
-          (λ r member pair at at_pair.
-          let stable = number_exists stables r (subst (λ n. IsMember n r) (sym opens.stables) at.member) in
-          (opens.disks.each r member stable.0 pair at stable.1 at_pair).fused)
+          (λ r member pair at at_pair. (own.each r member pair at at_pair).1.fused)
           events (empty_post c.new.result.now _ _ _ c.new.ensures c.requires.link)
           (ap (λ (p : Outbox). p.total) c.new.ensures);
       image = λ told r is. absurd (cc);
@@ -152,6 +150,6 @@ returns g c =
       unfailing = λ fused.
           unfailing_none g.D.Disk.fuse _ old new (looked.asked.unfailing fused).unarmed (λ r is. absurd (cc));
       fuses = λ fused told none regular F rest.
-          fuses_at_rest g.K.Keep g.D.Disk told members stables old new opens.stables opens.opened opens.disks
+          fuses_at_rest g.K.Keep g.D.Disk told members old new on.opened own
           (looked.same told) ((looked.asked.unfailing fused).unarmed none) regular F rest;
     }

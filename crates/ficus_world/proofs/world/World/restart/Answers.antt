@@ -1,6 +1,6 @@
-use Rattle.std.proofs.Common.{◌≡◌, ◌+◌, ◌-◌, ◌++◌, Err, List, length, refl, sym, ap, ap₂, subst, ◌∙◌, arith}
+use Rattle.std.proofs.Common.{◌≡◌, ◌-◌, ◌++◌, Err, List, length, refl, sym, ap, ap₂, subst, ◌∙◌, arith}
 use Rattle.std.specs.Prelude.{slice_set}
-use Rattle.std.proofs.lemmas.List.{append-nil, length-append, length-set}
+use Rattle.std.proofs.lemmas.List.{append-nil, length-append}
 use Rattle.std.proofs.lemmas.Result.{err_from_is_err_and}
 use Rattle.ficus_ids.specs.Members.{IsMember}
 use Rattle.ficus_ids.specs.declared.refusal.Refusal.TheVariants as refusal
@@ -13,15 +13,14 @@ use Rattle.ficus_world.specs.Disks.{CarriedOn, IsBacked}
 use Rattle.ficus_world.specs.Moves.{CarriesOut}
 use Rattle.ficus_world.specs.Moves.FindsMember.{FindsNone}
 use Rattle.ficus_world.specs.Stepped.{ComesTo}
-use Rattle.ficus_world.specs.World.{Backed, backed_by, IsSoundMember, IsWorld, Whole, whole_of}
+use Rattle.ficus_world.specs.World.{Backed, backed_by, IsWorld, Whole, whole_of}
 use Rattle.ficus_world.proofs.Carrying.{comes_to, whole_is}
 use Rattle.ficus_world.proofs.Disks.{follows_alike}
 use Rattle.ficus_world.proofs.Moved.{comes_to_none}
 use Rattle.ficus_world.proofs.Tests.{untrue}
-use Rattle.ficus_runs.proofs.Numbers.{number_exists}
-use Rattle.ficus_world.proofs.Restarting.{back_after, back_same, back_sound, back_stores, restart_carried, set_own}
-use Rattle.ficus_world.proofs.SoundWorlds.{world_after}
+use Rattle.ficus_world.proofs.Restarting.{back_after, back_count, back_same, back_stores, back_world, has_come_back, restart_carried, set_own}
 use Rattle.ficus_world.specs.Kills.Touches.{TouchesOne}
+use Rattle.ficus_opening.proofs.Openings.{pairs_of}
 use Rattle.ficus_opening.proofs.Others.{left_none}
 use Rattle.ficus_world.specs.Acts.{Acts}
 use Rattle.ficus_opening.proofs.Rests.{rests_count}
@@ -68,35 +67,17 @@ returns-in_err-reserve g c =
 
 pub invariant_of-self-inside-2 : goal.invariant_of-self-inside-2
 invariant_of-self-inside-2 g c =
-    let by = c.args.by in
-    let inside = c.self-inside.inside.0.0 in
-    let old = whole_of inside.members.items inside.history.events inside.post.now in
-    let same : c.self.inside.group ≡ old = subst (λ i. i.group ≡ old) c.self-inside.view_is refl in
-    let member = subst (λ (w : Whole). IsMember (length w.members) by) same (c.has.ensures.0 c.if-not-has.false) in
-    let found = number_exists old.members by member in
-    let back = c.come_back.ensures found.0 found.1 in
-    let world : IsWorld old = c.self-inside.invariant in
-    let sound = back_sound (length old.members) (length old.events) c.args.by found.0 c.reopen_at-read.result c.come_back.result back.0 back.1
-    (world.sound by found.0 found.1) c.reopen_at-read.ensures.fits back.2 in
-    let longer = length-append old.events back.1 in
-    let next = world_after old (old.events ++ back.1) by found.0 back.0 found.1 world
-    (subst (λ n. IsSoundMember (length old.members) n by back.0) (sym longer) sound) (omega (arith, longer))
-    c.come_back.new.members.items back.3 in
-    rw (back.4, c.in_ok-reserve.ensures.events) next
+    back_world
+    (has_come_back (ap (λ i. i.group) c.self-inside.view_is) (c.has.ensures.0 c.if-not-has.false)
+    c.in_ok-reserve.ensures.events c.come_back.ensures) c.reopen_at-read.ensures.fits c.self-inside.invariant
 
 pub invariant_of-self-2 : goal.invariant_of-self-2
 invariant_of-self-2 g c =
-    let by = c.args.by in
-    let inside = c.self-inside.inside.0.0 in
-    let old = whole_of inside.members.items inside.history.events inside.post.now in
-    let same : c.self.inside.group ≡ old = subst (λ i. i.group ≡ old) c.self-inside.view_is refl in
-    let member = subst (λ (w : Whole). IsMember (length w.members) by) same (c.has.ensures.0 c.if-not-has.false) in
-    let found = number_exists old.members by member in
-    let back = c.come_back.ensures found.0 found.1 in
-    let members = ap (λ (list : List Member). length list) back.3 ∙ length-set old.members (by - 1) back.0 in
+    let back = has_come_back (ap (λ i. i.group) c.self-inside.view_is) (c.has.ensures.0 c.if-not-has.false)
+    c.in_ok-reserve.ensures.events c.come_back.ensures in
     let counts = subst (λ i. length i.stables.items ≡ length i.group.members) (sym c.self-inside.view_is)
     c.self.invariant in
-    c.reopen_at-read.ensures.count ∙ counts ∙ sym members
+    c.reopen_at-read.ensures.count ∙ counts ∙ sym (back_count back)
 
 pub returns : goal.returns
 returns g c =
@@ -106,53 +87,59 @@ returns g c =
     let y = c.reopen_at-read.new.disks.items in
     let inside = c.self-inside.inside.0.0 in
     let old = whole_of inside.members.items inside.history.events inside.post.now in
-    let same : c.self.inside.group ≡ old = subst (λ i. i.group ≡ old) c.self-inside.view_is refl in
-    let member = subst (λ (w : Whole). IsMember (length w.members) by) same (c.has.ensures.0 c.if-not-has.false) in
-    let found = number_exists old.members by member in
-    let back = c.come_back.ensures found.0 found.1 in
+    let same : old ≡ c.self.inside.group = ap (λ i. i.group) c.self-inside.view_is in
+    let back = has_come_back same (c.has.ensures.0 c.if-not-has.false) c.in_ok-reserve.ensures.events
+    c.come_back.ensures in
     let world : IsWorld old = c.self-inside.invariant in
-    let sound = world.sound by found.0 found.1 in
+    let sound = world.sound by back.was back.is in
+    let member = back.is.member in
     let backed = subst (λ i. IsBacked g.K.Keep g.D.Disk (backed_by i.group i.stables.items) x)
     (sym c.self-inside.view_is) (rw (← c.self.view_is) at c.requires.backed) in
+    let counts = subst (λ i. length i.stables.items ≡ length i.group.members) (sym c.self-inside.view_is)
+    c.self.invariant in
+    let own = pairs_of g.K.Keep g.D.Disk old.members _ x counts backed.disks in
     let within : IsMember (length x) by =
     record { at_least = member.at_least; at_most = omega (arith, member.at_most, backed.pairs) } in
-    let moves = restart_carried tells g.K.Keep g.D.Disk old by found.0 found.1 sound x y within
-    c.reopen_at-read.ensures.follows c.reopen_at-read.result c.come_back.result back.0 back.1 c.reopen_at-read.ensures.fits
-    (λ told. c.reopen_at-read.ensures.read told _ _ old.members found.0
-    (record { is = found.1; sound = sound; disks = backed.disks }))
-    (λ fused told F stand. c.reopen_at-read.ensures.by_fuse fused told _ _ old.members found.0 F
-    (record { is = found.1; sound = sound; disks = backed.disks }) stand) c.reopen_at-read.ensures.never
-    c.reopen_at-read.ensures.opened back.2 in
-    let is : old ≡ c.args.self.now.whole = sym same ∙ whole_is c.self.view_is in
-    let counted = ap (λ (list : List Member). length list) back.3 ∙ length-set old.members (by - 1) back.0 in
+    let moves = restart_carried tells g.K.Keep g.D.Disk old by back.was back.is sound x y within
+    c.reopen_at-read.ensures.follows c.reopen_at-read.result c.come_back.result back.now back.stored
+    c.reopen_at-read.ensures.fits
+    (λ told. c.reopen_at-read.ensures.read told _ _ old.members back.was
+    (record { is = back.is; sound = sound; pairs = own }))
+    (λ fused told F stand. c.reopen_at-read.ensures.by_fuse fused told _ _ old.members back.was F
+    (record { is = back.is; sound = sound; pairs = own }) stand) c.reopen_at-read.ensures.never
+    c.reopen_at-read.ensures.opened back.comes in
+    let is : old ≡ c.args.self.now.whole = same ∙ whole_is c.self.view_is in
+    let counted = back_count back in
     let members = counted ∙ ap (λ (w : Whole). length w.members) is in
-    let stored = ap (λ (list : List Event). length list) back.4 ∙ length-append c.reserve.new.self.events back.1
-    ∙ ap (λ (list : List Event). length list + length back.1) c.in_ok-reserve.ensures.events in
+    let stored = ap (λ (list : List Event). length list) back.happened ∙ length-append old.events back.stored in
     let before = ap (λ (w : Whole). length w.events) is in
     let pairs = rests_count c.reopen_at-read.ensures.rests in
     record {
       moves =
-          rw (back.3, back.4, c.in_ok-reserve.ensures.events)
+          subst (λ (w : Whole). ComesTo tells g.K.Keep g.D.Disk c.args.self.now.whole (Restarts by) c.come_back.result w x y)
+          (ap₂ (λ (members : List Member) (events : List Event). whole_of members events old.post) (sym back.set)
+          (sym back.happened))
           (comes_to c.args.self.now.whole (Restarts by) c.come_back.result _ x y
           (subst (λ (w : Whole). CarriedOn g.K.Keep g.D.Disk (CarriesOut tells g.D.Disk.tells (Restarts by))
-          c.come_back.result w (whole_of (slice_set old.members (by - 1) back.0) (old.events ++ back.1) old.post) x y) is moves)
+          c.come_back.result w (whole_of (slice_set old.members (by - 1) back.now) (old.events ++ back.stored) old.post) x y)
+          is moves)
           (λ e. subst (λ (w : Whole). IsMember (length w.members) by) is member));
       acts = record {
         grows = omega (
           arith,
           stored,
           before,
-          back_stores c.args.by found.0 c.reopen_at-read.result c.come_back.result back.0 back.1 back.2,
+          back_stores c.args.by back.was c.reopen_at-read.result c.come_back.result back.now back.stored back.comes,
         );
         members = members;
         stables = c.reopen_at-read.ensures.count ∙ ap (λ i. length i.stables.items) c.self-inside.view_is
             ∙ ap (λ (b : Backed _). length b.stables) c.self.view_is;
         memory = λ e.
-            let stays = back_same c.args.by found.0 c.reopen_at-read.result c.come_back.result back.0 back.1 back.2 e in
-            let list = back.3 ∙ ap (λ (m : Member). slice_set old.members (by - 1) m) stays.0
-            ∙ set_own old.members by found.0 found.1 in
-            let events = back.4
-            ∙ ap₂ (λ (before stored : List Event). before ++ stored) c.in_ok-reserve.ensures.events stays.1
+            let stays = back_same by back.was c.reopen_at-read.result c.come_back.result back.now back.stored back.comes e
+            in
+            let list = back.set ∙ ap (λ (m : Member). slice_set old.members (by - 1) m) stays.0
+            ∙ set_own old.members by back.was back.is in
+            let events = back.happened ∙ ap (λ (stored : List Event). old.events ++ stored) stays.1
             ∙ append-nil old.events in
             record {
               same =
@@ -165,11 +152,12 @@ returns g c =
           pairs = omega (arith, counted, backed.pairs, pairs);
           disks = c.reopen_at-read.ensures.disks old.members c.come_back.new.members.items
               (record {
-                was = found.0;
-                is = found.1;
-                now = back.0;
-                after = back_after c.args.by found.0 c.reopen_at-read.result c.come_back.result back.0 back.1 back.2;
-                set = back.3;
+                was = back.was;
+                is = back.is;
+                now = back.now;
+                after =
+                    back_after by back.was c.reopen_at-read.result c.come_back.result back.now back.stored back.comes;
+                set = back.set;
               }) backed.disks;
         };
       };
@@ -178,11 +166,6 @@ returns g c =
 
 pub reopen_at-read-requires-clause-pair : goal.reopen_at-read-requires-clause-pair
 reopen_at-read-requires-clause-pair g c =
-    let x = c.args.disks.now.items in
-    let inside = c.self-inside.inside.0.0 in
-    let old = whole_of inside.members.items inside.history.events inside.post.now in
-    let same : c.self.inside.group ≡ old = subst (λ i. i.group ≡ old) c.self-inside.view_is refl in
-    let member = subst (λ (w : Whole). IsMember (length w.members) c.args.by) same (c.has.ensures.0 c.if-not-has.false) in
-    let backed = subst (λ i. IsBacked g.K.Keep g.D.Disk (backed_by i.group i.stables.items) x)
-    (sym c.self-inside.view_is) (rw (← c.self.view_is) at c.requires.backed) in
-    record { at_least = member.at_least; at_most = omega (arith, member.at_most, backed.pairs) }
+    let member = subst (λ (w : Whole). IsMember (length w.members) c.args.by) (whole_is c.self.view_is)
+    (c.has.ensures.0 c.if-not-has.false) in
+    record { at_least = member.at_least; at_most = omega (arith, member.at_most, c.requires.backed.pairs) }

@@ -1,4 +1,5 @@
 use Rattle.std.proofs.Common.{◌≡◌, length}
+use Rattle.ficus_opening.proofs.Openings.{pairs_of}
 use Rattle.ficus_world.specs.World.{IsWorld}
 use Rattle.ficus_world.proofs.Kills.{settled_so}
 use Rattle.ficus_world.proofs.world.World.settled.Goals as goal
@@ -9,5 +10,6 @@ returns g c =
     rw (← c.self.view_is) (rw (← c.self-inside.view_is) c.self-inside.invariant) in
     let count : length c.args.self.now.stables ≡ length c.args.self.now.whole.members =
     rw (← c.self.view_is) c.self.invariant in
-    settled_so g.K.Keep g.D.Disk c.args.self.now.whole c.args.self.now.stables c.args.disks.now.items sound count
-    c.requires
+    settled_so g.K.Keep g.D.Disk c.args.self.now.whole c.args.disks.now.items sound
+    (pairs_of g.K.Keep g.D.Disk c.args.self.now.whole.members c.args.self.now.stables c.args.disks.now.items count
+    c.requires)

@@ -66,7 +66,8 @@ returns g c =
         touches = TouchesOne is.member c.arm_at.ensures.rests;
         backed = record {
           pairs = omega (arith, c.requires.backed.pairs, rests_count c.arm_at.ensures.rests);
-          disks = c.arm_at.ensures.disks c.args.self.now.stables c.args.self.now.whole.members c.requires.backed.disks;
+          disks = c.arm_at.ensures.disks c.args.self.now.stables c.args.self.now.whole.members c.args.self.now.whole.members
+              refl c.requires.backed.disks;
         };
       };
     }

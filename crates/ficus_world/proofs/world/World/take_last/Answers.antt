@@ -1,15 +1,13 @@
-use Rattle.std.proofs.Common.{Err, length, subst, sym, ◌≢◌}
+use Rattle.std.proofs.Common.{Err, Ok, length, subst}
 use Rattle.std.proofs.lemmas.Result.{err_from_is_err_and}
-use Rattle.ficus_ids.specs.declared.refusal.Refusal.TheVariants.{Memory}
-use Rattle.ficus_runs.specs.Numbered.{IsNumbered}
 use Rattle.ficus_runs.specs.Sequence.{unchanged}
 use Rattle.ficus_script.specs.declared.answer.Answer.TheVariants.{Done}
-use Rattle.ficus_world.specs.Moves.{IsTaking, TakesSpelled, spelled_with}
-use Rattle.ficus_world.specs.World.{IsSoundNext, Whole}
+use Rattle.ficus_world.specs.Moves.{TakesSpelled, spelled_with}
+use Rattle.ficus_world.specs.World.{IsSoundNext}
 use Rattle.ficus_opening.specs.declared.member.Member.{Member}
 use Rattle.ficus_runs.proofs.Numbers.{number_once}
 use Rattle.ficus_world.proofs.Carrying.{carried_none, carried_saved, or_refused, save_refused, whole_is}
-use Rattle.ficus_world.proofs.Collected.{taking_saved, taking_unsaved}
+use Rattle.ficus_world.proofs.Collected.{taking_in, taking_saved, taking_unsaved}
 use Rattle.ficus_world.proofs.Acting.{acts_done, acts_none, acts_refused}
 use Rattle.ficus_world.proofs.world.World.take_last.Goals as goal
 
@@ -18,59 +16,46 @@ returns-in_err-next-clause-takes g c = λ was is.
     let refused = err_from_is_err_and c.from_residual.result c.from_residual.ensures.1 in
     let r = c.in_err-next.field-0.0 in
     let old = c.args.self.now.whole in
-    let came = c.args.came in
-    let index = c.args.head.index in
-    let bytes = spelled_with was c.args.head c.args.bytes.now in
-    let there = subst (λ (w : Whole). IsNumbered w.members came.to was) (sym (whole_is c.self.view_is)) is in
-    let takes = subst (λ (w : Whole). r ≢ Memory → TakesSpelled came index bytes w (Err r) (unchanged w))
-    (whole_is c.self.view_is) (c.in_err-next.ensures was there) in
+    let head = c.args.head in
+    let bytes = spelled_with was head c.args.bytes.now in
     rw (refused.1, refused.2)
-    (carried_none (TakesSpelled came index bytes) (Err r) old c.args.disks.now.items
-    (or_refused (λ given. TakesSpelled came index bytes old given (unchanged old)) r takes))
+    (carried_none (TakesSpelled c.args.came head.index bytes) (Err r) old c.args.disks.now.items
+    (or_refused (λ given. TakesSpelled c.args.came head.index bytes old given (unchanged old)) r
+    (taking_in c.args.came head c.args.bytes.now (Err r) (whole_is c.self.view_is) c.in_err-next.ensures was is)))
 
 pub returns-in_err-save-clause-takes : goal.returns-in_err-save-clause-takes
 returns-in_err-save-clause-takes g c = λ was is.
     let refused = err_from_is_err_and c.from_residual-in_err-save.result c.from_residual-in_err-save.ensures.1 in
-    let r = c.in_err-save.field-0.0 in
-    let old = c.args.self.now.whole in
     let came = c.args.came in
-    let index = c.args.head.index in
-    let bytes = spelled_with was c.args.head c.args.bytes.now in
-    let there = subst (λ (w : Whole). IsNumbered w.members came.to was) (sym (whole_is c.self.view_is)) is in
-    let taking = subst (λ (w : Whole). IsTaking came index bytes w c.in_ok-next.field-0.next c.in_ok-next.field-0.noted.items)
-    (whole_is c.self.view_is) (c.in_ok-next.ensures was there) in
+    let head = c.args.head in
+    let bytes = c.args.bytes.now in
+    let taking = taking_in came head bytes (Ok c.in_ok-next.field-0) (whole_is c.self.view_is) c.in_ok-next.ensures was is
+    in
     rw (refused.1, refused.2)
-    (save_refused (TakesSpelled came index bytes) old c.save.new.self.whole came.to taking.was c.in_ok-next.field-0.next
-    c.args.disks.now.items c.save.new.disks.items r taking.is c.in_err-save.ensures.saves
-    c.in_err-save.ensures.acts.memory (taking_unsaved taking))
+    (save_refused (TakesSpelled came head.index (spelled_with was head bytes)) c.args.self.now.whole c.save.new.self.whole
+    came.to taking.was c.in_ok-next.field-0.next c.args.disks.now.items c.save.new.disks.items c.in_err-save.field-0.0
+    taking.is c.in_err-save.ensures.saves c.in_err-save.ensures.acts.memory (taking_unsaved taking))
 
 pub returns-clause-takes : goal.returns-clause-takes
 returns-clause-takes g c = λ was is.
-    let old = c.args.self.now.whole in
     let came = c.args.came in
-    let index = c.args.head.index in
-    let bytes = spelled_with was c.args.head c.args.bytes.now in
-    let there = subst (λ (w : Whole). IsNumbered w.members came.to was) (sym (whole_is c.self.view_is)) is in
+    let head = c.args.head in
+    let bytes = c.args.bytes.now in
     let next = c.in_ok-next.field-0.next in
-    let taking = subst (λ (w : Whole). IsTaking came index bytes w next c.in_ok-next.field-0.noted.items)
-    (whole_is c.self.view_is) (c.in_ok-next.ensures was there) in
-    carried_saved (TakesSpelled came index bytes) Done old c.save.new.self.whole came.to taking.was next.replica
-    next.event c.args.disks.now.items c.save.new.disks.items (c.in_ok-save.ensures.saves.0 taking.was taking.is)
-    c.in_ok-save.ensures.saves.1 (taking_saved taking)
+    let taking = taking_in came head bytes (Ok c.in_ok-next.field-0) (whole_is c.self.view_is) c.in_ok-next.ensures was is
+    in
+    carried_saved (TakesSpelled came head.index (spelled_with was head bytes)) Done c.args.self.now.whole
+    c.save.new.self.whole came.to taking.was next.replica next.event c.args.disks.now.items c.save.new.disks.items
+    (c.in_ok-save.ensures.saves.0 taking.was taking.is) c.in_ok-save.ensures.saves.1 (taking_saved taking)
 
 pub save-requires-clause-next : goal.save-requires-clause-next
 save-requires-clause-next g c = λ was is.
     let old = c.args.self.now.whole in
-    let came = c.args.came in
-    let index = c.args.head.index in
-    let bytes = spelled_with was c.args.head c.args.bytes.now in
-    let there = subst (λ (w : Whole). IsNumbered w.members came.to was) (sym (whole_is c.self.view_is)) is in
-    let next = c.in_ok-next.field-0.next in
-    let noted = c.in_ok-next.field-0.noted.items in
-    let taking = subst (λ (w : Whole). IsTaking came index bytes w next noted) (whole_is c.self.view_is)
-    (c.in_ok-next.ensures was there) in
-    subst (λ (m : Member). IsSoundNext (length old.members) (length old.events) came.to noted m.replica next.replica)
-    (number_once taking.is is) taking.sound
+    let taken = c.in_ok-next.field-0 in
+    let taking = taking_in c.args.came c.args.head c.args.bytes.now (Ok taken) (whole_is c.self.view_is)
+    c.in_ok-next.ensures was is in
+    subst (λ (m : Member). IsSoundNext (length old.members) (length old.events) c.args.came.to taken.noted.items m.replica
+    taken.next.replica) (number_once taking.is is) taking.sound
 
 pub returns-in_err-next-clause-acts : goal.returns-in_err-next-clause-acts
 returns-in_err-next-clause-acts g c = acts_none c.requires.backed
