@@ -155,27 +155,41 @@ fn read_directory(rest: &mut Reader<'_>, front: &Front) -> Option<Id> {
     (front.is_issued(id) && zeros.iter().all(|byte| *byte == 0)).then_some(id)
 }
 
-// Whether the bytes are an image of one directory and one entry at most, read off the grammar.
-fn is_image(bytes: &[u8]) -> Option<bool> {
-    let mut rest = Reader::new(bytes);
-    let front = read_front(&mut rest)?;
-    let entry = match rest.number32().ok()? {
-        0 => None,
-        1 => Some(read_entry(&mut rest, &front)?),
-        _ => return None,
-    };
-    let directory = match rest.number32().ok()? {
-        0 => None,
-        1 => Some(read_directory(&mut rest, &front)?),
-        _ => return None,
-    };
-    let stands = match entry {
+// One entry at most.
+fn read_entries(rest: &mut Reader<'_>, front: &Front) -> Option<Option<(Id, Id)>> {
+    match rest.number32().ok()? {
+        0 => Some(None),
+        1 => Some(Some(read_entry(rest, front)?)),
+        _ => None,
+    }
+}
+
+// One directory at most.
+fn read_directories(rest: &mut Reader<'_>, front: &Front) -> Option<Option<Id>> {
+    match rest.number32().ok()? {
+        0 => Some(None),
+        1 => Some(Some(read_directory(rest, front)?)),
+        _ => None,
+    }
+}
+
+// Whether the entry stands beside the directory, or there is none.
+fn stands(entry: Option<(Id, Id)>, directory: Option<Id>) -> bool {
+    match entry {
         Some((dir, target)) => {
             directory == Some(target) && (dir == target || dir == ROOT || dir == ATTIC)
         }
         None => true,
-    };
-    Some(stands && rest.is_empty())
+    }
+}
+
+// Whether the bytes are an image of one directory and one entry at most, read off the grammar.
+fn is_image(bytes: &[u8]) -> Option<bool> {
+    let mut rest = Reader::new(bytes);
+    let front = read_front(&mut rest)?;
+    let entry = read_entries(&mut rest, &front)?;
+    let directory = read_directories(&mut rest, &front)?;
+    Some(stands(entry, directory) && rest.is_empty())
 }
 
 /// Images, of any number of members.
@@ -185,24 +199,30 @@ struct Images;
 impl Grammar for Images {
     fn reads_exactly(&self, alloc: Global, bytes: &[u8]) -> Result<bool, Memory> {
         let is_image = is_image(bytes) == Some(true);
-        match decode_image(alloc, bytes) {
-            Ok(saved) => {
-                let again = encode_image(alloc, &saved)?;
-                Ok(is_image && again.starts_with(b"FIC2") && again[4..] == bytes[4..])
-            }
-            Err(ImageFault::NotImage) => Ok(!is_image),
-            Err(ImageFault::Memory) => Err(Memory),
-        }
+        Ok(match spelled_again(alloc, bytes)? {
+            Some(again) => is_image && is_version_2_of(&again, bytes),
+            None => !is_image,
+        })
     }
+}
+
+// What spells what is read of the bytes, where they are an image.
+fn spelled_again(alloc: Global, bytes: &[u8]) -> Result<Option<Vec<u8>>, Memory> {
+    match decode_image(alloc, bytes) {
+        Ok(saved) => Ok(Some(encode_image(alloc, &saved)?)),
+        Err(ImageFault::NotImage) => Ok(None),
+        Err(ImageFault::Memory) => Err(Memory),
+    }
+}
+
+// Whether an image is of version 2, and else the same as these bytes.
+fn is_version_2_of(image: &[u8], bytes: &[u8]) -> bool {
+    image.starts_with(b"FIC2") && image.get(4..) == bytes.get(4..)
 }
 
 // Whether the bytes are an image, which spells what is read.
 fn stays_so(alloc: Global, bytes: &[u8]) -> Result<bool, Memory> {
-    match decode_image(alloc, bytes) {
-        Ok(saved) => Ok(encode_image(alloc, &saved)?.as_slice() == bytes),
-        Err(ImageFault::NotImage) => Ok(false),
-        Err(ImageFault::Memory) => Err(Memory),
-    }
+    Ok(spelled_again(alloc, bytes)?.is_some_and(|again| again.as_slice() == bytes))
 }
 
 // Whether each of the changes leaves an image where a byte was written, or none of them does, as said.
@@ -259,11 +279,7 @@ fn is_written(saved: &Saved) -> bool {
 // Whether an image of version 1 gives what is spelled with these bytes in version 2.
 fn is_read_in_version_1(alloc: Global, bytes: &[u8]) -> Result<bool, Memory> {
     let earlier = changed(alloc, bytes, FIRST_VERSION)?;
-    match decode_image(alloc, &earlier) {
-        Ok(saved) => Ok(encode_image(alloc, &saved)?.as_slice() == bytes),
-        Err(ImageFault::NotImage) => Ok(false),
-        Err(ImageFault::Memory) => Err(Memory),
-    }
+    Ok(spelled_again(alloc, &earlier)?.is_some_and(|again| again.as_slice() == bytes))
 }
 
 #[test]

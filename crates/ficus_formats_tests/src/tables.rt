@@ -1,8 +1,13 @@
 // Tables that are written out, and what is no tables.
+ghost use Rattle.std.specs.Prelude.{◌≡◌};
+ghost use Rattle.ficus_durable_state.specs.Tables.{FitsTables};
+ghost use Rattle.ficus_entry.specs.Entry.{IsRising as IsRisingEntries};
+ghost use Rattle.ficus_file.specs.Files.{AreFiles};
+
 use crate::variants::{Change, changed};
-use ficus_codec::{Known, TakeFault, put_tables, read_all_rows, take_tables};
-use ficus_entry::Entries;
-use ficus_file::Files;
+use ficus_codec::{Known, TakeFault, put_tables, read_all_rows, tables_of, take_tables};
+use ficus_entry::SharedEntry;
+use ficus_file::SharedFile;
 use ficus_formats::{ReadFault, Reader, take_id, take_u8, take_u16, take_u32, take_u64};
 use ficus_ids::{Id, Members, Memory};
 use std::alloc::Global;
@@ -137,6 +142,42 @@ fn tables_have_one_spelling(rt: HostRuntime) -> Result<(), Fail> {
     Ok(())
 }
 
+// What spells the tables that have these rows.
+fn spelled(
+    alloc: Global,
+    entries: &[SharedEntry],
+    files: &[SharedFile],
+    members: Members,
+) -> Result<Vec<u8>, Memory>
+    requires entries { IsRisingEntries entries.now }
+    requires files { AreFiles files.now }
+    requires fits { FitsTables members entries.now files.now }
+{
+    let (entries, files) = tables_of(alloc, entries, files)?;
+    let mut out = Vec::new(alloc);
+    put_tables(&mut out, &entries, &files, members)?;
+    Ok(out)
+}
+
+// Whether the bytes are written again as they were read where these rows are known.
+fn stay_so_where_known(
+    alloc: Global,
+    bytes: &[u8],
+    known: &Known,
+    members: Members,
+) -> Result<bool, Memory>
+    requires { known.now ≡ members }
+{
+    match read_all_rows(alloc, Reader::new(bytes), known) {
+        Ok((entries, files)) => {
+            let out = spelled(alloc, entries.items(), files.items(), members)?;
+            Ok(out.as_slice() == bytes)
+        }
+        Err(ReadFault::Unspelled) => Ok(false),
+        Err(ReadFault::Memory) => Err(Memory),
+    }
+}
+
 // Whether the bytes are written again as they were read where the rows of other tables are known.
 fn stay_so_beside(
     alloc: Global,
@@ -144,20 +185,12 @@ fn stay_so_beside(
     known: &[u8],
     members: Members,
 ) -> Result<bool, Memory> {
-    let Ok((entries, files, _)) = take_tables(alloc, known, 0, members) else {
-        return Ok(false);
-    };
-    let known = Known::of(&entries, &files, members)?;
-    match read_all_rows(alloc, Reader::new(bytes), &known) {
-        Ok((entries, files)) => {
-            let entries = Entries::of_rows(alloc, entries.items())?;
-            let files = Files::of_rows(alloc, files.items())?;
-            let mut out = Vec::new(alloc);
-            put_tables(&mut out, &entries, &files, members)?;
-            Ok(out.as_slice() == bytes)
+    match take_tables(alloc, known, 0, members) {
+        Ok((entries, files, _)) => {
+            let known = Known::of(&entries, &files, members)?;
+            stay_so_where_known(alloc, bytes, &known, members)
         }
-        Err(ReadFault::Unspelled) => Ok(false),
-        Err(ReadFault::Memory) => Err(Memory),
+        Err(_) => Ok(false),
     }
 }
 

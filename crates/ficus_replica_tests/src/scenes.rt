@@ -66,20 +66,44 @@ fn conflict(alloc: Global) -> Result<Replica, Fail>
     ensures { IfOk result (λ replica. FitsImage replica.saved) }
 {
     let first = one(alloc)?;
-    let two = two(alloc, &first)?;
-    let two = changed(alloc, &two, Make::Text(2))?;
-    let one = changed(alloc, &first, Make::Text(1))?;
-    pulled(alloc, &one, &two)
+    let two = two_written(alloc, &first)?;
+    written_and_heard(alloc, &first, &two)
 }
 
 fn orphan(alloc: Global) -> Result<Replica, Fail>
     ensures { IfOk result (λ replica. FitsImage replica.saved) }
 {
     let first = one(alloc)?;
-    let two = two(alloc, &first)?;
-    let two = without_file(alloc, &two)?;
-    let one = changed(alloc, &first, Make::Text(1))?;
-    pulled(alloc, &one, &two)
+    let two = two_without_file(alloc, &first)?;
+    written_and_heard(alloc, &first, &two)
+}
+
+// Replica 2 once it has written to the file of which it has heard.
+fn two_written(alloc: Global, first: &Replica) -> Result<Replica, Fail>
+    requires { FitsImage first.now.saved }
+    ensures { IfOk result (λ replica. FitsImage replica.saved) }
+{
+    let two = two(alloc, first)?;
+    changed(alloc, &two, Make::Text(2))
+}
+
+// Replica 2 once it has removed the file of which it has heard.
+fn two_without_file(alloc: Global, first: &Replica) -> Result<Replica, Fail>
+    requires { FitsImage first.now.saved }
+    ensures { IfOk result (λ replica. FitsImage replica.saved) }
+{
+    let two = two(alloc, first)?;
+    without_file(alloc, &two)
+}
+
+// Replica 1 once it has written to the file, and then heard of what the other holds.
+fn written_and_heard(alloc: Global, first: &Replica, other: &Replica) -> Result<Replica, Fail>
+    requires first { FitsImage first.now.saved }
+    requires other { FitsImage other.now.saved }
+    ensures { IfOk result (λ replica. FitsImage replica.saved) }
+{
+    let one = changed(alloc, first, Make::Text(1))?;
+    pulled(alloc, &one, other)
 }
 
 fn removed(alloc: Global) -> Result<Replica, Fail>
@@ -92,12 +116,46 @@ fn removed(alloc: Global) -> Result<Replica, Fail>
 fn detached(alloc: Global) -> Result<Replica, Fail>
     ensures { IfOk result (λ replica. FitsImage replica.saved) }
 {
-    let one = with_directory(alloc, &one(alloc)?, b"/a")?;
-    let one = with_directory(alloc, &one, b"/b")?;
-    let two = two(alloc, &one)?;
-    let two = moved(alloc, &two, b"/b", b"/a/b")?;
-    let one = moved(alloc, &one, b"/a", b"/b/a")?;
-    pulled(alloc, &one, &two)
+    let made = one(alloc)?;
+    let first = with_directories(alloc, &made)?;
+    moved_apart(alloc, &first)
+}
+
+// The replica once it has made `/a` and `/b`.
+fn with_directories(alloc: Global, made: &Replica) -> Result<Replica, Fail>
+    requires { FitsImage made.now.saved }
+    ensures { IfOk result (λ replica. FitsImage replica.saved) }
+{
+    let one = with_directory(alloc, made, b"/a")?;
+    with_directory(alloc, &one, b"/b")
+}
+
+// Replica 1 once each of the two has moved one directory into the other.
+fn moved_apart(alloc: Global, first: &Replica) -> Result<Replica, Fail>
+    requires { FitsImage first.now.saved }
+    ensures { IfOk result (λ replica. FitsImage replica.saved) }
+{
+    let two = two_moved(alloc, first)?;
+    moved_and_heard(alloc, first, &two)
+}
+
+// Replica 2 once it has moved `/b` into `/a`, of which it has heard.
+fn two_moved(alloc: Global, one: &Replica) -> Result<Replica, Fail>
+    requires { FitsImage one.now.saved }
+    ensures { IfOk result (λ replica. FitsImage replica.saved) }
+{
+    let two = two(alloc, one)?;
+    moved(alloc, &two, b"/b", b"/a/b")
+}
+
+// Replica 1 once it has moved `/a` into `/b`, and then heard of what the other holds.
+fn moved_and_heard(alloc: Global, one: &Replica, other: &Replica) -> Result<Replica, Fail>
+    requires one { FitsImage one.now.saved }
+    requires other { FitsImage other.now.saved }
+    ensures { IfOk result (λ replica. FitsImage replica.saved) }
+{
+    let one = moved(alloc, one, b"/a", b"/b/a")?;
+    pulled(alloc, &one, other)
 }
 
 fn without_file(alloc: Global, replica: &Replica) -> Result<Replica, Fail>

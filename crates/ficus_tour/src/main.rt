@@ -24,12 +24,24 @@ fn main(rt: HostRuntime) -> Result<(), Fault> {
 
 // What office 1 shows once it has heard of office 2.
 fn tour(alloc: Global) -> Result<Vec<u8>, Fault> {
+    let both = met(alloc)?;
+    plans(alloc, &both)
+}
+
+// Office 1 with a plan, once it has heard of office 2, which has made another.
+fn met(alloc: Global) -> Result<Replica, Fault>
+    ensures { IfOk result (λ met. FitsImage met.saved) }
+{
     let one = with_plan(alloc, 1, b"slate\n")?;
+    heard_of_second(alloc, &one)
+}
+
+fn heard_of_second(alloc: Global, one: &Replica) -> Result<Replica, Fault>
+    requires { FitsImage one.now.saved }
+    ensures { IfOk result (λ heard. FitsImage heard.saved) }
+{
     let two = with_plan(alloc, 2, b"tiles\n")?;
-    let both = heard(alloc, &one, &two)?;
-    let root = read_path(alloc, b"/")?;
-    let theirs = read_path(alloc, b"/plan#2.1")?;
-    Ok(shown(alloc, &both, &root, &theirs)?)
+    heard(alloc, one, &two)
 }
 
 // The office of this number, which has heard of nothing and made a plan of these bytes.
@@ -37,9 +49,17 @@ fn with_plan(alloc: Global, number: u8, bytes: &[u8]) -> Result<Replica, Fault>
     ensures { IfOk result (λ office. FitsImage office.saved) }
 {
     let plan = new_path(alloc, b"/plan")?;
+    let office = with_file(alloc, number, &plan)?;
+    written(alloc, &office, &plan, bytes)
+}
+
+// The office of this number, which has made a file at this path.
+fn with_file(alloc: Global, number: u8, path: &Path) -> Result<Replica, Fault>
+    requires { IsNew path.now }
+    ensures { IfOk result (λ office. FitsImage office.saved) }
+{
     let office = office(alloc, number)?;
-    let made = made(alloc, &office, &plan)?;
-    written(alloc, &made, &plan, bytes)
+    made(alloc, &office, path)
 }
 
 fn office(alloc: Global, number: u8) -> Result<Replica, Fault>
@@ -115,6 +135,15 @@ fn may_save(office: &Replica) -> Result<(), Fault>
         return Err(Fault::Worn);
     }
     Ok(())
+}
+
+// What an office that has heard of both plans shows of them.
+fn plans(alloc: Global, office: &Replica) -> Result<Vec<u8>, Fault>
+    requires { FitsImage office.now.saved }
+{
+    let root = read_path(alloc, b"/")?;
+    let theirs = read_path(alloc, b"/plan#2.1")?;
+    Ok(shown(alloc, office, &root, &theirs)?)
 }
 
 // The names in a directory, each with a line of its own, and then the bytes of a file.
