@@ -1,7 +1,7 @@
 pub mod File
 pub mod FileLaws
 pub mod Files
-pub mod Kept
+pub mod VersionList
 pub mod Showing
 pub mod Twins
 pub mod Version

@@ -12,12 +12,12 @@ use std::rc::Rc;
 /// The versions of a file. Contracts see them as a list.
 #[derive(Drop)]
 pub struct Versions {
-    kept: Kept,
+    list: VersionList,
 }
 
 // A version that came without memory stands alone, until a call that takes memory makes it one that copies share.
 #[derive(Drop)]
-enum Kept {
+enum VersionList {
     Empty,
     One(Version),
     Shared(Rc<Vec<Version>>),
@@ -29,9 +29,9 @@ impl Model for Versions {
 
     ghost Value = { List VersionValue };
 
-    ghost use Rattle.ficus_file.specs.Kept.{versions_of};
+    ghost use Rattle.ficus_file.specs.VersionList.{versions_of};
 
-    ghost view = { λ v. versions_of v.kept };
+    ghost view = { λ v. versions_of v.list };
 }
 
 impl Versions {
@@ -39,7 +39,9 @@ impl Versions {
     pub fn none() -> Versions
         ensures { result ≡ [] }
     {
-        Versions { kept: Kept::Empty }
+        Versions {
+            list: VersionList::Empty,
+        }
     }
 
     /// One version. Takes no memory.
@@ -47,7 +49,7 @@ impl Versions {
         ensures { result ≡ version ∷ [] }
     {
         Versions {
-            kept: Kept::One(version),
+            list: VersionList::One(version),
         }
     }
 
@@ -57,7 +59,7 @@ impl Versions {
     {
         let versions = Rc::new(alloc, versions)?;
         Ok(Versions {
-            kept: Kept::Shared(versions),
+            list: VersionList::Shared(versions),
         })
     }
 
@@ -65,10 +67,10 @@ impl Versions {
     pub fn items(&self) -> &[Version]
         ensures { result.now ≡ self.now }
     {
-        match &self.kept {
-            Kept::Empty => &[],
-            Kept::One(version) => std::slice::from_ref(version),
-            Kept::Shared(versions) => versions.as_ref().as_slice(),
+        match &self.list {
+            VersionList::Empty => &[],
+            VersionList::One(version) => std::slice::from_ref(version),
+            VersionList::Shared(versions) => versions.as_ref().as_slice(),
         }
     }
 
@@ -76,13 +78,13 @@ impl Versions {
     pub fn copy(&self, alloc: Global) -> Result<Versions, Memory>
         ensures { IfOk result (λ versions. versions ≡ self.now) }
     {
-        match &self.kept {
-            Kept::Empty => Ok(Versions::none()),
-            Kept::One(version) => Ok(Versions::one(version.copy(alloc)?)),
-            Kept::Shared(versions) => {
+        match &self.list {
+            VersionList::Empty => Ok(Versions::none()),
+            VersionList::One(version) => Ok(Versions::one(version.copy(alloc)?)),
+            VersionList::Shared(versions) => {
                 let versions = versions.clone()?;
                 Ok(Versions {
-                    kept: Kept::Shared(versions),
+                    list: VersionList::Shared(versions),
                 })
             }
         }
@@ -92,13 +94,13 @@ impl Versions {
     pub fn into_shared(self, alloc: Global) -> Result<Versions, Memory>
         ensures { IfOk result (λ versions. versions ≡ self) }
     {
-        match self.kept {
-            Kept::One(version) => {
+        match self.list {
+            VersionList::One(version) => {
                 let mut versions = Vec::with_capacity(alloc, 1)?;
                 versions.push(version)?;
                 Versions::of(alloc, versions)
             }
-            kept => Ok(Versions { kept }),
+            list => Ok(Versions { list }),
         }
     }
 }

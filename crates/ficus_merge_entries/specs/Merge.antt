@@ -11,6 +11,6 @@ pub record MergesEntries (r members : ℕ) (mine theirs merged : List Entry) : T
   pub each : (id : Id) (at_r at_peer after : Option Entry) → HoldsUnder mine id at_r → HoldsUnder theirs id at_peer →
       HoldsUnder merged id after → MergesEntry r members at_r at_peer after
 
--- the change, or where there is none what stood at r, is what the table says
-abbrev pub Changes : ℕ → ℕ → Option Entry → Option Entry → Option Entry → Type 0
-Changes r members mine theirs change = MergesEntry r members mine theirs (option_or change mine)
+-- the replacement, or where there is none what stood at r, is what the table says
+abbrev pub IsReplacement : ℕ → ℕ → Option Entry → Option Entry → Option Entry → Type 0
+IsReplacement r members mine theirs replacement = MergesEntry r members mine theirs (option_or replacement mine)

@@ -1,9 +1,9 @@
 //! The merge of two replicas' directory entries: the merge table, entry by entry.
 #![tactic(auto)]
 
-mod change;
 mod laws;
 mod merge;
+mod replacement;
 mod runs;
 mod table;
 

@@ -4,9 +4,9 @@ ghost use Rattle.ficus_table.specs.Made.{IsMadeBy};
 ghost use Rattle.ficus_table.specs.SideBySide.{as_list};
 ghost use Rattle.ficus_entry.specs.Entry.{IsRising};
 ghost use Rattle.ficus_entry.specs.declared.entry.State.{State};
-ghost use Rattle.ficus_merge_entries.specs.Merge.{Changes, MergesEntries};
+ghost use Rattle.ficus_merge_entries.specs.Merge.{IsReplacement, MergesEntries};
 
-use crate::change::change;
+use crate::replacement::replacement;
 use crate::runs::merge_runs;
 use crate::table::Taker;
 use ficus_entry::{Entries, InOrder, SharedEntry};
@@ -48,8 +48,8 @@ pub fn merge_in_order(
     if let Some(rows) = all_new(&mine, theirs) {
         return Entries::of_rows(alloc, rows);
     }
-    let changes = changes(alloc, Taker::new(me, members), &mine, theirs)?;
-    mine.replaced(&changes)
+    let replacements = replacements(alloc, Taker::new(me, members), &mine, theirs)?;
+    mine.replaced(&replacements)
 }
 
 // The peer's entries, by their rows, where these are known, none of them is removed, and the taker has none: then the
@@ -83,49 +83,52 @@ fn are_live(rows: &[SharedEntry]) -> bool
 }
 
 // What becomes of the taker's entries, where it isn't what stands there.
-fn changes(
+fn replacements(
     alloc: Global,
     taker: Taker,
     mine: &Entries,
     theirs: &InOrder<'_>,
 ) -> Result<Vec<SharedEntry>, Memory>
-    ensures made { IfOk result (λ changes.
-        IsMadeBy (λ entry. entry.id) (Changes taker.number taker.members) mine.now theirs.now changes.items) }
-    ensures rising { IfOk result (λ changes. IsRising changes.items) }
+    ensures made { IfOk result (λ replacements. IsMadeBy (λ entry. entry.id)
+        (IsReplacement taker.number taker.members) mine.now theirs.now replacements.items) }
+    ensures rising { IfOk result (λ replacements. IsRising replacements.items) }
 {
     let my_entries = mine.in_order()?;
     // Room for all of theirs costs nothing where it isn't filled.
-    let mut changes = Vec::with_capacity(alloc, theirs.len())?;
-    collect(&mut changes, taker, &my_entries, theirs)?;
-    Ok(changes)
+    let mut replacements = Vec::with_capacity(alloc, theirs.len())?;
+    put_replacements(&mut replacements, taker, &my_entries, theirs)?;
+    Ok(replacements)
 }
 
 // Puts these into an empty list.
-fn collect(
-    changes: &mut Vec<SharedEntry>,
+fn put_replacements(
+    replacements: &mut Vec<SharedEntry>,
     taker: Taker,
     my_entries: &InOrder<'_>,
     their_entries: &InOrder<'_>,
 ) -> Result<(), Memory>
-    requires { changes.old.items ≡ [] }
-    ensures made { OnOk result (IsMadeBy (λ entry. entry.id) (Changes taker.number taker.members)
-        my_entries.now their_entries.now changes.new.items) }
-    ensures rising { OnOk result (IsRising changes.new.items) }
+    requires { replacements.old.items ≡ [] }
+    ensures made { OnOk result (IsMadeBy (λ entry. entry.id) (IsReplacement taker.number taker.members)
+        my_entries.now their_entries.now replacements.new.items) }
+    ensures rising { OnOk result (IsRising replacements.new.items) }
 {
-    let alloc = *changes.allocator();
+    let alloc = *replacements.allocator();
     let mut walk = SideBySide::of(my_entries.rows(), their_entries.rows());
     while let Some(next) = walk.next_row_pair() {
-        note(changes, change(alloc, taker, next)?)?;
+        note(replacements, replacement(alloc, taker, next)?)?;
     }
     Ok(())
 }
 
 /// Puts an entry, if there is one, behind the others.
-pub(crate) fn note(changes: &mut Vec<SharedEntry>, entry: Option<SharedEntry>) -> Result<(), Memory>
-    ensures { OnOk result (changes.new.items ≡ changes.old.items ++ as_list entry) }
+pub(crate) fn note(
+    replacements: &mut Vec<SharedEntry>,
+    entry: Option<SharedEntry>,
+) -> Result<(), Memory>
+    ensures { OnOk result (replacements.new.items ≡ replacements.old.items ++ as_list entry) }
 {
     if let Some(entry) = entry {
-        changes.push(entry)?;
+        replacements.push(entry)?;
     }
     Ok(())
 }

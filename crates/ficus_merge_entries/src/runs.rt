@@ -11,8 +11,8 @@ ghost use Rattle.ficus_entry.specs.Run.{Takes};
 ghost use Rattle.ficus_merge_entries.specs.Runs.{id_of, kept_if};
 ghost use Rattle.ficus_merge_entries.specs.Table.{MergesEntry};
 
-use crate::change::shared;
 use crate::merge::note;
+use crate::replacement::shared;
 use crate::table::Taker;
 use ficus_entry::{Entries, Entry, Run, SharedEntry};
 use ficus_ids::{Members, Memory};
@@ -175,8 +175,8 @@ fn made_of(
     ensures { IfOk result (MergesEntry taker.number taker.members (option_copied mine.entry)
         (option_copied theirs.entry)) }
 {
-    match taker.change(mine, theirs)? {
-        Some(change) => Ok(Some(change)),
+    match taker.replacement(mine, theirs)? {
+        Some(replacement) => Ok(Some(replacement)),
         None => match mine {
             Some(entry) => Ok(Some(entry.copy()?)),
             None => Ok(None),

@@ -3,7 +3,7 @@ ghost use Rattle.std.specs.Option.{option_copied, option_or};
 ghost use Rattle.ficus_ids.specs.Marks.{has};
 ghost use Rattle.ficus_ids.specs.Members.{IsCount, IsMember};
 ghost use Rattle.ficus_merge_entries.specs.Table.{everyone as everyone_of, StandFor, IsDead, Merges, MergesEntry, state_of};
-ghost use Rattle.ficus_merge_entries.specs.Merge.{Changes};
+ghost use Rattle.ficus_merge_entries.specs.Merge.{IsReplacement};
 
 use ficus_entry::State::{Dead, Live};
 use ficus_entry::{Entry, State};
@@ -35,13 +35,13 @@ impl Taker {
 
     /// What stands at the taker afterwards, by what stood there and what stands at the peer, or nothing where it is
     /// what stood there.
-    #[tactic(auto, using(crate::proofs::Changes::live_stays))]
-    pub(crate) fn change(
+    #[tactic(auto, using(crate::proofs::Replacements::live_stays))]
+    pub(crate) fn replacement(
         self,
         mine: Option<&Entry>,
         theirs: Option<&Entry>,
     ) -> Result<Option<Entry>, Memory>
-        ensures { IfOk result (Changes self.number self.members
+        ensures { IfOk result (IsReplacement self.number self.members
             (option_copied mine.entry) (option_copied theirs.entry)) }
     {
         if are_live(mine, theirs) {

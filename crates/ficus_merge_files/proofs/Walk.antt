@@ -19,21 +19,21 @@ use Rattle.ficus_file.specs.declared.file.FileReplica.{FileReplica}
 use Rattle.ficus_file.specs.Files.{id_of, IsRising, IsSoundFile, AreFiles}
 use Rattle.ficus_mentions.proofs.Kept.{take_next}
 use Rattle.ficus_merge_files.specs.Merge.{IsMergedFile, IsTaken, Merges, AreMergedFiles}
-use Rattle.ficus_merge_files.specs.Changes.{IsChange, AddsChange, AreChanges}
+use Rattle.ficus_merge_files.specs.Replacements.{IsReplacement, AddsReplacement, AreReplacements}
 
 inside_whole : {X : Type 0} (xs : List X) (k : ℕ) (x : X) → Contains (take k xs) x → Contains xs x
 inside_whole xs k x inside =
     subst (λ l. Contains l x) (take-append-drop k xs) (Contains-append_left (take k xs) (drop k xs) x inside)
 
 -- so many files of theirs were looked at
-pub record AreChangesSoFar (held : List Id) (mine theirs changes : List FileReplica) (k : ℕ) : Type 0 where
-  pub changes_are : AreChanges held mine (take k theirs) changes
-  pub files : AreFiles changes
-  pub earlier : (file : FileReplica) → Contains changes file → HoldsBy id_of (take k theirs) file.id
+pub record AreReplacementsSoFar (held : List Id) (mine theirs replacements : List FileReplica) (k : ℕ) : Type 0 where
+  pub replacements_are : AreReplacements held mine (take k theirs) replacements
+  pub files : AreFiles replacements
+  pub earlier : (file : FileReplica) → Contains replacements file → HoldsBy id_of (take k theirs) file.id
 
-pub none_so_far : (held : List Id) (mine theirs : List FileReplica) → AreChangesSoFar held mine theirs [] 0
+pub none_so_far : (held : List Id) (mine theirs : List FileReplica) → AreReplacementsSoFar held mine theirs [] 0
 none_so_far held mine theirs = record {
-  changes_are = record { each = λ id m t c has_m has_t has_c. none id m t c has_t has_c };
+  replacements_are = record { each = λ id m t c has_m has_t has_c. none id m t c has_t has_c };
   files = record {
     rising = record { each = λ i j d before within. absurd (omega (arith, within)) };
     each = λ file inside. absurd (not_inside_none file inside);
@@ -48,56 +48,56 @@ none_so_far held mine theirs = record {
     none id (Some m) None None has_t has_c = refl
     none id None None None has_t has_c = refl
 
--- one change more, or none, under an identifier that no other has
-module _ (changes : List FileReplica) (id : Id) where
+-- one replacement more, or none, under an identifier that no other has
+module _ (replacements : List FileReplica) (id : Id) where
   abbrev Fits : Option FileReplica → Type 0
-  Fits change = (file : FileReplica) → change ≡ Some file → IsSoundFile file × (file.id ≡ id)
+  Fits replacement = (file : FileReplica) → replacement ≡ Some file → IsSoundFile file × (file.id ≡ id)
 
-  there : (change c : Option FileReplica) → Fits change → (HoldsBy id_of changes id → ⊥) →
-      HoldsUnderBy id_of (changes ++ as_list change) id c → c ≡ change
+  there : (replacement c : Option FileReplica) → Fits replacement → (HoldsBy id_of replacements id → ⊥) →
+      HoldsUnderBy id_of (replacements ++ as_list replacement) id c → c ≡ replacement
   there None None fits none has = refl
   there None (Some file) fits none has =
       absurd (none (record { item = file; inside = rw append-nil at has.0; has_id = has.1 }))
   there (Some item) None fits none has =
-      absurd (has (record { item = item; inside = Contains-push changes item; has_id = (fits item refl).1 }))
+      absurd (has (record { item = item; inside = Contains-push replacements item; has_id = (fits item refl).1 }))
   there (Some item) (Some file) fits none has =
-      elim (Contains-push_cases changes item file has.0) [
+      elim (Contains-push_cases replacements item file has.0) [
         | inl early ↦ absurd (none (record { item = file; inside = early; has_id = has.1 }))
         | inr last ↦ ap Some (sym last)
       ]
 
-  elsewhere : (change c : Option FileReplica) (other : Id) → Fits change → other ≢ id →
-      HoldsUnderBy id_of (changes ++ as_list change) other c → HoldsUnderBy id_of changes other c
+  elsewhere : (replacement c : Option FileReplica) (other : Id) → Fits replacement → other ≢ id →
+      HoldsUnderBy id_of (replacements ++ as_list replacement) other c → HoldsUnderBy id_of replacements other c
   elsewhere None c other fits differ has = rw append-nil at has
   elsewhere (Some item) None other fits differ has = λ held. has (record {
     item = held.item;
-    inside = Contains-append_left changes (item ∷ []) held.item held.inside;
+    inside = Contains-append_left replacements (item ∷ []) held.item held.inside;
     has_id = held.has_id;
   })
   elsewhere (Some item) (Some file) other fits differ has =
-      elim (Contains-push_cases changes item file has.0) [
+      elim (Contains-push_cases replacements item file has.0) [
         | inl early ↦ (early, has.1)
         | inr last ↦ absurd (differ (sym has.1 ∙ ap id_of (sym last) ∙ (fits item refl).1))
       ]
 
-  files_more : (change : Option FileReplica) → Fits change → AreFiles changes →
-      ((file : FileReplica) → Contains changes file → id_cmp file.id id ≡ Less) → AreFiles (changes ++ as_list change)
+  files_more : (replacement : Option FileReplica) → Fits replacement → AreFiles replacements →
+      ((file : FileReplica) → Contains replacements file → id_cmp file.id id ≡ Less) → AreFiles (replacements ++ as_list replacement)
   files_more None fits are above = rw append-nil are
   files_more (Some item) fits are above = record {
     rising = record {
-      each = all_pairs_push (λ (a b : FileReplica). id_cmp a.id b.id ≡ Less) changes item are.rising.each
-          (λ k d within. rw (fits item refl).1 (above (get_or changes k d) (Contains-get_or changes k d within)));
+      each = all_pairs_push (λ (a b : FileReplica). id_cmp a.id b.id ≡ Less) replacements item are.rising.each
+          (λ k d within. rw (fits item refl).1 (above (get_or replacements k d) (Contains-get_or replacements k d within)));
     };
-    each = λ file inside. elim (Contains-push_cases changes item file inside) [
+    each = λ file inside. elim (Contains-push_cases replacements item file inside) [
       | inl early ↦ are.each file early
       | inr last ↦ subst IsSoundFile last (fits item refl).0
     ];
   }
 
-  from_there : (change : Option FileReplica) (file : FileReplica) → Fits change →
-      Contains (changes ++ as_list change) file → Contains changes file ⊎ (file.id ≡ id)
+  from_there : (replacement : Option FileReplica) (file : FileReplica) → Fits replacement →
+      Contains (replacements ++ as_list replacement) file → Contains replacements file ⊎ (file.id ≡ id)
   from_there None file fits inside = inl (rw append-nil at inside)
-  from_there (Some item) file fits inside = elim (Contains-push_cases changes item file inside) [
+  from_there (Some item) file fits inside = elim (Contains-push_cases replacements item file inside) [
     | inl early ↦ inl early
     | inr last ↦ inr (ap id_of (sym last) ∙ (fits item refl).1)
   ]
@@ -151,19 +151,19 @@ module _ (held : List Id) (mine theirs : List FileReplica) (k : ℕ) (their : Fi
   ]
 
   -- the next file of theirs is looked at
-  pub changes_more : (old new : List FileReplica) → AreChangesSoFar held mine theirs old k →
-      AddsChange held mine their old new → AreChangesSoFar held mine theirs new (k + 1)
-  changes_more old new so_far adds = rw adds.is (record {
-    changes_are = record {
+  pub replacements_more : (old new : List FileReplica) → AreReplacementsSoFar held mine theirs old k →
+      AddsReplacement held mine their old new → AreReplacementsSoFar held mine theirs new (k + 1)
+  replacements_more old new so_far adds = rw adds.is (record {
+    replacements_are = record {
       each = λ id m t c has_m has_t has_c. elim (same_id_or_not id their.id) [
         | inl same ↦ here_is id m t c same has_m has_t has_c
-        | inr other ↦ so_far.changes_are.each id m t c has_m (before id t other has_t)
-            (elsewhere old their.id adds.change c id adds.is_change.fits other has_c)
+        | inr other ↦ so_far.replacements_are.each id m t c has_m (before id t other has_t)
+            (elsewhere old their.id adds.replacement c id adds.is_replacement.fits other has_c)
       ];
     };
-    files = files_more old their.id adds.change adds.is_change.fits so_far.files
+    files = files_more old their.id adds.replacement adds.is_replacement.fits so_far.files
         (λ file inside. below file.id (so_far.earlier file inside));
-    earlier = λ file inside. elim (from_there old their.id adds.change file adds.is_change.fits inside) [
+    earlier = λ file inside. elim (from_there old their.id adds.replacement file adds.is_replacement.fits inside) [
       | inl early ↦ later file.id (so_far.earlier file early)
       | inr same ↦ record { item = their; inside = now_inside; has_id = sym same }
     ];
@@ -174,57 +174,57 @@ module _ (held : List Id) (mine theirs : List FileReplica) (k : ℕ) (their : Fi
           not_before (subst (HoldsBy id_of (take k theirs)) has.has_id (so_far.earlier has.item has.inside))
 
       here_is : (id : Id) (m t c : Option FileReplica) → id ≡ their.id → HoldsUnderBy id_of mine id m →
-          HoldsUnderBy id_of (take (k + 1) theirs) id t → HoldsUnderBy id_of (old ++ as_list adds.change) id c →
+          HoldsUnderBy id_of (take (k + 1) theirs) id t → HoldsUnderBy id_of (old ++ as_list adds.replacement) id c →
           Merges held m t (option_or c m)
       here_is id m t c same has_m has_t has_c =
           let is_t : t ≡ Some their =
           their_now t (subst (λ i. HoldsUnderBy id_of (take (k + 1) theirs) i t) same has_t) in
-          let is_c : c ≡ adds.change =
-          there old their.id adds.change c adds.is_change.fits none_there
-          (subst (λ i. HoldsUnderBy id_of (old ++ as_list adds.change) i c) same has_c) in
-          rw (is_t, is_c) (adds.is_change.merges m (subst (λ i. HoldsUnderBy id_of mine i m) same has_m))
+          let is_c : c ≡ adds.replacement =
+          there old their.id adds.replacement c adds.is_replacement.fits none_there
+          (subst (λ i. HoldsUnderBy id_of (old ++ as_list adds.replacement) i c) same has_c) in
+          rw (is_t, is_c) (adds.is_replacement.merges m (subst (λ i. HoldsUnderBy id_of mine i m) same has_m))
 
--- with the changes in place of what mine hold the two are merged
-pub merged_by_changes : (held : List Id) (mine theirs changes both : List FileReplica) →
-    AreChanges held mine theirs changes → ReplacesBy id_of mine changes both → AreMergedFiles held mine theirs both
-merged_by_changes held mine theirs changes both are replaces = record {
+-- with the replacements in place of what mine hold the two are merged
+pub merged_by_replacements : (held : List Id) (mine theirs replacements both : List FileReplica) →
+    AreReplacements held mine theirs replacements → ReplacesBy id_of mine replacements both → AreMergedFiles held mine theirs both
+merged_by_replacements held mine theirs replacements both are replaces = record {
   each = λ id m t b has_m has_t has_b.
-      let change = held_or_not id_of changes id in
-      let is : b ≡ option_or change.0 m = replaces.each id m change.0 b has_m change.1 has_b in
-      rw is (are.each id m t change.0 has_m has_t change.1);
+      let replacement = held_or_not id_of replacements id in
+      let is : b ≡ option_or replacement.0 m = replaces.each id m replacement.0 b has_m replacement.1 has_b in
+      rw is (are.each id m t replacement.0 has_m has_t replacement.1);
 }
 
 -- what becomes of a file of both, and of one of theirs alone
 module _ (held : List Id) (mine : List FileReplica) (their : FileReplica) where
-  pub change_of_both : {E : Type 0} (my : FileReplica) (r : Result (Option FileReplica) E) → IsRising mine →
-      HoldsUnderBy id_of mine their.id (Some my) → IfOk r (λ change. IsMergedFile my their (unwrap_or change my)) →
-      IfOk r (λ change. IfSome change IsSoundFile) → IfOk r (IsChange held mine their)
-  change_of_both my (Err fault) rising has merged fits = tt
-  change_of_both my (Ok None) rising has merged fits = record {
+  pub replacement_of_both : {E : Type 0} (my : FileReplica) (r : Result (Option FileReplica) E) → IsRising mine →
+      HoldsUnderBy id_of mine their.id (Some my) → IfOk r (λ replacement. IsMergedFile my their (unwrap_or replacement my)) →
+      IfOk r (λ replacement. IfSome replacement IsSoundFile) → IfOk r (IsReplacement held mine their)
+  replacement_of_both my (Err fault) rising has merged fits = tt
+  replacement_of_both my (Ok None) rising has merged fits = record {
     merges = λ m has_m. rw (one_held id_of mine their.id m (Some my) rising has_m has) merged;
     fits = λ file is. cc is;
   }
-  change_of_both my (Ok (Some both)) rising has merged fits = record {
+  replacement_of_both my (Ok (Some both)) rising has merged fits = record {
     merges = λ m has_m. rw (one_held id_of mine their.id m (Some my) rising has_m has) merged;
     fits = λ file is.
         let same : both ≡ file = cc is in (subst IsSoundFile same fits, ap id_of (sym same) ∙ merged.id ∙ has.1);
   }
 
-  of_theirs_alone : (change : Option FileReplica) → HoldsUnderBy id_of mine their.id None →
-      IsTaken held their change → ((file : FileReplica) → change ≡ Some file → IsSoundFile file × (file.id ≡ their.id)) →
-      IsChange held mine their change
-  of_theirs_alone change none taken fits = record { merges = merges change taken; fits = fits }
+  of_theirs_alone : (replacement : Option FileReplica) → HoldsUnderBy id_of mine their.id None →
+      IsTaken held their replacement → ((file : FileReplica) → replacement ≡ Some file → IsSoundFile file × (file.id ≡ their.id)) →
+      IsReplacement held mine their replacement
+  of_theirs_alone replacement none taken fits = record { merges = merges replacement taken; fits = fits }
     where
-      merges : (change : Option FileReplica) → IsTaken held their change → (m : Option FileReplica) →
-          HoldsUnderBy id_of mine their.id m → Merges held m (Some their) (option_or change m)
-      merges change taken (Some my) has = absurd (none (record { item = my; inside = has.0; has_id = has.1 }))
+      merges : (replacement : Option FileReplica) → IsTaken held their replacement → (m : Option FileReplica) →
+          HoldsUnderBy id_of mine their.id m → Merges held m (Some their) (option_or replacement m)
+      merges replacement taken (Some my) has = absurd (none (record { item = my; inside = has.0; has_id = has.1 }))
       merges None taken None has = taken
       merges (Some file) taken None has = taken
 
-  pub change_of_theirs : {E : Type 0} (r : Result (Option FileReplica) E) → IsSoundFile their →
+  pub replacement_of_theirs : {E : Type 0} (r : Result (Option FileReplica) E) → IsSoundFile their →
       HoldsUnderBy id_of mine their.id None → IfOk r (IsTaken held their) →
-      IfOk r (λ taken. (file : _) → taken ≡ Some file → file ≡ their) → IfOk r (IsChange held mine their)
-  change_of_theirs (Err fault) sound none taken of_theirs = tt
-  change_of_theirs (Ok change) sound none taken of_theirs =
-      of_theirs_alone change none taken (λ file is.
+      IfOk r (λ taken. (file : _) → taken ≡ Some file → file ≡ their) → IfOk r (IsReplacement held mine their)
+  replacement_of_theirs (Err fault) sound none taken of_theirs = tt
+  replacement_of_theirs (Ok replacement) sound none taken of_theirs =
+      of_theirs_alone replacement none taken (λ file is.
       subst (λ (f : FileReplica). IsSoundFile f × (f.id ≡ their.id)) (sym (of_theirs file is)) (sound, refl))

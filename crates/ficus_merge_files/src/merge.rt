@@ -4,7 +4,7 @@ ghost use Rattle.ficus_file.specs.declared.file.FileReplica.{FileReplica as File
 ghost use Rattle.ficus_file.specs.Files.{AreFiles, IsSoundFile};
 ghost use Rattle.ficus_merge_files.specs.Merge.{CanMerge, Fit, IsMergedFile, IsTaken, AreMergedFiles};
 ghost use Rattle.ficus_merge_files.specs.News.{IsBeside, HasRow};
-ghost use Rattle.ficus_merge_files.specs.Changes.{IsChange, AddsChange, AreChanges};
+ghost use Rattle.ficus_merge_files.specs.Replacements.{IsReplacement, AddsReplacement, AreReplacements};
 ghost use Rattle.ficus_mentions.specs.Touched.{touched_by};
 
 use crate::versions::{is_whole, merged_versions};
@@ -48,7 +48,7 @@ fn merged_file(
 }
 
 // What the file of both becomes, unless mine stays.
-fn merged_change(
+fn merged_replacement(
     alloc: Global,
     mine: &FileReplica,
     theirs: &FileReplica,
@@ -56,8 +56,8 @@ fn merged_change(
     requires can { CanMerge mine.now theirs.now }
     requires mine { IsSoundFile mine.now }
     requires theirs { IsSoundFile theirs.now }
-    ensures merged { IfOk result (λ change. IsMergedFile mine.now theirs.now (unwrap_or change mine.now)) }
-    ensures held { IfOk result (λ change. IfSome change IsSoundFile) }
+    ensures merged { IfOk result (λ replacement. IsMergedFile mine.now theirs.now (unwrap_or replacement mine.now)) }
+    ensures held { IfOk result (λ replacement. IfSome replacement IsSoundFile) }
 {
     if adds_nothing(mine, theirs) {
         return Ok(None);
@@ -92,7 +92,7 @@ fn shared(alloc: Global, new: NewFile<'_>) -> Result<SharedFile, Memory>
 }
 
 // What stands for a new file in place of mine, unless mine stay.
-fn change(
+fn replacement(
     alloc: Global,
     news: &News<'_>,
     new: NewFile<'_>,
@@ -103,19 +103,19 @@ fn change(
     requires row { HasRow new }
     requires fit { Fit news.now.mine news.now.theirs }
     requires rising { IsRisingBy (λ id. id) held.now }
-    ensures { IfOk result (IsChange held.now news.now.mine new.entry.theirs.now) }
+    ensures { IfOk result (IsReplacement held.now news.now.mine new.entry.theirs.now) }
 {
     // Tells that both sides may be held.
     let _count = news.len();
     match new.mine {
-        Some(file) => merged_change(alloc, file, new.theirs),
+        Some(file) => merged_replacement(alloc, file, new.theirs),
         None => taken(alloc, new, held),
     }
 }
 
 // Puts it behind the others.
-fn add_change(
-    changes: &mut Vec<SharedFile>,
+fn add_replacement(
+    replacements: &mut Vec<SharedFile>,
     alloc: Global,
     news: &News<'_>,
     new: NewFile<'_>,
@@ -127,26 +127,27 @@ fn add_change(
     requires fit { Fit news.now.mine news.now.theirs }
     requires rising { IsRisingBy (λ id. id) held.now }
     ensures { OnOk result
-        (AddsChange held.now news.now.mine new.entry.theirs.now changes.old.items changes.new.items) }
+        (AddsReplacement held.now news.now.mine new.entry.theirs.now replacements.old.items replacements.new.items) }
 {
-    if let Some(file) = change(alloc, news, new, held)? {
-        changes.push(file)?;
+    if let Some(file) = replacement(alloc, news, new, held)? {
+        replacements.push(file)?;
     }
     Ok(())
 }
 
 // The files of both that mine don't hold as they are afterwards.
-fn changes(alloc: Global, news: &News<'_>, held: &[Id]) -> Result<Vec<SharedFile>, Memory>
+fn replacements(alloc: Global, news: &News<'_>, held: &[Id]) -> Result<Vec<SharedFile>, Memory>
     requires fit { Fit news.now.mine news.now.theirs }
     requires rising { IsRisingBy (λ id. id) held.now }
-    ensures changes { IfOk result (λ changes. AreChanges held.now news.now.mine news.now.new changes.items) }
-    ensures files { IfOk result (λ changes. AreFiles changes.items) }
+    ensures replacements { IfOk result (λ replacements.
+        AreReplacements held.now news.now.mine news.now.new replacements.items) }
+    ensures files { IfOk result (λ replacements. AreFiles replacements.items) }
 {
-    let mut changes = Vec::with_capacity(alloc, news.len())?;
+    let mut replacements = Vec::with_capacity(alloc, news.len())?;
     for index in 0..news.len() {
-        add_change(&mut changes, alloc, news, news.at(index), held)?;
+        add_replacement(&mut replacements, alloc, news, news.at(index), held)?;
     }
-    Ok(changes)
+    Ok(replacements)
 }
 
 // Whether all of the files are held, by rising identifiers.
@@ -201,9 +202,9 @@ fn merged_with(alloc: Global, news: &News<'_>, held: Vec<Id>) -> Result<Files, M
         drop(held);
         return Files::of_rows(alloc, rows);
     }
-    let changes = changes(alloc, news, &held)?;
+    let replacements = replacements(alloc, news, &held)?;
     drop(held);
     let mut both = news.mine().copy()?;
-    both.replace(&changes)?;
+    both.replace(&replacements)?;
     Ok(both)
 }

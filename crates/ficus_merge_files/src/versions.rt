@@ -98,7 +98,7 @@ fn place_of(versions: &[Version], vector: Vector) -> Option<usize>
 }
 
 // Adds a version at its place, if none has its vector.
-fn keep(alloc: Global, version: &Version, kept: &mut Vec<Version>) -> Result<(), Memory>
+fn add_version(alloc: Global, version: &Version, kept: &mut Vec<Version>) -> Result<(), Memory>
     requires { AreOrdered kept.old.items }
     ensures gained { OnOk result (KeepsOrGains kept.old.items kept.new.items version.now) }
     ensures ordered { OnOk result (AreOrdered kept.new.items) }
@@ -110,7 +110,7 @@ fn keep(alloc: Global, version: &Version, kept: &mut Vec<Version>) -> Result<(),
 }
 
 // Adds those of the versions that none of the two lists is over.
-fn keep_latest(
+fn add_latest(
     alloc: Global,
     from: &[Version],
     mine: &[Version],
@@ -126,7 +126,7 @@ fn keep_latest(
 {
     for version in from {
         if is_latest(mine, theirs, version.vector) {
-            keep(alloc, version, kept)?;
+            add_version(alloc, version, kept)?;
         }
     }
     Ok(())
@@ -138,8 +138,8 @@ fn joined(alloc: Global, mine: &[Version], theirs: &[Version]) -> Result<Version
     ensures { IfOk result (AreMerged mine.now theirs.now) }
 {
     let mut kept = Vec::new(alloc);
-    keep_latest(alloc, mine, mine, theirs, &mut kept)?;
-    keep_latest(alloc, theirs, mine, theirs, &mut kept)?;
+    add_latest(alloc, mine, mine, theirs, &mut kept)?;
+    add_latest(alloc, theirs, mine, theirs, &mut kept)?;
     Versions::of(alloc, kept)
 }
 

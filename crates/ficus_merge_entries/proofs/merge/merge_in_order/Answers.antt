@@ -1,7 +1,7 @@
 use Rattle.std.proofs.Common.{subst, sym, ◌∙◌}
 use Rattle.std.proofs.lemmas.Result.{IfOk-weaker}
 use Rattle.ficus_merge_entries.specs.Merge.{MergesEntries}
-use Rattle.ficus_merge_entries.proofs.Changes.{all_new_merges, replaced_merges}
+use Rattle.ficus_merge_entries.proofs.Replacements.{all_new_merges, replaced_merges}
 use Rattle.ficus_merge_entries.proofs.merge.merge_in_order.Goals as goal
 
 pub returns-in-Some-clause-merged : goal.returns-in-Some-clause-merged
@@ -19,6 +19,6 @@ pub returns-clause-merged : goal.returns-clause-merged
 returns-clause-merged c =
     IfOk-weaker c.replaced.result _ _
     (λ merged replaces. replaced_merges c.args.me c.args.members c.args.mine c.args.theirs.now
-    c.in_ok-changes.changes.items merged
-    (rw (c.new.ensures.number, c.new.ensures.members) at c.in_ok-changes.ensures.made)
+    c.in_ok-replacements.replacements.items merged
+    (rw (c.new.ensures.number, c.new.ensures.members) at c.in_ok-replacements.ensures.made)
     (rw c.deref.ensures.value at replaces)) c.replaced.ensures.replaced

@@ -3,7 +3,7 @@ use Rattle.std.proofs.lemmas.Result.{IfOk-weaker}
 use Rattle.ficus_file.specs.Files.{AreFiles}
 use Rattle.ficus_merge_files.specs.Merge.{AreMergedFiles}
 use Rattle.ficus_merge_files.proofs.New.{all_merged, all_theirs}
-use Rattle.ficus_merge_files.proofs.Walk.{merged_by_changes}
+use Rattle.ficus_merge_files.proofs.Walk.{merged_by_replacements}
 use Rattle.ficus_merge_files.proofs.merge.merged_with.Goals as goal
 
 pub of_rows-requires : goal.of_rows-requires
@@ -31,6 +31,6 @@ returns-clause-merged c =
     let news = c.args.news.now in
     all_merged news.mine news.theirs news.new c.len-count.ensures.new c.len-count.ensures.mine
     c.len-count.ensures.theirs c.args.held.items c.replace.new.self
-    (merged_by_changes c.args.held.items news.mine news.new c.in_ok-changes.changes.items c.replace.new.self
-    (rw c.deref-2.ensures.value at c.in_ok-changes.ensures.changes)
+    (merged_by_replacements c.args.held.items news.mine news.new c.in_ok-replacements.replacements.items c.replace.new.self
+    (rw c.deref-2.ensures.value at c.in_ok-replacements.ensures.replacements)
     (rw (c.deref-3.ensures.value, c.in_ok-both.ensures.same, c.mine.ensures) at c.in_ok-replace.ensures.replaced))

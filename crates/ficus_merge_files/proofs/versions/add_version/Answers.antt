@@ -2,7 +2,7 @@ use Rattle.std.specs.List.{insert}
 use Rattle.std.proofs.Common.{◌≡◌, inr, ◌∙◌, refl}
 use Rattle.ficus_ids.specs.RisingLaws.{Contains-insert}
 use Rattle.ficus_merge_files.proofs.Kept.{insert_ordered}
-use Rattle.ficus_merge_files.proofs.versions.keep.Goals as goal
+use Rattle.ficus_merge_files.proofs.versions.add_version.Goals as goal
 
 pub returns-in_ok-insert-clause-gained : goal.returns-in_ok-insert-clause-gained
 returns-in_ok-insert-clause-gained c =

@@ -11,7 +11,7 @@ use Rattle.ficus_entry.specs.Entry.{IsRising, HoldsUnder, ReplacesEntries}
 use Rattle.ficus_entry.specs.declared.entry.Entry.{Entry}
 use Rattle.ficus_entry.specs.declared.entry.State.{State}
 use Rattle.ficus_entry.specs.declared.entry.State.TheVariants.{Live}
-use Rattle.ficus_merge_entries.specs.Merge.{MergesEntries, Changes}
+use Rattle.ficus_merge_entries.specs.Merge.{MergesEntries, IsReplacement}
 use Rattle.ficus_merge_entries.specs.Table.{Merges, MergesEntry, state_of}
 
 abbrev pub id_of : Entry → Id
@@ -32,16 +32,16 @@ module _ (r members : ℕ) where
       ap (λ (e : Entry). e.id) merges.place ∙ has_theirs
   after_has_id None None (Some after) id merges has_mine has_theirs = absurd merges.place
 
-  -- and so has a change
-  pub change_has_id : (mine theirs change : Option Entry) → Changes r members mine theirs change → (id : Id) →
-      HasId id_of id mine → HasId id_of id theirs → HasId id_of id change
-  change_has_id mine theirs None changes id has_mine has_theirs = tt
-  change_has_id mine theirs (Some change) changes id has_mine has_theirs =
-      after_has_id mine theirs (Some change) id changes has_mine has_theirs
+  -- and so has a replacement
+  pub replacement_has_id : (mine theirs replacement : Option Entry) → IsReplacement r members mine theirs replacement → (id : Id) →
+      HasId id_of id mine → HasId id_of id theirs → HasId id_of id replacement
+  replacement_has_id mine theirs None replacements id has_mine has_theirs = tt
+  replacement_has_id mine theirs (Some replacement) replacements id has_mine has_theirs =
+      after_has_id mine theirs (Some replacement) id replacements has_mine has_theirs
 
   -- what lives at both stays as it stands
   pub live_stays : (mine theirs : Option Entry) → state_of mine ≡ Some Live → state_of theirs ≡ Some Live →
-      Changes r members mine theirs None
+      IsReplacement r members mine theirs None
   live_stays None theirs live also = cc
   live_stays (Some mine) theirs live also = record {
     state = subst (λ (s : Option State). Merges r members s (state_of theirs) s) (sym live)
@@ -51,7 +51,7 @@ module _ (r members : ℕ) where
 
   -- what lives at the peer alone is taken as it is
   pub new_stays : (mine theirs : Option Entry) (entry : Entry) → mine ≡ None → theirs ≡ Some entry →
-      entry.state ≡ Live → Changes r members mine theirs (Some entry)
+      entry.state ≡ Live → IsReplacement r members mine theirs (Some entry)
   new_stays None (Some theirs) entry none is live = rw is (record {
     state = subst (λ (s : State). Merges r members None (Some s) (Some s)) (sym live) refl;
     place = refl;
@@ -86,14 +86,14 @@ module _ (r members : ℕ) where
       each id (Some item) at_peer after here there now = absurd (not_inside_none item here.0)
   all_new_merges (entry ∷ mine) theirs none rising live = absurd (cc)
 
-  -- the changes in place of what stood there are what the table says
-  pub replaced_merges : (mine theirs changes merged : List Entry) →
-      IsMadeBy (λ (e : Entry). e.id) (Changes r members) mine theirs changes → ReplacesEntries mine changes merged →
+  -- the replacements in place of what stood there are what the table says
+  pub replaced_merges : (mine theirs replacements merged : List Entry) →
+      IsMadeBy (λ (e : Entry). e.id) (IsReplacement r members) mine theirs replacements → ReplacesEntries mine replacements merged →
       MergesEntries r members mine theirs merged
-  replaced_merges mine theirs changes merged made replaces = record {
+  replaced_merges mine theirs replacements merged made replaces = record {
     each = λ id at_r at_peer after mine_holds theirs_holds merged_holds.
-        let change = held_or_not (λ (e : Entry). e.id) changes id in
-        let is : after ≡ option_or change.0 at_r =
-        replaces.each id at_r change.0 after mine_holds change.1 merged_holds in
-        rw is (made.each id at_r at_peer change.0 mine_holds theirs_holds change.1);
+        let replacement = held_or_not (λ (e : Entry). e.id) replacements id in
+        let is : after ≡ option_or replacement.0 at_r =
+        replaces.each id at_r replacement.0 after mine_holds replacement.1 merged_holds in
+        rw is (made.each id at_r at_peer replacement.0 mine_holds theirs_holds replacement.1);
   }

@@ -1,7 +1,7 @@
 ghost use Rattle.std.specs.Prelude.{◌≡◌, None, Some, IfOk, IfSome};
 ghost use Rattle.std.specs.Option.{option_copied};
 ghost use Rattle.ficus_entry.specs.declared.entry.State.{State};
-ghost use Rattle.ficus_merge_entries.specs.Merge.{Changes};
+ghost use Rattle.ficus_merge_entries.specs.Merge.{IsReplacement};
 
 use crate::table::Taker;
 use ficus_entry::{Entry, SharedEntry};
@@ -12,19 +12,19 @@ use std::alloc::Global;
 
 /// What the table makes of what stands at the taker and at a peer under one identifier, or nothing where it is what
 /// stands at the taker. A row of the peer's that is taken as it is stands in no further memory.
-#[tactic(auto, using(crate::proofs::Changes::new_stays))]
-pub(crate) fn change(
+#[tactic(auto, using(crate::proofs::Replacements::new_stays))]
+pub(crate) fn replacement(
     alloc: Global,
     taker: Taker,
     next: RowPair<'_, SharedEntry>,
 ) -> Result<Option<SharedEntry>, Memory>
     requires { IfSome next.their_row (λ row. IfSome next.pair.theirs (λ theirs. row.now ≡ theirs.now)) }
-    ensures { IfOk result (Changes taker.number taker.members
+    ensures { IfOk result (IsReplacement taker.number taker.members
         (option_copied next.entry.pair.mine) (option_copied next.entry.pair.theirs)) }
 {
     match new_row(&next) {
         Some(row) => Ok(Some(row.copied()?)),
-        None => shared(alloc, taker.change(next.pair.mine, next.pair.theirs)?),
+        None => shared(alloc, taker.replacement(next.pair.mine, next.pair.theirs)?),
     }
 }
 
