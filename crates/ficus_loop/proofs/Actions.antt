@@ -18,7 +18,7 @@ use Rattle.ficus_world.specs.Follows.{Follows, FollowsIn, FollowsOn, StopsOn}
 use Rattle.ficus_world.specs.World.{Whole, WorldStandsFor}
 use Rattle.ficus_world.proofs.Disks.{follows_none, follows_then}
 use Rattle.ficus_world.proofs.Fuses.{fuses_none, fuses_then}
-use Rattle.ficus_world.proofs.Outcomes.{both_caused, steady_caused}
+use Rattle.ficus_world.proofs.Lifting.Outcomes.{both_caused, steady_caused}
 
 -- an action that does what a command does is a step of that command
 step_of : {A : Type 0} {volume : Volume} {W : ModelWorld} {old new : Whole} {action : ModelAction A}

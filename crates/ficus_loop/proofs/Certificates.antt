@@ -22,9 +22,9 @@ use Rattle.ficus_runs.proofs.Numbers.{number_exists}
 use Rattle.ficus_loop.proofs.Actions.{as_command, nothing_follows, nothing_stops, stops_command}
 use Rattle.ficus_world.specs.Follows.{FollowsOn, StopsOn}
 use Rattle.ficus_world.specs.World.{IsUpIn, Whole, WorldStandsFor}
-use Rattle.ficus_world.proofs.Following.{at_down, at_member, at_none, at_refused}
-use Rattle.ficus_world.proofs.OneWorld.{stored_from}
-use Rattle.ficus_world.proofs.Standing.{member_of, up_in}
+use Rattle.ficus_world.proofs.Lifting.Following.{at_down, at_member, at_none, at_refused}
+use Rattle.ficus_world.proofs.Lifting.OneWorld.{stored_from}
+use Rattle.ficus_world.proofs.Lifting.Standing.{member_of, up_in}
 
 module _ (volume : Volume) (W : ModelWorld) (world : Whole) (stands : WorldStandsFor volume W world) (by : ℕ) where
   -- there is no such member

@@ -34,13 +34,13 @@ use Rattle.ficus_world.specs.Kills.Touches.{TouchesNone, TouchesOne, WritesOne}
 use Rattle.ficus_world.specs.Stand.{KeepsFor}
 use Rattle.ficus_opening.specs.Stand.{KeepsOf}
 use Rattle.ficus_world.specs.World.{IsPendingSound, IsWorld, StateStandsFor, Whole, WorldStandsFor}
-use Rattle.ficus_world.proofs.Following.{follow}
-use Rattle.ficus_world.proofs.LastPart.{length_part}
+use Rattle.ficus_world.proofs.Lifting.Following.{follow}
+use Rattle.ficus_world.proofs.Lifting.LastPart.{length_part}
 use Rattle.ficus_world.proofs.Kills.{left_old}
 use Rattle.ficus_opening.proofs.Rests.{rests_none}
-use Rattle.ficus_world.proofs.Sets.{number_set}
-use Rattle.ficus_world.proofs.Standing.{member_from, member_stands, raise, replica_stands, standing_of, up_in}
-use Rattle.ficus_world.proofs.OneWorld.{same_list}
+use Rattle.ficus_world.proofs.Lifting.Sets.{number_set}
+use Rattle.ficus_world.proofs.Lifting.Standing.{member_from, member_stands, raise, replica_stands, standing_of, up_in}
+use Rattle.ficus_world.proofs.Lifting.OneWorld.{same_list}
 use Rattle.ficus_loop.proofs.OneModel.{standing_once}
 use Rattle.ficus_loop.specs.Trail.{BeginsSave, Neighbours, PairBetween, Trail}
 use Rattle.ficus_loop.specs.Trail.Trail.{Joined, Link, Still}

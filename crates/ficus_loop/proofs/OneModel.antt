@@ -17,9 +17,9 @@ use Rattle.ficus_opening.specs.declared.member.MemberState.{MemberState}
 use Rattle.ficus_opening.specs.declared.member.MemberState.TheVariants as state
 use Rattle.ficus_world.specs.Follows.{StoresAsMany}
 use Rattle.ficus_world.specs.World.{StateStandsFor, Whole, WorldStandsFor}
-use Rattle.ficus_world.proofs.LastPart.{length_part}
-use Rattle.ficus_world.proofs.OneWorld.{same_list}
-use Rattle.ficus_world.proofs.Standing.{fuses_stand, member_from, member_stands, raise}
+use Rattle.ficus_world.proofs.Lifting.LastPart.{length_part}
+use Rattle.ficus_world.proofs.Lifting.OneWorld.{same_list}
+use Rattle.ficus_world.proofs.Lifting.Standing.{fuses_stand, member_from, member_stands, raise}
 
 -- a state of the code stands for one of the model
 pub standing_once : (volume : Volume) (H J : List Event) (n r : ℕ) (state : MemberState) (one other : Standing)

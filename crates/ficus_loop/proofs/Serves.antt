@@ -24,7 +24,7 @@ use Rattle.ficus_world.specs.World.{Whole, WorldStandsFor}
 use Rattle.ficus_world.specs.Fuses.{FusesFollow, FusesPermit}
 use Rattle.ficus_world.proofs.Fuses.{fuses_none, fuses_then, permit_then}
 use Rattle.ficus_world.proofs.Disks.{follows_none, follows_then}
-use Rattle.ficus_world.proofs.Outcomes.{both_caused, steady_caused}
+use Rattle.ficus_world.proofs.Lifting.Outcomes.{both_caused, steady_caused}
 use Rattle.ficus_loop.specs.Trail.{FrontOn, RunOn, Trail}
 use Rattle.ficus_loop.specs.Trail.RunOn.{EndOn, ThenOn}
 use Rattle.ficus_loop.proofs.Stepping.{run_on_append}

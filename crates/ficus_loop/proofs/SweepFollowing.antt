@@ -27,7 +27,7 @@ use Rattle.ficus_world.specs.Follows.{FollowsOn, StopsOn, TellsFor}
 use Rattle.ficus_world.specs.World.{Whole, WorldStandsFor}
 use Rattle.ficus_world.proofs.Disks.{follows_then}
 use Rattle.ficus_world.proofs.Fuses.{permit_then}
-use Rattle.ficus_world.proofs.Outcomes.{both_caused}
+use Rattle.ficus_world.proofs.Lifting.Outcomes.{both_caused}
 use Rattle.ficus_loop.specs.declared.sweep_fault.SweepFault.{SweepFault}
 use Rattle.ficus_loop.specs.declared.sweep_fault.SweepFault.TheVariants.{Stopped, Memory}
 use Rattle.ficus_loop.specs.declared.sweep_report.SweepReport.{SweepReport}

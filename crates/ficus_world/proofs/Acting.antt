@@ -10,7 +10,7 @@ use Rattle.ficus_keeper.specs.declared.keep.Keep.{Ghosts as Keep}
 use Rattle.ficus_runs.specs.Numbered.{IsNumbered}
 use Rattle.ficus_stable_storage.specs.declared.stable.Stable.{Stable}
 use Rattle.ficus_world.specs.Acts.{Acts, ActsOn, StaysAt}
-use Rattle.ficus_world.specs.Calls.{KeepsNext}
+use Rattle.ficus_world.specs.Calls.{CommitsNext}
 use Rattle.ficus_world.specs.Post.{Outbox}
 use Rattle.ficus_model.specs.declared.event.Event.{Event}
 use Rattle.ficus_opening.specs.declared.member.Pending.{Pending}
@@ -136,7 +136,7 @@ module _ {K D : Type 0} {keep : Keep K} {disk : Disk D} where
       {stables mid_stables new_stables : List (Stable K)} {x y z : List (Pair D)} (after : Outbox) → old ≡ now
       → reserved ≡ old.events → (was : Member) → IsNumbered now.members by was → length stables ≡ length now.members
       → IsBacked keep disk (backed_by now stables) x → StaysAt keep disk by stables mid_stables x y
-      → KeepsNext keep disk by next kept old.members members reserved events mid_stables new_stables y z
+      → CommitsNext keep disk by next kept old.members members reserved events mid_stables new_stables y z
       → (ArePairsOf keep disk old.members x → RestsAt disk by x y
       → WritesAt keep disk by old (whole_of members events after) y z
       → WritesAt keep disk by old (whole_of members events after) x z) → result ≢ Err Memory
@@ -147,7 +147,7 @@ module _ {K D : Type 0} {keep : Keep K} {disk : Disk D} where
       → IsBacked keep disk (backed_by w stables) x
       → Acts keep disk 1 result (backed_by w stables) (backed_by (whole_of members events after) new_stables) x z) same
       (λ is counted backed.
-      let kept_next = subst (λ (list : List Event). KeepsNext keep disk by next kept old.members members list events
+      let kept_next = subst (λ (list : List Event). CommitsNext keep disk by next kept old.members members list events
       mid_stables new_stables y z) stores keeps in
       saved_acts old (whole_of members events after)
       (kept_grows old by next members events kept kept_next.stored kept_next.kept)

@@ -27,7 +27,7 @@ use Rattle.ficus_opening.proofs.Others.{others_none, others_one}
 use Rattle.ficus_opening.proofs.Rests.{rests_none, spans_then}
 use Rattle.ficus_world.proofs.Disks.{set_here}
 use Rattle.ficus_world.proofs.Saves.{up_ready}
-use Rattle.ficus_world.proofs.Sets.{set_again, set_same}
+use Rattle.ficus_world.proofs.Lifting.Sets.{set_again, set_same}
 
 pub writes_count : {K D : Type 0} {keep : Keep K} {disk : Disk D} {by : ℕ} {before after : Whole}
     {old new : List (Pair D)} → WritesAt keep disk by before after old new → length new ≡ length old

@@ -34,7 +34,7 @@ use Rattle.ficus_opening.specs.declared.member.MemberState.{MemberState}
 use Rattle.ficus_opening.specs.declared.member.MemberState.TheVariants.{Up}
 use Rattle.ficus_runs.proofs.Numbers.{number_exists}
 use Rattle.ficus_opening.proofs.Openings.{opens_of, opens_same}
-use Rattle.ficus_world.proofs.Parts.{others_leave_taken, parts_ended, parts_left}
+use Rattle.ficus_world.proofs.Lifting.Parts.{others_leave_taken, parts_ended, parts_left}
 use Rattle.ficus_runs.proofs.Starts.{restarts_more, restarts_raised, start_lawful, start_of_run}
 use Rattle.ficus_opening.proofs.Stand.{saved_is}
 use Rattle.ficus_opening.proofs.Steadies.{steady_back}

@@ -323,7 +323,7 @@ module _ (tells : Type 0) (old : Whole) (by to : ℕ) (was : Member) (asked : Re
 
 -- an ask that is served, whose answer is posted whole or in part
 module _ (tells : Type 0) (old : Whole) (came : Delivery) (peer : Member) (asked : Behind)
-    (serving : IsServing old came peer) (place : IsNumbered old.post.behind came.number asked)
+    (serving : IsServing old came peer) (place : IsNumbered old.post.behind came.mail asked)
     (room : HasRoomFor old (sizes_of (answers_of old came peer)))
     (fits : All (FitsMessage (length old.members)) (answers_of old came peer)) (new : Whole) where
   abbrev pub SendsAll : Result (Unit {0}) Refusal → Type 0
@@ -390,7 +390,7 @@ module _ (tells : Type 0) (old : Whole) (came : Delivery) (state pieces : ℕ) (
   pub served_few : pieces ≤ piece_limit
   served_few = omega (arith, pieces_are, answers_few old came peer serves.4)
 
-  module _ (asked : Behind) (place : IsNumbered old.post.behind came.number asked) (new : Outbox) where
+  module _ (asked : Behind) (place : IsNumbered old.post.behind came.mail asked) (new : Outbox) where
     -- the world, where it is stored and this was posted
     abbrev stored : Event
     stored = event.Serve came.to asked.position state pieces
@@ -446,7 +446,7 @@ pub record HasPosted (tells : Type 0) (old : Whole) (came : Delivery) (state pie
   pub messages : List (List ℕ)
   pub serves : HasServed old came state messages
   pub counted : pieces ≡ length messages
-  pub place : IsNumbered old.post.behind came.number asked
+  pub place : IsNumbered old.post.behind came.mail asked
   pub stored : events ≡ old.events ++ event.Serve came.to asked.position state pieces ∷ []
   pub link : OnErr result (result ≡ Err refusal.Link)
   pub sent : (world : Whole)
@@ -456,7 +456,7 @@ pub record HasPosted (tells : Type 0) (old : Whole) (came : Delivery) (state pie
 pub has_posted : (tells : Type 0) (came : Delivery) (state : ℕ) (messages : List (List ℕ))
     (result : Result (Unit {0}) Refusal) {pieces position : ℕ} {asked : Behind} {old now : Whole}
     {reserved events : List Event} {room new : Outbox} → old ≡ now → HasServed now came state messages
-    → pieces ≡ length messages → reserved ≡ old.events → room ≡ old.post → IsNumbered room.behind came.number asked
+    → pieces ≡ length messages → reserved ≡ old.events → room ≡ old.post → IsNumbered room.behind came.mail asked
     → position ≡ length reserved → events ≡ reserved ++ event.Serve came.to asked.position state pieces ∷ []
     → OnErr result (result ≡ Err refusal.Link)
     → ((world : Whole)
@@ -467,7 +467,7 @@ has_posted tells came state messages result {pieces} {position} {asked} {old} {n
       messages = messages;
       serves = subst (λ (w : Whole). HasServed w came state messages) (sym same) serves;
       counted = counted;
-      place = subst (λ (p : Outbox). IsNumbered p.behind came.number asked) posts place;
+      place = subst (λ (p : Outbox). IsNumbered p.behind came.mail asked) posts place;
       stored =
           stored ∙ ap (λ (list : List Event). list ++ event.Serve came.to asked.position state pieces ∷ []) stores;
       link = link;

@@ -23,7 +23,7 @@ use Rattle.ficus_opening.specs.Stand.{KeepsOf}
 use Rattle.ficus_opening.specs.declared.member.Pending.{Pending}
 use Rattle.ficus_world.specs.World.{Whole, IsPendingFor, IsPendingSound, IsWorld, StateStandsFor, WorldStandsFor}
 use Rattle.ficus_runs.proofs.Numbers.{number_exists}
-use Rattle.ficus_world.proofs.Standing.{member_from, member_stands, raise, replica_stands}
+use Rattle.ficus_world.proofs.Lifting.Standing.{member_from, member_stands, raise, replica_stands}
 
 module _ {K D : Type 0} (keep : Keep K) (disk : Disk D) (volume : Volume) where
   -- what a crash leaves of a member's pair holds what the member saves, by its state; where it is down, maybe what it

@@ -136,7 +136,7 @@ pub record CommitsAt {T E K D : Type 0} (keep : Keep K) (disk : Disk D) (by : �
   pub count : length new_stables ≡ length old_stables
 
 -- the same, and its event is stored; or the member is down, and it is pending
-pub record KeepsNext {A K D : Type 0} (keep : Keep K) (disk : Disk D) (by : ℕ) (next : Pending)
+pub record CommitsNext {A K D : Type 0} (keep : Keep K) (disk : Disk D) (by : ℕ) (next : Pending)
     (result : Result A Refusal) (old_members new_members : List Member) (old_events new_events : List Event)
     (old_stables new_stables : List (Stable K)) (old new : List (Pair D)) : Type 0 where
   pub held : OnOk result ((was : Member) → IsNumbered old_members by was → new_members ≡ slice_set old_members (by - 1)

@@ -263,7 +263,7 @@ pub data ServesAsk (tells : Type 0) (came : Delivery) (old : Whole) :
       → (HasRoomFor old (sizes_of (answers_of old came peer)) → ⊥)
       → ServesAsk tells came old (Err refusal.LinkFull) (unchanged old)
   Serves : {peer : Member} {asked : Behind} {result : Result Answer Refusal} {left : Effect Whole}
-      → IsServing old came peer → IsNumbered old.post.behind came.number asked
+      → IsServing old came peer → IsNumbered old.post.behind came.mail asked
       → HasRoomFor old (sizes_of (answers_of old came peer))
       → All (FitsMessage (length old.members)) (answers_of old came peer)
       → SendsAnswers tells old (answers_of old came peer) (with_event old (serve_of old came peer asked)) result left
@@ -274,12 +274,12 @@ pub data ServesAsk (tells : Type 0) (came : Delivery) (old : Whole) :
 pub data TakesTables (came : Delivery) (index : ℕ) (entries : List Entry) (files : List FileReplica) (old : Whole) :
     Result Answer Refusal → Effect Whole → Type 0 where
   Takes : {was : Member} {new : Replica} {place : Behind} → IsNumbered old.members came.to was
-      → was.state ≡ state.Up → IsNumbered old.post.behind came.number place
+      → was.state ≡ state.Up → IsNumbered old.post.behind came.mail place
       → AcceptGives was.replica came.from came.ask entries files (Ok new)
       → TakesTables came index entries files old (Ok Done)
       (saved came.to (advanced old came.to was new (event.Accept came.to place.position index)))
   TakesNot : {was : Member} {new : Replica} {place : Behind} → IsNumbered old.members came.to was
-      → was.state ≡ state.Up → IsNumbered old.post.behind came.number place
+      → was.state ≡ state.Up → IsNumbered old.post.behind came.mail place
       → AcceptGives was.replica came.from came.ask entries files (Ok new)
       → TakesTables came index entries files old (Err refusal.Store)
       (not_saved old came.to was (pending_of new (event.Accept came.to place.position index)))
@@ -305,7 +305,7 @@ pub record IsTaking (came : Delivery) (index : ℕ) (bytes : List ℕ) (old : Wh
   pub is : IsNumbered old.members came.to was
   pub up : was.state ≡ state.Up
   pub place : Behind
-  pub is_place : IsNumbered old.post.behind came.number place
+  pub is_place : IsNumbered old.post.behind came.mail place
   pub entries : List Entry
   pub files : List FileReplica
   pub fits : FitsTables (length old.members) entries files
@@ -353,8 +353,8 @@ pub data FindsTaker (came : Delivery) (head : PieceHead) (old : Whole) :
       → (parts_held was.parts head).pieces ≡ head.pieces → FindsTaker came head old (Ok was) (unchanged old)
 
 -- the member, who was this one, holds this of an answer now, and the taking of a piece is stored too
-abbrev pub collected : Whole → ℕ → Member → HeldParts → Event → Whole
-collected old by was parts event = with_event (with_member old by (record was { parts = Some parts })) event
+abbrev pub gathered : Whole → ℕ → Member → HeldParts → Event → Whole
+gathered old by was parts event = with_event (with_member old by (record was { parts = Some parts })) event
 
 -- A piece that fits comes to who takes it. Where it is held already, nothing changes; where others are missing beside
 -- it, it is kept; where it is the last, the tables are taken that all spell together.
@@ -364,12 +364,12 @@ pub data TakesFitting (came : Delivery) (head : PieceHead) (bytes : List ℕ) (w
       → TakesFitting came head bytes was old (Ok (Part (length (parts_held was.parts head).have) head.pieces))
       (unchanged old)
   IsOneMore : {place : Behind} → (HasPart (parts_held was.parts head) head.index → ⊥)
-      → (HasAllBut (parts_held was.parts head) head.index → ⊥) → IsNumbered old.post.behind came.number place
+      → (HasAllBut (parts_held was.parts head) head.index → ⊥) → IsNumbered old.post.behind came.mail place
       → TakesFitting came head bytes was old
       (Ok (Part (length (parts_held was.parts head).have + 1) head.pieces)) (record {
         outcomes = [];
         after =
-            collected old came.to was (with_part (parts_held was.parts head) head.index bytes)
+            gathered old came.to was (with_part (parts_held was.parts head) head.index bytes)
             (event.Take came.to place.position head.index);
       })
   IsTheLast : {result : Result Answer Refusal} {left : Effect Whole}
@@ -391,9 +391,9 @@ IsPlaced held index fitting.TheLast = (HasPart held index → ⊥) × HasAllBut 
 -- what came is handled by its receiver
 abbrev pub HandlesMessage : Type 0 → ℕ → Message → WholeAction Answer
 HandlesMessage tells number (message.Ask from to ask) =
-    ServesAsk tells (record { number = number; from = from; to = to; ask = ask })
+    ServesAsk tells (record { mail = number; from = from; to = to; ask = ask })
 HandlesMessage tells number (message.Piece from to ask state pieces index bytes) =
-    TakesPiece (record { number = number; from = from; to = to; ask = ask })
+    TakesPiece (record { mail = number; from = from; to = to; ask = ask })
     (head_of from to ask state pieces index) bytes
 
 -- a message is given to its receiver

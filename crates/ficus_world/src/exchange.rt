@@ -14,10 +14,10 @@ ghost use Rattle.ficus_world.specs.Calls.{AsksPeer, GivesEach, GivesMail, MakesR
 
 use crate::World;
 use crate::group::Group;
-use crate::keeping::keep;
 use crate::member::is_up;
+use crate::pairs::prepare_at;
 use crate::post::{Behind, Post};
-use crate::saving::prepare_at;
+use crate::saving::commit_next;
 use ficus_disk::{Disk, Pair};
 use ficus_ids::{Listed, Memory, Refusal};
 use ficus_keeper::Keep;
@@ -34,7 +34,7 @@ use std::alloc::Global;
 /// What is known of a message that came: its number, from whom to whom it goes, and the number of its ask.
 #[derive(Clone, Copy)]
 pub(crate) struct Delivery {
-    pub(crate) number: u32,
+    pub(crate) mail: u32,
     pub(crate) from: u8,
     pub(crate) to: u8,
     pub(crate) ask: u64,
@@ -98,7 +98,7 @@ impl<K: Keep + Drop, L: Link + Drop> World<K, L> {
         match self.group.letter(bytes.items())? {
             Letter::Ask(Route { from, to, number }) => {
                 let came = Delivery {
-                    number: mail,
+                    mail,
                     from,
                     to,
                     ask: number,
@@ -107,7 +107,7 @@ impl<K: Keep + Drop, L: Link + Drop> World<K, L> {
             }
             Letter::Piece(head, piece) => {
                 let came = Delivery {
-                    number: mail,
+                    mail,
                     from: head.route.from,
                     to: head.route.to,
                     ask: head.route.number,
@@ -215,7 +215,7 @@ impl<L: Link + Drop> Group<L> {
             replica,
             event: Event::Ask { by, to },
         };
-        keep(
+        commit_next(
             &mut self.members,
             &mut self.history,
             stables,

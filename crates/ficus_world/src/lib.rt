@@ -5,11 +5,11 @@
 mod checking;
 mod exchange;
 mod group;
-mod keeping;
 mod laws;
 mod mails;
 mod member;
 mod opening;
+mod pairs;
 mod post;
 mod restart;
 mod saving;

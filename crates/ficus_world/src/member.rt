@@ -124,7 +124,7 @@ pub(crate) fn put_down(members: &mut Vec<Member>, number: u8, pending: Pending)
 }
 
 /// Puts the member of this number down, with what was pending before.
-pub(crate) fn keep_down(members: &mut Vec<Member>, number: u8)
+pub(crate) fn stay_down(members: &mut Vec<Member>, number: u8)
     requires { IsMember (length members.old.items) number }
     ensures { (was : MemberValue) → IsNumbered members.old.items number was
         → members.new.items

@@ -8,8 +8,8 @@ ghost use Rattle.ficus_world.specs.World.{event_limit};
 ghost use Rattle.ficus_world.specs.Calls.{Restarts};
 
 use crate::World;
-use crate::member::{Rising, keep_down, rise};
-use crate::saving::reopen_at;
+use crate::member::{Rising, rise, stay_down};
+use crate::pairs::reopen_at;
 use ficus_disk::{Disk, Pair};
 use ficus_durable_state::Saved;
 use ficus_ids::Refusal;
@@ -73,11 +73,11 @@ fn come_back(
         Err(fault) => match fault {
             StoreFault::Memory => Err(Refusal::Memory),
             StoreFault::NoImage => {
-                keep_down(members, by);
+                stay_down(members, by);
                 Err(Refusal::Image)
             }
             StoreFault::Failed => {
-                keep_down(members, by);
+                stay_down(members, by);
                 Err(Refusal::Store)
             }
         },

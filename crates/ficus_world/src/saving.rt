@@ -1,97 +1,114 @@
-// One member's disks, of those of all.
-ghost use Rattle.std.specs.Prelude.{ℕ, ◌<◌, List, length, OnOk};
-ghost use Rattle.ficus_disk.specs.declared.pair.Pair.{Pair as PairValue};
+ghost use Rattle.std.specs.Prelude.{◌≡◌, ◌+◌, ◌<◌, ◌≤◌, ℕ, Err, List, length};
 ghost use Rattle.ficus_ids.specs.Members.{IsMember};
-ghost use Rattle.ficus_durable_state.specs.Saved.{FitsImage};
-ghost use Rattle.ficus_stable_storage.specs.Stable.{MayFollow};
-ghost use Rattle.ficus_stable_storage.specs.declared.stable.Stable.{Stable as StableValue};
+ghost use Rattle.ficus_stable_storage.specs.Leads.Holds.{Leads};
 ghost use Rattle.ficus_runs.specs.Numbered.{IsNumbered};
-ghost use Rattle.ficus_world.specs.Disks.{IsPreparedAt};
-ghost use Rattle.ficus_world.specs.Acts.{StaysAt};
-ghost use Rattle.ficus_world.specs.Calls.{ArmsAt, CommitsAt, ReopensPair};
+ghost use Rattle.ficus_opening.specs.Disks.{AreDisksOf};
+ghost use Rattle.ficus_world.specs.Disks.{IsBacked, IsPreparedAt};
+ghost use Rattle.ficus_world.specs.World.{IsSoundNext, IsUpIn, backed_by, event_limit, most_events};
+ghost use Rattle.ficus_opening.specs.declared.member.Member.{Member as MemberValue};
+ghost use Rattle.ficus_opening.specs.declared.member.MemberState.TheVariants.{Up as IsUp};
+ghost use Rattle.ficus_world.specs.Calls.{CommitsNext, SavesMember};
 
+use crate::World;
+use crate::group::Group;
+use crate::member::{hold, put_down};
+use crate::pairs::{commit_at, prepare_at};
 use ficus_disk::{Disk, Pair};
-use ficus_durable_state::Saved;
 use ficus_faults::Failed;
-use ficus_ids::Memory;
-use ficus_keeper::{Keep, StoreFault};
-use ficus_stable_storage::{Stable, one_saved};
-use std::alloc::Global;
+use ficus_ids::Refusal;
+use ficus_keeper::Keep;
+use ficus_model::History;
+use ficus_opening::{Member, Pending};
+use ficus_outside::Link;
+use ficus_stable_storage::Stable;
 
-/// Takes all memory for what a member saves next, by what is noted of its event. What the disks hold is as before,
-/// also where memory is refused.
-pub(crate) fn prepare_at<K: Keep + Drop, D: Disk>(
-    stables: &mut Vec<Stable<K>>,
-    disks: &mut Vec<Pair<D>>,
-    by: u8,
-    next: &Saved,
-    noted: Vec<u8>,
-) -> Result<(), Memory>
-    requires member { IsMember (length stables.old.items) by }
-    requires pair { IsMember (length disks.old.items) by }
-    requires fits { FitsImage next.now }
-    ensures prepared { OnOk result (IsPreparedAt K.wants_image K.Takes K.size_of D.room stables.new.items
-        disks.new.items by next.now noted.items) }
-    ensures stays { StaysAt K.Keep D.Disk by stables.old.items stables.new.items disks.old.items disks.new.items }
-{
-    let index = by as usize - 1;
-    stables[index].prepare(&mut disks[index], next, noted)
-}
-
-/// Saves what was prepared. Takes no memory.
-pub(crate) fn commit_at<K: Keep + Drop, D: Disk>(
-    stables: &mut Vec<Stable<K>>,
-    disks: &mut Vec<Pair<D>>,
-    by: u8,
-    next: &Saved,
-) -> Result<(), Failed>
-    requires member { IsMember (length stables.old.items) by }
-    requires pair { IsMember (length disks.old.items) by }
-    requires prepared { (body : List ℕ)
-        × IsPreparedAt K.wants_image K.Takes K.size_of D.room stables.old.items disks.old.items by next.now body
-        × (D.tells → (stable : StableValue K) (pair : PairValue D) → IsNumbered stables.old.items by stable
-        → IsNumbered disks.old.items by pair → MayFollow K.kept K.fits D.seen D.may_leave stable pair next.now body) }
-    ensures { CommitsAt K.Keep D.Disk by next.now result stables.old.items stables.new.items disks.old.items
-        disks.new.items }
-{
-    let index = by as usize - 1;
-    stables[index].commit(&mut disks[index], next)
-}
-
-/// Opens the disks of a member again, and reads what they then hold.
-pub(crate) fn reopen_at<K: Keep + Drop, D: Disk>(
-    alloc: Global,
-    stables: &mut Vec<Stable<K>>,
-    disks: &mut Vec<Pair<D>>,
-    by: u8,
-) -> Result<Saved, StoreFault>
-    requires member { IsMember (length stables.old.items) by }
-    requires pair { IsMember (length disks.old.items) by }
-    ensures { ReopensPair K.Keep D.Disk by result stables.old.items stables.new.items disks.old.items disks.new.items }
-{
-    one_saved();
-    let index = by as usize - 1;
-    match Stable::reopen(alloc, &mut disks[index]) {
-        Ok(found) => {
-            stables[index] = found.stable;
-            Ok(found.saved)
-        }
-        Err(fault) => Err(fault),
+impl<K: Keep + Drop, L: Link + Drop> World<K, L> {
+    /// Saves what a member that is up is after an event of its own, of which this is noted, and stores the event. All
+    /// memory is taken before anything changes. Where the disks fail, the member is down, and the event is pending.
+    pub(crate) fn save<D: Disk>(
+        &mut self,
+        disks: &mut Vec<Pair<D>>,
+        by: u8,
+        next: Pending,
+        noted: Vec<u8>,
+    ) -> Result<(), Refusal>
+        requires room { length self.old.whole.events < event_limit + most_events }
+        requires backed { IsBacked K.Keep D.Disk self.old disks.old.items }
+        requires up { IsUpIn self.old.whole by }
+        requires next { (was : MemberValue) → IsNumbered self.old.whole.members by was
+            → IsSoundNext (length self.old.whole.members) (length self.old.whole.events) by noted.items was.replica
+            next.replica }
+        ensures { SavesMember K.Keep D.Disk by next result self.old self.new disks.old.items disks.new.items }
+    {
+        self.group.save(&mut self.stables, disks, by, next, noted)
     }
 }
 
-/// Arms both disks of a member that has a fuse on both. What they hold is as before.
-pub(crate) fn arm_at<K: Keep + Drop, D: Disk>(
+impl<L: Link + Drop> Group<L> {
+    // The same, over the stables of the members.
+    fn save<K: Keep + Drop, D: Disk>(
+        &mut self,
+        stables: &mut Vec<Stable<K>>,
+        disks: &mut Vec<Pair<D>>,
+        by: u8,
+        next: Pending,
+        noted: Vec<u8>,
+    ) -> Result<(), Refusal>
+        requires room { length self.old.events < event_limit + most_events }
+        requires stables { length stables.old.items ≡ length self.old.members }
+        requires backed { IsBacked K.Keep D.Disk (backed_by self.old stables.old.items) disks.old.items }
+        requires up { IsUpIn self.old by }
+        requires next { (was : MemberValue) → IsNumbered self.old.members by was
+            → IsSoundNext (length self.old.members) (length self.old.events) by noted.items was.replica next.replica }
+        ensures { SavesMember K.Keep D.Disk by next result (backed_by self.old stables.old.items)
+            (backed_by self.new stables.new.items) disks.old.items disks.new.items }
+    {
+        self.history.reserve(1)?;
+        prepare_at(stables, disks, by, &next.replica.saved, noted)?;
+        commit_next(
+            &mut self.members,
+            &mut self.history,
+            stables,
+            disks,
+            by,
+            next,
+        )
+    }
+}
+
+/// Saves what was prepared, and stores its event; or the member is down, and it is pending. Takes no memory.
+pub(crate) fn commit_next<K: Keep + Drop, D: Disk>(
+    members: &mut Vec<Member>,
+    history: &mut History,
+    stables: &mut Vec<Stable<K>>,
     disks: &mut Vec<Pair<D>>,
     by: u8,
-    calls: u32,
-    pick: u8,
-)
+    next: Pending,
+) -> Result<(), Refusal>
+    requires member { IsMember (length members.old.items) by }
+    requires stables { length stables.old.items ≡ length members.old.items }
     requires pair { IsMember (length disks.old.items) by }
-    requires pick { pick < 4 }
-    ensures { ArmsAt K.Keep D.Disk by calls pick disks.old.items disks.new.items }
+    requires up { (was : MemberValue) → IsNumbered members.old.items by was → was.state ≡ IsUp }
+    requires prepared { (body : List ℕ)
+        × IsPreparedAt K.wants_image K.Takes K.size_of D.room stables.old.items disks.old.items by next.replica.saved
+        body × ((was : MemberValue) → IsNumbered members.old.items by was
+        → Leads body was.replica.saved next.replica.saved) }
+    requires room { 1 ≤ history.old.room }
+    requires few { length history.old.events < event_limit + most_events }
+    requires disks { AreDisksOf K.Keep D.Disk members.old.items stables.old.items disks.old.items }
+    ensures { CommitsNext K.Keep D.Disk by next result members.old.items members.new.items history.old.events
+        history.new.events stables.old.items stables.new.items disks.old.items disks.new.items }
 {
-    let pair = &mut disks[by as usize - 1];
-    pair.a.arm(calls, pick);
-    pair.b.arm(calls, pick);
+    match commit_at(stables, disks, by, &next.replica.saved) {
+        Ok(()) => {
+            let Pending { replica, event } = next;
+            hold(members, by, replica, &event);
+            history.push(event);
+            Ok(())
+        }
+        Err(Failed) => {
+            put_down(members, by, next);
+            Err(Refusal::Store)
+        }
+    }
 }

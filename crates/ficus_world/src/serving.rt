@@ -36,7 +36,7 @@ impl<L: Link + Drop> Group<L> {
     /// Serves an ask with what the member holds, and posts that in pieces. All memory is taken before anything changes.
     pub(crate) fn serve(&mut self, alloc: Global, came: Delivery) -> Result<Answer, Refusal>
         requires room { length self.old.events < event_limit + most_events }
-        requires mail { IsMember (length self.old.post.behind) came.number }
+        requires mail { IsMember (length self.old.post.behind) came.mail }
         requires route { IsRoute (length self.old.members) (way came.from came.to came.ask) }
         ensures serves { Carried (ServesAsk L.tells came self.old) result self.new }
         ensures few { IfOk result (λ answer. length (runs.mails_of answer) ≤ piece_limit) }
@@ -48,7 +48,7 @@ impl<L: Link + Drop> Group<L> {
         let pieces = messages.len() as u32;
         self.history.reserve(1)?;
         self.post.make_room(pieces)?;
-        let ask = self.post.behind(came.number).position;
+        let ask = self.post.behind(came.mail).position;
         let first = self.post.next();
         let position = self.history.len();
         self.history.push(Event::Serve {

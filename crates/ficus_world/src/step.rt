@@ -7,7 +7,7 @@ ghost use Rattle.ficus_world.specs.Calls.{Does, DoesAll, Steps};
 
 use crate::World;
 use crate::mails::{Mails, mails_in};
-use crate::saving::arm_at;
+use crate::pairs::arm_at;
 use ficus_commands::{Change, Look};
 use ficus_disk::{Disk, Pair};
 use ficus_ids::{Id, Memory, Refusal};

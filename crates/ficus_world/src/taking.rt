@@ -10,7 +10,7 @@ ghost use Rattle.ficus_runs.specs.Sequence.{unchanged};
 ghost use Rattle.ficus_world.specs.Disks.{CarriedOn, IsBacked};
 ghost use Rattle.ficus_world.specs.Acts.{Acts};
 ghost use Rattle.ficus_runs.specs.Numbered.{IsNumbered};
-ghost use Rattle.ficus_world.specs.Moves.{FindsTaker, GivesTaking, IsPlaced, TakesPiece, TakesSpelled, collected, parts_held, spelled_with};
+ghost use Rattle.ficus_world.specs.Moves.{FindsTaker, GivesTaking, IsPlaced, TakesPiece, TakesSpelled, gathered, parts_held, spelled_with};
 ghost use Rattle.ficus_world.specs.World.{IsUpIn, event_limit, most_events};
 ghost use Rattle.ficus_wire.specs.Message.{FitsMessage, piece_of};
 ghost use Rattle.ficus_wire.specs.Parts.{HasPart, no_parts, with_part};
@@ -68,7 +68,7 @@ impl<K: Keep + Drop, L: Link + Drop> World<K, L> {
     ) -> Result<Answer, Refusal>
         requires room { length self.old.whole.events < event_limit + most_events }
         requires backed { IsBacked K.Keep D.Disk self.old disks.old.items }
-        requires mail { IsMember (length self.old.whole.post.behind) came.number }
+        requires mail { IsMember (length self.old.whole.post.behind) came.mail }
         requires fits { FitsMessage (length self.old.whole.members) (piece_of head bytes.now) }
         requires to { came.to ≡ head.route.to }
         ensures takes { CarriedOn K.Keep D.Disk (TakesPiece came head bytes.now) result self.old.whole
@@ -81,7 +81,7 @@ impl<K: Keep + Drop, L: Link + Drop> World<K, L> {
                 of: head.pieces,
             }),
             Fitting::OneMore { have } => {
-                self.group.collect(alloc, came, head, bytes)?;
+                self.group.gather(alloc, came, head, bytes)?;
                 Ok(Answer::Part {
                     have,
                     of: head.pieces,
@@ -103,7 +103,7 @@ impl<K: Keep + Drop, L: Link + Drop> World<K, L> {
     ) -> Result<Answer, Refusal>
         requires room { length self.old.whole.events < event_limit + most_events }
         requires backed { IsBacked K.Keep D.Disk self.old disks.old.items }
-        requires mail { IsMember (length self.old.whole.post.behind) came.number }
+        requires mail { IsMember (length self.old.whole.post.behind) came.mail }
         requires up { IsUpIn self.old.whole came.to }
         requires index { head.index < head.pieces }
         requires last { (was : MemberValue) → IsNumbered self.old.whole.members came.to was
@@ -131,7 +131,7 @@ impl<L: Link + Drop> Group<L> {
     ) -> Result<Taking, Refusal>
         requires room { length self.now.events < event_limit + most_events }
         requires up { IsUpIn self.now came.to }
-        requires mail { IsMember (length self.now.post.behind) came.number }
+        requires mail { IsMember (length self.now.post.behind) came.mail }
         requires index { head.index < head.pieces }
         requires last { (was : MemberValue) → IsNumbered self.now.members came.to was
             → IsPlaced (parts_held was.parts head) head.index TheLast }
@@ -149,7 +149,7 @@ impl<L: Link + Drop> Group<L> {
             entries.items(),
             files.items(),
         )?;
-        let serve = self.post.behind(came.number).position;
+        let serve = self.post.behind(came.mail).position;
         let event = Event::Accept {
             by: came.to,
             serve,
@@ -208,7 +208,7 @@ impl<L: Link + Drop> Group<L> {
     }
 
     // Keeps a piece beside those that its receiver holds. All memory is taken before anything changes.
-    fn collect(
+    fn gather(
         &mut self,
         alloc: Global,
         came: Delivery,
@@ -216,20 +216,20 @@ impl<L: Link + Drop> Group<L> {
         bytes: &[u8],
     ) -> Result<(), Memory>
         requires room { length self.old.events < event_limit + most_events }
-        requires mail { IsMember (length self.old.post.behind) came.number }
+        requires mail { IsMember (length self.old.post.behind) came.mail }
         requires to { IsMember (length self.old.members) came.to }
         requires missing { (was : MemberValue) → IsNumbered self.old.members came.to was
             → HasPart (parts_held was.parts head) head.index → ⊥ }
         requires index { (was : MemberValue) → IsNumbered self.old.members came.to was
             → head.index < (parts_held was.parts head).pieces }
-        ensures collects { OnOk result ((was : MemberValue) (place : BehindValue)
-            → IsNumbered self.old.members came.to was → IsNumbered self.old.post.behind came.number place
-            → self.new ≡ collected self.old came.to was (with_part (parts_held was.parts head) head.index bytes.now)
+        ensures gathers { OnOk result ((was : MemberValue) (place : BehindValue)
+            → IsNumbered self.old.members came.to was → IsNumbered self.old.post.behind came.mail place
+            → self.new ≡ gathered self.old came.to was (with_part (parts_held was.parts head) head.index bytes.now)
             (Takes came.to place.position head.index)) }
         ensures memory { OnErr result (self.new ≡ self.old) }
     {
         self.history.reserve(1)?;
-        let serve = self.post.behind(came.number).position;
+        let serve = self.post.behind(came.mail).position;
         add_piece(alloc, &mut self.members, came.to, head, bytes)?;
         self.history.push(Event::Take {
             by: came.to,

@@ -17,7 +17,7 @@ use Rattle.ficus_runs.specs.Numbered.{IsNumbered}
 use Rattle.ficus_path.specs.declared.path.Path.{Path}
 use Rattle.ficus_world.specs.Follows.{FollowsOn, StopsOn, TellsFor}
 use Rattle.ficus_world.specs.World.{Backed, WorldStandsFor, foreseen, most_unforeseen}
-use Rattle.ficus_world.proofs.Sets.{set_same}
+use Rattle.ficus_world.proofs.Lifting.Sets.{set_same}
 use Rattle.ficus_top.specs.Graft.Answered.{Sent, sent_so}
 use Rattle.ficus_top.specs.Graft.Paths.{along}
 use Rattle.ficus_top.specs.Graft.Route.{ls}

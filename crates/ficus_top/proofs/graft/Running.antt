@@ -26,7 +26,7 @@ use Rattle.ficus_world.specs.Fuses.{FusesFollow}
 use Rattle.ficus_world.specs.World.{Backed, Whole, WorldStandsFor}
 use Rattle.ficus_world.proofs.Disks.{follows_none, follows_then}
 use Rattle.ficus_world.proofs.Fuses.{fuses_none, fuses_then}
-use Rattle.ficus_world.proofs.Outcomes.{both_caused, steady_caused}
+use Rattle.ficus_world.proofs.Lifting.Outcomes.{both_caused, steady_caused}
 use Rattle.ficus_top.specs.Graft.Answered.{Sent, answers_to, commands_to}
 use Rattle.ficus_top.specs.Graft.Runs.{Disks, EachRuns, RunsOn, Sends}
 use Rattle.ficus_top.proofs.graft.Sending.{answers_append, commands_append, to_it, to_other}

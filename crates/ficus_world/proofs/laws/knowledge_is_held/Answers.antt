@@ -1,5 +1,5 @@
 use Rattle.ficus_replica.proofs.Views.{marks_history}
-use Rattle.ficus_world.proofs.Standing.{replica_stands}
+use Rattle.ficus_world.proofs.Lifting.Standing.{replica_stands}
 use Rattle.ficus_world.proofs.laws.knowledge_is_held.Goals as goal
 
 pub returns : goal.returns

@@ -1,4 +1,4 @@
-use Rattle.ficus_world.proofs.OneWorld.{world_once}
+use Rattle.ficus_world.proofs.Lifting.OneWorld.{world_once}
 use Rattle.ficus_world.proofs.laws.one_world.Goals as goal
 
 pub returns : goal.returns

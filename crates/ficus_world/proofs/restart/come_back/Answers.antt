@@ -57,7 +57,7 @@ returns-in-NoImage c = λ was is. (
   [],
   back_not_read c.args.by was c.args.read c.in-Err.fault c.in-Err.is
       c.in-NoImage.is,
-  c.keep_down.ensures was is,
+  c.stay_down.ensures was is,
   sym (append-nil c.args.history.now.events),
 )
 
@@ -67,6 +67,6 @@ returns-in-Failed c = λ was is. (
   [],
   back_not_opened c.args.by was c.args.read c.in-Err.fault c.in-Err.is
       c.in-Failed.is,
-  c.keep_down-in-Failed.ensures was is,
+  c.stay_down-in-Failed.ensures was is,
   sym (append-nil c.args.history.now.events),
 )

@@ -1,5 +1,5 @@
 use Rattle.ficus_world.specs.Moves.FindsTaker.{AnswersNone, TakerDown}
-use Rattle.ficus_world.proofs.Collected.{fitting_found, fitting_refused}
+use Rattle.ficus_world.proofs.Gathered.{fitting_found, fitting_refused}
 use Rattle.ficus_world.proofs.Tests.{untrue}
 use Rattle.ficus_world.proofs.group.Group.fitting.Goals as goal
 

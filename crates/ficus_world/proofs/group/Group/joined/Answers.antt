@@ -3,7 +3,7 @@ use Rattle.ficus_opening.specs.declared.member.Member.{Member}
 use Rattle.ficus_record.specs.Record.{accept_front}
 use Rattle.ficus_runs.proofs.Numbers.{number_once}
 use Rattle.ficus_wire.specs.Parts.{joined, with_part}
-use Rattle.ficus_world.proofs.Collected.{joined_none, joined_some}
+use Rattle.ficus_world.proofs.Gathered.{joined_none, joined_some}
 use Rattle.ficus_world.proofs.group.Group.joined.Goals as goal
 use Rattle.ficus_world.proofs.group.Group.joined.Goals.{in-Some+in_ok-put_whole_with-in-Some, in-None+in_ok-put_bytes-in-None}
 

@@ -20,19 +20,19 @@ invariant_of-self-2 g c =
     let old = whole_of c.self.inside.members.items c.self.inside.history.events c.self.inside.post.now in
     let is = rw (← c.self.view_is) at c.requires.up.is in
     let sound = rw (← c.self.view_is) at (c.requires.next c.requires.up.member c.requires.up.is) in
-    let stored = rw c.reserve.ensures.events at c.keep.ensures.stored in
-    let kept = rw c.reserve.ensures.events at c.keep.ensures.kept in
-    kept_world old c.args.by c.args.next c.keep.new.members.items c.keep.new.history.events c.keep.result
-    c.requires.up.member is c.requires.up.up sound c.self.invariant c.keep.ensures.held stored c.keep.ensures.pending kept
+    let stored = rw c.reserve.ensures.events at c.commit_next.ensures.stored in
+    let kept = rw c.reserve.ensures.events at c.commit_next.ensures.kept in
+    kept_world old c.args.by c.args.next c.commit_next.new.members.items c.commit_next.new.history.events c.commit_next.result
+    c.requires.up.member is c.requires.up.up sound c.self.invariant c.commit_next.ensures.held stored c.commit_next.ensures.pending kept
 
-pub keep-requires-clause-pair : goal.keep-requires-clause-pair
-keep-requires-clause-pair g c =
+pub commit_next-requires-clause-pair : goal.commit_next-requires-clause-pair
+commit_next-requires-clause-pair g c =
     let member = c.requires.up.is.member in
     let count = (c.prepare_at.ensures.stays.follows c.self.inside.members.items).disks.count in
     record { at_least = member.at_least; at_most = omega (arith, member.at_most, c.requires.backed.pairs, count) }
 
-pub keep-requires-clause-prepared : goal.keep-requires-clause-prepared
-keep-requires-clause-prepared g c = (
+pub commit_next-requires-clause-prepared : goal.commit_next-requires-clause-prepared
+commit_next-requires-clause-prepared g c = (
   c.args.noted.items,
   c.in_ok-prepare_at.ensures.prepared,
   λ was is. (c.requires.next was (subst (λ (w : Whole). IsNumbered w.members c.args.by was) c.self.view_is is)).leads,
@@ -41,27 +41,27 @@ keep-requires-clause-prepared g c = (
 pub returns : goal.returns
 returns g c =
     let old = whole_of c.self.inside.members.items c.self.inside.history.events c.self.inside.post.now in
-    let stored = rw c.reserve.ensures.events at c.keep.ensures.stored in
-    let kept = rw c.reserve.ensures.events at c.keep.ensures.kept in
+    let stored = rw c.reserve.ensures.events at c.commit_next.ensures.stored in
+    let kept = rw c.reserve.ensures.events at c.commit_next.ensures.kept in
     let before = c.prepare_at.ensures.stays.follows c.self.inside.members.items in
     record {
       saves =
           rw (← c.self.view_is)
           (saves_next g.K.Keep g.D.Disk old
-          (whole_of c.keep.new.members.items c.keep.new.history.events c.self.inside.post.now) c.args.by c.args.next
-          c.args.disks.now.items c.keep.new.disks.items c.keep.result
-          (kept_advanced old c.args.by c.args.next c.keep.new.members.items c.keep.new.history.events c.keep.result
-          c.keep.ensures.held stored)
-          (on_ok_weaker c.keep.result (comes_then before) c.keep.ensures.followed)
-          (kept_downed old c.args.by c.args.next c.keep.new.members.items c.keep.new.history.events c.keep.result
-          c.keep.ensures.pending kept)
-          (on_err_weaker c.keep.result (comes_then before) c.keep.ensures.counted) c.keep.ensures.refused);
+          (whole_of c.commit_next.new.members.items c.commit_next.new.history.events c.self.inside.post.now) c.args.by c.args.next
+          c.args.disks.now.items c.commit_next.new.disks.items c.commit_next.result
+          (kept_advanced old c.args.by c.args.next c.commit_next.new.members.items c.commit_next.new.history.events c.commit_next.result
+          c.commit_next.ensures.held stored)
+          (on_ok_weaker c.commit_next.result (comes_then before) c.commit_next.ensures.followed)
+          (kept_downed old c.args.by c.args.next c.commit_next.new.members.items c.commit_next.new.history.events c.commit_next.result
+          c.commit_next.ensures.pending kept)
+          (on_err_weaker c.commit_next.result (comes_then before) c.commit_next.ensures.counted) c.commit_next.ensures.refused);
       acts =
           kept_acts c.self.inside.post.now c.self.view_is c.reserve.ensures.events c.requires.up.member c.requires.up.is
-          c.requires.stables c.requires.backed c.prepare_at.ensures.stays c.keep.ensures
+          c.requires.stables c.requires.backed c.prepare_at.ensures.stays c.commit_next.ensures
           (rests_then_writes g.K.Keep g.D.Disk c.args.by g.met.D.Disk.only_now g.met.D.Disk.seen_may_be_left
           g.met.D.Disk.left_now g.met.D.Disk.left_earlier)
-          (refused_not c.keep.result c.keep.ensures.refused (λ e. cc));
+          (refused_not c.commit_next.result c.commit_next.ensures.refused (λ e. cc));
     }
 
 pub returns-in_err-prepare_at : goal.returns-in_err-prepare_at
@@ -90,13 +90,13 @@ returns-in_err-reserve g c =
           c.args.disks.now.items) (sym same) (acts_none c.requires.backed);
     }
 
-pub keep-requires-clause-disks : goal.keep-requires-clause-disks
-keep-requires-clause-disks g c =
+pub commit_next-requires-clause-disks : goal.commit_next-requires-clause-disks
+commit_next-requires-clause-disks g c =
     let backed = rw (← c.self.view_is) at c.requires.backed in
     c.prepare_at.ensures.stays.disks c.self.inside.members.items c.self.inside.members.items refl backed.disks
 
-pub keep-requires-clause-stables : goal.keep-requires-clause-stables
-keep-requires-clause-stables g c =
+pub commit_next-requires-clause-stables : goal.commit_next-requires-clause-stables
+commit_next-requires-clause-stables g c =
     c.prepare_at.ensures.stays.count ∙ c.requires.stables ∙ sym (ap (λ (w : Whole). length w.members) c.self.view_is)
 
 pub prepare_at-requires-clause-member : goal.prepare_at-requires-clause-member

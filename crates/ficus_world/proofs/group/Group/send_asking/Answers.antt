@@ -52,8 +52,8 @@ returns-in_err-make_ready-clause-asks g c =
     (subst (λ (w : Whole). CarriedOn g.K.Keep g.D.Disk (KeepsAsk tells by to) (Err r) w old x y)
     c.self.view_is moves)
 
-pub invariant_of-self-in_err-keep : goal.invariant_of-self-in_err-keep
-invariant_of-self-in_err-keep g c =
+pub invariant_of-self-in_err-commit_next : goal.invariant_of-self-in_err-commit_next
+invariant_of-self-in_err-commit_next g c =
     let by = c.args.by in
     let old = whole_of c.self.inside.members.items c.self.inside.history.events c.self.inside.post.now in
     let asking = subst (AsksWith by c.args.to c.args.noted.items c.args.asking.replica) (sym c.self.view_is)
@@ -62,19 +62,19 @@ invariant_of-self-in_err-keep g c =
     let world : IsWorld old = c.self.invariant in
     let sound = put_down_sound {pending = pending_of c.args.asking.replica (Ask by c.args.to)}
     (world.sound by was asking.1.is) asking.2 in
-    let next = world_after old old.events by was _ asking.1.is world sound (omega arith) c.keep.new.members.items
-    (c.in_err-keep.ensures.pending was asking.1.is) in
-    rw (c.in_err-keep.ensures.kept, c.in_ok-make_ready.ensures.events, c.in_ok-make_ready.ensures.post) next
+    let next = world_after old old.events by was _ asking.1.is world sound (omega arith) c.commit_next.new.members.items
+    (c.in_err-commit_next.ensures.pending was asking.1.is) in
+    rw (c.in_err-commit_next.ensures.kept, c.in_ok-make_ready.ensures.events, c.in_ok-make_ready.ensures.post) next
 
-pub returns-in_err-keep-clause-asks : goal.returns-in_err-keep-clause-asks
-returns-in_err-keep-clause-asks g c =
-    let refused = err_from_is_err_and c.from_residual-in_err-keep.result c.from_residual-in_err-keep.ensures.1 in
-    let r = c.in_err-keep.field-0.0 in
+pub returns-in_err-commit_next-clause-asks : goal.returns-in_err-commit_next-clause-asks
+returns-in_err-commit_next-clause-asks g c =
+    let refused = err_from_is_err_and c.from_residual-in_err-commit_next.result c.from_residual-in_err-commit_next.ensures.1 in
+    let r = c.in_err-commit_next.field-0.0 in
     let by = c.args.by in
     let to = c.args.to in
     let tells = g.L.Link.tells in
     let x = c.args.disks.now.items in
-    let z = c.keep.new.disks.items in
+    let z = c.commit_next.new.disks.items in
     let old = whole_of c.self.inside.members.items c.self.inside.history.events c.self.inside.post.now in
     let asking = subst (AsksWith by to c.args.noted.items c.args.asking.replica) (sym c.self.view_is) c.requires.asking in
     let message = c.requires.message in
@@ -82,13 +82,13 @@ returns-in_err-keep-clause-asks g c =
     let room : HasRoomFor old (ask_size by to c.args.asking.replica) =
     omega (arith, c.in_ok-make_ready.ensures.small, ap (λ (bytes : List ℕ). length bytes) message) in
     let moves = unsaved tells old by to was c.args.asking.replica asking.1 x c.make_ready.new.disks.items
-    (c.in_ok-make_ready.ensures.stays.follows old.members) room z r c.in_err-keep.ensures.refused
-    (rw (c.in_err-keep.ensures.pending was asking.1.is) at c.in_err-keep.ensures.counted) in
+    (c.in_ok-make_ready.ensures.stays.follows old.members) room z r c.in_err-commit_next.ensures.refused
+    (rw (c.in_err-commit_next.ensures.pending was asking.1.is) at c.in_err-commit_next.ensures.counted) in
     rw (
       refused.1,
       refused.2,
-      c.in_err-keep.ensures.pending was asking.1.is,
-      c.in_err-keep.ensures.kept,
+      c.in_err-commit_next.ensures.pending was asking.1.is,
+      c.in_err-commit_next.ensures.kept,
       c.in_ok-make_ready.ensures.events,
       c.in_ok-make_ready.ensures.post,
     )
@@ -105,11 +105,11 @@ invariant_of-self-2 g c =
     let message = c.requires.message in
     let was = asking.0 in
     let world : IsWorld old = c.self.invariant in
-    let events = rw c.in_ok-make_ready.ensures.events at c.in_ok-keep.ensures.stored in
+    let events = rw c.in_ok-make_ready.ensures.events at c.in_ok-commit_next.ensures.stored in
     let longer = ap length events ∙ length_push c.self.inside.history.events (Ask by to) in
     let sound = rw (sym longer) at (held_sound was (parts_after (Ask by to) was.parts) asking.1.up asking.2) in
-    let next = world_after old c.keep.new.history.events by was _ asking.1.is world sound (omega (arith, longer))
-    c.keep.new.members.items (c.in_ok-keep.ensures.held was asking.1.is) in
+    let next = world_after old c.commit_next.new.history.events by was _ asking.1.is world sound (omega (arith, longer))
+    c.commit_next.new.members.items (c.in_ok-commit_next.ensures.held was asking.1.is) in
     let some : smallest_message ≤ length c.args.asking.message.items =
     subst (λ bytes. smallest_message ≤ length bytes) (sym message) (some_bytes (ask_of by to asked)) in
     let sent = rw c.in_ok-make_ready.ensures.post at c.send.ensures.sent in
@@ -124,7 +124,7 @@ returns-clause-asks g c =
     let tells = g.L.Link.tells in
     let asked = c.args.asking.replica in
     let x = c.args.disks.now.items in
-    let z = c.keep.new.disks.items in
+    let z = c.commit_next.new.disks.items in
     let old = whole_of c.self.inside.members.items c.self.inside.history.events c.self.inside.post.now in
     let asking = subst (AsksWith by to c.args.noted.items asked) (sym c.self.view_is) c.requires.asking in
     let message = c.requires.message in
@@ -136,20 +136,20 @@ returns-clause-asks g c =
     let failed = rw c.in_ok-make_ready.ensures.post at c.send.ensures.failed in
     let moves = ask_sent tells old by to was asked asking.1 room c.send.new.self.now x z
     (comes_then (c.in_ok-make_ready.ensures.stays.follows old.members)
-    (rw (c.in_ok-keep.ensures.held was asking.1.is) at c.in_ok-keep.ensures.followed)) c.send.result sent failed
+    (rw (c.in_ok-commit_next.ensures.held was asking.1.is) at c.in_ok-commit_next.ensures.followed)) c.send.result sent failed
     c.send.ensures.refused in
-    rw (c.in_ok-keep.ensures.held was asking.1.is, c.in_ok-keep.ensures.stored, c.in_ok-make_ready.ensures.events)
+    rw (c.in_ok-commit_next.ensures.held was asking.1.is, c.in_ok-commit_next.ensures.stored, c.in_ok-make_ready.ensures.events)
     (subst (λ (w : Whole). CarriedOn g.K.Keep g.D.Disk (KeepsAsk tells by to) c.send.result w
     (with_post (advanced old by was asked (Ask by to)) c.send.new.self.now) x z) c.self.view_is moves)
 
-pub keep-requires-clause-pair : goal.keep-requires-clause-pair
-keep-requires-clause-pair g c =
+pub commit_next-requires-clause-pair : goal.commit_next-requires-clause-pair
+commit_next-requires-clause-pair g c =
     let member = c.requires.asking.1.is.member in
     let count = (c.make_ready.ensures.stays.follows c.self.inside.members.items).disks.count in
     record { at_least = member.at_least; at_most = omega (arith, member.at_most, c.requires.backed.pairs, count) }
 
-pub keep-requires-clause-prepared : goal.keep-requires-clause-prepared
-keep-requires-clause-prepared g c =
+pub commit_next-requires-clause-prepared : goal.commit_next-requires-clause-prepared
+commit_next-requires-clause-prepared g c =
     let asking = subst (AsksWith c.args.by c.args.to c.args.noted.items c.args.asking.replica) (sym c.self.view_is)
     c.requires.asking in (
       c.args.noted.items,
@@ -167,32 +167,32 @@ returns-in_err-make_ready-clause-acts g c =
     c.args.disks.now.items c.make_ready.new.disks.items) (sym same)
     (ready_acts c.requires.asking.1.is.member c.make_ready.ensures.stays c.requires.backed)
 
-pub returns-in_err-keep-clause-acts : goal.returns-in_err-keep-clause-acts
-returns-in_err-keep-clause-acts g c =
-    let refused = err_from_is_err_and c.from_residual-in_err-keep.result c.from_residual-in_err-keep.ensures.1 in
+pub returns-in_err-commit_next-clause-acts : goal.returns-in_err-commit_next-clause-acts
+returns-in_err-commit_next-clause-acts g c =
+    let refused = err_from_is_err_and c.from_residual-in_err-commit_next.result c.from_residual-in_err-commit_next.ensures.1 in
     rw (refused.1, refused.2)
     (kept_acts c.make_ready.new.post.now c.self.view_is c.in_ok-make_ready.ensures.events c.requires.asking.0
-    c.requires.asking.1.is c.requires.stables c.requires.backed c.make_ready.ensures.stays c.keep.ensures
+    c.requires.asking.1.is c.requires.stables c.requires.backed c.make_ready.ensures.stays c.commit_next.ensures
     (rests_then_writes g.K.Keep g.D.Disk c.args.by g.met.D.Disk.only_now g.met.D.Disk.seen_may_be_left
     g.met.D.Disk.left_now g.met.D.Disk.left_earlier)
-    (λ is. refused_not (Err c.in_err-keep.field-0.0) c.in_err-keep.ensures.refused (λ e. cc)
-    (same_refusal c.in_err-keep.field-0.0 Memory is)))
+    (λ is. refused_not (Err c.in_err-commit_next.field-0.0) c.in_err-commit_next.ensures.refused (λ e. cc)
+    (same_refusal c.in_err-commit_next.field-0.0 Memory is)))
 
 pub returns-clause-acts : goal.returns-clause-acts
 returns-clause-acts g c =
     kept_acts c.send.new.self.now c.self.view_is c.in_ok-make_ready.ensures.events c.requires.asking.0 c.requires.asking.1.is
-    c.requires.stables c.requires.backed c.make_ready.ensures.stays c.keep.ensures
+    c.requires.stables c.requires.backed c.make_ready.ensures.stays c.commit_next.ensures
     (rests_then_writes g.K.Keep g.D.Disk c.args.by g.met.D.Disk.only_now g.met.D.Disk.seen_may_be_left
     g.met.D.Disk.left_now g.met.D.Disk.left_earlier)
     (refused_not c.send.result c.send.ensures.refused (λ e. cc))
 
-pub keep-requires-clause-disks : goal.keep-requires-clause-disks
-keep-requires-clause-disks g c =
+pub commit_next-requires-clause-disks : goal.commit_next-requires-clause-disks
+commit_next-requires-clause-disks g c =
     let backed = rw (← c.self.view_is) at c.requires.backed in
     c.make_ready.ensures.stays.disks c.self.inside.members.items c.self.inside.members.items refl backed.disks
 
-pub keep-requires-clause-stables : goal.keep-requires-clause-stables
-keep-requires-clause-stables g c =
+pub commit_next-requires-clause-stables : goal.commit_next-requires-clause-stables
+commit_next-requires-clause-stables g c =
     c.make_ready.ensures.stays.count ∙ c.requires.stables ∙ sym (ap (λ (w : Whole). length w.members) c.self.view_is)
 
 pub invariant_of-self : goal.invariant_of-self

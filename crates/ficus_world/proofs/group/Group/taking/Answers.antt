@@ -15,7 +15,7 @@ use Rattle.ficus_world.specs.Moves.{spelled_with}
 use Rattle.ficus_world.specs.Moves.TakesSpelled.{SpellsTables}
 use Rattle.ficus_world.specs.Moves.TakesTables.{Refuses}
 use Rattle.ficus_world.specs.World.{IsUpIn, Whole}
-use Rattle.ficus_world.proofs.Collected.{at_rows, rows_refused}
+use Rattle.ficus_world.proofs.Gathered.{at_rows, rows_refused}
 use Rattle.ficus_world.proofs.SoundWorlds.{noted_sound}
 use Rattle.ficus_world.proofs.group.Group.taking.Goals as goal
 
@@ -74,7 +74,7 @@ returns g c = λ was is.
     let sound = c.member.ensures.sound.replica in
     let counted = subst (λ n. spelled_with was c.args.head c.args.bytes.now
     ≡ tables_bytes n c.items.result.now c.items-2.result.now) (sym sound.members) spelled in
-    let place = subst (λ (w : Whole). IsNumbered w.post.behind c.args.came.number c.behind-serve.result) c.self.view_is
+    let place = subst (λ (w : Whole). IsNumbered w.post.behind c.args.came.mail c.behind-serve.result) c.self.view_is
     c.behind-serve.ensures in record {
       was = c.member.result.now;
       is = there;

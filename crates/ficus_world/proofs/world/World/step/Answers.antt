@@ -4,10 +4,10 @@ use Rattle.ficus_world.specs.Follows.{FollowsOn, StopsOn}
 use Rattle.ficus_world.specs.Moves.{HasCollected}
 use Rattle.ficus_world.specs.Stepped.{CutOn, Stepped}
 use Rattle.ficus_world.proofs.Collecting.{moves_collected}
-use Rattle.ficus_world.proofs.Following.{follow_wanted}
+use Rattle.ficus_world.proofs.Lifting.Following.{follow_wanted}
 use Rattle.ficus_world.proofs.Growing.{comes_foreseen}
 use Rattle.ficus_world.proofs.Moved.{answered_cut, answered_moves, answered_wants}
-use Rattle.ficus_world.proofs.Stepping.{cut_stops, step_follows}
+use Rattle.ficus_world.proofs.Lifting.Stepping.{cut_stops, step_follows}
 use Rattle.ficus_world.proofs.world.World.step.Goals as goal
 
 pub returns : goal.returns

@@ -7,7 +7,7 @@ use Rattle.ficus_world.specs.World.{IsSoundNext}
 use Rattle.ficus_opening.specs.declared.member.Member.{Member}
 use Rattle.ficus_runs.proofs.Numbers.{number_once}
 use Rattle.ficus_world.proofs.Carrying.{carried_none, carried_saved, or_refused, save_refused, whole_is}
-use Rattle.ficus_world.proofs.Collected.{taking_in, taking_saved, taking_unsaved}
+use Rattle.ficus_world.proofs.Gathered.{taking_in, taking_saved, taking_unsaved}
 use Rattle.ficus_world.proofs.Acting.{acts_done, acts_none, acts_refused}
 use Rattle.ficus_world.proofs.world.World.take_last.Goals as goal
 

@@ -11,7 +11,7 @@ use Rattle.ficus_world.specs.World.{Backed, IsUpIn, Whole, backed_by}
 use Rattle.ficus_world.specs.declared.taking.Fitting.{Fitting}
 use Rattle.ficus_world.specs.declared.taking.Fitting.TheVariants.{OneMore, TheLast}
 use Rattle.ficus_world.proofs.Carrying.{carried_memory, whole_is}
-use Rattle.ficus_world.proofs.Collected.{FitsAt, collected_members, fits_index, fits_placed, holds_more, piece_acts, piece_again, piece_last, piece_more, piece_refused, taker_is, taker_up}
+use Rattle.ficus_world.proofs.Gathered.{FitsAt, gathered_members, fits_index, fits_placed, holds_more, piece_acts, piece_again, piece_last, piece_more, piece_refused, taker_is, taker_up}
 use Rattle.ficus_world.proofs.Disks.{follows_none}
 use Rattle.ficus_world.specs.Acts.{Acts}
 use Rattle.ficus_world.proofs.Acting.{acts_none}
@@ -36,22 +36,22 @@ returns-in-Again-clause-takes g c =
     (subst (λ (w : Whole). FitsAt came head w c.in_ok-have.field-0) (whole_is c.self.view_is) c.in_ok-have.ensures.fits) in
     piece_again g.K.Keep g.D.Disk came head c.args.bytes.now old c.args.disks.now.items fits.0 fits.1 c.in-Again.have fits.2
 
-pub collect-requires-clause-missing : goal.collect-requires-clause-missing
-collect-requires-clause-missing g c = λ was is.
+pub gather-requires-clause-missing : goal.gather-requires-clause-missing
+gather-requires-clause-missing g c = λ was is.
     let came = c.args.came in
     let head = c.args.head in
     let fits = subst (λ (f : Fitting). FitsAt came head c.self.inside.group f) c.in-OneMore.is c.in_ok-have.ensures.fits in
     let placed = fits_placed came head c.self.inside.group (OneMore c.in-OneMore.have) fits was is in
     placed.0
 
-pub collect-requires-clause-index : goal.collect-requires-clause-index
-collect-requires-clause-index g c = λ was is.
+pub gather-requires-clause-index : goal.gather-requires-clause-index
+gather-requires-clause-index g c = λ was is.
     fits_index c.args.came c.args.head c.self.inside.group c.in_ok-have.field-0 c.in_ok-have.ensures.fits was is
     c.requires.fits.head.index
 
-pub returns-in_err-collect-in-OneMore-clause-takes : goal.returns-in_err-collect-in-OneMore-clause-takes
-returns-in_err-collect-in-OneMore-clause-takes g c =
-    let residual = c.from_residual-in_err-collect-in-OneMore in
+pub returns-in_err-gather-in-OneMore-clause-takes : goal.returns-in_err-gather-in-OneMore-clause-takes
+returns-in_err-gather-in-OneMore-clause-takes g c =
+    let residual = c.from_residual-in_err-gather-in-OneMore in
     let wanted = err_from_is_err_and residual.result residual.ensures.1 in
     let x = c.args.disks.now.items in
     rw (wanted.1, wanted.2)
@@ -62,28 +62,28 @@ invariant_of-self-in-OneMore g c =
     let came = c.args.came in
     let head = c.args.head in
     let inside = c.self.inside.group in
-    let mail = subst (λ (w : Whole). IsMember (length w.post.behind) came.number) (sym (whole_is c.self.view_is))
+    let mail = subst (λ (w : Whole). IsMember (length w.post.behind) came.mail) (sym (whole_is c.self.view_is))
     c.requires.mail in
-    let more = holds_more came head c.args.bytes.now c.in-OneMore.have inside c.collect.new.self c.in_ok-have.field-0
-    c.in_ok-have.ensures.fits c.in-OneMore.is mail c.in_ok-collect-in-OneMore.ensures.collects in
+    let more = holds_more came head c.args.bytes.now c.in-OneMore.have inside c.gather.new.self c.in_ok-have.field-0
+    c.in_ok-have.ensures.fits c.in-OneMore.is mail c.in_ok-gather-in-OneMore.ensures.gathers in
     c.self.invariant
-    ∙ sym (collected_members inside c.collect.new.self came.to more.was
+    ∙ sym (gathered_members inside c.gather.new.self came.to more.was
     (with_part (parts_held more.was.parts head) head.index c.args.bytes.now)
     (Take came.to more.place.position head.index) more.same)
 
-pub returns-in_ok-collect-in-OneMore-clause-takes : goal.returns-in_ok-collect-in-OneMore-clause-takes
-returns-in_ok-collect-in-OneMore-clause-takes g c =
+pub returns-in_ok-gather-in-OneMore-clause-takes : goal.returns-in_ok-gather-in-OneMore-clause-takes
+returns-in_ok-gather-in-OneMore-clause-takes g c =
     let came = c.args.came in
     let head = c.args.head in
     let bytes = c.args.bytes.now in
     let have = c.in-OneMore.have in
     let inside = c.self.inside.group in
-    let new = c.collect.new.self in
+    let new = c.gather.new.self in
     let x = c.args.disks.now.items in
-    let mail = subst (λ (w : Whole). IsMember (length w.post.behind) came.number) (sym (whole_is c.self.view_is))
+    let mail = subst (λ (w : Whole). IsMember (length w.post.behind) came.mail) (sym (whole_is c.self.view_is))
     c.requires.mail in
     let more = holds_more came head bytes have inside new c.in_ok-have.field-0 c.in_ok-have.ensures.fits c.in-OneMore.is
-    mail c.in_ok-collect-in-OneMore.ensures.collects in
+    mail c.in_ok-gather-in-OneMore.ensures.gathers in
     subst (λ (w : Whole). CarriedOn g.K.Keep g.D.Disk (TakesPiece came head bytes) (Ok (Part have head.pieces)) w new x x)
     (whole_is c.self.view_is)
     (piece_more g.K.Keep g.D.Disk came head bytes inside x more.was more.finds have new more.place more.placed more.lies
@@ -121,23 +121,23 @@ returns-in_err-have-clause-acts g c = acts_none c.requires.backed
 pub returns-in-Again-clause-acts : goal.returns-in-Again-clause-acts
 returns-in-Again-clause-acts g c = acts_none c.requires.backed
 
-pub returns-in_err-collect-in-OneMore-clause-acts : goal.returns-in_err-collect-in-OneMore-clause-acts
-returns-in_err-collect-in-OneMore-clause-acts g c =
-    let residual = c.from_residual-in_err-collect-in-OneMore in
+pub returns-in_err-gather-in-OneMore-clause-acts : goal.returns-in_err-gather-in-OneMore-clause-acts
+returns-in_err-gather-in-OneMore-clause-acts g c =
+    let residual = c.from_residual-in_err-gather-in-OneMore in
     let wanted = err_from_is_err_and residual.result residual.ensures.1 in
-    rw (wanted.1, wanted.2, c.in_err-collect-in-OneMore.ensures.memory, c.self.view_is) (acts_none c.requires.backed)
+    rw (wanted.1, wanted.2, c.in_err-gather-in-OneMore.ensures.memory, c.self.view_is) (acts_none c.requires.backed)
 
-pub returns-in_ok-collect-in-OneMore-clause-acts : goal.returns-in_ok-collect-in-OneMore-clause-acts
-returns-in_ok-collect-in-OneMore-clause-acts g c =
+pub returns-in_ok-gather-in-OneMore-clause-acts : goal.returns-in_ok-gather-in-OneMore-clause-acts
+returns-in_ok-gather-in-OneMore-clause-acts g c =
     let came = c.args.came in
     let head = c.args.head in
     let inside = c.self.inside.group in
     let stables = c.self.inside.stables.items in
-    let new = c.collect.new.self in
-    let mail = subst (λ (w : Whole). IsMember (length w.post.behind) came.number) (sym (whole_is c.self.view_is))
+    let new = c.gather.new.self in
+    let mail = subst (λ (w : Whole). IsMember (length w.post.behind) came.mail) (sym (whole_is c.self.view_is))
     c.requires.mail in
     let more = holds_more came head c.args.bytes.now c.in-OneMore.have inside new c.in_ok-have.field-0
-    c.in_ok-have.ensures.fits c.in-OneMore.is mail c.in_ok-collect-in-OneMore.ensures.collects in
+    c.in_ok-have.ensures.fits c.in-OneMore.is mail c.in_ok-gather-in-OneMore.ensures.gathers in
     subst (λ (b : Backed _). Acts g.K.Keep g.D.Disk 1 (Ok (Part c.in-OneMore.have head.pieces)) b (backed_by new stables)
     c.args.disks.now.items c.args.disks.now.items) c.self.view_is
     (piece_acts came.to (with_part (parts_held more.was.parts head) head.index c.args.bytes.now)

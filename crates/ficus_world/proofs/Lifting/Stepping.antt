@@ -10,7 +10,7 @@ use Rattle.ficus_runs.specs.ModelWorld.{ModelWorld}
 use Rattle.ficus_world.specs.Follows.{FollowsOn, StopsOn, TellsFor}
 use Rattle.ficus_world.specs.Stepped.{CutOn, Stepped}
 use Rattle.ficus_world.specs.World.{Whole, WorldStandsFor}
-use Rattle.ficus_world.proofs.Following.{follow, follow_cut}
+use Rattle.ficus_world.proofs.Lifting.Following.{follow, follow_cut}
 
 module _ {K D : Type 0} (tells : Type 0) (told : tells) (keep : Keep K) (disk : Disk D) (volume : Volume)
     (W : ModelWorld) (old : Whole) (stands : WorldStandsFor volume W old) (command : Command) (new : Whole)

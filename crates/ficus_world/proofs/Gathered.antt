@@ -38,7 +38,7 @@ use Rattle.ficus_opening.specs.Disks.{IsPairOf}
 use Rattle.ficus_world.specs.Disks.{CarriedOn, DisksPass, IsBacked}
 use Rattle.ficus_world.specs.Fuses.{FuseStands, FusesFollow, FusesStand}
 use Rattle.ficus_opening.specs.declared.member.Pending.{Pending}
-use Rattle.ficus_world.specs.Moves.{FindsTaker, GivesTaking, IsPlaced, IsTaking, IsWaiting, TakesFitting, TakesPiece, TakesSpelled, TakesTables, advanced, collected, not_saved, parts_held, pending_of, saved, spelled_with}
+use Rattle.ficus_world.specs.Moves.{FindsTaker, GivesTaking, IsPlaced, IsTaking, IsWaiting, TakesFitting, TakesPiece, TakesSpelled, TakesTables, advanced, gathered, not_saved, parts_held, pending_of, saved, spelled_with}
 use Rattle.ficus_world.specs.Moves.FindsTaker.{AnswersNone, FindsIt, OfAnotherState, OfOtherPieces, TakerDown}
 use Rattle.ficus_world.specs.Moves.TakesFitting.{IsHeld, IsOneMore, IsTheLast}
 use Rattle.ficus_world.specs.Moves.TakesSpelled.{SpellsNone, SpellsTables}
@@ -94,9 +94,9 @@ module _ (members : List Member) (by : ℕ) (was : Member) (is : IsNumbered memb
     }
 
 -- and the world with an event more is one still
-pub collected_world : (old : Whole) (by : ℕ) (was : Member) (parts : HeldParts) (event : Event) → IsWorld old
-    → IsNumbered old.members by was → IsWorld (collected old by was parts event)
-collected_world old by was parts event world is =
+pub gathered_world : (old : Whole) (by : ℕ) (was : Member) (parts : HeldParts) (event : Event) → IsWorld old
+    → IsNumbered old.members by was → IsWorld (gathered old by was parts event)
+gathered_world old by was parts event world is =
     let grown = length_push old.events event in
     let before = world.sound by was is in
     let sound : IsSoundMember (length old.members) (length old.events) by (record was { parts = Some parts }) =
@@ -106,34 +106,34 @@ collected_world old by was parts event world is =
     (slice_set old.members (by - 1) (record was { parts = Some parts })) refl
 
 -- so it is where the code has come to that
-pub collected_inside : (members : List Member) (events : List Event) (post : Outbox) (by : ℕ) (was : Member)
+pub gathered_inside : (members : List Member) (events : List Event) (post : Outbox) (by : ℕ) (was : Member)
     (parts : HeldParts) (event : Event) (after : List Member) (stored : List Event) → IsWorld (whole_of members events post)
     → IsNumbered members by was → after ≡ slice_set members (by - 1) (record was { parts = Some parts })
     → stored ≡ events ++ event ∷ [] → IsWorld (whole_of after stored post)
-collected_inside members events post by was parts event after stored world is now_is stored_is =
+gathered_inside members events post by was parts event after stored world is now_is stored_is =
     let whole = whole_of members events post in
     subst (λ (list : List Member). IsWorld (whole_of list stored post)) (sym now_is)
-    (subst (λ (list : List Event). IsWorld (whole_of (collected whole by was parts event).members list post))
-    (sym stored_is) (collected_world whole by was parts event world is))
+    (subst (λ (list : List Event). IsWorld (whole_of (gathered whole by was parts event).members list post))
+    (sym stored_is) (gathered_world whole by was parts event world is))
 
 collected_events : (old new : Whole) (by : ℕ) (was : Member) (parts : HeldParts) (event : Event)
-    → new ≡ collected old by was parts event → length new.events ≤ length old.events + 1
+    → new ≡ gathered old by was parts event → length new.events ≤ length old.events + 1
 collected_events old new by was parts event is =
     let grown = ap (λ (w : Whole). length w.events) is ∙ length_push old.events event in omega (arith, grown)
 
-pub collected_members : (old new : Whole) (by : ℕ) (was : Member) (parts : HeldParts) (event : Event)
-    → new ≡ collected old by was parts event → length new.members ≡ length old.members
-collected_members old new by was parts event is =
+pub gathered_members : (old new : Whole) (by : ℕ) (was : Member) (parts : HeldParts) (event : Event)
+    → new ≡ gathered old by was parts event → length new.members ≡ length old.members
+gathered_members old new by was parts event is =
     ap (λ (w : Whole). length w.members) is ∙ length-set old.members (by - 1) _
 
 -- so it is one action
 pub piece_acts : {K D A : Type 0} {keep : Keep K} {disk : Disk D} {given : A} {old new : Whole}
     {stables : List (Stable K)} {x : List (Pair D)} (by : ℕ) {was : Member} (parts : HeldParts) (event : Event)
-    → IsNumbered old.members by was → new ≡ collected old by was parts event
+    → IsNumbered old.members by was → new ≡ gathered old by was parts event
     → IsBacked keep disk (backed_by old stables) x
     → Acts keep disk 1 (Ok given) (backed_by old stables) (backed_by new stables) x x
 piece_acts {keep = keep} {disk = disk} {old = old} {new = new} {stables = stables} {x = x} by {was} parts event is same backed =
-    let members = collected_members old new by was parts event same in
+    let members = gathered_members old new by was parts event same in
     record {
       grows = collected_events old new by was parts event same;
       members = members;
@@ -220,18 +220,18 @@ pub record HoldsMore (came : Delivery) (head : PieceHead) (bytes : List ℕ) (ha
   pub finds : FindsTaker came head old (Ok was) (unchanged old)
   pub placed : IsPlaced (parts_held was.parts head) head.index (fitting.OneMore have)
   pub place : Behind
-  pub lies : IsNumbered old.post.behind came.number place
-  pub same : new ≡ collected old came.to was (with_part (parts_held was.parts head) head.index bytes)
+  pub lies : IsNumbered old.post.behind came.mail place
+  pub same : new ≡ gathered old came.to was (with_part (parts_held was.parts head) head.index bytes)
       (Take came.to place.position head.index)
 
 pub holds_more : (came : Delivery) (head : PieceHead) (bytes : List ℕ) (have : ℕ) (old new : Whole) (fits : Fitting)
-    → FitsAt came head old fits → fits ≡ fitting.OneMore have → IsMember (length old.post.behind) came.number
+    → FitsAt came head old fits → fits ≡ fitting.OneMore have → IsMember (length old.post.behind) came.mail
     → ((was : Member) (place : Behind) → IsNumbered old.members came.to was
-    → IsNumbered old.post.behind came.number place
-    → new ≡ collected old came.to was (with_part (parts_held was.parts head) head.index bytes)
+    → IsNumbered old.post.behind came.mail place
+    → new ≡ gathered old came.to was (with_part (parts_held was.parts head) head.index bytes)
     (Take came.to place.position head.index)) → HoldsMore came head bytes have old new
-holds_more came head bytes have old new fits at is mail collects =
-    let place = number_exists old.post.behind came.number mail in
+holds_more came head bytes have old new fits at is mail gathers =
+    let place = number_exists old.post.behind came.mail mail in
     let one = subst (λ (f : Fitting). FitsAt came head old f) is at in
     record {
       was = one.0;
@@ -239,7 +239,7 @@ holds_more came head bytes have old new fits at is mail collects =
       placed = one.2;
       place = place.0;
       lies = place.1;
-      same = collects one.0 place.0 (taker_is came head old one.0 one.1) place.1;
+      same = gathers one.0 place.0 (taker_is came head old one.0 one.1) place.1;
     }
 
 -- what is said of rows, and of the count of members, is said of those that are the same
@@ -290,8 +290,8 @@ module _ {K D : Type 0} (keep : Keep K) (disk : Disk D) (came : Delivery) (head 
 
     -- it is one more
     pub piece_more : (have : ℕ) (new : Whole) (place : Behind) → IsPlaced held head.index (fitting.OneMore have)
-        → IsNumbered old.post.behind came.number place
-        → new ≡ collected old came.to was (with_part held head.index bytes) (Take came.to place.position head.index)
+        → IsNumbered old.post.behind came.mail place
+        → new ≡ gathered old came.to was (with_part held head.index bytes) (Take came.to place.position head.index)
         → CarriedOn keep disk (TakesPiece came head bytes) (Ok (Part have head.pieces)) old new disks disks
     piece_more have new place placed place_is is = record {
       outcomes = [];
@@ -300,7 +300,7 @@ module _ {K D : Type 0} (keep : Keep K) (disk : Disk D) (came : Delivery) (head 
           (subst (λ n. TakesPiece came head bytes old (Ok (Part n head.pieces)) (record {
             outcomes = [];
             after =
-                collected old came.to was (with_part held head.index bytes) (Take came.to place.position head.index);
+                gathered old came.to was (with_part held head.index bytes) (Take came.to place.position head.index);
           })) (sym placed.2) (Goes finds (IsOneMore placed.0 placed.1 place_is)));
       disks = follows_none;
       fuses = subst (λ (w : Whole). FusesFollow keep disk [] old.members w.members disks disks) (sym is)

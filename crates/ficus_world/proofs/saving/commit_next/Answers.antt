@@ -6,7 +6,7 @@ use Rattle.ficus_opening.proofs.Openings.{pairs_of}
 use Rattle.ficus_world.specs.World.{whole_of}
 use Rattle.ficus_world.proofs.Saves.{saves_held, saves_pending, up_ready}
 use Rattle.ficus_world.proofs.Kills.{writes_at}
-use Rattle.ficus_world.proofs.keeping.keep.Goals as goal
+use Rattle.ficus_world.proofs.saving.commit_next.Goals as goal
 
 pub commit_at-requires-clause-member : goal.commit_at-requires-clause-member
 commit_at-requires-clause-member g c = subst (λ n. IsMember n c.args.by) (sym c.requires.stables) c.requires.member

@@ -6,7 +6,7 @@ use Rattle.ficus_stable_storage.proofs.leads.Led.{led_next}
 use Rattle.ficus_runs.proofs.Numbers.{number_read}
 use Rattle.ficus_world.proofs.Fuses.{fuses_saved, same_generation}
 use Rattle.ficus_world.proofs.Saves.{disks_saved, save_follows, up_ready}
-use Rattle.ficus_world.proofs.saving.commit_at.Goals as goal
+use Rattle.ficus_world.proofs.pairs.commit_at.Goals as goal
 
 pub commit-requires : goal.commit-requires
 commit-requires g c =

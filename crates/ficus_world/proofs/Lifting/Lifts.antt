@@ -12,7 +12,7 @@ use Rattle.ficus_runs.specs.Sequence.First.{Ends, Goes}
 use Rattle.ficus_world.specs.Follows.{FollowsIn, FollowsPart}
 use Rattle.ficus_world.specs.Moves.{WholeAction}
 use Rattle.ficus_world.specs.World.{Whole, WorldStandsFor}
-use Rattle.ficus_world.proofs.Outcomes.{steady_caused, both_caused}
+use Rattle.ficus_world.proofs.Lifting.Outcomes.{steady_caused, both_caused}
 
 -- whatever the action does to a world, that of the model does to what the world stands for
 abbrev pub Lifts : {A : Type 0} → Volume → WholeAction A → ModelAction A → Type 0

@@ -18,7 +18,7 @@ use Rattle.ficus_world.proofs.Fuses.{fuses_read}
 use Rattle.ficus_world.proofs.Saves.{disks_not_read, disks_read, opening_failed, read_is, some_image}
 use Rattle.ficus_opening.proofs.Others.{left_one}
 use Rattle.ficus_opening.proofs.Rests.{rests_pair}
-use Rattle.ficus_world.proofs.saving.reopen_at.Goals as goal
+use Rattle.ficus_world.proofs.pairs.reopen_at.Goals as goal
 
 -- whatever is read, of all pairs that of one member is opened again
 module _ {K D : Type 0} {keep : Keep K} {disk : Disk D} {by : ℕ} {disks : List (Pair D)} {was now : Pair D}

@@ -4,7 +4,7 @@ use Rattle.ficus_world.proofs.Disks.{rose_none}
 use Rattle.ficus_world.proofs.Fuses.{fuses_armed}
 use Rattle.ficus_world.proofs.Saves.{disks_armed, pair_armed}
 use Rattle.ficus_opening.proofs.Rests.{rests_calls}
-use Rattle.ficus_world.proofs.saving.arm_at.Goals as goal
+use Rattle.ficus_world.proofs.pairs.arm_at.Goals as goal
 
 pub returns : goal.returns
 returns g c =

@@ -50,18 +50,18 @@ use Rattle.ficus_opening.specs.declared.member.Member.{Member}
 use Rattle.ficus_opening.specs.declared.member.MemberState.TheVariants as state
 use Rattle.ficus_world.specs.declared.post.Behind.{Behind}
 use Rattle.ficus_world.specs.Follows.{FollowsIn}
-use Rattle.ficus_world.specs.Moves.{TakesFitting, TakesPiece, TakesSpelled, TakesTables, collected, parts_held}
+use Rattle.ficus_world.specs.Moves.{TakesFitting, TakesPiece, TakesSpelled, TakesTables, gathered, parts_held}
 use Rattle.ficus_world.specs.Moves.FindsTaker.{AnswersNone, FindsIt, OfAnotherState, OfOtherPieces, TakerDown}
 use Rattle.ficus_world.specs.Moves.TakesFitting.{IsHeld, IsOneMore, IsTheLast}
 use Rattle.ficus_world.specs.Moves.TakesSpelled.{SpellsNone, SpellsTables}
 use Rattle.ficus_world.specs.Moves.TakesTables.{Refuses, Takes, TakesNot}
 use Rattle.ficus_world.specs.World.{Whole, IsPieceOfServe, PartsStandFor, WorldStandsFor}
-use Rattle.ficus_world.proofs.Held.{held_counted, some_held, taken_once}
-use Rattle.ficus_world.proofs.Lifts.{one_stored, stays}
-use Rattle.ficus_world.proofs.Outcomes.{steady_caused}
-use Rattle.ficus_world.proofs.Parts.{accept_long, parts_more, still_has, with_it}
-use Rattle.ficus_world.proofs.Pending.{served_long}
-use Rattle.ficus_world.proofs.Standing.{Comes, member_of, parts_stand, piece_stands, raise, replica_stands, saved_stands, unsaved_stands, up_from, up_in}
+use Rattle.ficus_world.proofs.Lifting.Held.{held_counted, some_held, taken_once}
+use Rattle.ficus_world.proofs.Lifting.Lifts.{one_stored, stays}
+use Rattle.ficus_world.proofs.Lifting.Outcomes.{steady_caused}
+use Rattle.ficus_world.proofs.Lifting.Parts.{accept_long, parts_more, still_has, with_it}
+use Rattle.ficus_world.proofs.Lifting.Pending.{served_long}
+use Rattle.ficus_world.proofs.Lifting.Standing.{Comes, member_of, parts_stand, piece_stands, raise, replica_stands, saved_stands, unsaved_stands, up_from, up_in}
 
 -- The piece with an index of what was served at a position in the run.
 module _ (volume : Volume) (W : ModelWorld) (old : Whole) (stands : WorldStandsFor volume W old)
@@ -74,7 +74,7 @@ module _ (volume : Volume) (W : ModelWorld) (old : Whole) (stands : WorldStandsF
   tables = tables_bytes volume.members entries files
 
   abbrev came : Delivery
-  came = record { number = number; from = server; to = asker; ask = asked_with }
+  came = record { mail = number; from = server; to = asker; ask = asked_with }
 
   abbrev head : PieceHead
   head = head_of server asker asked_with served_state (piece_count tables) index
@@ -320,7 +320,7 @@ module _ (volume : Volume) (W : ModelWorld) (old : Whole) (stands : WorldStandsF
 
             more_stands : MayCome volume W.events (Take asker position index)
                 → WorldStandsFor volume (with_event W (Take asker position index))
-                (collected old asker was (with_part held index bytes) (Take asker stored.position index))
+                (gathered old asker was (with_part held index bytes) (Take asker stored.position index))
             more_stands may =
                 piece_stands volume W old stands asker stored.position position index was (with_part held index bytes) is up
                 stored_raises may
@@ -330,7 +330,7 @@ module _ (volume : Volume) (W : ModelWorld) (old : Whole) (stands : WorldStandsF
             abbrev after_more : Effect Whole
             after_more = record {
               outcomes = [];
-              after = collected old asker was (with_part held index bytes) (Take asker stored.position index);
+              after = gathered old asker was (with_part held index bytes) (Take asker stored.position index);
             }
 
             follow_missing : (taken : ℕ) → MayCome volume W.events (Take asker position index)

@@ -21,12 +21,12 @@ use Rattle.ficus_opening.specs.declared.member.MemberState.TheVariants as state
 use Rattle.ficus_opening.specs.declared.member.Pending.{Pending}
 use Rattle.ficus_world.specs.declared.post.Behind.{Behind}
 use Rattle.ficus_world.specs.World.{Whole, IsLastPart, IsPendingFor, IsPosted, StateStandsFor, WorldStandsFor}
-use Rattle.ficus_world.proofs.LastPart.{length_part}
+use Rattle.ficus_world.proofs.Lifting.LastPart.{length_part}
 use Rattle.ficus_runs.proofs.Messages.{message_once}
 use Rattle.ficus_runs.proofs.Numbers.{number_read, number_once, number_exists}
-use Rattle.ficus_world.proofs.Held.{held_once}
-use Rattle.ficus_world.proofs.Pending.{comes_now}
-use Rattle.ficus_world.proofs.Standing.{fuses_of, fuses_stand, member_stands, parts_stand, raise, replica_stands, standing_of}
+use Rattle.ficus_world.proofs.Lifting.Held.{held_once}
+use Rattle.ficus_world.proofs.Lifting.Pending.{comes_now}
+use Rattle.ficus_world.proofs.Lifting.Standing.{fuses_of, fuses_stand, member_stands, parts_stand, raise, replica_stands, standing_of}
 
 lowered_again : (n : ℕ) (event : Event) → lowered n (raised n event) ≡ event
 lowered_again n (Serve by ask state pieces) =

@@ -28,18 +28,18 @@ use Rattle.ficus_runs.specs.RunWorld.{IsNoServe, IsRunWorld}
 use Rattle.ficus_opening.specs.declared.member.Member.{Member}
 use Rattle.ficus_opening.specs.declared.member.MemberState.TheVariants as state
 use Rattle.ficus_opening.specs.declared.member.Pending.{Pending}
-use Rattle.ficus_world.specs.Moves.{advanced, collected, downed, parts_after, pending_of, restarted, still_pending, with_event as event_in, with_member, with_post as post_in}
+use Rattle.ficus_world.specs.Moves.{advanced, gathered, downed, parts_after, pending_of, restarted, still_pending, with_event as event_in, with_member, with_post as post_in}
 use Rattle.ficus_world.specs.declared.post.Behind.{Behind}
 use Rattle.ficus_world.specs.Post.{Outbox, IsSent, HasFailed, lies_behind}
 use Rattle.ficus_world.specs.World.{Whole, AreOthers, IsPendingFor, FitsServed, PartsStandFor, StateStandsFor, MemberStandsFor, IsPosted, WorldStandsFor}
-use Rattle.ficus_world.proofs.LastPart.{length_part, part_more}
+use Rattle.ficus_world.proofs.Lifting.LastPart.{length_part, part_more}
 use Rattle.ficus_runs.proofs.Messages.{message_more}
 use Rattle.ficus_runs.proofs.Numbers.{number_exists, number_end, number_more, number_cases}
 use Rattle.ficus_runs.proofs.Runs.{world_kept}
-use Rattle.ficus_world.proofs.Parts.{others_leave_taken, parts_after_saved, parts_ended, parts_left, saved_serves_none, serve_leaves}
-use Rattle.ficus_world.proofs.Pending.{comes_now, down_stands, modelled_up, others_leave, state_later, state_up, up_stands}
+use Rattle.ficus_world.proofs.Lifting.Parts.{others_leave_taken, parts_after_saved, parts_ended, parts_left, saved_serves_none, serve_leaves}
+use Rattle.ficus_world.proofs.Lifting.Pending.{comes_now, down_stands, modelled_up, others_leave, state_later, state_up, up_stands}
 use Rattle.ficus_runs.proofs.Replaced.{replaced}
-use Rattle.ficus_world.proofs.Sets.{number_set, set_again, set_same}
+use Rattle.ficus_world.proofs.Lifting.Sets.{number_set, set_again, set_same}
 
 -- the member that restarts, with what was pending
 abbrev pub found_member : Member → Pending → Member
@@ -385,11 +385,11 @@ module _ (volume : Volume) (W : ModelWorld) (old : Whole) (stands : WorldStandsF
   pub piece_stands : (r place position index : ℕ) (was : Member) (parts : HeldParts) → IsNumbered old.members r was
       → was.state ≡ state.Up → place + raise ≡ position → MayCome volume W.events (Take r position index)
       → PartsStandFor volume (W.events ++ Take r position index ∷ []) r (Some parts)
-      → WorldStandsFor volume (with_event W (Take r position index)) (collected old r was parts (Take r place index))
+      → WorldStandsFor volume (with_event W (Take r position index)) (gathered old r was parts (Take r place index))
   piece_stands r place position index was parts is up raises may parts_are =
       let take = Take r position index in
       subst (λ list. WorldStandsFor volume (record (with_event W take) { standings = list })
-      (collected old r was parts (Take r place index))) (set_same W.standings r model.Up (up_in r was is up))
+      (gathered old r was parts (Take r place index))) (set_same W.standings r model.Up (up_in r was is up))
       (changed_stands r was (record was { parts = Some parts }) is model.Up (none_unserved r) refl (Take r place index)
       take (ap (λ n. Take r n index) raises) may ((world_kept volume).other W take refl may stands.run)
       (fits_other take refl) refl (quiet_stands volume W.events r was.replica take (replica_stands r was is) (inr tt))

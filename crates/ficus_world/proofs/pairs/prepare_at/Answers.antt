@@ -4,7 +4,7 @@ use Rattle.ficus_world.proofs.Disks.{disks_set, follows_at, fused_same, holds_st
 use Rattle.ficus_runs.proofs.Numbers.{number_read}
 use Rattle.ficus_world.proofs.Fuses.{fuses_prepared}
 use Rattle.ficus_opening.proofs.Rests.{rests_pair}
-use Rattle.ficus_world.proofs.saving.prepare_at.Goals as goal
+use Rattle.ficus_world.proofs.pairs.prepare_at.Goals as goal
 
 pub returns-clause-stays : goal.returns-clause-stays
 returns-clause-stays g c =

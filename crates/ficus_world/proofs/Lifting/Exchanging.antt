@@ -57,14 +57,14 @@ use Rattle.ficus_world.specs.Moves.FetchesBytes.{NoMail, NotFetched as NotFetche
 use Rattle.ficus_world.specs.Moves.ServesAsk.{ServerDown, NoRoomToServe, Serves}
 use Rattle.ficus_world.specs.Post.{Outbox, IsSent, AreFetched, lies_behind}
 use Rattle.ficus_world.specs.World.{Whole, IsPosted, WorldStandsFor}
-use Rattle.ficus_world.proofs.Lifts.{one_stored, CutLifts, Lifts, cut_lifts, first_lifts, gives_lifts, nothing_lifts, stays}
+use Rattle.ficus_world.proofs.Lifting.Lifts.{one_stored, CutLifts, Lifts, cut_lifts, first_lifts, gives_lifts, nothing_lifts, stays}
 use Rattle.ficus_runs.proofs.Numbers.{number_exists, number_once}
 use Rattle.ficus_runs.proofs.Serving.{may_serve as serve_may_come}
-use Rattle.ficus_world.proofs.Outcomes.{steady_caused, one_caused, both_caused}
+use Rattle.ficus_world.proofs.Lifting.Outcomes.{steady_caused, one_caused, both_caused}
 use Rattle.ficus_world.proofs.Sending.{ask_size}
-use Rattle.ficus_world.proofs.Spelling.{one_message}
-use Rattle.ficus_world.proofs.Pieces.{piece_follows}
-use Rattle.ficus_world.proofs.Standing.{Comes, member_of, member_from, replica_stands, raise, raised_length, up_in, up_from, saved_stands, unsaved_stands, served_stands, failed_stands, sent_stands}
+use Rattle.ficus_world.proofs.Lifting.Spelling.{one_message}
+use Rattle.ficus_world.proofs.Lifting.Pieces.{piece_follows}
+use Rattle.ficus_world.proofs.Lifting.Standing.{Comes, member_of, member_from, replica_stands, raise, raised_length, up_in, up_from, saved_stands, unsaved_stands, served_stands, failed_stands, sent_stands}
 
 -- behind a position stand these messages, from this index on, which may go between the members
 abbrev pub AreMessagesAt : Volume → List Event → ℕ → ℕ → List Message → Type 0
@@ -278,7 +278,7 @@ module _ (tells : Type 0) (told : tells) (volume : Volume) (W : ModelWorld) (old
     module _ (asker server asked_with : ℕ) (at : IsAt W.events position (event.Ask asker server))
         (counted : asked_with ≡ generation_of asker (through position W.events)) where
       abbrev came : Delivery
-      came = record { number = number; from = asker; to = server; ask = asked_with }
+      came = record { mail = number; from = asker; to = server; ask = asked_with }
 
       module _ (peer : Member) (serving : IsServing old came peer) where
         abbrev entries : List Entry

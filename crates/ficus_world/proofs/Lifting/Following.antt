@@ -60,11 +60,11 @@ use Rattle.ficus_world.specs.Moves.KeepsUpdate.{Keeps, KeepsNot}
 use Rattle.ficus_world.specs.Moves.Reopens.{ReopenedAsWas, ReopenedAsPending, NotReopened, NoImageFound}
 use Rattle.ficus_world.specs.World.{Whole, IsUpIn, WorldStandsFor}
 use Rattle.ficus_runs.proofs.Agreement.{alike_answer_along, look_answer_along}
-use Rattle.ficus_world.proofs.Exchanging.{ask_lifts, give_lifts, gives_each_lift, gives_some_lift}
-use Rattle.ficus_world.proofs.Lifts.{one_stored, two_stored, Lifts, CutLifts, first_lifts, cut_lifts, gives_lifts, nothing_lifts, part_first, stays}
-use Rattle.ficus_world.proofs.Outcomes.{steady_caused}
-use Rattle.ficus_world.proofs.Pending.{comes_now, pending_comes}
-use Rattle.ficus_world.proofs.Standing.{Comes, member_of, member_from, member_stands, standing_of, fuses_of, fuses_stand, raise, replica_stands, up_in, up_from, saved_stands, unsaved_stands, unopened_stands, reopened_stands, found_reopened_stands}
+use Rattle.ficus_world.proofs.Lifting.Exchanging.{ask_lifts, give_lifts, gives_each_lift, gives_some_lift}
+use Rattle.ficus_world.proofs.Lifting.Lifts.{one_stored, two_stored, Lifts, CutLifts, first_lifts, cut_lifts, gives_lifts, nothing_lifts, part_first, stays}
+use Rattle.ficus_world.proofs.Lifting.Outcomes.{steady_caused}
+use Rattle.ficus_world.proofs.Lifting.Pending.{comes_now, pending_comes}
+use Rattle.ficus_world.proofs.Lifting.Standing.{Comes, member_of, member_from, member_stands, standing_of, fuses_of, fuses_stand, raise, replica_stands, up_in, up_from, saved_stands, unsaved_stands, unopened_stands, reopened_stands, found_reopened_stands}
 
 module _ (volume : Volume) (W : ModelWorld) (old : Whole) (stands : WorldStandsFor volume W old) where
   pub at_member : (by : ℕ) (member : Member) → IsNumbered old.members by member → member.state ≡ state.Up
