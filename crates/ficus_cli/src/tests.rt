@@ -1,6 +1,6 @@
 //! Tests of the program as one call, over sources, sinks, links and disks in memory.
+mod altered_link;
 mod calls;
-mod changed_link;
 mod disks;
 mod links;
 mod modes;

@@ -1,5 +1,5 @@
 // Images that are written out, and all that differ from them in a byte or in their length.
-use crate::variants::{Change, Grammar, changed, reads_variants};
+use crate::variants::{Grammar, OtherByte, changed, reads_variants};
 use ficus_durable_state::Saved;
 use ficus_formats::Reader;
 use ficus_ids::{ATTIC, Id, Members, Memory, ROOT};
@@ -49,37 +49,37 @@ const LINK: [u8; 82] = [
 ];
 
 // The byte that tells version 1.
-const FIRST_VERSION: Change = Change { place: 3, byte: 49 };
+const FIRST_VERSION: OtherByte = OtherByte { place: 3, byte: 49 };
 
 // It stays an image: of another member, which may have made more; with the greatest generation; with fewer bytes used;
 // with an entry of a number that was used; with a count of its own that is lower; with any count of the other's, in the
 // version and in the cover; with a cover of what it has made.
-const STILL: [Change; 8] = [
-    Change { place: 4, byte: 2 },
-    Change {
+const STILL: [OtherByte; 8] = [
+    OtherByte { place: 4, byte: 2 },
+    OtherByte {
         place: 22,
         byte: 127,
     },
-    Change { place: 21, byte: 0 },
-    Change { place: 38, byte: 2 },
-    Change { place: 66, byte: 1 },
-    Change { place: 70, byte: 9 },
-    Change { place: 81, byte: 9 },
-    Change { place: 77, byte: 2 },
+    OtherByte { place: 21, byte: 0 },
+    OtherByte { place: 38, byte: 2 },
+    OtherByte { place: 66, byte: 1 },
+    OtherByte { place: 70, byte: 9 },
+    OtherByte { place: 81, byte: 9 },
+    OtherByte { place: 77, byte: 2 },
 ];
 
 // It is none any more: a generation above the greatest; a version that the next update makes; more bytes used than it
 // may write; an entry that the next update makes; a version and a cover of updates that it hasn't made.
-const NO_MORE: [Change; 6] = [
-    Change {
+const NO_MORE: [OtherByte; 6] = [
+    OtherByte {
         place: 22,
         byte: 128,
     },
-    Change { place: 17, byte: 2 },
-    Change { place: 21, byte: 2 },
-    Change { place: 38, byte: 3 },
-    Change { place: 66, byte: 3 },
-    Change { place: 77, byte: 3 },
+    OtherByte { place: 17, byte: 2 },
+    OtherByte { place: 21, byte: 2 },
+    OtherByte { place: 38, byte: 3 },
+    OtherByte { place: 66, byte: 3 },
+    OtherByte { place: 77, byte: 3 },
 ];
 
 /// What stands in front of the tables, as far as it says which tables there may be.
@@ -226,7 +226,7 @@ fn stays_so(alloc: Global, bytes: &[u8]) -> Result<bool, Memory> {
 }
 
 // Whether each of the changes leaves an image where a byte was written, or none of them does, as said.
-fn are_images(alloc: Global, changes: &[Change], said: bool) -> Result<bool, Memory> {
+fn are_images(alloc: Global, changes: &[OtherByte], said: bool) -> Result<bool, Memory> {
     for change in changes {
         let bytes = changed(alloc, &WRITTEN, *change)?;
         if stays_so(alloc, &bytes)? != said {

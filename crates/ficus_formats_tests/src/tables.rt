@@ -4,7 +4,7 @@ ghost use Rattle.ficus_durable_state.specs.Tables.{FitsTables};
 ghost use Rattle.ficus_entry.specs.Entry.{IsRising as IsRisingEntries};
 ghost use Rattle.ficus_file.specs.Files.{AreFiles};
 
-use crate::variants::{Change, changed};
+use crate::variants::{OtherByte, changed};
 use ficus_codec::{Known, TakeFault, put_tables, read_all_rows, tables_of, take_tables};
 use ficus_entry::SharedEntry;
 use ficus_file::SharedFile;
@@ -39,38 +39,38 @@ const APART: [u8; 44] = [
 // place; a live entry of the attic; a name of no byte, and one with `#`; a target that isn't there; a state that there
 // isn't; files that aren't there; another file; a file without a version; a kind that there isn't; a directory with a
 // version, and one with a cover.
-const NO_DIRECTORY: [Change; 15] = [
-    Change { place: 3, byte: 2 },
-    Change { place: 4, byte: 3 },
-    Change { place: 8, byte: 0 },
-    Change { place: 13, byte: 2 },
-    Change { place: 13, byte: 1 },
-    Change { place: 14, byte: 0 },
-    Change {
+const NO_DIRECTORY: [OtherByte; 15] = [
+    OtherByte { place: 3, byte: 2 },
+    OtherByte { place: 4, byte: 3 },
+    OtherByte { place: 8, byte: 0 },
+    OtherByte { place: 13, byte: 2 },
+    OtherByte { place: 13, byte: 1 },
+    OtherByte { place: 14, byte: 0 },
+    OtherByte {
         place: 15,
         byte: b'#',
     },
-    Change { place: 20, byte: 2 },
-    Change { place: 21, byte: 2 },
-    Change { place: 25, byte: 2 },
-    Change { place: 30, byte: 2 },
-    Change { place: 31, byte: 1 },
-    Change { place: 31, byte: 5 },
-    Change { place: 32, byte: 1 },
-    Change { place: 36, byte: 1 },
+    OtherByte { place: 20, byte: 2 },
+    OtherByte { place: 21, byte: 2 },
+    OtherByte { place: 25, byte: 2 },
+    OtherByte { place: 30, byte: 2 },
+    OtherByte { place: 31, byte: 1 },
+    OtherByte { place: 31, byte: 5 },
+    OtherByte { place: 32, byte: 1 },
+    OtherByte { place: 36, byte: 1 },
 ];
 
 // Of the removed entry: two entries in the wrong order, and twice the same one; a first set that is empty, and one with
 // a replica that is no member; two files in the wrong order; a count above the greatest; a version longer than what
 // follows.
-const NOT_REMOVED: [Change; 7] = [
-    Change { place: 8, byte: 3 },
-    Change { place: 26, byte: 1 },
-    Change { place: 40, byte: 0 },
-    Change { place: 40, byte: 7 },
-    Change { place: 50, byte: 3 },
-    Change { place: 53, byte: 1 },
-    Change {
+const NOT_REMOVED: [OtherByte; 7] = [
+    OtherByte { place: 8, byte: 3 },
+    OtherByte { place: 26, byte: 1 },
+    OtherByte { place: 40, byte: 0 },
+    OtherByte { place: 40, byte: 7 },
+    OtherByte { place: 50, byte: 3 },
+    OtherByte { place: 53, byte: 1 },
+    OtherByte {
         place: 61,
         byte: 255,
     },
@@ -78,10 +78,10 @@ const NOT_REMOVED: [Change; 7] = [
 
 // Of the file with two versions: the second over the first, the first over the second, and one version more than there
 // are.
-const NOT_APART: [Change; 3] = [
-    Change { place: 33, byte: 1 },
-    Change { place: 18, byte: 2 },
-    Change { place: 14, byte: 3 },
+const NOT_APART: [OtherByte; 3] = [
+    OtherByte { place: 33, byte: 1 },
+    OtherByte { place: 18, byte: 2 },
+    OtherByte { place: 14, byte: 3 },
 ];
 
 // Whether the bytes are tables from the first to the last, and are written again as they were read.
@@ -101,7 +101,7 @@ fn stay_so(alloc: Global, bytes: &[u8], members: Members) -> Result<bool, Memory
 fn is_refused(
     alloc: Global,
     bytes: &[u8],
-    change: Change,
+    change: OtherByte,
     members: Members,
 ) -> Result<bool, Memory> {
     let changed = changed(alloc, bytes, change)?;
@@ -116,7 +116,7 @@ fn is_refused(
 fn are_refused(
     alloc: Global,
     bytes: &[u8],
-    changes: &[Change],
+    changes: &[OtherByte],
     members: Members,
 ) -> Result<bool, Memory> {
     for change in changes {
@@ -195,9 +195,9 @@ fn stay_so_beside(
 }
 
 // Other tables with the same identifiers: the removed entry has another second set, and the file another cover.
-const OTHER_SET: Change = Change { place: 41, byte: 0 };
+const OTHER_SET: OtherByte = OtherByte { place: 41, byte: 0 };
 
-const OTHER_COVER: Change = Change { place: 70, byte: 1 };
+const OTHER_COVER: OtherByte = OtherByte { place: 70, byte: 1 };
 
 #[test]
 fn what_is_known_changes_nothing_that_is_read(rt: HostRuntime) -> Result<(), Fail> {

@@ -4,13 +4,13 @@ use std::alloc::Global;
 
 /// A byte that is changed, at a place from 0.
 #[derive(Clone, Copy)]
-pub struct Change {
+pub struct OtherByte {
     pub place: usize,
     pub byte: u8,
 }
 
 /// The bytes with one of them changed.
-pub fn changed(alloc: Global, bytes: &[u8], change: Change) -> Result<Vec<u8>, Memory> {
+pub fn changed(alloc: Global, bytes: &[u8], change: OtherByte) -> Result<Vec<u8>, Memory> {
     let mut changed = bytes.to_vec(alloc)?;
     if let Some(byte) = changed.get_mut(change.place) {
         *byte = change.byte;
@@ -32,7 +32,7 @@ fn reads_changes<G: Grammar>(
     place: usize,
 ) -> Result<bool, Memory> {
     for byte in 0..=u8::MAX {
-        let changed = changed(alloc, bytes, Change { place, byte })?;
+        let changed = changed(alloc, bytes, OtherByte { place, byte })?;
         if !grammar.reads_exactly(alloc, &changed)? {
             return Ok(false);
         }

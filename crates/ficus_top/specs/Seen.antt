@@ -7,8 +7,8 @@ use Rattle.ficus_faults.specs.Faults.{Rose}
 use Rattle.ficus_outside.specs.declared.sink.Sink.{Ghosts as Sink}
 use Rattle.ficus_outside.specs.declared.source.Source.{Ghosts as Source}
 
--- a value before the call, and after it
-pub record Change (A : Type 0) : Type 0 where
+-- what a call was lent: as it was, and as it is given back
+pub record Lent (A : Type 0) : Type 0 where
   pub old : A
   pub new : A
 
@@ -16,11 +16,11 @@ pub record Change (A : Type 0) : Type 0 where
 -- tells
 pub record Seen (S K D : Type 0) : Type 1 where
   pub source : Source S
-  pub input : Change S
+  pub input : Lent S
   pub sink : Sink K
-  pub output : Change K
+  pub output : Lent K
   pub disk : Disk D
-  pub disks : Change (Vec (Pair D) Global)
+  pub disks : Lent (Vec (Pair D) Global)
 
 module _ {S K D : Type 0} where
   -- what was seen of a source, a sink and disks

@@ -4,7 +4,7 @@ ghost use Rattle.std.specs.Prelude.{◌≡◌, []};
 ghost use Rattle.ficus_ids.specs.Members.{IsCount};
 ghost use Rattle.ficus_world.specs.Disks.{IsBacked};
 
-use crate::tests::changed_link::{Change, ChangedLink};
+use crate::tests::altered_link::{Alteration, AlteredLink};
 use crate::tests::disks::pairs;
 use ficus_disk::{Disk, FailDisk, Pair};
 use ficus_ids::Members;
@@ -194,7 +194,7 @@ const GIVEN: &[(&[u8], &str, &str, &str)] = &[
 #[test]
 fn what_the_link_gives_is_what_is_read(rt: HostRuntime) -> Result<(), Fail> {
     for &(bytes, script, answers, what) in GIVEN {
-        let link = ChangedLink::new(rt.alloc(), Change::Whole(bytes));
+        let link = AlteredLink::new(rt.alloc(), Alteration::Whole(bytes));
         let so = answer_so(rt.alloc(), link, script, answers)?;
         assert!(rt; so, "{what}");
     }
@@ -258,12 +258,12 @@ const ALTERED: &[(usize, u8, &str, &str)] = &[
 fn an_altered_piece_is_refused(rt: HostRuntime) -> Result<(), Fail> {
     let script = "ask 2 1\ngive 1\ngive 3\ngive 2\ngive 3\ngive 1\ngive 4\n2 ls /\n";
     for &(place, byte, refusal, what) in ALTERED {
-        let change = Change::Byte {
+        let change = Alteration::Byte {
             number: 2,
             place,
             byte,
         };
-        let link = ChangedLink::new(rt.alloc(), change);
+        let link = AlteredLink::new(rt.alloc(), change);
         let whole = with_two_pieces(rt.alloc(), script)?;
         let answers = format!(in rt.alloc();
             "ok 1.1\nok\nok 1\nok 2 to 3\nok 1 of 2\nno {refusal}\nok 1 of 2\nok 4 to 5\nok\nok 1\nf 1.1 plain\n"

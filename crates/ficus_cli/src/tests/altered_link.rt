@@ -11,7 +11,7 @@ use std::marker::Model;
 
 /// What is given in place of what was posted.
 #[derive(Clone, Copy)]
-pub(crate) enum Change {
+pub(crate) enum Alteration {
     /// The message with this number has another byte at this place.
     Byte { number: u32, place: usize, byte: u8 },
     /// Each message is these bytes.
@@ -20,24 +20,24 @@ pub(crate) enum Change {
 
 /// A link that takes what is posted, tells nothing of it, and gives it changed.
 #[derive(Drop)]
-pub(crate) struct ChangedLink {
+pub(crate) struct AlteredLink {
     alloc: Global,
     posted: MemLink,
-    change: Change,
+    change: Alteration,
 }
 
-impl Model for ChangedLink {
+impl Model for AlteredLink {
     ghost Value = { LinkState };
 
     ghost view = { λ l. l.posted };
 }
 
-impl ChangedLink {
+impl AlteredLink {
     /// A link without messages that changes them so.
-    pub(crate) fn new(alloc: Global, change: Change) -> ChangedLink
+    pub(crate) fn new(alloc: Global, change: Alteration) -> AlteredLink
         ensures { result.posts ≡ [] }
     {
-        ChangedLink {
+        AlteredLink {
             alloc,
             posted: MemLink::new(alloc),
             change,
@@ -45,7 +45,7 @@ impl ChangedLink {
     }
 }
 
-impl Link for ChangedLink {
+impl Link for AlteredLink {
     ghost tells = { ⊥ };
 
     ghost posts = { λ l. l.posts };
@@ -75,7 +75,7 @@ impl Link for ChangedLink {
     fn fetch(&mut self, number: u32) -> Result<Vec<u8>, FetchFault> {
         let message = self.posted.fetch(number)?;
         match self.change {
-            Change::Byte {
+            Alteration::Byte {
                 number: changed,
                 place,
                 byte,
@@ -84,7 +84,7 @@ impl Link for ChangedLink {
             } else {
                 message
             }),
-            Change::Whole(bytes) => bytes.to_vec(self.alloc).map_err(|_| FetchFault::Memory),
+            Alteration::Whole(bytes) => bytes.to_vec(self.alloc).map_err(|_| FetchFault::Memory),
         }
     }
 }
