@@ -5,7 +5,7 @@ use Rattle.std.specs.Bool.{MatchBool}
 use Rattle.std.proofs.lemmas.List.{length_push}
 use Rattle.std.proofs.lemmas.Bool.Decides.{nat_tests}
 use Rattle.ficus_keeper.proofs.Sides.{KnownAt}
-use Rattle.ficus_slot.specs.Slot.{Saved, slot_in}
+use Rattle.ficus_slot.specs.Slot.{SlotContent, slot_in}
 use Rattle.ficus_slot.specs.Stays.{Stays}
 use Rattle.ficus_two_slots.specs.Slots.{bound}
 use Rattle.ficus_log.specs.Appending.{Appends}
@@ -27,8 +27,8 @@ residue true = 0
 residue false = 65
 
 pub record IsRegularSide (on_a : Bool) (force other : List ℕ) : Type 0 where
-  pub mine : (saved : Saved) → slot_in force ≡ Some saved → saved.generation % 130 ≡ residue on_a
-  pub theirs : (saved : Saved) → slot_in other ≡ Some saved → saved.generation % 130 ≡ residue (not on_a)
+  pub mine : (saved : SlotContent) → slot_in force ≡ Some saved → saved.generation % 130 ≡ residue on_a
+  pub theirs : (saved : SlotContent) → slot_in other ≡ Some saved → saved.generation % 130 ≡ residue (not on_a)
   pub trim : IsTrim force
   pub trim_other : IsTrim other
 
@@ -94,19 +94,19 @@ limit_reached false count saves free few =
     omega arith
 
 -- what is trim
-pub trim_log : (s : Saved) (bodies : List (List ℕ)) (rest c : List ℕ) → LogIs s bodies rest c → length bodies ≤ 64
+pub trim_log : (s : SlotContent) (bodies : List (List ℕ)) (rest c : List ℕ) → LogIs s bodies rest c → length bodies ≤ 64
     → is_open rest ≡ false → IsTrim c
 trim_log s bodies rest c is few shut = record {
   few = λ t found.
       let same : s ≡ t = some_same s t (sym is.slot ∙ found) in
-      let log_is = ap (λ (l : Log). length l.bodies) (ap (λ (z : Saved). tail_log z c) (sym same) ∙ is.log) in
+      let log_is = ap (λ (l : Log). length l.bodies) (ap (λ (z : SlotContent). tail_log z c) (sym same) ∙ is.log) in
       omega (arith, log_is);
   shut = λ t found.
       let same : s ≡ t = some_same s t (sym is.slot ∙ found) in
-      ap (λ (l : Log). is_open l.rest) (ap (λ (z : Saved). tail_log z c) (sym same) ∙ is.log) ∙ shut;
+      ap (λ (l : Log). is_open l.rest) (ap (λ (z : SlotContent). tail_log z c) (sym same) ∙ is.log) ∙ shut;
 }
   where
-    some_same : (s t : Saved) → Some s ≡ Some t → s ≡ t
+    some_same : (s t : SlotContent) → Some s ≡ Some t → s ≡ t
     some_same s t is = cc
 
 pub trim_none : (c : List ℕ) → slot_in c ≡ None → IsTrim c
@@ -118,7 +118,7 @@ trim_none c none = record {
 module _ (on_a : Bool) (keeper : Journal) (force other : List ℕ)
     (fits : FitsSide keeper (bound on_a keeper.generation) force other) (regular : IsRegularSide on_a force other)
     (new : ℕ) (body : List ℕ) (next : new ≡ keeper.generation + keeper.count + 1) where
-  abbrev saved : Saved
+  abbrev saved : SlotContent
   saved = saved_as keeper.generation fits.stands.body
 
   image_turn : saves_image keeper ≡ true → Turns on_a new
@@ -160,7 +160,7 @@ module _ (on_a : Bool) (keeper : Journal) (force other : List ℕ)
 module _ (on_a : Bool) (keeper : Journal) (force other : List ℕ)
     (fits : FitsSide keeper (bound on_a keeper.generation) force other) (regular : IsRegularSide on_a force other)
     (new : ℕ) (body : List ℕ) (by : MayAppend keeper new body) where
-  abbrev read : Saved
+  abbrev read : SlotContent
   read = saved_as keeper.generation fits.stands.body
 
   few_count : keeper.count < 64

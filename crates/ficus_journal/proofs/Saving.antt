@@ -2,7 +2,7 @@
 use Rattle.std.proofs.Common.{◌≡◌, inl, inr, ℕ, ◌+◌, ◌<◌, ◌^◌, Bool, true, false, not, Some, List, length, refl, sym, subst}
 use Rattle.ficus_keeper.specs.Kept.{Kept, after_commit, generation_of, image_alone}
 use Rattle.ficus_keeper.proofs.Sides.{KnownAt, Saves, kept_at}
-use Rattle.ficus_slot.specs.Slot.{Saved}
+use Rattle.ficus_slot.specs.Slot.{SlotContent}
 use Rattle.ficus_slot.specs.Stays.{IsFound, Stays}
 use Rattle.ficus_two_slots.specs.Slots.{bound}
 use Rattle.ficus_log.specs.Appending.{Appends, IsAppended, IsShutAt}
@@ -22,7 +22,7 @@ fits_at : (on_a : Bool) (keeper : Journal) (mine other : List ℕ) → keeper.on
 fits_at on_a keeper mine other side fits =
     subst (λ (b : Bool). KnownAt (FitsOn b keeper) on_a mine other) (sym side) (fits_side on_a keeper mine other fits)
 
-stays_or : (old : List ℕ) (saved : Saved) (is_found : Bool) (c : List ℕ) → IsFound is_found old saved c → Stays old saved c
+stays_or : (old : List ℕ) (saved : SlotContent) (is_found : Bool) (c : List ℕ) → IsFound is_found old saved c → Stays old saved c
 stays_or old saved true c is = inr is
 stays_or old saved false c is = inl is
 

@@ -6,7 +6,7 @@ use Rattle.std.proofs.lemmas.Bool.Decides.{nat_tests}
 use Rattle.ficus_keeper.specs.Kept.{Kept, after_commit, image_alone}
 use Rattle.ficus_keeper.proofs.Sides.{kept_at}
 use Rattle.ficus_slot.specs.Gate.{GateIs}
-use Rattle.ficus_slot.specs.Slot.{Saved, slot_in}
+use Rattle.ficus_slot.specs.Slot.{SlotContent, slot_in}
 use Rattle.ficus_slot.proofs.Written.{open_of, tail_of}
 use Rattle.ficus_slot.specs.Stays.{IsFound, IsNew, IsOld}
 use Rattle.ficus_two_slots.specs.Slots.{bound}
@@ -19,7 +19,7 @@ use Rattle.ficus_journal.specs.Logs.{kept_in, kept_on, log_kept}
 use Rattle.ficus_journal.specs.declared.journal.Journal.{Journal}
 use Rattle.ficus_journal.proofs.Choosing.{force_kept, kept_loses, kept_none, kept_slot, stands_kept}
 
-abbrev pub saved_as : ℕ → List ℕ → Saved
+abbrev pub saved_as : ℕ → List ℕ → SlotContent
 saved_as generation body = record { generation = generation; body = body }
 
 -- a record of the next generation, which isn't too long, may be written behind those in force
@@ -30,33 +30,33 @@ pub record MayAppend (keeper : Journal) (new : ℕ) (body : List ℕ) : Type 0 w
   pub few : length body < 2 ^ 32
 
 -- this slot stands there, and this is read behind it
-pub record LogIs (saved : Saved) (bodies : List (List ℕ)) (rest c : List ℕ) : Type 0 where
+pub record LogIs (saved : SlotContent) (bodies : List (List ℕ)) (rest c : List ℕ) : Type 0 where
   pub slot : slot_in c ≡ Some saved
   pub log : tail_log saved c ≡ record { bodies = bodies; rest = rest }
 
-pub kept_log : (saved : Saved) (bodies : List (List ℕ)) (rest c : List ℕ) → LogIs saved bodies rest c
+pub kept_log : (saved : SlotContent) (bodies : List (List ℕ)) (rest c : List ℕ) → LogIs saved bodies rest c
     → kept_on c ≡ Some (record { generation = saved.generation; image = saved.body; records = bodies })
 kept_log saved bodies rest c is =
     let kept : List (List ℕ) → Option Kept = λ l. Some (record { generation = saved.generation; image = saved.body; records = l }) in
     kept_slot c saved is.slot ∙ ap (λ (log : Log). kept log.bodies) is.log
 
 -- a new image
-pub new_log : (saved : Saved) (c : List ℕ) (new : IsNew saved c) → LogIs saved [] (0 ∷ new.slot.more) c
+pub new_log : (saved : SlotContent) (c : List ℕ) (new : IsNew saved c) → LogIs saved [] (0 ∷ new.slot.more) c
 new_log saved c new = record {
   slot = new.is;
   log = ap (log_of saved.generation) (tail_of new.slot) ∙ closed saved.generation 0 new.slot.more (λ e. absurd (omega arith));
 }
 
-length_new : (saved : Saved) (c : List ℕ) (new : IsNew saved c)
+length_new : (saved : SlotContent) (c : List ℕ) (new : IsNew saved c)
     → length saved.body + 17 + length (0 ∷ new.slot.more) ≡ length c
 length_new saved c new = omega (arith, ap length (tail_of new.slot), length-drop (17 + length saved.body) c)
 
-abbrev pub generation_of_slot : Option Saved → ℕ
+abbrev pub generation_of_slot : Option SlotContent → ℕ
 generation_of_slot None = 0
 generation_of_slot (Some saved) = saved.generation
 
 -- records behind a slot
-module _ (saved : Saved) (end : ℕ) (force : List ℕ) (is : slot_in force ≡ Some saved)
+module _ (saved : SlotContent) (end : ℕ) (force : List ℕ) (is : slot_in force ≡ Some saved)
     (ends : end + length (tail_log saved force).rest ≡ length force)
     (shut : is_open (tail_log saved force).rest ≡ false) where
   abbrev parts : HasFront saved force
@@ -145,7 +145,7 @@ module _ (saved : Saved) (end : ℕ) (force : List ℕ) (is : slot_in force ≡ 
 -- the keeper stands for the disk in force and the other
 module _ (on_a : Bool) (keeper : Journal) (force other : List ℕ)
     (fits : FitsSide keeper (bound on_a keeper.generation) force other) where
-  abbrev saved : Saved
+  abbrev saved : SlotContent
   saved = saved_as keeper.generation fits.stands.body
 
   abbrev before : Kept
@@ -186,14 +186,14 @@ module _ (on_a : Bool) (keeper : Journal) (force other : List ℕ)
         → FitsSide after (bound (not on_a) after.generation) c force
     image_fits c is after generation shut end count stuck =
         let log = new_log (saved_as new body) c is in
-        let at : Saved = saved_as after.generation body in
+        let at : SlotContent = saved_as after.generation body in
         let same : saved_as new body ≡ at = ap (λ g. saved_as g body) (sym generation) in
         let log_is : tail_log at c ≡ record { bodies = []; rest = 0 ∷ is.slot.more } =
-        ap (λ (s : Saved). tail_log s c) (sym same) ∙ log.log in
+        ap (λ (s : SlotContent). tail_log s c) (sym same) ∙ log.log in
         record {
           stands = record {
             body = body;
-            in_force = is.is ∙ ap (λ (s : Saved). Some s) same;
+            in_force = is.is ∙ ap (λ (s : SlotContent). Some s) same;
             loses = λ s found.
                 let number : keeper.generation ≡ s.generation = ap generation_of_slot (sym fits.stands.in_force ∙ found) in
                 less_bound (not on_a) s.generation after.generation (omega arith);
@@ -298,16 +298,16 @@ module _ (on_a : Bool) (keeper : Journal) (force other : List ℕ)
         → FitsSide after (bound on_a after.generation) c other
     record_fits c more after generation shut end count stuck =
         let log = grown c more in
-        let at : Saved = saved_as after.generation fits.stands.body in
+        let at : SlotContent = saved_as after.generation fits.stands.body in
         let same : saved ≡ at = ap (λ g. saved_as g fits.stands.body) (sym generation) in
         let log_is : tail_log at c
         ≡ record { bodies = (tail_log saved force).bodies ++ body ∷ []; rest = 0 ∷ more.more } =
-        ap (λ (s : Saved). tail_log s c) (sym same) ∙ log.log in
+        ap (λ (s : SlotContent). tail_log s c) (sym same) ∙ log.log in
         let long = length_grown saved keeper.end force fits.stands.in_force fits.records.ends not_open new body c more in
         record {
           stands = record {
             body = fits.stands.body;
-            in_force = log.slot ∙ ap (λ (s : Saved). Some s) same;
+            in_force = log.slot ∙ ap (λ (s : SlotContent). Some s) same;
             loses = λ s found.
                 subst (λ g. s.generation < bound on_a g) (sym generation) (fits.stands.loses s found);
             gate = subst (λ (b : Bool). GateIs b other) (sym shut) fits.stands.gate;

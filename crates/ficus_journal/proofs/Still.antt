@@ -4,7 +4,7 @@ use Rattle.std.specs.Prelude.{if◌then◌else◌}
 use Rattle.ficus_disk.specs.Crash.{Within}
 use Rattle.ficus_disk.specs.declared.pair.Pair.{Pair}
 use Rattle.ficus_keeper.specs.Kept.{Settled}
-use Rattle.ficus_slot.specs.Slot.{Saved, slot_in}
+use Rattle.ficus_slot.specs.Slot.{SlotContent, slot_in}
 use Rattle.ficus_two_slots.specs.Slots.{Stands, StandsOn}
 use Rattle.ficus_log.specs.Log.{Log, is_open, tail_log}
 use Rattle.ficus_journal.specs.Journal.{Fits, FitsOn, FitsSide, HoldsRecords}
@@ -46,7 +46,7 @@ one_body : (generation : ℕ) (body other : List ℕ) → Some (saved_as generat
     → body ≡ other
 one_body generation body other is = ap body_of is
   where
-    body_of : Option Saved → List ℕ
+    body_of : Option SlotContent → List ℕ
     body_of None = body
     body_of (Some saved) = saved.body
 

@@ -1,18 +1,18 @@
 -- What a slot with records behind it keeps, on each of two disks, and what is known of both.
 use Rattle.std.specs.Prelude.{◌≡◌, ◌==◌, ℕ, ◌%◌, ◌/◌, ◌≤◌, nat_le, Bool, false, if◌then◌else◌, List, length, Option, Some, None}
 use Rattle.ficus_keeper.specs.Kept.{Kept}
-use Rattle.ficus_slot.specs.Slot.{Saved, slot_in}
+use Rattle.ficus_slot.specs.Slot.{SlotContent, slot_in}
 use Rattle.ficus_log.specs.Log.{is_open, tail_log}
 
 -- the image in a slot, and the records behind it
-abbrev pub log_kept : Saved → List ℕ → Kept
+abbrev pub log_kept : SlotContent → List ℕ → Kept
 log_kept saved bytes = record {
   generation = saved.generation;
   image = saved.body;
   records = (tail_log saved bytes).bodies;
 }
 
-abbrev pub logged : List ℕ → Option Saved → Option Kept
+abbrev pub logged : List ℕ → Option SlotContent → Option Kept
 logged bytes None = None
 logged bytes (Some saved) = Some (log_kept saved bytes)
 
@@ -44,12 +44,12 @@ lies_on_a generation = generation / 65 % 2 == 0
 
 -- few records stand behind the slot, and no open gate behind the last
 pub record IsTrim (bytes : List ℕ) : Type 0 where
-  pub few : (saved : Saved) → slot_in bytes ≡ Some saved → length (tail_log saved bytes).bodies ≤ record_limit
-  pub shut : (saved : Saved) → slot_in bytes ≡ Some saved → is_open (tail_log saved bytes).rest ≡ false
+  pub few : (saved : SlotContent) → slot_in bytes ≡ Some saved → length (tail_log saved bytes).bodies ≤ record_limit
+  pub shut : (saved : SlotContent) → slot_in bytes ≡ Some saved → is_open (tail_log saved bytes).rest ≡ false
 
 -- the images on `a` are of the generations 0, 130, and so on, those on `b` of 65, 195, and so on
 pub record IsRegular (a b : List ℕ) : Type 0 where
-  pub even : (saved : Saved) → slot_in a ≡ Some saved → saved.generation % 130 ≡ 0
-  pub odd : (saved : Saved) → slot_in b ≡ Some saved → saved.generation % 130 ≡ 65
+  pub even : (saved : SlotContent) → slot_in a ≡ Some saved → saved.generation % 130 ≡ 0
+  pub odd : (saved : SlotContent) → slot_in b ≡ Some saved → saved.generation % 130 ≡ 65
   pub trim_a : IsTrim a
   pub trim_b : IsTrim b

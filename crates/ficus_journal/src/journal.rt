@@ -5,9 +5,10 @@ use ficus_disk::{Disk, Pair};
 use ficus_faults::Failed;
 use ficus_ids::Memory;
 use ficus_keeper::{Keep, MakeFault, Opened, StoreFault, Wants};
-use ficus_slot::{reserve_range, save_slot};
+use ficus_slot::{frame, reserve_range, save_slot};
 use ficus_two_slots::{choose, read_both};
 use std::alloc::Global;
+use std::mem;
 
 /// How many records stand behind an image at most.
 const RECORD_LIMIT: u64 = 64;
@@ -27,7 +28,7 @@ pub struct Journal {
     pub(crate) count: u64,
     // Whether that gate is open, so that no record may be written behind it.
     pub(crate) stuck: bool,
-    // What goes to a disk as one range is joined here.
+    // Bytes that are committed without a frame are framed here.
     pub(crate) buffer: Vec<u8>,
 }
 
@@ -62,7 +63,7 @@ impl Journal {
 
 impl Keep for Journal {
     ghost use Rattle.std.specs.Prelude.{refl};
-    ghost use Rattle.ficus_journal.specs.Journal.{Fits, Takes, saves_image, size_after};
+    ghost use Rattle.ficus_journal.specs.Journal.{Fits, IsShort, Takes, saves_image, size_after};
     ghost use Rattle.ficus_journal.specs.Logs.{IsRegular, calls_of_journal, kept_in, lies_on_a};
 
     ghost kept = { kept_in };
@@ -70,6 +71,8 @@ impl Keep for Journal {
     ghost fits = { Fits };
 
     ghost wants_image = { saves_image };
+
+    ghost Allows = { IsShort };
 
     ghost Takes = { Takes };
 
@@ -87,7 +90,8 @@ impl Keep for Journal {
         let mut buffer = Vec::new(alloc);
         reserve_range(&mut buffer, image.len() as u64)?;
         disks.a.reserve(image.len() as u64 + 18)?;
-        save_slot(&mut disks.a, &mut buffer, false, 0, image)?;
+        frame(&mut buffer, image);
+        save_slot(&mut disks.a, &mut buffer, false, 0)?;
         Ok(())
     }
 
@@ -108,8 +112,12 @@ impl Keep for Journal {
     }
 
     fn prepare<D: Disk>(&mut self, disks: &mut Pair<D>, length: u64) -> Result<(), Memory> {
-        let upto = self.upto(length)?;
         reserve_range(&mut self.buffer, length)?;
+        self.reserve(disks, length)
+    }
+
+    fn reserve<D: Disk>(&self, disks: &mut Pair<D>, length: u64) -> Result<(), Memory> {
+        let upto = self.upto(length)?;
         disks.a.reserve(upto)?;
         disks.b.reserve(upto)
     }
@@ -120,13 +128,23 @@ impl Keep for Journal {
         generation: u64,
         bytes: &[u8],
     ) -> Result<(), Failed> {
-        let committed = if self.saves_image() {
-            self.commit_image(disks, generation, bytes)
+        // The buffer is given up: an image's room would stand unused behind the records until the next one.
+        let empty = Vec::new(*self.buffer.allocator());
+        let mut framed = mem::replace(&mut self.buffer, empty);
+        frame(&mut framed, bytes);
+        self.commit_framed(disks, generation, &mut framed)
+    }
+
+    fn commit_framed<D: Disk>(
+        &mut self,
+        disks: &mut Pair<D>,
+        generation: u64,
+        framed: &mut Vec<u8>,
+    ) -> Result<(), Failed> {
+        if self.saves_image() {
+            self.commit_image(disks, generation, framed)
         } else {
-            self.commit_record(disks, generation, bytes)
-        };
-        // An image's room would stand unused behind the records until the next one.
-        self.buffer = Vec::new(*self.buffer.allocator());
-        committed
+            self.commit_record(disks, generation, framed)
+        }
     }
 }

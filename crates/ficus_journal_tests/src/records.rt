@@ -1,4 +1,4 @@
-use crate::saves::{Kept, Stop, ends_with, kept_on, saves};
+use crate::saves::{Kept, Stop, ends_with, kept_on, saves, saves_framed};
 use ficus_disk::{Disk, MemDisk, Pair, fresh_pair};
 use ficus_journal::Journal;
 use ficus_keeper::{Keep, StoreFault, Wants};
@@ -38,6 +38,41 @@ fn each_65th_save_is_an_image(rt: HostRuntime) -> Result<(), Fail> {
     for number in 1..=SAVES {
         assert!(rt;
             keeps_each(alloc, &mut disks, number) == Ok(true),
+            "save {number}"
+        );
+    }
+    Ok(())
+}
+
+// Whether both disks of two pairs hold the same bytes.
+fn are_alike(
+    alloc: Global,
+    one: &mut Pair<MemDisk>,
+    other: &mut Pair<MemDisk>,
+) -> Result<bool, StoreFault> {
+    Ok(
+        read_all(alloc, &mut one.a)?.as_slice() == read_all(alloc, &mut other.a)?.as_slice()
+            && read_all(alloc, &mut one.b)?.as_slice() == read_all(alloc, &mut other.b)?.as_slice(),
+    )
+}
+
+#[test]
+fn a_save_out_of_a_frame_leaves_the_same_bytes(rt: HostRuntime) -> Result<(), Fail> {
+    // 64 records, an image and one more record, all out of one frame.
+    let alloc = rt.alloc();
+    let mut plain = fresh_pair(alloc);
+    let mut lent = fresh_pair(alloc);
+    let mut framed = Vec::new(alloc);
+    assert!(rt; Journal::make(alloc, &mut plain, b"made").is_ok());
+    assert!(rt; Journal::make(alloc, &mut lent, b"made").is_ok());
+    for number in 1..=66 {
+        let bytes = [number; 5];
+        assert!(rt; saves::<Journal, MemDisk>(alloc, &mut plain, &bytes, None) == Ok(true));
+        assert!(rt;
+            saves_framed::<Journal, MemDisk>(alloc, &mut lent, &mut framed, &bytes) == Ok(true)
+        );
+        assert!(rt;
+            are_alike(alloc, &mut plain, &mut lent) == Ok(true),
             "save {number}"
         );
     }

@@ -3,6 +3,7 @@ ghost use Rattle.std.specs.Prelude.{◌<◌, IfSome};
 
 use ficus_disk::{Disk, Pair};
 use ficus_keeper::{Keep, StoreFault, Wants, reopen};
+use ficus_slot::{frame, reserve_range};
 use std::alloc::Global;
 
 /// How many calls of the disks pass, and the pick of what they then are.
@@ -33,6 +34,24 @@ pub(crate) fn saves<K: Keep + Drop, D: Disk>(
         disks.b.arm(calls, pick);
     }
     Ok(keeper.commit(disks, generation, bytes).is_ok())
+}
+
+/// The same out of a frame, which is made of them in place of what it held.
+pub(crate) fn saves_framed<K: Keep + Drop, D: Disk>(
+    alloc: Global,
+    disks: &mut Pair<D>,
+    framed: &mut Vec<u8>,
+    bytes: &[u8],
+) -> Result<bool, StoreFault> {
+    let (mut keeper, opened) = K::open(alloc, disks)?;
+    if opened.generation > 1 << 62 {
+        return Ok(false);
+    }
+    let generation = opened.generation + opened.records.items().len() as u64 + 1;
+    reserve_range(framed, bytes.len() as u64)?;
+    frame(framed, bytes);
+    keeper.reserve(disks, bytes.len() as u64)?;
+    Ok(keeper.commit_framed(disks, generation, framed).is_ok())
 }
 
 /// What is kept: the generation of the image, how many records stand behind it, and what is wanted next.

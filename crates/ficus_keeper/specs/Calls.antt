@@ -1,12 +1,13 @@
 -- What is alike in the calls of a keeper, so that each call says it by name.
-use Rattle.std.specs.Prelude.{◌≡◌, ℕ, ◌≤◌, List, Option, Some, None, Result, IfOk, IsErrOf, OnOk, OnErr}
+use Rattle.std.specs.Prelude.{◌≡◌, ◌⊎◌, ℕ, ◌≤◌, Bool, List, Option, Some, None, Result, is_ok, IfOk, IsErrOf, OnOk, OnErr}
 use Rattle.ficus_disk.specs.Crash.{Only}
 use Rattle.ficus_disk.specs.Pair.{PairRose}
+use Rattle.ficus_disk.specs.declared.disk.Disk.{Ghosts as Disk}
 use Rattle.ficus_disk.specs.declared.fuse.Fuse.{Fuse}
 use Rattle.ficus_disk.specs.declared.fuse.Pick.{Pick}
 use Rattle.ficus_disk.specs.declared.pair.Pair.{Pair}
-use Rattle.ficus_keeper.specs.Fuses.{IsRegularIn, SameFuses, StaysRegular, both_unarmed, fuses_of}
-use Rattle.ficus_keeper.specs.Kept.{Kept, KeepsOneBetween, KeepsOneOf, Settled, found_in, image_alone, kept_of}
+use Rattle.ficus_keeper.specs.Fuses.{FusedSave, IsRegularIn, SameFuses, StaysRegular, both_unarmed, fuses_of}
+use Rattle.ficus_keeper.specs.Kept.{Kept, KeepsOneBetween, KeepsOneOf, Settled, after_commit, found_in, image_alone, kept_of}
 use Rattle.ficus_keeper.specs.Moments.{PairLeavesOld, PairSpans}
 use Rattle.ficus_keeper.specs.Pairs.{PairLeft, PairSame, PairWithin}
 use Rattle.ficus_keeper.specs.declared.fault.MakeFault.{MakeFault}
@@ -109,3 +110,17 @@ pub record Commits {K D A E : Type 0} (kept_by : List ℕ → List ℕ → Optio
   pub crash : KeepsOneOf kept_by may_leave new (found_in kept_by seen old) after
   pub between : KeepsOneBetween kept_by moment left_since old new (found_in kept_by seen old) after
   pub regular : StaysRegular Regular may_leave old → StaysRegular Regular may_leave new
+
+-- these bytes are saved as this generation, on one of the disks, and the other stays; where the disks tell their fuses,
+-- these alone decide
+pub record SavesNext {K D A E : Type 0} (kept : List ℕ → List ℕ → Option Kept) (fits : K → List ℕ → List ℕ → Type 0)
+    (wants_image : K → Bool) (calls : ℕ → ℕ) (is_on_a : ℕ → Bool) (Regular : List ℕ → List ℕ → Type 0) (disk : Disk D)
+    (generation : ℕ) (bytes : List ℕ) (was now : K) (old new : Pair D) (result : Result A E) : Type 0 where
+  pub told : disk.tells → Commits kept fits Regular disk.seen disk.may_leave disk.moment disk.left_since
+      (after_commit (wants_image was) generation bytes (found_in kept disk.seen old)) now old new result
+  pub spans : disk.tells_moments → PairSpans disk.moment disk.left_since old new
+  pub other : (new.a ≡ old.a) ⊎ (new.b ≡ old.b)
+  pub counts : Counts disk.faults disk.armings old new result
+  pub by_fuse : disk.tells_fuse → disk.tells → IsRegularIn Regular disk.seen old
+      → FusedSave kept disk.seen disk.image disk.fuse (calls generation) (is_on_a generation) old new (is_ok result)
+      (after_commit (wants_image was) generation bytes (found_in kept disk.seen old))

@@ -1,4 +1,5 @@
 pub mod Calls
+pub mod Framed
 pub mod Fuses
 pub mod Kept
 pub mod Moments

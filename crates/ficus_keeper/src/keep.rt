@@ -1,8 +1,8 @@
-ghost use Rattle.std.specs.Prelude.{◌≡◌, ◌⊎◌, ◌+◌, Some, None, Bool, true, false, [], Option, is_ok, List, ℕ, length, OnOk};
-ghost use Rattle.ficus_keeper.specs.Calls.{Commits, Counts, CountsMaking, CountsOpening, Finds, HasRoom, Keeps, Makes, Spares, StaysUnarmed};
-ghost use Rattle.ficus_keeper.specs.Fuses.{FusedSave, IsRegularIn, both_unarmed, fuses_of};
-ghost use Rattle.ficus_keeper.specs.Kept.{Kept, Settled, after_commit, found_in, generation_of};
-ghost use Rattle.ficus_keeper.specs.Moments.{PairSpans};
+ghost use Rattle.std.specs.Prelude.{◌≡◌, ◌+◌, ◌≤◌, Some, None, Bool, true, false, [], Option, List, ℕ, length, vec_capacity, OnOk};
+ghost use Rattle.ficus_keeper.specs.Calls.{CountsMaking, CountsOpening, Finds, HasRoom, Keeps, Makes, SavesNext, Spares, StaysUnarmed};
+ghost use Rattle.ficus_keeper.specs.Framed.{IsFramed, body_in};
+ghost use Rattle.ficus_keeper.specs.Fuses.{both_unarmed, fuses_of};
+ghost use Rattle.ficus_keeper.specs.Kept.{Kept, Settled, found_in, generation_of};
 
 use crate::{MakeFault, Opened, StoreFault, Wants};
 use ficus_disk::{Disk, Pair};
@@ -22,7 +22,10 @@ pub trait Keep {
     /// The next commit saves an image.
     ghost wants_image: { Self → Bool };
 
-    /// A commit of so many bytes may be made, and the keeper's buffer has room for it.
+    /// A commit of so many bytes may be made.
+    ghost Allows: { Self → ℕ → Type 0 };
+
+    /// The same, and the keeper's own buffer has room for it.
     ghost Takes: { Self → ℕ → Type 0 };
 
     /// How many bytes a disk has after a commit of so many, at most.
@@ -76,6 +79,14 @@ pub trait Keep {
         ensures keeps { Keeps D.tells D.tells_moments D.seen D.may_leave D.moment D.left_since disks.old disks.new }
         ensures spares { Spares D.faults D.armings D.tells_fuse D.image D.fuse disks.old disks.new };
 
+    /// Reserves what a commit of so many framed bytes takes, on both disks.
+    fn reserve<D: Disk>(&self, disks: &mut Pair<D>, length: u64) -> Result<(), Memory>
+        ensures room { OnOk result (HasRoom Allows size_of D.room self.now disks.new length) }
+        ensures settled { D.tells → Settled fits D.seen D.may_leave self.now disks.old
+            → Settled fits D.seen D.may_leave self.now disks.new }
+        ensures keeps { Keeps D.tells D.tells_moments D.seen D.may_leave D.moment D.left_since disks.old disks.new }
+        ensures spares { Spares D.faults D.armings D.tells_fuse D.image D.fuse disks.old disks.new };
+
     /// Saves the bytes as the next generation: an image or a record, as the keeper wants. Takes no memory. After one
     /// that fails nothing is promised of the keeper.
     fn commit<D: Disk>(
@@ -88,20 +99,25 @@ pub trait Keep {
         requires next { D.tells → (before : Kept) → found_in kept D.seen disks.old ≡ Some before
             → generation ≡ generation_of before + 1 }
         requires room { HasRoom Takes size_of D.room self.old disks.old (length bytes.now) }
-        ensures told { D.tells → Commits kept fits Regular D.seen D.may_leave D.moment D.left_since
-            (after_commit (wants_image self.old) generation bytes.now (found_in kept D.seen disks.old)) self.new
-            disks.old disks.new result }
-        ensures spans { D.tells_moments → PairSpans D.moment D.left_since disks.old disks.new }
+        ensures { SavesNext kept fits wants_image calls is_on_a Regular D.Disk generation bytes.now self.old self.new
+            disks.old disks.new result };
 
-        // One of the disks is written, and the other stays.
-        ensures other { (disks.new.a ≡ disks.old.a) ⊎ (disks.new.b ≡ disks.old.b) }
-        ensures counts { Counts D.faults D.armings disks.old disks.new result }
-
-        // Where the disks tell their fuses, these alone decide.
-        ensures by_fuse { D.tells_fuse → D.tells → IsRegularIn Regular D.seen disks.old
-            → FusedSave kept D.seen D.image D.fuse (calls generation) (is_on_a generation) disks.old disks.new
-            (is_ok result)
-            (after_commit (wants_image self.old) generation bytes.now (found_in kept D.seen disks.old)) };
+    /// The same of the bytes in a frame, which are written from where they stand: the keeper puts its head in front of
+    /// them, and a tail behind. The frame holds nothing of use afterwards, and keeps its room.
+    fn commit_framed<D: Disk>(
+        &mut self,
+        disks: &mut Pair<D>,
+        generation: u64,
+        framed: &mut Vec<u8>,
+    ) -> Result<(), Failed>
+        requires settled { D.tells → Settled fits D.seen D.may_leave self.old disks.old }
+        requires next { D.tells → (before : Kept) → found_in kept D.seen disks.old ≡ Some before
+            → generation ≡ generation_of before + 1 }
+        requires room { HasRoom Allows size_of D.room self.old disks.old (length (body_in framed.old.items)) }
+        requires framed { IsFramed framed.old }
+        ensures saves { SavesNext kept fits wants_image calls is_on_a Regular D.Disk generation
+            (body_in framed.old.items) self.old self.new disks.old disks.new result }
+        ensures room { vec_capacity framed.old ≤ vec_capacity framed.new };
 
     /// Nothing is kept on empty disks.
     ghost none_at_first: { kept [] [] ≡ None };

@@ -4,13 +4,13 @@ use Rattle.std.specs.Prelude.{if◌then◌else◌}
 use Rattle.std.proofs.lemmas.List.{take_at, drop_at, take-append-le, drop-append-le, take-append-drop, length-take-le}
 use Rattle.std.specs.Int.{w64, from_be_bytes}
 use Rattle.std.proofs.lemmas.Bool.Decides.{nat_tests}
-use Rattle.ficus_slot.specs.Slot.{Saved, is_whole, number_of, slot_in}
+use Rattle.ficus_slot.specs.Slot.{SlotContent, is_whole, number_of, slot_in}
 use Rattle.ficus_slot.proofs.Read.{and_parts, at_most, gate_one, if_some}
 use Rattle.ficus_log.specs.Log.{log_of, tail_log}
 use Rattle.ficus_log.proofs.Walks.{Reads, log_reads}
 
 -- the bytes begin with this slot, and its tail is there
-pub record HasSlot (saved : Saved) (bytes : List ℕ) : Type 0 where
+pub record HasSlot (saved : SlotContent) (bytes : List ℕ) : Type 0 where
   pub head : List ℕ
   pub tail : List ℕ
   pub is : bytes ≡ 1 ∷ (head ++ (saved.body ++ tail))
@@ -29,7 +29,7 @@ numbers_in head rest sixteen =
     ∙ take-append-le 8 (drop 8 head) rest (omega (arith, length-drop 8 head)) in
     (ap (from_be_bytes w64) front, ap (from_be_bytes w64) back)
 
-slot_where : (rest : List ℕ) (saved : Saved) → is_whole rest ≡ true → number_of rest ≡ saved.generation
+slot_where : (rest : List ℕ) (saved : SlotContent) → is_whole rest ≡ true → number_of rest ≡ saved.generation
     → take (number_of (drop 8 rest)) (drop 16 rest) ≡ saved.body → slot_in (1 ∷ rest) ≡ Some saved
 slot_where rest saved whole stamp body =
     ap (λ (b : Bool). if b
@@ -38,7 +38,7 @@ slot_where rest saved whole stamp body =
     ∙ (λ i. Some (record { generation = stamp i; body = body i }))
 
 -- such bytes are this slot
-pub slot_has : (saved : Saved) (bytes : List ℕ) → HasSlot saved bytes → slot_in bytes ≡ Some saved
+pub slot_has : (saved : SlotContent) (bytes : List ℕ) → HasSlot saved bytes → slot_in bytes ≡ Some saved
 slot_has saved bytes has =
     let rest : List ℕ = has.head ++ (saved.body ++ has.tail) in
     let numbers = numbers_in has.head (saved.body ++ has.tail) has.sixteen in
@@ -58,7 +58,7 @@ slot_has saved bytes has =
     (λ i. take (count i) (back i)) ∙ take_at saved.body has.tail (length saved.body) refl in
     ap slot_in has.is ∙ slot_where rest saved whole (numbers.0 ∙ has.stamp) body
 
-abbrev slot_at : List ℕ → Saved
+abbrev slot_at : List ℕ → SlotContent
 slot_at rest = record { generation = number_of rest; body = take (number_of (drop 8 rest)) (drop 16 rest) }
 
 has_where : (gate : ℕ) (rest : List ℕ) → gate ≡ 1 → 17 + number_of (drop 8 rest) ≤ length rest
@@ -82,16 +82,16 @@ has_where gate rest opens long =
       more = omega (arith, length-drop count (drop 16 rest), length-drop 16 rest);
     }
 
-pub has_slot : (saved : Saved) (bytes : List ℕ) → slot_in bytes ≡ Some saved → HasSlot saved bytes
+pub has_slot : (saved : SlotContent) (bytes : List ℕ) → slot_in bytes ≡ Some saved → HasSlot saved bytes
 has_slot saved [] is = absurd (cc)
 has_slot saved (gate ∷ rest) is =
     let both = if_some ((gate == 1) && is_whole rest) (slot_at rest) saved is in
     let tests = and_parts (gate == 1) (is_whole rest) both.0 in
-    subst (λ (s : Saved). HasSlot s (gate ∷ rest)) both.1
+    subst (λ (s : SlotContent). HasSlot s (gate ∷ rest)) both.1
     (has_where gate rest (gate_one gate tests.0) (at_most _ _ tests.1))
 
 -- what stands behind the slot
-pub tail_is : (saved : Saved) (bytes : List ℕ) (has : HasSlot saved bytes)
+pub tail_is : (saved : SlotContent) (bytes : List ℕ) (has : HasSlot saved bytes)
     → drop (17 + length saved.body) bytes ≡ has.tail
 tail_is saved bytes has =
     let front : List ℕ = 1 ∷ (has.head ++ saved.body) in
@@ -102,7 +102,7 @@ tail_is saved bytes has =
     ap (λ (l : List ℕ). drop (17 + length saved.body) l) joined ∙ drop_at front has.tail (17 + length saved.body) counts
 
 -- the bytes are the slot and these records, up to the gate behind the last
-pub record HasLog (saved : Saved) (bodies : List (List ℕ)) (front : List ℕ) : Type 0 where
+pub record HasLog (saved : SlotContent) (bodies : List (List ℕ)) (front : List ℕ) : Type 0 where
   pub head : List ℕ
   pub records : List ℕ
   pub is : front ≡ 1 ∷ (head ++ (saved.body ++ records))
@@ -111,7 +111,7 @@ pub record HasLog (saved : Saved) (bodies : List (List ℕ)) (front : List ℕ) 
   pub count : number_of (drop 8 head) ≡ length saved.body
   pub reads : Reads saved.generation bodies records
 
-module _ (saved : Saved) (bodies : List (List ℕ)) (front : List ℕ) (has : HasLog saved bodies front) where
+module _ (saved : SlotContent) (bodies : List (List ℕ)) (front : List ℕ) (has : HasLog saved bodies front) where
   has_behind : (tail : List ℕ) → 1 ≤ length tail → HasSlot saved (front ++ tail)
   has_behind tail some = record {
     head = has.head;
@@ -136,13 +136,13 @@ module _ (saved : Saved) (bodies : List (List ℕ)) (front : List ℕ) (has : Ha
       ap (log_of saved.generation) (tail_is saved (front ++ tail) (has_behind tail some))
 
 -- bytes with a slot, up to the gate at which reading ends
-pub record HasFront (saved : Saved) (bytes : List ℕ) : Type 0 where
+pub record HasFront (saved : SlotContent) (bytes : List ℕ) : Type 0 where
   pub front : List ℕ
   pub has : HasLog saved (tail_log saved bytes).bodies front
   pub is : bytes ≡ front ++ (tail_log saved bytes).rest
   pub more : 1 ≤ length (tail_log saved bytes).rest
 
-pub front_of : (saved : Saved) (bytes : List ℕ) → slot_in bytes ≡ Some saved → HasFront saved bytes
+pub front_of : (saved : SlotContent) (bytes : List ℕ) → slot_in bytes ≡ Some saved → HasFront saved bytes
 front_of saved bytes is =
     let slot = has_slot saved bytes is in
     let tail : List ℕ = drop (17 + length saved.body) bytes in

@@ -5,7 +5,7 @@ use Rattle.std.proofs.lemmas.List.{get_or-drop, take-append-drop, length-take-le
 use Rattle.std.proofs.lemmas.Nat.{be_bytes_8}
 use Rattle.std.proofs.lemmas.Bool.Decides.{nat_tests}
 use Rattle.std.specs.Int.{w64, from_be_bytes}
-use Rattle.ficus_slot.specs.Slot.{AreBytes, HasSlot, IsSlot, Saved, is_whole, number_of, slot_in, spelled}
+use Rattle.ficus_slot.specs.Slot.{AreBytes, HasSlot, IsSlot, SlotContent, is_whole, number_of, slot_in, spelled}
 use Rattle.ficus_slot.proofs.Written.{read_as, tail_of}
 
 pub if_some : {A : Type 0} (b : Bool) (x y : A) → (if b then Some x else None) ≡ Some y → (b ≡ true) × (x ≡ y)
@@ -56,7 +56,7 @@ module _ (rest : List ℕ) (each : AreBytes rest) (long : 17 + number_of (drop 8
   abbrev count : ℕ
   count = number_of (drop 8 rest)
 
-  abbrev slot_at : Saved
+  abbrev slot_at : SlotContent
   slot_at = record { generation = number_of rest; body = take count (drop 16 rest) }
 
   counts : length (slot_at.body) ≡ count
@@ -95,7 +95,7 @@ module _ (rest : List ℕ) (each : AreBytes rest) (long : 17 + number_of (drop 8
       }
 
 -- what is read is what stands there
-pub has_read : (saved : Saved) (bytes : List ℕ) → AreBytes bytes → slot_in bytes ≡ Some saved → HasSlot saved bytes
+pub has_read : (saved : SlotContent) (bytes : List ℕ) → AreBytes bytes → slot_in bytes ≡ Some saved → HasSlot saved bytes
 has_read saved [] each is = absurd (cc)
 has_read saved (gate ∷ rest) each is =
     let both = if_some ((gate == 1) && is_whole rest) (record {
@@ -103,25 +103,25 @@ has_read saved (gate ∷ rest) each is =
       body = take (number_of (drop 8 rest)) (drop 16 rest);
     }) saved is in
     let tests = and_parts (gate == 1) (is_whole rest) both.0 in
-    subst (λ (s : Saved). HasSlot s (gate ∷ rest)) both.1
+    subst (λ (s : SlotContent). HasSlot s (gate ∷ rest)) both.1
     (subst (λ (g : ℕ). HasSlot (slot_at rest (λ i. each (suc i)) (at_most _ _ tests.1)) (g ∷ rest))
     (sym (gate_one gate tests.0)) (has_slot rest (λ i. each (suc i)) (at_most _ _ tests.1)))
 
-pub read_exactly : (saved : Saved) (bytes : List ℕ) → AreBytes bytes → slot_in bytes ≡ Some saved ↔ HasSlot saved bytes
+pub read_exactly : (saved : SlotContent) (bytes : List ℕ) → AreBytes bytes → slot_in bytes ≡ Some saved ↔ HasSlot saved bytes
 read_exactly saved bytes each = (has_read saved bytes each, λ has. read_as has.slot)
 
 -- bytes are one slot
-same_some : (one other : Saved) → Some one ≡ Some other → one ≡ other
+same_some : (one other : SlotContent) → Some one ≡ Some other → one ≡ other
 same_some one other same = cc
 
 same_head : (tail end : ℕ) (more behind : List ℕ) → tail ∷ more ≡ end ∷ behind → tail ≡ end
 same_head tail end more behind same = cc
 
-pub one_slot : (one other : Saved) (tail end : ℕ) (bytes : List ℕ) → IsSlot one tail bytes → IsSlot other end bytes
+pub one_slot : (one other : SlotContent) (tail end : ℕ) (bytes : List ℕ) → IsSlot one tail bytes → IsSlot other end bytes
     → (one ≡ other) × (tail ≡ end)
 one_slot one other tail end bytes is also =
     let same : one ≡ other = same_some one other (sym (read_as is) ∙ read_as also) in (
       same,
       same_head tail end is.more also.more (sym (tail_of is)
-          ∙ ap (λ (s : Saved). drop (17 + length s.body) bytes) same ∙ tail_of also),
+          ∙ ap (λ (s : SlotContent). drop (17 + length s.body) bytes) same ∙ tail_of also),
     )

@@ -9,7 +9,7 @@ use Rattle.ficus_disk.specs.declared.fuse.Pick.{Pick}
 use Rattle.ficus_disk.specs.declared.fuse.Pick.TheVariants.{Synced, Written, Ones, Halves}
 use Rattle.ficus_keeper.specs.Fuses.{is_found}
 use Rattle.ficus_slot.specs.Gate.{GateIs, IsShut}
-use Rattle.ficus_slot.specs.Slot.{Saved, range_of, slot_in}
+use Rattle.ficus_slot.specs.Slot.{SlotContent, range_of, slot_in}
 use Rattle.ficus_slot.specs.Stays.{IsFound, IsNew, IsOld, Stays}
 use Rattle.ficus_slot.proofs.Written.{written_is_new}
 
@@ -84,13 +84,13 @@ second_step n old mid may only shut c left =
     inl (shut_is_none c (torn_behind n mid c shut (subst (λ (l : List ℕ). Torn 1 n l c) (only left.0 left.1) left.2)))
 
 -- the body stands behind a shut gate
-pub record IsReady (saved : Saved) (last : List ℕ) : Type 0 where
+pub record IsReady (saved : SlotContent) (last : List ℕ) : Type 0 where
   pub gate : ℕ
   pub rest : List ℕ
   pub is : last ≡ gate ∷ (range_of saved.generation saved.body ++ rest)
   pub shut : gate ≢ 1
 
-pub second_done : (saved : Saved) (mid range last : List ℕ) → IsShut mid → last ≡ patch mid 1 range
+pub second_done : (saved : SlotContent) (mid range last : List ℕ) → IsShut mid → last ≡ patch mid 1 range
     → range ≡ range_of saved.generation saved.body → IsReady saved last
 second_done saved mid range last shut written is =
     let parts = second_written mid range shut in
@@ -102,7 +102,7 @@ second_done saved mid range last shut written is =
     }
 
 -- the third step: the gate opens
-module _ (saved : Saved) (small : saved.generation < 2 ^ 64) (fits : length saved.body < 2 ^ 64) where
+module _ (saved : SlotContent) (small : saved.generation < 2 ^ 64) (fits : length saved.body < 2 ^ 64) where
   abbrev range : List ℕ
   range = range_of saved.generation saved.body
 
@@ -142,12 +142,12 @@ module _ (saved : Saved) (small : saved.generation < 2 ^ 64) (fits : length save
       (third_picked old ready.rest ready.gate pick ready.shut)
 
 -- what is found is decided by the calls that passed, and by the pick
-pub early : (b found : Bool) (old : List ℕ) (saved : Saved) (c : List ℕ) → b ≡ false → IsOld old c
+pub early : (b found : Bool) (old : List ℕ) (saved : SlotContent) (c : List ℕ) → b ≡ false → IsOld old c
     → IsFound (b && found) old saved c
 early false found old saved c is p = p
 early true found old saved c is p = absurd (cc)
 
-pub late : (b found : Bool) (old : List ℕ) (saved : Saved) (c : List ℕ) → b ≡ true → IsFound found old saved c
+pub late : (b found : Bool) (old : List ℕ) (saved : SlotContent) (c : List ℕ) → b ≡ true → IsFound found old saved c
     → IsFound (b && found) old saved c
 late false found old saved c is p = absurd (cc)
 late true found old saved c is p = p

@@ -6,7 +6,7 @@ use Rattle.std.proofs.lemmas.Bool.{cases_eq}
 use Rattle.std.proofs.lemmas.Bool.Decides.{nat_tests}
 use Rattle.std.specs.Int.{w64, to_be_bytes, from_be_bytes}
 use Rattle.ficus_slot.specs.Gate.{IsOpenOrNone}
-use Rattle.ficus_slot.specs.Slot.{IsSlot, Saved, is_whole, number_of, range_of, slot_in, spelled}
+use Rattle.ficus_slot.specs.Slot.{IsSlot, SlotContent, is_whole, number_of, range_of, slot_in, spelled}
 use Rattle.ficus_slot.specs.Stays.{IsNew}
 
 length-spelled : (n : ℕ) → length (spelled n) ≡ 8
@@ -21,7 +21,7 @@ number_of-spelled n rest small =
 pub length-range_of : (generation : ℕ) (body : List ℕ) → length (range_of generation body) ≡ 17 + length body
 length-range_of generation body = simp length-append (omega (arith, length-spelled generation, length-spelled (length body)))
 
-module _ (saved : Saved) (tail : ℕ) (more : List ℕ) where
+module _ (saved : SlotContent) (tail : ℕ) (more : List ℕ) where
   abbrev numbers : List ℕ
   numbers = spelled saved.generation ++ spelled (length saved.body)
 
@@ -82,10 +82,10 @@ module _ (saved : Saved) (tail : ℕ) (more : List ℕ) where
         rw (whole, names, picked) refl
 
 -- what is read of a slot, and what stands from its tail on
-pub read_as : {saved : Saved} {tail : ℕ} {c : List ℕ} → IsSlot saved tail c → slot_in c ≡ Some saved
+pub read_as : {saved : SlotContent} {tail : ℕ} {c : List ℕ} → IsSlot saved tail c → slot_in c ≡ Some saved
 read_as {saved} {tail} {c} slot = ap slot_in slot.is ∙ read_behind saved tail slot.more slot.generation slot.size
 
-pub tail_of : {saved : Saved} {tail : ℕ} {c : List ℕ} (slot : IsSlot saved tail c)
+pub tail_of : {saved : SlotContent} {tail : ℕ} {c : List ℕ} (slot : IsSlot saved tail c)
     → drop (17 + length saved.body) c ≡ tail ∷ slot.more
 tail_of {saved} {tail} {c} slot =
     ap (λ (l : List ℕ). drop (17 + length saved.body) l) slot.is ∙ tail_behind saved tail slot.more
@@ -105,7 +105,7 @@ written_is_new generation body rest small fits c is = record { slot = slot; is =
     }
 
 -- a slot has an open gate
-pub open_of : (bytes : List ℕ) (saved : Saved) → slot_in bytes ≡ Some saved → IsOpenOrNone bytes
+pub open_of : (bytes : List ℕ) (saved : SlotContent) → slot_in bytes ≡ Some saved → IsOpenOrNone bytes
 open_of [] saved is = tt
 open_of (gate ∷ rest) saved is = elim (cases_eq gate 1) [
   | inl one ↦ one

@@ -5,6 +5,7 @@ use Rattle.ficus_disk.specs.declared.fuse.Fuse.{Fuse}
 use Rattle.ficus_disk.specs.declared.fuse.Pick.{Pick}
 use Rattle.ficus_disk.specs.declared.pair.Pair.{Pair}
 use Rattle.ficus_image.specs.Image.{image_bytes}
+use Rattle.ficus_keeper.specs.Framed.{body_in}
 use Rattle.ficus_keeper.specs.Fuses.{FusedSave, finds, found_again, fuses_of, on_side}
 use Rattle.ficus_keeper.specs.Kept.{Kept, KeepsOneBetween, KeepsOneOf, after_commit, found_in, generation_of, image_alone}
 use Rattle.ficus_stable_storage.specs.Leads.Holds.{Holds, Leads}
@@ -24,16 +25,16 @@ holds_next is_image found bytes body old next spelled noted holds leads =
     held_after is_image found next.generation bytes body old next refl spelled noted holds leads
 
 -- so it is of what was prepared
-pub held_prepared : {K D : Type 0} (wants_image : K → Bool) {Takes : K → ℕ → Type 0} {size_of : K → ℕ → ℕ}
+pub held_prepared : {K D : Type 0} (wants_image : K → Bool) {Allows : K → ℕ → Type 0} {size_of : K → ℕ → ℕ}
     {disk_room : D → ℕ} (kept : List ℕ → List ℕ → Option Kept) {fits : K → List ℕ → List ℕ → Type 0}
     (seen : D → List ℕ) {may_leave : D → List ℕ → Type 0} (stable : Stable K) (pair : Pair D) (next : Saved)
-    (body bytes : List ℕ) → bytes ≡ stable.bytes.items
-    → IsPrepared wants_image Takes size_of disk_room stable pair next body
+    (body : List ℕ) → IsPrepared wants_image Allows size_of disk_room stable pair next body
     → MayFollow kept fits seen may_leave stable pair next body
-    → Holds (after_commit (wants_image stable.keeper) next.generation bytes (found_in kept seen pair)) next
-held_prepared wants_image kept seen stable pair next body bytes is prepared follows =
-    holds_next (wants_image stable.keeper) (found_in kept seen pair) bytes body follows.saved next
-    (λ image. is ∙ prepared.image image) (λ noted. is ∙ prepared.noted noted) follows.ready.holds follows.leads
+    → Holds (after_commit (wants_image stable.keeper) next.generation (body_in stable.framed.items) (found_in kept seen pair))
+    next
+held_prepared wants_image kept seen stable pair next body prepared follows =
+    holds_next (wants_image stable.keeper) (found_in kept seen pair) (body_in stable.framed.items) body follows.saved next
+    prepared.image prepared.noted follows.ready.holds follows.leads
 
 -- it is the next generation
 pub next_generation : (found : Option Kept) (old next : Saved) (body : List ℕ) → Holds found old → Leads body old next

@@ -91,7 +91,7 @@ pub record OpensAnew {K D : Type 0} (keep : Keep K) (disk : Disk D) (old new : P
 -- before, no fault is counted, and each fuse stays as it is
 pub record Prepares {K D A E : Type 0} (keep : Keep K) (disk : Disk D) (next : Saved) (body : List ℕ)
     (was now : Stable K) (old new : Pair D) (result : Result A E) : Type 0 where
-  pub prepared : OnOk result (IsPrepared keep.wants_image keep.Takes keep.size_of disk.room now new next body)
+  pub prepared : OnOk result (IsPrepared keep.wants_image keep.Allows keep.size_of disk.room now new next body)
   pub ready : disk.tells → (saved : Saved) → IsReady keep.kept keep.fits disk.seen disk.may_leave was old saved
       → IsReady keep.kept keep.fits disk.seen disk.may_leave now new saved
   pub same : disk.tells → PairSame disk.seen old new

@@ -1,6 +1,7 @@
 -- How a keeper stands to its pair of disks, before a save and once it is prepared.
 use Rattle.std.specs.Prelude.{◌≡◌, ℕ, ◌≤◌, Bool, true, false, List, length, Option}
 use Rattle.ficus_disk.specs.declared.pair.Pair.{Pair}
+use Rattle.ficus_keeper.specs.Framed.{IsFramed, body_in}
 use Rattle.ficus_keeper.specs.Kept.{Kept, Settled, found_in}
 use Rattle.ficus_durable_state.specs.declared.saved.Saved.{Saved}
 use Rattle.ficus_image.specs.Image.{image_bytes}
@@ -22,12 +23,13 @@ pub record MayFollow {K D : Type 0} (kept : List ℕ → List ℕ → Option Kep
   pub ready : IsReady kept fits seen may_leave stable pair saved
   pub leads : Leads body saved next
 
--- the image of this is built where the keeper wants one, else the record that leads to it, and the keeper and both
--- disks have room for it
-pub record IsPrepared {K D : Type 0} (wants_image : K → Bool) (Takes : K → ℕ → Type 0) (size_of : K → ℕ → ℕ)
+-- the image of this is framed where the keeper wants one, else the record that leads to it, and the keeper and both
+-- disks take it
+pub record IsPrepared {K D : Type 0} (wants_image : K → Bool) (Allows : K → ℕ → Type 0) (size_of : K → ℕ → ℕ)
     (disk_room : D → ℕ) (stable : Stable K) (pair : Pair D) (next : Saved) (body : List ℕ) : Type 0 where
-  pub image : wants_image stable.keeper ≡ true → stable.bytes.items ≡ image_bytes next
-  pub noted : wants_image stable.keeper ≡ false → stable.bytes.items ≡ body
-  pub takes : Takes stable.keeper (length stable.bytes.items)
-  pub room_a : size_of stable.keeper (length stable.bytes.items) ≤ disk_room pair.a
-  pub room_b : size_of stable.keeper (length stable.bytes.items) ≤ disk_room pair.b
+  pub framed : IsFramed stable.framed
+  pub image : wants_image stable.keeper ≡ true → body_in stable.framed.items ≡ image_bytes next
+  pub noted : wants_image stable.keeper ≡ false → body_in stable.framed.items ≡ body
+  pub takes : Allows stable.keeper (length (body_in stable.framed.items))
+  pub room_a : size_of stable.keeper (length (body_in stable.framed.items)) ≤ disk_room pair.a
+  pub room_b : size_of stable.keeper (length (body_in stable.framed.items)) ≤ disk_room pair.b

@@ -6,13 +6,14 @@ ghost use Rattle.ficus_stable_storage.specs.Calls.{CommitsState, MakesState, Ope
 ghost use Rattle.ficus_stable_storage.specs.Leads.Holds.{Holds};
 ghost use Rattle.ficus_stable_storage.specs.Stable.{IsPrepared, MayFollow};
 
+use crate::framing::frame_wanted;
 use crate::reading::read_back;
 use ficus_disk::{Disk, Pair};
 use ficus_durable_state::Saved;
 use ficus_faults::Failed;
 use ficus_ids::Memory;
-use ficus_image::{encode_image, put_image};
-use ficus_keeper::{Keep, MakeFault, Opened, StoreFault, Wants, reopen};
+use ficus_image::encode_image;
+use ficus_keeper::{Keep, MakeFault, Opened, StoreFault, body_size, reopen};
 use std::alloc::Global;
 
 /// A keeper, with the image that it saves next. Whatever stops a save, the disks hold what was saved before it, or what
@@ -20,8 +21,8 @@ use std::alloc::Global;
 #[derive(Drop)]
 pub struct Stable<K> {
     keeper: K,
-    // What the next commit saves, an image or a record, built before it.
-    bytes: Vec<u8>,
+    // A frame of what the next commit saves, an image or a record, built before it.
+    framed: Vec<u8>,
 }
 
 /// What a pair of disks holds, and the keeper that saves what follows it.
@@ -72,25 +73,20 @@ impl<K: Keep + Drop> Stable<K> {
         requires fits { FitsImage next.now }
         ensures { Prepares K.Keep D.Disk next.now noted.items self.old self.new disks.old disks.new result }
     {
-        match self.keeper.wants() {
-            Wants::Image => {
-                self.bytes.clear();
-                put_image(&mut self.bytes, next)?;
-            }
-            Wants::Record => self.bytes = noted,
-        }
-        self.keeper.prepare(disks, self.bytes.len() as u64)
+        frame_wanted(&mut self.framed, self.keeper.wants(), next, noted)?;
+        self.keeper.reserve(disks, body_size(&self.framed))
     }
 
     /// Saves what was prepared, in place of what the disks hold. Takes no memory. After one that fails nothing is
     /// promised of the keeper, and one of the two is held.
     pub fn commit<D: Disk>(&mut self, disks: &mut Pair<D>, next: &Saved) -> Result<(), Failed>
         requires { (body : List ℕ)
-            × IsPrepared K.wants_image K.Takes K.size_of D.room self.old disks.old next.now body
+            × IsPrepared K.wants_image K.Allows K.size_of D.room self.old disks.old next.now body
             × (D.tells → MayFollow K.kept K.fits D.seen D.may_leave self.old disks.old next.now body) }
         ensures { CommitsState K.Keep D.Disk next.now self.new disks.old disks.new result }
     {
-        self.keeper.commit(disks, next.generation, &self.bytes)
+        self.keeper
+            .commit_framed(disks, next.generation, &mut self.framed)
     }
 }
 
@@ -109,7 +105,7 @@ fn recover<K: Keep + Drop>(
     let saved = read_back(alloc, opened)?;
     let stable = Stable {
         keeper,
-        bytes: Vec::new(alloc),
+        framed: Vec::new(alloc),
     };
     Ok(Recovered { stable, saved })
 }

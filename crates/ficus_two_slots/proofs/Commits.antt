@@ -3,7 +3,7 @@ use Rattle.std.proofs.Common.{◌≡◌, ◌⊎◌, inl, inr, ℕ, ◌+◌, ◌%
 use Rattle.std.proofs.lemmas.Bool.Decides.{nat_tests}
 use Rattle.ficus_keeper.specs.Kept.{Kept, generation_of, image_alone}
 use Rattle.ficus_keeper.proofs.Sides.{KnownAt, Saves, kept_at}
-use Rattle.ficus_slot.specs.Slot.{Saved, slot_in}
+use Rattle.ficus_slot.specs.Slot.{SlotContent, slot_in}
 use Rattle.ficus_slot.specs.Stays.{IsFound, IsNew, IsOld}
 use Rattle.ficus_slot.proofs.Written.{open_of}
 use Rattle.ficus_two_slots.specs.Slots.{IsRegular, Stands, StandsOn, bound, greater, kept_in, kept_slot, lies_on_a}
@@ -11,34 +11,34 @@ use Rattle.ficus_two_slots.specs.TwoSlot.{Fits}
 use Rattle.ficus_two_slots.specs.declared.two_slot.TwoSlot.{TwoSlot}
 
 -- the greater generation is in force
-second_wins : (x y : Option Saved) (old new : Saved) → x ≡ Some old → y ≡ Some new → old.generation < new.generation
+second_wins : (x y : Option SlotContent) (old new : SlotContent) → x ≡ Some old → y ≡ Some new → old.generation < new.generation
     → greater x y ≡ Some new
 second_wins x y old new is_x is_y less =
     let step : greater x y ≡ greater (Some old) (Some new) = cc in
     step ∙ (let e : greater (Some old) (Some new) ≡ Some new = grind (arith, nat_tests) in e)
 
-first_wins : (x y : Option Saved) (old new : Saved) → x ≡ Some new → y ≡ Some old → old.generation < new.generation
+first_wins : (x y : Option SlotContent) (old new : SlotContent) → x ≡ Some new → y ≡ Some old → old.generation < new.generation
     → greater x y ≡ Some new
 first_wins x y old new is_x is_y less =
     let step : greater x y ≡ greater (Some new) (Some old) = cc in
     step ∙ (let e : greater (Some new) (Some old) ≡ Some new = grind (arith, nat_tests) in e)
 
-stays_first : (saved : Saved) (x y : Option Saved) → x ≡ Some saved
-    → ((z : Saved) → y ≡ Some z → z.generation < saved.generation + 1) → greater x y ≡ Some saved
+stays_first : (saved : SlotContent) (x y : Option SlotContent) → x ≡ Some saved
+    → ((z : SlotContent) → y ≡ Some z → z.generation < saved.generation + 1) → greater x y ≡ Some saved
 stays_first saved x None is_x loses = ap (λ v. greater v None) is_x
 stays_first saved x (Some z) is_x loses =
     let less = loses z refl in
     ap (λ v. greater v (Some z)) is_x ∙ (let e : greater (Some saved) (Some z) ≡ Some saved = grind (arith, nat_tests) in e)
 
-stays_second : (saved : Saved) (x y : Option Saved) → y ≡ Some saved
-    → ((z : Saved) → x ≡ Some z → z.generation < saved.generation) → greater x y ≡ Some saved
+stays_second : (saved : SlotContent) (x y : Option SlotContent) → y ≡ Some saved
+    → ((z : SlotContent) → x ≡ Some z → z.generation < saved.generation) → greater x y ≡ Some saved
 stays_second saved None y is_y loses = is_y
 stays_second saved (Some z) y is_y loses =
     let less = loses z refl in
     ap (λ v. greater (Some z) v) is_y ∙ (let e : greater (Some z) (Some saved) ≡ Some saved = grind (arith, nat_tests) in e)
 
-still_loses : (x y : Option Saved) (bound : ℕ) → (y ≡ None) ⊎ (y ≡ x) → ((z : Saved) → x ≡ Some z → z.generation < bound)
-    → (z : Saved) → y ≡ Some z → z.generation < bound
+still_loses : (x y : Option SlotContent) (bound : ℕ) → (y ≡ None) ⊎ (y ≡ x) → ((z : SlotContent) → x ≡ Some z → z.generation < bound)
+    → (z : SlotContent) → y ≡ Some z → z.generation < bound
 still_loses x y bound (inl none) loses z is = absurd (cc)
 still_loses x y bound (inr same) loses z is = loses z (sym same ∙ is)
 
@@ -47,11 +47,11 @@ as_slots : (old c : List ℕ) → IsOld old c → (slot_in c ≡ None) ⊎ (slot
 as_slots old c (inl none) = inl none
 as_slots old c (inr same) = inr (ap slot_in same)
 
-abbrev generation_in : Option Saved → ℕ
+abbrev generation_in : Option SlotContent → ℕ
 generation_in None = 0
 generation_in (Some saved) = saved.generation
 
-abbrev saved_as : ℕ → List ℕ → Saved
+abbrev saved_as : ℕ → List ℕ → SlotContent
 saved_as generation body = record { generation = generation; body = body }
 
 -- what is known of the disks, by the side of the keeper
@@ -60,13 +60,13 @@ pub stands_on : (on_a : Bool) (keeper : TwoSlot) (a b : List ℕ) → keeper.on_
 stands_on on_a keeper a b side fits = subst (λ (v : Bool). StandsOn v keeper.generation keeper.shut a b) side fits
 
 -- the greater generation is kept, wherever it lies
-wins : (on_a : Bool) (mine other : List ℕ) (old new : Saved) → slot_in mine ≡ Some new → slot_in other ≡ Some old
+wins : (on_a : Bool) (mine other : List ℕ) (old new : SlotContent) → slot_in mine ≡ Some new → slot_in other ≡ Some old
     → old.generation < new.generation → kept_at kept_in on_a mine other ≡ Some (image_alone new.generation new.body)
 wins true mine other old new is was less = ap kept_slot (first_wins (slot_in mine) (slot_in other) old new is was less)
 wins false mine other old new is was less = ap kept_slot (second_wins (slot_in other) (slot_in mine) old new was is less)
 
-stays : (on_a : Bool) (mine other : List ℕ) (saved : Saved) → slot_in other ≡ Some saved
-    → ((z : Saved) → slot_in mine ≡ Some z → z.generation < bound (not on_a) saved.generation)
+stays : (on_a : Bool) (mine other : List ℕ) (saved : SlotContent) → slot_in other ≡ Some saved
+    → ((z : SlotContent) → slot_in mine ≡ Some z → z.generation < bound (not on_a) saved.generation)
     → kept_at kept_in on_a mine other ≡ Some (image_alone saved.generation saved.body)
 stays true mine other saved is loses = ap kept_slot (stays_second saved (slot_in mine) (slot_in other) is loses)
 stays false mine other saved is loses = ap kept_slot (stays_first saved (slot_in other) (slot_in mine) is loses)
@@ -96,8 +96,8 @@ parity true = 0
 parity false = 1
 
 record IsRegularSide (on_a : Bool) (mine other : List ℕ) : Type 0 where
-  here : (saved : Saved) → slot_in mine ≡ Some saved → saved.generation % 2 ≡ parity on_a
-  there : (saved : Saved) → slot_in other ≡ Some saved → saved.generation % 2 ≡ parity (not on_a)
+  here : (saved : SlotContent) → slot_in mine ≡ Some saved → saved.generation % 2 ≡ parity on_a
+  there : (saved : SlotContent) → slot_in other ≡ Some saved → saved.generation % 2 ≡ parity (not on_a)
 
 to_side : (on_a : Bool) (mine other : List ℕ) → KnownAt IsRegular on_a mine other → IsRegularSide on_a mine other
 to_side true mine other is = record { here = is.even; there = is.odd }
@@ -123,7 +123,7 @@ next_to generation new is = omega arith
 module _ (on_a : Bool) (generation new : ℕ) (shut : Bool) (body mine other : List ℕ)
     (stands : Stands generation (bound (not on_a) generation) shut other mine)
     (follows : (before : Kept) → kept_at kept_in on_a mine other ≡ Some before → new ≡ generation_of before + 1) where
-  abbrev before : Saved
+  abbrev before : SlotContent
   before = saved_as generation stands.body
 
   kept_before : kept_at kept_in on_a mine other ≡ Some (image_alone generation before.body)
@@ -158,7 +158,7 @@ module _ (on_a : Bool) (generation new : ℕ) (shut : Bool) (body mine other : L
   side regular = lies on_a new (turns regular)
 
   here_after : KnownAt IsRegular on_a mine other → (is_found : Bool) (c : List ℕ)
-      → IsFound is_found mine (saved_as new body) c → (s : Saved) → slot_in c ≡ Some s
+      → IsFound is_found mine (saved_as new body) c → (s : SlotContent) → slot_in c ≡ Some s
       → s.generation % 2 ≡ parity on_a
   here_after regular true c found s at =
       let number : new ≡ s.generation = ap generation_in (sym found.is ∙ at) in

@@ -2,20 +2,20 @@
 use Rattle.std.specs.Prelude.{◌≡◌, ◌==◌, ℕ, ◌+◌, ◌%◌, ◌<◌, nat_le, Bool, true, false, if◌then◌else◌, List, Option, Some, None}
 use Rattle.ficus_keeper.specs.Kept.{Kept, image_alone}
 use Rattle.ficus_slot.specs.Gate.{GateIs}
-use Rattle.ficus_slot.specs.Slot.{Saved, slot_in}
+use Rattle.ficus_slot.specs.Slot.{SlotContent, slot_in}
 
 -- the one of the greater generation, the first where they are equal
-abbrev pub greater : Option Saved → Option Saved → Option Saved
+abbrev pub greater : Option SlotContent → Option SlotContent → Option SlotContent
 greater None b = b
 greater (Some a) None = Some a
 greater (Some a) (Some b) = if nat_le b.generation a.generation then Some a else Some b
 
 -- the slot in force on the disks a and b
-abbrev pub in_force : List ℕ → List ℕ → Option Saved
+abbrev pub in_force : List ℕ → List ℕ → Option SlotContent
 in_force a b = greater (slot_in a) (slot_in b)
 
 -- what is kept of a slot
-abbrev pub kept_slot : Option Saved → Option Kept
+abbrev pub kept_slot : Option SlotContent → Option Kept
 kept_slot None = None
 kept_slot (Some saved) = Some (image_alone saved.generation saved.body)
 
@@ -28,7 +28,7 @@ kept_in a b = kept_slot (in_force a b)
 pub record Stands (generation bound : ℕ) (shut : Bool) (force other : List ℕ) : Type 0 where
   pub body : List ℕ
   pub in_force : slot_in force ≡ Some (record { generation = generation; body = body })
-  pub loses : (saved : Saved) → slot_in other ≡ Some saved → saved.generation < bound
+  pub loses : (saved : SlotContent) → slot_in other ≡ Some saved → saved.generation < bound
   pub gate : GateIs shut other
 
 -- where the slot in force lies on `a`, or on `b`, the other one is of a generation below this
@@ -51,5 +51,5 @@ lies_on_a generation = generation % 2 == 0
 
 -- even generations lie on `a`, odd ones on `b`
 pub record IsRegular (a b : List ℕ) : Type 0 where
-  pub even : (saved : Saved) → slot_in a ≡ Some saved → saved.generation % 2 ≡ 0
-  pub odd : (saved : Saved) → slot_in b ≡ Some saved → saved.generation % 2 ≡ 1
+  pub even : (saved : SlotContent) → slot_in a ≡ Some saved → saved.generation % 2 ≡ 0
+  pub odd : (saved : SlotContent) → slot_in b ≡ Some saved → saved.generation % 2 ≡ 1

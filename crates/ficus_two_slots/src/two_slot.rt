@@ -9,8 +9,9 @@ use ficus_disk::{Disk, Pair};
 use ficus_faults::Failed;
 use ficus_ids::{Listed, Memory};
 use ficus_keeper::{Keep, MakeFault, Opened, StoreFault, Wants};
-use ficus_slot::{reserve_range, save_slot};
+use ficus_slot::{frame, reserve_range, save_slot};
 use std::alloc::Global;
+use std::mem;
 
 /// A keeper with one slot on each disk of a pair. It always wants an image, and keeps no records.
 #[derive(Drop)]
@@ -20,7 +21,7 @@ pub struct TwoSlot {
     on_a: bool,
     // Whether the gate of the other disk is closed.
     shut: bool,
-    // What goes to a disk as one range is joined here.
+    // Bytes that are committed without a frame are framed here.
     buffer: Vec<u8>,
 }
 
@@ -35,6 +36,8 @@ impl Keep for TwoSlot {
     ghost fits = { Fits };
 
     ghost wants_image = { λ _. true };
+
+    ghost Allows = { λ _ _. Unit {0} };
 
     ghost Takes = { λ keeper length. range_size + length ≤ room_in keeper };
 
@@ -52,7 +55,8 @@ impl Keep for TwoSlot {
         let mut buffer = Vec::new(alloc);
         reserve_range(&mut buffer, image.len() as u64)?;
         disks.a.reserve(image.len() as u64 + 18)?;
-        save_slot(&mut disks.a, &mut buffer, false, 0, image)?;
+        frame(&mut buffer, image);
+        save_slot(&mut disks.a, &mut buffer, false, 0)?;
         Ok(())
     }
 
@@ -70,6 +74,13 @@ impl Keep for TwoSlot {
 
     fn prepare<D: Disk>(&mut self, disks: &mut Pair<D>, length: u64) -> Result<(), Memory> {
         reserve_range(&mut self.buffer, length)?;
+        self.reserve(disks, length)
+    }
+
+    fn reserve<D: Disk>(&self, disks: &mut Pair<D>, length: u64) -> Result<(), Memory> {
+        if length > 1 << 60 {
+            return Err(Memory);
+        }
         disks.a.reserve(length + 18)?;
         disks.b.reserve(length + 18)
     }
@@ -80,16 +91,30 @@ impl Keep for TwoSlot {
         generation: u64,
         bytes: &[u8],
     ) -> Result<(), Failed> {
+        let empty = Vec::new(*self.buffer.allocator());
+        let mut framed = mem::replace(&mut self.buffer, empty);
+        frame(&mut framed, bytes);
+        let committed = self.commit_framed(disks, generation, &mut framed);
+        self.buffer = framed;
+        committed
+    }
+
+    fn commit_framed<D: Disk>(
+        &mut self,
+        disks: &mut Pair<D>,
+        generation: u64,
+        framed: &mut Vec<u8>,
+    ) -> Result<(), Failed> {
         // After a failure nothing is promised of the keeper.
         let shut = self.shut;
         self.generation = generation;
         self.shut = false;
         if self.on_a {
             self.on_a = false;
-            save_slot(&mut disks.b, &mut self.buffer, shut, generation, bytes)
+            save_slot(&mut disks.b, framed, shut, generation)
         } else {
             self.on_a = true;
-            save_slot(&mut disks.a, &mut self.buffer, shut, generation, bytes)
+            save_slot(&mut disks.a, framed, shut, generation)
         }
     }
 }

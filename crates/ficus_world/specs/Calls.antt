@@ -240,7 +240,7 @@ pub record MakesReady {A K D : Type 0} (keep : Keep K) (disk : Disk D) (by : ℕ
     (was now : PostState) (old_stables new_stables : List (Stable K)) (old new : List (Pair D)) : Type 0 where
   pub room : OnOk result (1 ≤ history_room)
   pub post_room : OnOk result (HasRoom now 1)
-  pub prepared : OnOk result (IsPreparedAt keep.wants_image keep.Takes keep.size_of disk.room new_stables new by next
+  pub prepared : OnOk result (IsPreparedAt keep.wants_image keep.Allows keep.size_of disk.room new_stables new by next
       noted)
   pub small : OnOk result (was.now.total + length message ≤ total_limit)
   pub full : OnErr result (result ≢ Err refusal.Memory → (result ≡ Err refusal.LinkFull)

@@ -78,11 +78,11 @@ pub record StaysOn {D : Type 0} (faults : D → ℕ) (armings : D → Option ℕ
   pub disks : DisksFollow faults armings [] old_disks new_disks
 
 -- what a member saves next is built, as an image or by the record that leads to it, and there is room for it
-pub record IsPreparedAt {K D : Type 0} (wants_image : K → Bool) (Takes : K → ℕ → Type 0) (size_of : K → ℕ → ℕ)
+pub record IsPreparedAt {K D : Type 0} (wants_image : K → Bool) (Allows : K → ℕ → Type 0) (size_of : K → ℕ → ℕ)
     (disk_room : D → ℕ) (stables : List (Stable K)) (disks : List (Pair D)) (by : ℕ) (next : Saved) (noted : List ℕ)
     : Type 0 where
   pub each : (stable : Stable K) (pair : Pair D) → IsNumbered stables by stable → IsNumbered disks by pair
-      → IsPrepared wants_image Takes size_of disk_room stable pair next noted
+      → IsPrepared wants_image Allows size_of disk_room stable pair next noted
 
 -- where it is saved, the member holds it; else it is down, and that is pending
 abbrev pub IsAfterSave : {T E : Type 0} → Saved → Member → Result T E → Member → Type 0

@@ -30,7 +30,7 @@ pub(crate) fn prepare_at<K: Keep + Drop, D: Disk>(
     requires member { IsMember (length stables.old.items) by }
     requires pair { IsMember (length disks.old.items) by }
     requires fits { FitsImage next.now }
-    ensures prepared { OnOk result (IsPreparedAt K.wants_image K.Takes K.size_of D.room stables.new.items
+    ensures prepared { OnOk result (IsPreparedAt K.wants_image K.Allows K.size_of D.room stables.new.items
         disks.new.items by next.now noted.items) }
     ensures stays { StaysAt K.Keep D.Disk by stables.old.items stables.new.items disks.old.items disks.new.items }
 {
@@ -48,7 +48,7 @@ pub(crate) fn commit_at<K: Keep + Drop, D: Disk>(
     requires member { IsMember (length stables.old.items) by }
     requires pair { IsMember (length disks.old.items) by }
     requires prepared { (body : List ℕ)
-        × IsPreparedAt K.wants_image K.Takes K.size_of D.room stables.old.items disks.old.items by next.now body
+        × IsPreparedAt K.wants_image K.Allows K.size_of D.room stables.old.items disks.old.items by next.now body
         × (D.tells → (stable : StableValue K) (pair : PairValue D) → IsNumbered stables.old.items by stable
         → IsNumbered disks.old.items by pair → MayFollow K.kept K.fits D.seen D.may_leave stable pair next.now body) }
     ensures { CommitsAt K.Keep D.Disk by next.now result stables.old.items stables.new.items disks.old.items

@@ -90,7 +90,7 @@ pub(crate) fn commit_next<K: Keep + Drop, D: Disk>(
     requires pair { IsMember (length disks.old.items) by }
     requires up { (was : MemberValue) → IsNumbered members.old.items by was → was.state ≡ IsUp }
     requires prepared { (body : List ℕ)
-        × IsPreparedAt K.wants_image K.Takes K.size_of D.room stables.old.items disks.old.items by next.replica.saved
+        × IsPreparedAt K.wants_image K.Allows K.size_of D.room stables.old.items disks.old.items by next.replica.saved
         body × ((was : MemberValue) → IsNumbered members.old.items by was
         → Leads body was.replica.saved next.replica.saved) }
     requires room { 1 ≤ history.old.room }

@@ -1,6 +1,7 @@
-use Rattle.std.proofs.Common.{inl, sym, ◌∙◌, ap, length, arith, rules}
+use Rattle.std.proofs.Common.{ℕ, List, inl, sym, ◌∙◌, ap, drop, length, arith, rules}
 use Rattle.std.proofs.lemmas.Result.{err_from_is_err_and}
 use Rattle.ficus_disk.specs.Fuse.{pick_of}
+use Rattle.ficus_keeper.specs.Framed.{body_in}
 use Rattle.ficus_keeper.specs.Fuses.{is_found, lasts}
 use Rattle.ficus_keeper.proofs.Moments.{joined, weaker}
 use Rattle.ficus_keeper.proofs.Results.{in_err, in_ok}
@@ -18,8 +19,8 @@ save_range-requires-clause-within g c =
     omega (
       arith,
       c.requires.room,
-      ap length (c.deref.ensures.value ∙ c.fill_record.ensures.range),
-      length-record_range c.args.generation c.args.body.now,
+      ap length (c.range_in.ensures ∙ ap (λ (l : List ℕ). drop 4 l) c.deref.ensures.value ∙ c.fill_record.ensures.range),
+      length-record_range c.args.generation (body_in c.args.framed.now.items),
     )
 
 pub save_range-requires-2-clause-place : goal.save_range-requires-2-clause-place
@@ -36,7 +37,7 @@ returns-in_err-save_range g c =
       crash = λ told held d left.
           inl (first_step c.args.end _ (c.requires.gate told) _ _ held d (c.save_range.ensures.crash d left));
       moments = λ told held.
-          weaker (Appends c.args.end c.args.generation c.args.body.now (g.D.Disk.seen c.args.disk.now))
+          weaker (Appends c.args.end c.args.generation (body_in c.args.framed.now.items) (g.D.Disk.seen c.args.disk.now))
           c.save_range.ensures.moments
           (λ d left. inl (first_step c.args.end _ (c.requires.gate told) _ _ held d left));
       made = calls_cut g.D.Disk 2 2 c.in_err-save_range.ensures.made;
@@ -44,30 +45,30 @@ returns-in_err-save_range g c =
       found = λ fused told held.
           let old = first_step c.args.end _ (c.requires.gate told) _ _ held _
           (c.save_range.ensures.crash _ (g.met.D.Disk.image_may_be_left fused c.save_range.new.disk (pick_of f))) in
-          early (lasts 2 f) (is_found (pick_of f)) c.args.end c.args.generation c.args.body.now _ _
+          early (lasts 2 f) (is_found (pick_of f)) c.args.end c.args.generation (body_in c.args.framed.now.items) _ _
           (sym (c.in_err-save_range.ensures.made.by_fuse fused)) old;
     })
 
 pub returns : goal.returns
 returns g c =
     let f = g.D.Disk.fuse c.args.disk.now in
-    let range = c.deref.ensures.value ∙ c.fill_record.ensures.range in
+    let range = c.range_in.ensures ∙ ap (λ (l : List ℕ). drop 4 l) c.deref.ensures.value ∙ c.fill_record.ensures.range in
     let waits = λ (told : g.D.Disk.tells). first_done c.args.end _ (c.requires.gate told) _ _
     (rw range at (c.in_ok-save_range.ensures.saved told)) in
     record {
       saved = λ told.
           in_ok c.save_range-2.result
-          (second_done c.args.end _ (c.requires.gate told) c.args.generation c.args.body.now _ _ (waits told))
+          (second_done c.args.end _ (c.requires.gate told) c.args.generation (body_in c.args.framed.now.items) _ _ (waits told))
           (c.save_range-2.ensures.saved told);
       durable = c.save_range-2.ensures.durable;
       crash = λ told held d left.
-          second_step c.args.end _ (c.requires.gate told) c.args.generation c.args.body.now _ _
+          second_step c.args.end _ (c.requires.gate told) c.args.generation (body_in c.args.framed.now.items) _ _
           (c.in_ok-save_range.ensures.durable told) (waits told) d (c.save_range-2.ensures.crash d left);
       moments = λ told held.
-          joined (Appends c.args.end c.args.generation c.args.body.now (g.D.Disk.seen c.args.disk.now))
+          joined (Appends c.args.end c.args.generation (body_in c.args.framed.now.items) (g.D.Disk.seen c.args.disk.now))
           c.save_range.ensures.moments c.save_range-2.ensures.moments
           (λ d left. inl (first_step c.args.end _ (c.requires.gate told) _ _ held d left))
-          (second_step c.args.end _ (c.requires.gate told) c.args.generation c.args.body.now _ _
+          (second_step c.args.end _ (c.requires.gate told) c.args.generation (body_in c.args.framed.now.items) _ _
           (c.in_ok-save_range.ensures.durable told) (waits told));
       made = calls_on g.D.Disk 2 2 (g.met.D.Disk.left_earlier c.save_range-2.new.disk) c.in_ok-save_range.ensures.made
           c.save_range-2.ensures.made;
@@ -75,9 +76,9 @@ returns g c =
       found = λ fused told held.
           let p = pick_of f in
           in_err c.save_range-2.result
-          (λ images. late (lasts 2 f) (is_found p) c.args.end c.args.generation c.args.body.now _ _
+          (λ images. late (lasts 2 f) (is_found p) c.args.end c.args.generation (body_in c.args.framed.now.items) _ _
           (sym (c.in_ok-save_range.ensures.made.by_fuse fused))
-          (second_pick c.args.end _ (c.requires.gate told) c.args.generation c.args.body.now p _ _ _ _ (waits told)
+          (second_pick c.args.end _ (c.requires.gate told) c.args.generation (body_in c.args.framed.now.items) p _ _ _ _ (waits told)
           (c.in_ok-save_range.ensures.durable told)
           (g.met.D.Disk.image_may_be_left fused c.save_range.new.disk p) (images p)))
           (c.save_range-2.ensures.images fused);

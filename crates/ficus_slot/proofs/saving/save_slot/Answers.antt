@@ -4,14 +4,15 @@ use Rattle.ficus_disk.specs.Fuse.{pick_of}
 use Rattle.ficus_keeper.specs.Fuses.{is_found}
 use Rattle.ficus_keeper.proofs.Moments.{joined, weaker}
 use Rattle.ficus_keeper.proofs.Results.{in_err, in_ok}
-use Rattle.ficus_slot.specs.Slot.{Saved}
+use Rattle.ficus_keeper.specs.Framed.{body_in}
+use Rattle.ficus_slot.specs.Slot.{SlotContent}
 use Rattle.ficus_slot.specs.Stays.{Stays}
 use Rattle.ficus_slot.proofs.Burning.{calls_cut, calls_on, lasts_short}
 use Rattle.ficus_slot.proofs.Written.{length-range_of}
 use Rattle.ficus_slot.proofs.Steps.{early, first_done, first_step, late, second_done, second_step, third_done, third_pick, third_step}
 use Rattle.ficus_slot.proofs.saving.save_slot.Goals as goal
 
-abbrev saved_as : ℕ → List ℕ → Saved
+abbrev saved_as : ℕ → List ℕ → SlotContent
 saved_as generation body = record { generation = generation; body = body }
 
 pub save_range-requires-2-clause-within : goal.save_range-requires-2-clause-within
@@ -21,13 +22,13 @@ save_range-requires-2-clause-within g c =
       c.requires.room,
       c.save_range.ensures.made.room,
       ap length (c.deref.ensures.value ∙ c.fill_range.ensures.range),
-      length-range_of c.args.generation c.args.body.now,
+      length-range_of c.args.generation (body_in c.args.framed.now.items),
     )
 
 pub returns-in_err-save_range : goal.returns-in_err-save_range
 returns-in_err-save_range g c =
     let f = g.D.Disk.fuse c.args.disk.now in
-    let saved = saved_as c.args.generation c.args.body.now in
+    let saved = saved_as c.args.generation (body_in c.args.framed.now.items) in
     rw (err_from_is_err_and c.from_residual.result c.from_residual.ensures.1).1 (record {
       saved = λ told. tt;
       durable = λ told. tt;
@@ -48,7 +49,7 @@ returns-in_err-save_range g c =
 pub returns-in_err-save_range-2 : goal.returns-in_err-save_range-2
 returns-in_err-save_range-2 g c =
     let f = g.D.Disk.fuse c.args.disk.now in
-    let saved = saved_as c.args.generation c.args.body.now in
+    let saved = saved_as c.args.generation (body_in c.args.framed.now.items) in
     let shut = λ (told : g.D.Disk.tells). first_done c.args.shut _ _ _ c.first_place-first.ensures
     (c.in_ok-save_range.ensures.saved told) (c.requires.gate told) in
     let made = calls_on g.D.Disk 2 2 (g.met.D.Disk.left_earlier c.save_range-2.new.disk) c.in_ok-save_range.ensures.made
@@ -76,14 +77,14 @@ returns-in_err-save_range-2 g c =
 pub returns : goal.returns
 returns g c =
     let f = g.D.Disk.fuse c.args.disk.now in
-    let saved = saved_as c.args.generation c.args.body.now in
+    let saved = saved_as c.args.generation (body_in c.args.framed.now.items) in
     let shut = λ (told : g.D.Disk.tells). first_done c.args.shut _ _ _ c.first_place-first.ensures
     (c.in_ok-save_range.ensures.saved told) (c.requires.gate told) in
     let range = c.deref.ensures.value ∙ c.fill_range.ensures.range in
     let ready = λ (told : g.D.Disk.tells). second_done saved _ _ _ (shut told) (c.in_ok-save_range-2.ensures.saved told)
     range in
-    let fits : length c.args.body.now < 2 ^ 64 =
-    omega (arith, ap length range, length-range_of c.args.generation c.args.body.now, c.deref.type_inv.0) in
+    let fits : length (body_in c.args.framed.now.items) < 2 ^ 64 =
+    omega (arith, ap length range, length-range_of c.args.generation (body_in c.args.framed.now.items), c.deref.type_inv.0) in
     let small : c.args.generation < 2 ^ 64 = omega arith in
     let made = calls_on g.D.Disk 2 2 (g.met.D.Disk.left_earlier c.save_range-2.new.disk) c.in_ok-save_range.ensures.made
     c.in_ok-save_range-2.ensures.made in

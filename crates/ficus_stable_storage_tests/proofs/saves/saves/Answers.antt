@@ -7,6 +7,7 @@ commit-requires g c =
     let prepared = c.in_ok-prepare.ensures.prepared in (
       c.args.body.items,
       record {
+        framed = prepared.framed;
         image = prepared.image;
         noted = prepared.noted;
         takes = prepared.takes;

@@ -1,4 +1,5 @@
-use Rattle.std.proofs.Common.{◌+◌, refl, true, false, length}
+use Rattle.std.proofs.Common.{◌+◌, ◌∙◌, ℕ, List, refl, ap, true, false, length}
+use Rattle.ficus_keeper.specs.Framed.{body_in}
 use Rattle.ficus_slot.proofs.Commits.{save_fused, save_told}
 use Rattle.ficus_journal.specs.Journal.{Fits}
 use Rattle.ficus_journal.specs.Logs.{IsRegular, kept_in}
@@ -9,18 +10,18 @@ pub returns-then-self-clause-told : goal.returns-then-self-clause-told
 returns-then-self-clause-told g c told =
     let fits = fits_on true c.args.self.now _ _ c.if-self.true (c.requires.settled told).holds in
     save_told g.D.Disk kept_in Fits IsRegular false c.args.disks.now c.save_slot.ensures (c.requires.settled told)
-    (image_saves true _ _ _ fits c.args.generation c.args.bytes.now (c.requires.next told) c.requires.image _ refl refl refl refl
-    refl refl)
+    (image_saves true _ _ _ fits c.args.generation (body_in c.args.framed.now.items) (c.requires.next told) c.requires.image _ refl refl refl
+    (ap (λ (n : ℕ). n + 17) (c.body_size.ensures ∙ ap (λ (l : List ℕ). length (body_in l)) c.deref.ensures.value)) refl refl)
     g.met.D.Disk.only_now (g.met.D.Disk.seen_may_be_left told) told
 
 pub returns-then-self-clause-by_fuse : goal.returns-then-self-clause-by_fuse
 returns-then-self-clause-by_fuse g c tells told regular =
     let k = c.args.self.now in
     let fits = fits_on true k _ _ c.if-self.true (c.requires.settled told).holds in
-    let turns = image_turns true k _ _ fits c.args.generation c.args.bytes.now (c.requires.next told) c.requires.image regular in
+    let turns = image_turns true k _ _ fits c.args.generation (body_in c.args.framed.now.items) (c.requires.next told) c.requires.image regular in
     save_fused g.D.Disk kept_in Fits IsRegular false c.args.disks.now c.save_slot.ensures (c.requires.settled told)
-    (image_saves true k _ _ fits c.args.generation c.args.bytes.now (c.requires.next told) c.requires.image
-    (record k { generation = c.args.generation; on_a = false; shut = false; end = length c.args.bytes.now + 17; count = 0; stuck = false })
+    (image_saves true k _ _ fits c.args.generation (body_in c.args.framed.now.items) (c.requires.next told) c.requires.image
+    (record k { generation = c.args.generation; on_a = false; shut = false; end = length (body_in c.args.framed.now.items) + 17; count = 0; stuck = false })
     refl refl refl refl refl refl)
     (g.met.D.Disk.image_may_be_left tells) tells told turns.0 turns.1
 
@@ -28,17 +29,17 @@ pub returns-else-self-clause-told : goal.returns-else-self-clause-told
 returns-else-self-clause-told g c told =
     let fits = fits_on false c.args.self.now _ _ c.if-self.false (c.requires.settled told).holds in
     save_told g.D.Disk kept_in Fits IsRegular true c.args.disks.now c.save_slot-else-self.ensures (c.requires.settled told)
-    (image_saves false _ _ _ fits c.args.generation c.args.bytes.now (c.requires.next told) c.requires.image _ refl refl refl refl
-    refl refl)
+    (image_saves false _ _ _ fits c.args.generation (body_in c.args.framed.now.items) (c.requires.next told) c.requires.image _ refl refl refl
+    (ap (λ (n : ℕ). n + 17) (c.body_size.ensures ∙ ap (λ (l : List ℕ). length (body_in l)) c.deref.ensures.value)) refl refl)
     g.met.D.Disk.only_now (g.met.D.Disk.seen_may_be_left told) told
 
 pub returns-else-self-clause-by_fuse : goal.returns-else-self-clause-by_fuse
 returns-else-self-clause-by_fuse g c tells told regular =
     let k = c.args.self.now in
     let fits = fits_on false k _ _ c.if-self.false (c.requires.settled told).holds in
-    let turns = image_turns false k _ _ fits c.args.generation c.args.bytes.now (c.requires.next told) c.requires.image regular in
+    let turns = image_turns false k _ _ fits c.args.generation (body_in c.args.framed.now.items) (c.requires.next told) c.requires.image regular in
     save_fused g.D.Disk kept_in Fits IsRegular true c.args.disks.now c.save_slot-else-self.ensures (c.requires.settled told)
-    (image_saves false k _ _ fits c.args.generation c.args.bytes.now (c.requires.next told) c.requires.image
-    (record k { generation = c.args.generation; on_a = true; shut = false; end = length c.args.bytes.now + 17; count = 0; stuck = false })
+    (image_saves false k _ _ fits c.args.generation (body_in c.args.framed.now.items) (c.requires.next told) c.requires.image
+    (record k { generation = c.args.generation; on_a = true; shut = false; end = length (body_in c.args.framed.now.items) + 17; count = 0; stuck = false })
     refl refl refl refl refl refl)
     (g.met.D.Disk.image_may_be_left tells) tells told turns.0 turns.1

@@ -6,7 +6,7 @@ pub returns-in_err-save_slot-clause-told : goal.returns-in_err-save_slot-clause-
 returns-in_err-save_slot-clause-told g c told =
     let keeps = c.reserve.ensures.keeps in
     made g.D.Disk.seen g.D.Disk.may_leave g.D.Disk.moment g.D.Disk.left_since c.args.image.now c.args.disks.now
-    c.reserve.new.self c.save_slot.new.disk _ g.met.D.Disk.only_now (c.requires.empty_a told) (c.requires.empty_b told)
+    c.reserve.new.self c.save_slot.new.disk _ c.frame.ensures.body g.met.D.Disk.only_now (c.requires.empty_a told) (c.requires.empty_b told)
     (keeps.seen told) keeps.crash keeps.moments (c.save_slot.ensures.crash told) (c.save_slot.ensures.moments told)
     (search rules) (search rules)
 
@@ -14,6 +14,6 @@ pub returns-clause-told : goal.returns-clause-told
 returns-clause-told g c told =
     let keeps = c.reserve.ensures.keeps in
     made g.D.Disk.seen g.D.Disk.may_leave g.D.Disk.moment g.D.Disk.left_since c.args.image.now c.args.disks.now
-    c.reserve.new.self c.save_slot.new.disk _ g.met.D.Disk.only_now (c.requires.empty_a told) (c.requires.empty_b told)
+    c.reserve.new.self c.save_slot.new.disk _ c.frame.ensures.body g.met.D.Disk.only_now (c.requires.empty_a told) (c.requires.empty_b told)
     (keeps.seen told) keeps.crash keeps.moments (c.save_slot.ensures.crash told) (c.save_slot.ensures.moments told)
     (c.in_ok-save_slot.ensures.saved told) (c.in_ok-save_slot.ensures.durable told)
