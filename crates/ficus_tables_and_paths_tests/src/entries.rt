@@ -1,5 +1,6 @@
 ghost use Rattle.std.specs.Prelude.{◌≡◌, ◌≤◌};
 
+use crate::fault::Fault;
 use ficus_entry::{Entries, Entry, Leading, State};
 use ficus_ids::{Id, Marks, Memory, Name, NameFault, ROOT};
 use std::alloc::Global;
@@ -10,7 +11,7 @@ const fn id(number: u32) -> Id {
 }
 
 // Enters an object of this number under a name of the root.
-fn enter(entries: &mut Entries, number: u32, name: &[u8]) -> Result<(), Fail> {
+fn enter(entries: &mut Entries, number: u32, name: &[u8]) -> Result<(), Fault> {
     let name = Name::new(name)?;
     let id = id(number);
     entries.put(Entry {
@@ -41,13 +42,13 @@ fn target(entries: &Entries, name: &[u8]) -> Result<u32, NameFault> {
 }
 
 // Enters and removes an object. Its name leads nowhere before, and to the object while it is there.
-fn turn(entries: &mut Entries, number: u32) -> Result<(), Fail> {
+fn turn(entries: &mut Entries, number: u32) -> Result<(), Fault> {
     let before = target(entries, b"goes")?;
     enter(entries, number, b"goes")?;
     let between = target(entries, b"goes")?;
     remove(entries, number);
     if before != 0 || between != number {
-        return Err("a turn went wrong".into());
+        return Err(Fault::Row);
     }
     Ok(())
 }
@@ -60,7 +61,7 @@ fn fold(entries: &mut Entries) -> Result<(), Memory> {
 
 // A name is entered and removed a thousand times beside one that stays, and the changes of every second turn are
 // folded in by a copy.
-fn wear(entries: &mut Entries) -> Result<(), Fail> {
+fn wear(entries: &mut Entries) -> Result<(), Fault> {
     enter(entries, 1, b"stays")?;
     for number in 2..1002 {
         turn(entries, number)?;
@@ -113,7 +114,7 @@ fn are_dead(entries: &Entries, first: usize) -> Result<bool, Memory> {
 
 // Whether the name that stays leads to its object, the other one nowhere, and all that was entered still lies in the
 // root, one of it live.
-fn is_worn(entries: &Entries) -> Result<bool, Fail> {
+fn is_worn(entries: &Entries) -> Result<bool, Fault> {
     let leads = targets(entries)? == [1, 0];
     let inside = count_inside(entries, ROOT)?;
     let live = count_live(entries)?;
@@ -127,7 +128,7 @@ fn is_bare(entries: &Entries) -> Result<bool, Memory> {
 }
 
 // Whether the entries are worn, and bare once the one that stays is removed.
-fn are_worn(entries: &mut Entries) -> Result<bool, Fail> {
+fn are_worn(entries: &mut Entries) -> Result<bool, Fault> {
     wear(entries)?;
     let worn = is_worn(entries)?;
     remove(entries, 1);
@@ -135,7 +136,7 @@ fn are_worn(entries: &mut Entries) -> Result<bool, Fail> {
     Ok(worn && bare)
 }
 
-fn are_worn_anew(alloc: Global) -> Result<bool, Fail> {
+fn are_worn_anew(alloc: Global) -> Result<bool, Fault> {
     let mut entries = Entries::new(alloc);
     are_worn(&mut entries)
 }

@@ -6,6 +6,8 @@
 #[cfg(test)]
 mod entries;
 #[cfg(test)]
+mod fault;
+#[cfg(test)]
 mod lists;
 #[cfg(test)]
 mod merging;

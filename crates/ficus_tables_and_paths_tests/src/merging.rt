@@ -1,3 +1,4 @@
+use crate::fault::Fault;
 use ficus_entry::{Entries, Entry, State};
 use ficus_ids::{Id, Marks, Members, Name, ROOT};
 use ficus_merge_entries::merge_entries;
@@ -19,7 +20,7 @@ impl At {
 
 // The state of an entry. A set of replicas has bit 0 for replica 1 and bit 1 for replica 2.
 #[derive(Clone, Copy)]
-enum Kept {
+enum Held {
     Live,
     Dead(u8, u8),
 }
@@ -35,11 +36,11 @@ fn marks(bits: u8) -> Marks {
     marks
 }
 
-impl Kept {
+impl Held {
     fn state(self) -> State {
         match self {
-            Kept::Live => State::Live,
-            Kept::Dead(one, two) => State::Dead {
+            Held::Live => State::Live,
+            Held::Dead(one, two) => State::Dead {
                 one: marks(one),
                 two: marks(two),
             },
@@ -48,7 +49,7 @@ impl Kept {
 }
 
 // Adds an entry of the root.
-fn enter(entries: &mut Entries, entry: At, name: &[u8], state: Kept) -> Result<(), Fail> {
+fn enter(entries: &mut Entries, entry: At, name: &[u8], state: Held) -> Result<(), Fault> {
     let name = Name::new(name)?;
     let id = entry.id();
     entries.put(Entry {
@@ -62,9 +63,9 @@ fn enter(entries: &mut Entries, entry: At, name: &[u8], state: Kept) -> Result<(
 }
 
 // Adds so many entries, and one in this state, if any.
-fn fill(entries: &mut Entries, name: &[u8], state: Option<Kept>, others: u32) -> Result<(), Fail> {
+fn fill(entries: &mut Entries, name: &[u8], state: Option<Held>, others: u32) -> Result<(), Fault> {
     for number in 0..others {
-        enter(entries, At(1, number), b"other", Kept::Live)?;
+        enter(entries, At(1, number), b"other", Held::Live)?;
     }
     match state {
         Some(state) => enter(entries, At(2, 1), name, state),
@@ -73,7 +74,7 @@ fn fill(entries: &mut Entries, name: &[u8], state: Option<Kept>, others: u32) ->
 }
 
 // An entry in this state, if any, and so many others.
-fn holding(alloc: Global, name: &[u8], state: Option<Kept>, others: u32) -> Result<Entries, Fail> {
+fn holding(alloc: Global, name: &[u8], state: Option<Held>, others: u32) -> Result<Entries, Fault> {
     let mut entries = Entries::new(alloc);
     fill(&mut entries, name, state, others)?;
     Ok(entries)
@@ -88,8 +89,8 @@ fn state(entries: &Entries) -> Option<State> {
 }
 
 // The state of the entry once replica 1 of 2 has taken what replica 2 holds, if it then has one.
-fn merged(alloc: Global, mine: &Entries, theirs: &Entries) -> Result<Option<State>, Fail> {
-    let members = Members::new(2).ok_or("two")?;
+fn merged(alloc: Global, mine: &Entries, theirs: &Entries) -> Result<Option<State>, Fault> {
+    let members = Members::new(2).ok_or(Fault::Row)?;
     let merged = merge_entries(alloc, mine, theirs, 1, members)?;
     Ok(state(&merged))
 }
@@ -98,9 +99,9 @@ fn merged(alloc: Global, mine: &Entries, theirs: &Entries) -> Result<Option<Stat
 fn taken(
     alloc: Global,
     mine: &Entries,
-    theirs: Option<Kept>,
+    theirs: Option<Held>,
     others: u32,
-) -> Result<Option<State>, Fail> {
+) -> Result<Option<State>, Fault> {
     let theirs = holding(alloc, b"b", theirs, others)?;
     merged(alloc, mine, &theirs)
 }
@@ -108,54 +109,54 @@ fn taken(
 // The same, where both hold the entry in these states, if any, beside so many others.
 fn merge(
     alloc: Global,
-    mine: Option<Kept>,
-    theirs: Option<Kept>,
+    mine: Option<Held>,
+    theirs: Option<Held>,
     others: u32,
-) -> Result<Option<State>, Fail> {
+) -> Result<Option<State>, Fault> {
     let mine = holding(alloc, b"a", mine, others)?;
     taken(alloc, &mine, theirs, others)
 }
 
 // The states in which replica 1 and replica 2 hold an entry, if they do, and the one in which replica 1 then holds it.
-const MERGES: &[(u8, Option<Kept>, Option<Kept>, Option<Kept>)] = &[
+const MERGES: &[(u8, Option<Held>, Option<Held>, Option<Held>)] = &[
     (1, None, None, None),
-    (2, None, Some(Kept::Live), Some(Kept::Live)),
-    (3, None, Some(Kept::Dead(2, 0)), Some(Kept::Dead(3, 1))),
-    (4, None, Some(Kept::Dead(3, 2)), None),
-    (5, Some(Kept::Live), None, Some(Kept::Live)),
-    (6, Some(Kept::Live), Some(Kept::Live), Some(Kept::Live)),
+    (2, None, Some(Held::Live), Some(Held::Live)),
+    (3, None, Some(Held::Dead(2, 0)), Some(Held::Dead(3, 1))),
+    (4, None, Some(Held::Dead(3, 2)), None),
+    (5, Some(Held::Live), None, Some(Held::Live)),
+    (6, Some(Held::Live), Some(Held::Live), Some(Held::Live)),
     (
         7,
-        Some(Kept::Live),
-        Some(Kept::Dead(2, 0)),
-        Some(Kept::Dead(3, 1)),
+        Some(Held::Live),
+        Some(Held::Dead(2, 0)),
+        Some(Held::Dead(3, 1)),
     ),
     (
         8,
-        Some(Kept::Dead(1, 0)),
-        Some(Kept::Live),
-        Some(Kept::Dead(1, 0)),
+        Some(Held::Dead(1, 0)),
+        Some(Held::Live),
+        Some(Held::Dead(1, 0)),
     ),
     (
         9,
-        Some(Kept::Dead(1, 0)),
-        Some(Kept::Dead(2, 0)),
-        Some(Kept::Dead(3, 1)),
+        Some(Held::Dead(1, 0)),
+        Some(Held::Dead(2, 0)),
+        Some(Held::Dead(3, 1)),
     ),
     (
         10,
-        Some(Kept::Dead(3, 1)),
-        Some(Kept::Dead(3, 2)),
-        Some(Kept::Dead(3, 3)),
+        Some(Held::Dead(3, 1)),
+        Some(Held::Dead(3, 2)),
+        Some(Held::Dead(3, 3)),
     ),
-    (11, Some(Kept::Dead(1, 0)), None, Some(Kept::Dead(1, 0))),
-    (12, Some(Kept::Dead(3, 1)), None, Some(Kept::Dead(3, 3))),
+    (11, Some(Held::Dead(1, 0)), None, Some(Held::Dead(1, 0))),
+    (12, Some(Held::Dead(3, 1)), None, Some(Held::Dead(3, 3))),
 ];
 
 #[test]
 fn entries_merge_by_the_table(rt: HostRuntime) -> Result<(), Fail> {
     for &(row, mine, theirs, after) in MERGES {
-        let after = after.map(Kept::state);
+        let after = after.map(Held::state);
         let alone = merge(rt.alloc(), mine, theirs, 0)?;
         assert!(rt; alone == after, "row {row}");
         let beside = merge(rt.alloc(), mine, theirs, 40)?;

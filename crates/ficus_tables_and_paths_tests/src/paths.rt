@@ -1,16 +1,17 @@
+use crate::fault::Fault;
 use ficus_path::{Path, read_path, write_path};
 use std::alloc::Global;
 use std::test::Fail;
 
 // Whether a path is spelled so.
-fn is_spelled(alloc: Global, path: &Path, text: &str) -> Result<bool, Fail> {
+fn is_spelled(alloc: Global, path: &Path, text: &str) -> Result<bool, Fault> {
     let copy = path.copy(alloc)?;
     let spelling = write_path(alloc, &copy)?;
     Ok(spelling.as_slice() == text.as_bytes())
 }
 
 // Whether a copy of the path that the text spells is spelled so too.
-fn is_its_spelling(alloc: Global, text: &str) -> Result<bool, Fail> {
+fn is_its_spelling(alloc: Global, text: &str) -> Result<bool, Fault> {
     let path = read_path(alloc, text.as_bytes())?;
     is_spelled(alloc, &path, text)
 }
