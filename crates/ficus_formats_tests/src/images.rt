@@ -238,10 +238,10 @@ fn are_images(alloc: Global, changes: &[OtherByte], said: bool) -> Result<bool, 
 
 #[test]
 fn images_are_those_of_the_grammar(rt: HostRuntime) -> Result<(), Fail> {
-    assert!(rt; stays_so(rt.alloc(), &FRESH)?);
-    assert!(rt; stays_so(rt.alloc(), &DIRECTORY)?);
-    assert!(rt; stays_so(rt.alloc(), &WRITTEN)?);
-    assert!(rt; stays_so(rt.alloc(), &LINK)?);
+    let images: [&[u8]; 4] = [&FRESH, &DIRECTORY, &WRITTEN, &LINK];
+    for (place, image) in images.iter().enumerate() {
+        assert!(rt; stays_so(rt.alloc(), image)?, "{place}");
+    }
     assert!(rt; reads_variants(&Images, rt.alloc(), &FRESH)?);
     assert!(rt; reads_variants(&Images, rt.alloc(), &DIRECTORY)?);
     Ok(())
@@ -284,9 +284,10 @@ fn is_read_in_version_1(alloc: Global, bytes: &[u8]) -> Result<bool, Memory> {
 
 #[test]
 fn version_1_is_read_where_there_is_no_link(rt: HostRuntime) -> Result<(), Fail> {
-    assert!(rt; is_read_in_version_1(rt.alloc(), &FRESH)?);
-    assert!(rt; is_read_in_version_1(rt.alloc(), &DIRECTORY)?);
-    assert!(rt; is_read_in_version_1(rt.alloc(), &WRITTEN)?);
+    let images: [&[u8]; 3] = [&FRESH, &DIRECTORY, &WRITTEN];
+    for (place, image) in images.iter().enumerate() {
+        assert!(rt; is_read_in_version_1(rt.alloc(), image)?, "{place}");
+    }
     assert!(rt; is_refused(rt.alloc(), &changed(rt.alloc(), &LINK, FIRST_VERSION)?));
     Ok(())
 }

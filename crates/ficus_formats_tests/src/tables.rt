@@ -127,18 +127,25 @@ fn are_refused(
     Ok(true)
 }
 
+/// Tables, and the changes of a byte that leave none.
+const TABLES: [(&[u8], &[OtherByte]); 4] = [
+    (&DIRECTORY, &NO_DIRECTORY),
+    (&REMOVED, &NOT_REMOVED),
+    (&APART, &NOT_APART),
+    (&[0; 8], &[]),
+];
+
 #[test]
 fn tables_have_one_spelling(rt: HostRuntime) -> Result<(), Fail> {
-    let alloc = rt.alloc();
     let members = Members::new(2).ok_or("two")?;
-    assert!(rt; stay_so(alloc, &DIRECTORY, members)?);
-    assert!(rt; stay_so(alloc, &REMOVED, members)?);
-    assert!(rt; stay_so(alloc, &APART, members)?);
-    assert!(rt; stay_so(alloc, &[0; 8], members)?);
-    assert!(rt; are_refused(alloc, &DIRECTORY, &NO_DIRECTORY, members)?);
-    assert!(rt; are_refused(alloc, &REMOVED, &NOT_REMOVED, members)?);
-    assert!(rt; are_refused(alloc, &APART, &NOT_APART, members)?);
-    assert!(rt; !stay_so(alloc, &[0; 7], members)?);
+    for (place, (bytes, changes)) in TABLES.iter().enumerate() {
+        assert!(rt; stay_so(rt.alloc(), bytes, members)?, "{place}");
+        assert!(rt;
+            are_refused(rt.alloc(), bytes, changes, members)?,
+            "{place}"
+        );
+    }
+    assert!(rt; !stay_so(rt.alloc(), &[0; 7], members)?);
     Ok(())
 }
 
@@ -201,17 +208,24 @@ const OTHER_COVER: OtherByte = OtherByte { place: 70, byte: 1 };
 
 #[test]
 fn what_is_known_changes_nothing_that_is_read(rt: HostRuntime) -> Result<(), Fail> {
-    let alloc = rt.alloc();
     let members = Members::new(2).ok_or("two")?;
-    let other_set = changed(alloc, &REMOVED, OTHER_SET)?;
-    let other_cover = changed(alloc, &REMOVED, OTHER_COVER)?;
-    assert!(rt; stay_so_beside(alloc, &REMOVED, &REMOVED, members)?);
-    assert!(rt; stay_so_beside(alloc, &REMOVED, &other_set, members)?);
-    assert!(rt; stay_so_beside(alloc, &REMOVED, &other_cover, members)?);
-    assert!(rt; stay_so_beside(alloc, &other_set, &REMOVED, members)?);
-    assert!(rt; stay_so_beside(alloc, &DIRECTORY, &REMOVED, members)?);
-    assert!(rt; stay_so_beside(alloc, &APART, &APART, members)?);
-    assert!(rt; stay_so_beside(alloc, &APART, &REMOVED, members)?);
+    let other_set = changed(rt.alloc(), &REMOVED, OTHER_SET)?;
+    let other_cover = changed(rt.alloc(), &REMOVED, OTHER_COVER)?;
+    let beside: [(&[u8], &[u8]); 7] = [
+        (&REMOVED, &REMOVED),
+        (&REMOVED, &other_set),
+        (&REMOVED, &other_cover),
+        (&other_set, &REMOVED),
+        (&DIRECTORY, &REMOVED),
+        (&APART, &APART),
+        (&APART, &REMOVED),
+    ];
+    for (place, (bytes, known)) in beside.iter().enumerate() {
+        assert!(rt;
+            stay_so_beside(rt.alloc(), bytes, known, members)?,
+            "{place}"
+        );
+    }
     Ok(())
 }
 

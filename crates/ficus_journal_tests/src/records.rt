@@ -183,9 +183,10 @@ fn what_two_slots_left_has_no_record(rt: HostRuntime) -> Result<(), Fail> {
         wants: Wants::Record,
     };
     assert!(rt; TwoSlot::make(alloc, &mut disks, b"made").is_ok());
-    assert!(rt; saves::<TwoSlot, MemDisk>(alloc, &mut disks, b"first", None) == Ok(true));
-    assert!(rt; saves::<TwoSlot, MemDisk>(alloc, &mut disks, b"the second", None) == Ok(true));
-    assert!(rt; saves::<TwoSlot, MemDisk>(alloc, &mut disks, b"third", None) == Ok(true));
+    let saved: [&[u8]; 3] = [b"first", b"the second", b"third"];
+    for bytes in saved {
+        assert!(rt; saves::<TwoSlot, MemDisk>(alloc, &mut disks, bytes, None) == Ok(true));
+    }
     assert!(rt; kept_on::<Journal, MemDisk>(alloc, &mut disks) == Ok(none));
     assert!(rt; ends_with::<Journal, MemDisk>(alloc, &mut disks, b"third") == Ok(true));
     assert!(rt; saves::<Journal, MemDisk>(alloc, &mut disks, b"record", None) == Ok(true));

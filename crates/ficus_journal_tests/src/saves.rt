@@ -2,8 +2,8 @@
 ghost use Rattle.std.specs.Prelude.{◌<◌, IfSome};
 
 use ficus_disk::{Disk, Pair};
-use ficus_keeper::{Keep, StoreFault, Wants, reopen};
-use ficus_slot::{frame, reserve_range};
+use ficus_keeper::{Keep, StoreFault, Wants, frame, reopen};
+use ficus_slot::reserve_range;
 use std::alloc::Global;
 
 /// How many calls of the disks pass, and the pick of what they then are.

@@ -113,7 +113,7 @@ pub record Commits {K D A E : Type 0} (kept_by : List ℕ → List ℕ → Optio
 
 -- these bytes are saved as this generation, on one of the disks, and the other stays; where the disks tell their fuses,
 -- these alone decide
-pub record SavesNext {K D A E : Type 0} (kept : List ℕ → List ℕ → Option Kept) (fits : K → List ℕ → List ℕ → Type 0)
+pub record CommitsBytes {K D A E : Type 0} (kept : List ℕ → List ℕ → Option Kept) (fits : K → List ℕ → List ℕ → Type 0)
     (wants_image : K → Bool) (calls : ℕ → ℕ) (is_on_a : ℕ → Bool) (Regular : List ℕ → List ℕ → Type 0) (disk : Disk D)
     (generation : ℕ) (bytes : List ℕ) (was now : K) (old new : Pair D) (result : Result A E) : Type 0 where
   pub told : disk.tells → Commits kept fits Regular disk.seen disk.may_leave disk.moment disk.left_since

@@ -1,10 +1,14 @@
 -- Bytes with room for a head in front of them, and for a tail behind them.
-use Rattle.std.specs.Prelude.{ℕ, ◌+◌, ◌≤◌, List, length, drop, Vec, vec_capacity}
+use Rattle.std.specs.Prelude.{ℕ, ◌+◌, ◌≤◌, List, length, drop, replicate, Vec, vec_capacity}
 use Rattle.std.specs.declared.alloc.Global.{Global}
 
 -- so many bytes of a frame stand in front of what is saved
 abbrev pub head_size : ℕ
 head_size = 16
+
+-- these, as a frame begins
+abbrev pub empty_head : List ℕ
+empty_head = replicate head_size 0
 
 -- what a frame holds to be saved
 abbrev pub body_in : List ℕ → List ℕ

@@ -1,5 +1,5 @@
 ghost use Rattle.std.specs.Prelude.{◌≡◌, ◌+◌, ◌≤◌, Some, None, Bool, true, false, [], Option, List, ℕ, length, vec_capacity, OnOk};
-ghost use Rattle.ficus_keeper.specs.Calls.{CountsMaking, CountsOpening, Finds, HasRoom, Keeps, Makes, SavesNext, Spares, StaysUnarmed};
+ghost use Rattle.ficus_keeper.specs.Calls.{CommitsBytes, CountsMaking, CountsOpening, Finds, HasRoom, Keeps, Makes, Spares, StaysUnarmed};
 ghost use Rattle.ficus_keeper.specs.Framed.{IsFramed, body_in};
 ghost use Rattle.ficus_keeper.specs.Fuses.{both_unarmed, fuses_of};
 ghost use Rattle.ficus_keeper.specs.Kept.{Kept, Settled, found_in, generation_of};
@@ -99,8 +99,8 @@ pub trait Keep {
         requires next { D.tells → (before : Kept) → found_in kept D.seen disks.old ≡ Some before
             → generation ≡ generation_of before + 1 }
         requires room { HasRoom Takes size_of D.room self.old disks.old (length bytes.now) }
-        ensures { SavesNext kept fits wants_image calls is_on_a Regular D.Disk generation bytes.now self.old self.new
-            disks.old disks.new result };
+        ensures { CommitsBytes kept fits wants_image calls is_on_a Regular D.Disk generation bytes.now self.old
+            self.new disks.old disks.new result };
 
     /// The same of the bytes in a frame, which are written from where they stand: the keeper puts its head in front of
     /// them, and a tail behind. The frame holds nothing of use afterwards, and keeps its room.
@@ -115,7 +115,7 @@ pub trait Keep {
             → generation ≡ generation_of before + 1 }
         requires room { HasRoom Allows size_of D.room self.old disks.old (length (body_in framed.old.items)) }
         requires framed { IsFramed framed.old }
-        ensures saves { SavesNext kept fits wants_image calls is_on_a Regular D.Disk generation
+        ensures saves { CommitsBytes kept fits wants_image calls is_on_a Regular D.Disk generation
             (body_in framed.old.items) self.old self.new disks.old disks.new result }
         ensures room { vec_capacity framed.old ≤ vec_capacity framed.new };
 

@@ -171,13 +171,22 @@ fn put_fields(out: &mut Vec<u8>, op: &Op) -> Result<(), Memory>
     }
 }
 
-// Appends the number of the operation and its fields.
-fn put_op(out: &mut Vec<u8>, op: &Op) -> Result<(), Memory>
+/// Appends the spelling of the record of an update, from the operation alone. After `Memory` part of it may be there.
+pub fn put_change(out: &mut Vec<u8>, op: &Op) -> Result<(), Memory>
     requires { FitsOp op.now }
-    ensures { OnOk result (out.new.items ≡ out.old.items ++ op_tag op.now ∷ op_body op.now) }
+    ensures { (members : ℕ)
+        → OnOk result (out.new.items ≡ out.old.items ++ record_bytes members (Changes op.now)) }
 {
     put_u8(out, tag_of(op))?;
     put_fields(out, op)
+}
+
+/// Appends what stands in front of the tables in the record of their taking: who appends their spelling, as they came,
+/// has the whole.
+pub fn put_accept_front(out: &mut Vec<u8>) -> Result<(), Memory>
+    ensures { OnOk result (out.new.items ≡ out.old.items ++ accept_front) }
+{
+    put_u8(out, 11)
 }
 
 /// Appends the one spelling of the record in a volume of so many members. After `Memory` part of it may stand there.
@@ -186,10 +195,10 @@ pub fn put_record(out: &mut Vec<u8>, noted: &Record, members: Members) -> Result
     ensures { OnOk result (out.new.items ≡ out.old.items ++ record_bytes members noted.now) }
 {
     match noted {
-        Record::Change(op) => put_op(out, op),
+        Record::Change(op) => put_change(out, op),
         Record::Ask => put_u8(out, 10),
         Record::Accept { entries, files } => {
-            put_u8(out, 11)?;
+            put_accept_front(out)?;
             put_rows(out, entries.items(), files.items(), members)
         }
         Record::Collect => put_u8(out, 12),
@@ -204,26 +213,6 @@ pub fn encode_record(alloc: Global, noted: &Record, members: Members) -> Result<
     let mut out = Vec::new(alloc);
     put_record(&mut out, noted, members)?;
     Ok(out)
-}
-
-/// The spelling of the record of an update, from the operation alone.
-pub fn encode_change(alloc: Global, op: &Op) -> Result<Vec<u8>, Memory>
-    requires { FitsOp op.now }
-    ensures { (members : ℕ) → IfOk result (λ bytes. bytes.items ≡ record_bytes members (Changes op.now)) }
-{
-    let mut out = Vec::new(alloc);
-    put_op(&mut out, op)?;
-    Ok(out)
-}
-
-/// The spelling of the record of the taking of tables, without the tables: who appends their spelling, as they came,
-/// has the whole.
-pub fn begin_accept(alloc: Global) -> Result<Vec<u8>, Memory>
-    ensures { IfOk result (λ front. front.items ≡ accept_front) }
-{
-    let mut front = Vec::new(alloc);
-    put_u8(&mut front, 11)?;
-    Ok(front)
 }
 
 /// The spelling of the tables in the record of their taking.

@@ -9,6 +9,6 @@ mod fields;
 mod record;
 
 pub use decoding::{decode_record, one_record};
-pub use encoding::{accepted_tables, begin_accept, encode_change, encode_record, put_record};
+pub use encoding::{accepted_tables, encode_record, put_accept_front, put_change, put_record};
 pub use fault::RecordFault;
 pub use record::Record;

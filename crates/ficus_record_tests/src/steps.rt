@@ -8,7 +8,7 @@ ghost use Rattle.ficus_script.specs.Command.{IsCommand};
 use ficus_commands::Change;
 use ficus_durable_state::{BYTE_LIMIT, UPDATE_LIMIT};
 use ficus_ids::{Listed, Members, Refusal};
-use ficus_record::{Record, RecordFault, decode_record, encode_change, encode_record};
+use ficus_record::{Record, RecordFault, decode_record, encode_record, put_change};
 use ficus_replica::{Next, Replica};
 use ficus_script::{Command, read_script};
 use std::alloc::Global;
@@ -155,7 +155,8 @@ fn applies_change(alloc: Global, replica: &Replica, next: &Next) -> Result<(), R
     requires fits { FitsImage replica.now.saved }
     requires op { FitsOp next.now.op }
 {
-    let bytes = encode_change(alloc, &next.op)?;
+    let mut bytes = Vec::new(alloc);
+    put_change(&mut bytes, &next.op)?;
     applies_bytes(alloc, replica, &bytes)
 }
 

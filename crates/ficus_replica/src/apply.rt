@@ -11,9 +11,9 @@ use std::alloc::Global;
 const LAST_GENERATION: u64 = (1 << 63) - 1;
 
 impl Replica {
-    ghost use Rattle.std.specs.Prelude.{◌≡◌, ◌-◌, ◌^◌, ◌<◌, None, IfOk, IsErrOf};
+    ghost use Rattle.std.specs.Prelude.{◌≡◌, ◌-◌, ◌^◌, ◌<◌, None, IfErr, IfOk, IsErrOf};
     ghost use Rattle.ficus_record.specs.Record.{FitsOp, FitsRecord};
-    ghost use Rattle.ficus_record.specs.declared.record.Record.TheVariants.{Accept as NotedAccept, Change as NotedChange};
+    ghost use Rattle.ficus_record.specs.declared.record.Record.TheVariants.{Accept as NotedAccept, Ask as NotedAsk, Change as NotedChange, Collect as NotedCollect};
     ghost use Rattle.ficus_durable_state.specs.Saved.{FitsImage};
     ghost use Rattle.ficus_durable_state.specs.Tables.{FitsTables};
     ghost use Rattle.ficus_replica.specs.Accept.{MayTake};
@@ -73,12 +73,32 @@ impl Replica {
     {
         match noted {
             Record::Change(op) => self.changed_next(alloc, op),
-            Record::Ask => Ok(self.saved_again()?),
+            Record::Ask => self.asked_next(),
             Record::Accept { entries, files } => {
                 self.merged_next(alloc, entries.items(), files.items())
             }
-            Record::Collect => Ok(self.collect(alloc)?.replica.saved),
+            Record::Collect => self.collected_next(alloc),
         }
+    }
+
+    // What is saved after an ask.
+    fn asked_next(&self) -> Result<Saved, RecordFault>
+        requires fits { FitsImage self.now.saved }
+        requires generation { self.now.saved.generation < 2 ^ 63 - 1 }
+        ensures noted { IfOk result (λ saved. IsNoted self.now.saved NotedAsk saved) }
+        ensures memory { IfErr result (λ fault. fault ≡ RecordFault.Memory) }
+    {
+        Ok(self.saved_again()?)
+    }
+
+    // What is saved after a collection.
+    fn collected_next(&self, alloc: Global) -> Result<Saved, RecordFault>
+        requires fits { FitsImage self.now.saved }
+        requires generation { self.now.saved.generation < 2 ^ 63 - 1 }
+        ensures noted { IfOk result (λ saved. IsNoted self.now.saved NotedCollect saved) }
+        ensures memory { IfErr result (λ fault. fault ≡ RecordFault.Memory) }
+    {
+        Ok(self.collect(alloc)?.replica.saved)
     }
 
     // What is saved after the operation, where it fits.

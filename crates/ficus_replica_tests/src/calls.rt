@@ -1,12 +1,13 @@
 ghost use Rattle.ficus_durable_state.specs.Saved.{FitsImage};
 
-use crate::steps::{entry_path, may_save, new_path};
+use crate::fault::Fault;
+use crate::makes::{entry_path, new_path};
+use crate::steps::may_save;
 use ficus_ids::{Id, Refusal};
 use ficus_merge_files::{merge_files, merge_fits};
-use ficus_path::read_path;
+use ficus_path::{Path, read_path};
 use ficus_replica::Replica;
 use std::alloc::Global;
-use std::test::Fail;
 
 /// A call that looks.
 #[derive(Clone, Copy, Debug)]
@@ -24,7 +25,15 @@ pub(crate) enum Looking {
 }
 
 /// How many items it tells.
-pub(crate) fn told(alloc: Global, replica: &Replica, look: Looking) -> Result<usize, Fail>
+pub(crate) fn told(alloc: Global, replica: &Replica, look: Looking) -> Result<usize, Fault>
+    requires { FitsImage replica.now.saved }
+{
+    let path = read_path(alloc, b"/f")?;
+    told_of(alloc, replica, look, &path)
+}
+
+// The same, of the object at this path where it is of one.
+fn told_of(alloc: Global, replica: &Replica, look: Looking, path: &Path) -> Result<usize, Fault>
     requires { FitsImage replica.now.saved }
 {
     Ok(match look {
@@ -33,23 +42,17 @@ pub(crate) fn told(alloc: Global, replica: &Replica, look: Looking) -> Result<us
         Looking::Orphans => replica.orphans(alloc)?.len(),
         Looking::Detached => replica.detached(alloc)?.len(),
         Looking::Marks => replica.marks(alloc)?.len(),
-        Looking::VersionsOfFile => {
-            let path = read_path(alloc, b"/f")?;
-            replica.versions(alloc, &path)?.len()
-        }
-        Looking::TextOfLink => {
-            let path = read_path(alloc, b"/f")?;
-            replica.readlink(alloc, &path)?.len()
-        }
+        Looking::VersionsOfFile => replica.versions(alloc, path)?.len(),
+        Looking::TextOfLink => replica.readlink(alloc, path)?.len(),
         Looking::MergedFiles => merged(alloc, replica)?,
     })
 }
 
 // How many files those of the replica make together with themselves.
-fn merged(alloc: Global, replica: &Replica) -> Result<usize, Fail> {
+fn merged(alloc: Global, replica: &Replica) -> Result<usize, Fault> {
     let (entries, files) = replica.tables();
     if !merge_fits(files, files) {
-        return Err("files don't fit themselves".into());
+        return Err(Fault::Unfit);
     }
     Ok(merge_files(alloc, files, files, entries)?.len())
 }
@@ -72,7 +75,7 @@ pub(crate) fn refused(
     alloc: Global,
     replica: &Replica,
     change: Changing,
-) -> Result<Option<Refusal>, Fail>
+) -> Result<Option<Refusal>, Fault>
     requires { FitsImage replica.now.saved }
 {
     let file = entry_path(alloc, b"/f")?;

@@ -6,6 +6,10 @@
 #[cfg(test)]
 mod calls;
 #[cfg(test)]
+mod fault;
+#[cfg(test)]
+mod makes;
+#[cfg(test)]
 mod scenes;
 #[cfg(test)]
 mod steps;

@@ -1,9 +1,10 @@
-ghost use Rattle.std.specs.Prelude.{IfOk};
 ghost use Rattle.ficus_durable_state.specs.Saved.{FitsImage};
 
 use crate::calls::{Changing, Looking, refused, told};
+use crate::fault::Fault;
+use crate::makes::Make;
 use crate::scenes::{Scene, after};
-use crate::steps::{Make, fresh, made, why_not_changed, why_not_taken, written};
+use crate::steps::{fresh, makes, why_not_taken, why_refused};
 use ficus_ids::{Kind, Refusal};
 use ficus_replica::Replica;
 use std::alloc::Global;
@@ -19,8 +20,8 @@ const UPDATES: &[(u32, u32, usize, Make, Option<Refusal>)] = &[
     (3, 16_384, 0, Make::Text(16_384), None),
     (3, 16_384, 1, Make::Text(16_384), Some(Refusal::Quota)),
     (3, 4_194_304, 0, Make::Text(16_385), Some(Refusal::TooLong)),
-    (3, 5, 5, Make::Directory, None),
-    (2, 5, 5, Make::Directory, Some(Refusal::Spent)),
+    (3, 5, 5, Make::Directory("/d"), None),
+    (2, 5, 5, Make::Directory("/d"), Some(Refusal::Spent)),
     // Of several refusals the first comes.
     (2, 5, 5, Make::Text(1), Some(Refusal::Spent)),
     (2, 5, 5, Make::Text(16_385), Some(Refusal::TooLong)),
@@ -41,9 +42,23 @@ fn last_refusal(
     bytes: u32,
     first: usize,
     then: Make,
-) -> Result<Option<Refusal>, Fail> {
-    let replica = written(alloc, ids, bytes, first)?;
-    why_not_changed(alloc, &replica, then)
+) -> Result<Option<Refusal>, Fault> {
+    let mut replica = fresh(alloc, 1, ids, bytes)?;
+    refusal_behind(alloc, &mut replica, first, then)
+}
+
+// The same of this replica.
+fn refusal_behind(
+    alloc: Global,
+    replica: &mut Replica,
+    first: usize,
+    then: Make,
+) -> Result<Option<Refusal>, Fault>
+    requires { FitsImage replica.old.saved }
+{
+    makes(alloc, replica, Make::File(Kind::Plain))?;
+    makes(alloc, replica, Make::Text(first))?;
+    why_refused(makes(alloc, replica, then))
 }
 
 // A replica that has made nothing asks, and is answered with this number and what a replica 1 holds that has made an
@@ -67,17 +82,26 @@ fn why_not_answered(
     alloc: Global,
     number: u64,
     kind: Option<Kind>,
-) -> Result<Option<Refusal>, Fail> {
-    let other = replica_with(alloc, kind)?;
-    why_not_taken(alloc, number, &other)
+) -> Result<Option<Refusal>, Fault> {
+    let mut other = fresh(alloc, 1, 1, 0)?;
+    why_not_served(alloc, number, &mut other, kind)
 }
 
-fn replica_with(alloc: Global, kind: Option<Kind>) -> Result<Replica, Fail>
-    ensures { IfOk result (λ replica. FitsImage replica.saved) }
+// The same, where this replica makes the object and serves.
+fn why_not_served(
+    alloc: Global,
+    number: u64,
+    other: &mut Replica,
+    kind: Option<Kind>,
+) -> Result<Option<Refusal>, Fault>
+    requires { FitsImage other.old.saved }
 {
     match kind {
-        None => fresh(alloc, 1, 0),
-        Some(kind) => made(alloc, 1, 0, kind),
+        None => why_not_taken(alloc, number, other),
+        Some(kind) => {
+            makes(alloc, other, Make::File(kind))?;
+            why_not_taken(alloc, number, other)
+        }
     }
 }
 
@@ -100,11 +124,15 @@ const LOOKS: &[(Scene, Looking, usize)] = &[
 #[test]
 fn each_look_tells_with_ample_memory(rt: HostRuntime) -> Result<(), Fail> {
     for &(scene, look, items) in LOOKS {
-        let replica = after(rt.alloc(), scene)?;
-        let found = told(rt.alloc(), &replica, look)?;
+        let found = told_after(rt.alloc(), scene, look)?;
         assert!(rt; found == items, "{scene:?} {look:?}: {found}");
     }
     Ok(())
+}
+
+fn told_after(alloc: Global, scene: Scene, look: Looking) -> Result<usize, Fault> {
+    let replica = after(alloc, scene)?;
+    told(alloc, &replica, look)
 }
 
 // What a change is answered after a scene with ample memory: why it is refused, where it is.
@@ -125,9 +153,13 @@ const CHANGES: &[(Scene, Changing, Option<Refusal>)] = &[
 #[test]
 fn each_change_is_done_with_ample_memory(rt: HostRuntime) -> Result<(), Fail> {
     for &(scene, change, refusal) in CHANGES {
-        let replica = after(rt.alloc(), scene)?;
-        let found = refused(rt.alloc(), &replica, change)?;
+        let found = refused_after(rt.alloc(), scene, change)?;
         assert!(rt; found == refusal, "{scene:?} {change:?}");
     }
     Ok(())
+}
+
+fn refused_after(alloc: Global, scene: Scene, change: Changing) -> Result<Option<Refusal>, Fault> {
+    let replica = after(alloc, scene)?;
+    refused(alloc, &replica, change)
 }

@@ -4,7 +4,7 @@ use Rattle.std.specs.declared.alloc.Global.{Global}
 use Rattle.ficus_disk.specs.declared.disk.Disk.{Ghosts as Disk}
 use Rattle.ficus_disk.specs.declared.fuse.Pick.{Pick}
 use Rattle.ficus_disk.specs.declared.pair.Pair.{Pair}
-use Rattle.ficus_keeper.specs.Calls.{Commits, SavesNext}
+use Rattle.ficus_keeper.specs.Calls.{Commits, CommitsBytes}
 use Rattle.ficus_keeper.specs.Fuses.{FusedSave}
 use Rattle.ficus_keeper.specs.Kept.{Kept, Settled, after_commit, found_in}
 use Rattle.ficus_keeper.proofs.Results.{in_ok}
@@ -49,8 +49,8 @@ module _ {K D : Type 0} (disk : Disk D) (kept : List ℕ → List ℕ → Option
   pub saves_same : {T E : Type 0} {wants_image : K → Bool} {calls : ℕ → ℕ} {is_on_a : ℕ → Bool}
       {Regular : List ℕ → List ℕ → Type 0} {generation : ℕ} {bytes same : List ℕ} {was before : K} {old new : Pair D}
       {result : Result T E} → bytes ≡ same → wants_image before ≡ wants_image was
-      → SavesNext kept fits wants_image calls is_on_a Regular disk generation bytes was now old new result
-      → SavesNext kept fits wants_image calls is_on_a Regular disk generation same before after old new result
+      → CommitsBytes kept fits wants_image calls is_on_a Regular disk generation bytes was now old new result
+      → CommitsBytes kept fits wants_image calls is_on_a Regular disk generation same before after old new result
   saves_same {wants_image = wants_image} {calls = calls} {is_on_a = is_on_a} {Regular = Regular} {generation = generation}
       {bytes = bytes} {same = same} {was = was} {before = before} {old = old} {new = new} {result = result} is wants saves =
       let found = found_in kept disk.seen old in

@@ -1,22 +1,8 @@
-// A frame: bytes with room for a head in front of them.
+// What a keeper puts around what is saved.
 ghost use Rattle.std.specs.Prelude.{◌≡◌, ◌+◌, ◌≤◌, [], ◌∷◌, ◌++◌, drop, length, vec_capacity};
 ghost use Rattle.ficus_disk.specs.Bytes.{patch};
 ghost use Rattle.ficus_keeper.specs.Framed.{IsFramed, body_in};
-ghost use Rattle.ficus_slot.specs.Slot.{range_size, spelled};
-
-use ficus_keeper::HEAD_SIZE;
-
-/// Makes a frame of these bytes, in place of what the buffer holds. Takes no memory.
-pub fn frame(buffer: &mut Vec<u8>, bytes: &[u8])
-    requires { range_size + length bytes.now ≤ vec_capacity buffer.old }
-    ensures framed { IsFramed buffer.new }
-    ensures body { body_in buffer.new.items ≡ bytes.now }
-    ensures room { vec_capacity buffer.old ≤ vec_capacity buffer.new }
-{
-    buffer.clear();
-    let _head = buffer.extend_from_slice(&[0; HEAD_SIZE]);
-    let _body = buffer.extend_from_slice(bytes);
-}
+ghost use Rattle.ficus_slot.specs.Slot.{spelled};
 
 /// Puts a generation and the bytes of a length at the end of a frame's head, from this place on, and a closed gate
 /// behind the body. Takes no memory.

@@ -8,7 +8,7 @@ mod reading;
 mod room;
 mod saving;
 
-pub use frames::{fill_frame, frame};
+pub use frames::fill_frame;
 pub use laws::one_slot;
 pub use range::save_range;
 pub use reading::{Slot, is_shut, read_all, read_number, read_slot};

@@ -1,4 +1,5 @@
-ghost use Rattle.std.specs.Prelude.{◌≡◌, [], List, ℕ, Some, IfOk, IsErrOf};
+ghost use Rattle.std.specs.Prelude.{◌≡◌, ◌≤◌, [], List, ℕ, Some, IfOk, IsErrOf, length};
+ghost use Rattle.ficus_keeper.specs.Framed.{body_in, head_size};
 ghost use Rattle.ficus_keeper.specs.Kept.{kept_of};
 ghost use Rattle.ficus_durable_state.specs.Saved.{FitsImage};
 ghost use Rattle.ficus_durable_state.specs.declared.saved.Saved.{Saved as SavedValue};
@@ -62,8 +63,8 @@ impl<K: Keep + Drop> Stable<K> {
         recover(alloc, keeper, opened)
     }
 
-    /// Holds what the keeper wants: the image of what is saved next, which it builds, or the record that leads to it.
-    /// Takes all memory for it. What the disks hold is as before, also where memory is refused.
+    /// Holds what the keeper wants: the image of what is saved next, which it builds, or the record that leads to it,
+    /// out of its frame. Takes all memory for it. What the disks hold is as before, also where memory is refused.
     pub fn prepare<D: Disk>(
         &mut self,
         disks: &mut Pair<D>,
@@ -71,7 +72,8 @@ impl<K: Keep + Drop> Stable<K> {
         noted: Vec<u8>,
     ) -> Result<(), Memory>
         requires fits { FitsImage next.now }
-        ensures { Prepares K.Keep D.Disk next.now noted.items self.old self.new disks.old disks.new result }
+        requires head { head_size ≤ length noted.items }
+        ensures { Prepares K.Keep D.Disk next.now (body_in noted.items) self.old self.new disks.old disks.new result }
     {
         frame_wanted(&mut self.framed, self.keeper.wants(), next, noted)?;
         self.keeper.reserve(disks, body_size(&self.framed))

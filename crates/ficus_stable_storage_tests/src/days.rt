@@ -98,29 +98,45 @@ fn keeps<K: Keep + Drop, D: Disk>(
     holds::<K, D>(alloc, disks, now)
 }
 
+// The same of a replica that has heard of nothing.
+fn keeps_from_first<K: Keep + Drop, D: Disk>(
+    alloc: Global,
+    disks: &mut Pair<D>,
+    bodies: &[Vec<u8>],
+) -> Result<bool, Refusal>
+    requires empty_a { D.tells → D.seen disks.old.a ≡ [] }
+    requires empty_b { D.tells → D.seen disks.old.b ≡ [] }
+{
+    let mut now = first(alloc)?;
+    keeps::<K, D>(alloc, disks, &mut now, bodies)
+}
+
 // The same on disks that record their calls.
 fn keeps_traced<K: Keep + Drop>(alloc: Global, bodies: &[Vec<u8>]) -> Result<bool, Refusal> {
-    let mut now = first(alloc)?;
     let mut disks = Pair {
         a: TraceDisk::new(alloc, 128, 8192)?,
         b: TraceDisk::new(alloc, 128, 8192)?,
     };
-    keeps::<K, TraceDisk>(alloc, &mut disks, &mut now, bodies)
+    keeps_from_first::<K, TraceDisk>(alloc, &mut disks, bodies)
+}
+
+// The same of the day's records.
+fn keeps_day<K: Keep + Drop>(alloc: Global) -> Result<bool, Refusal> {
+    let bodies = copies(alloc, DAY)?;
+    keeps_traced::<K>(alloc, &bodies)
 }
 
 #[test]
 fn each_save_is_found(rt: HostRuntime) -> Result<(), Fail> {
-    let bodies = copies(rt.alloc(), DAY)?;
-    assert!(rt; keeps_traced::<Journal>(rt.alloc(), &bodies)?);
-    assert!(rt; keeps_traced::<TwoSlot>(rt.alloc(), &bodies)?);
+    assert!(rt; keeps_day::<Journal>(rt.alloc())?);
+    assert!(rt; keeps_day::<TwoSlot>(rt.alloc())?);
     Ok(())
 }
 
 // Whether so many changes are kept in memory.
 fn keeps_changes(alloc: Global, count: u8) -> Result<bool, Refusal> {
     let bodies = changes(alloc, count)?;
-    let mut now = first(alloc)?;
-    keeps::<Journal, MemDisk>(alloc, &mut fresh_pair(alloc), &mut now, &bodies)
+    keeps_from_first::<Journal, MemDisk>(alloc, &mut fresh_pair(alloc), &bodies)
 }
 
 #[test]
@@ -135,8 +151,37 @@ fn records<D: Disk>(alloc: Global, disks: &mut Pair<D>) -> Result<usize, Refusal
     Ok(opened.records.items().len())
 }
 
-// Whether a volume to which two slots kept the first so many events opens with no record, and goes on with the others
-// as if nothing had been saved.
+// Whether a volume opens with no record, and holds what the replica saves.
+fn shows_no_record<D: Disk>(
+    alloc: Global,
+    disks: &mut Pair<D>,
+    now: &Replica,
+) -> Result<bool, Refusal>
+    requires { FitsImage now.now.saved }
+{
+    if records(alloc, disks)? != 0 {
+        return Ok(false);
+    }
+    shows::<Journal, D>(alloc, disks, now)
+}
+
+// Whether it does, and goes on with these events as if nothing had been saved.
+fn goes_on_with<D: Disk>(
+    alloc: Global,
+    disks: &mut Pair<D>,
+    now: &mut Replica,
+    bodies: &[Vec<u8>],
+) -> Result<bool, Refusal>
+    requires { FitsImage now.old.saved }
+{
+    if !shows_no_record(alloc, disks, now)? {
+        return Ok(false);
+    }
+    plays::<Journal, D>(alloc, disks, now, bodies)?;
+    holds::<Journal, D>(alloc, disks, now)
+}
+
+// Whether a volume to which two slots kept the first so many events does that with the others.
 fn goes_on<D: Disk>(
     alloc: Global,
     disks: &mut Pair<D>,
@@ -150,24 +195,33 @@ fn goes_on<D: Disk>(
     requires first { now.old.saved.generation ≡ 0 }
     requires kept { kept ≤ length bodies.now }
 {
-    if !keeps::<TwoSlot, D>(alloc, disks, now, &bodies[..kept])?
-        || records(alloc, disks)? != 0
-        || !shows::<Journal, D>(alloc, disks, now)?
-    {
+    if !keeps::<TwoSlot, D>(alloc, disks, now, &bodies[..kept])? {
         return Ok(false);
     }
-    plays::<Journal, D>(alloc, disks, now, &bodies[kept..])?;
-    holds::<Journal, D>(alloc, disks, now)
+    goes_on_with(alloc, disks, now, &bodies[kept..])
+}
+
+// The same of seventy events of a replica that has heard of nothing.
+fn goes_on_from_first<D: Disk>(
+    alloc: Global,
+    disks: &mut Pair<D>,
+    bodies: &[Vec<u8>],
+    kept: usize,
+) -> Result<bool, Refusal>
+    requires empty_a { D.tells → D.seen disks.old.a ≡ [] }
+    requires empty_b { D.tells → D.seen disks.old.b ≡ [] }
+{
+    if bodies.len() != 70 || kept > bodies.len() {
+        return Ok(false);
+    }
+    let mut now = first(alloc)?;
+    goes_on(alloc, disks, &mut now, bodies, kept)
 }
 
 // The same of seventy changes in memory.
 fn seventy_go_on(alloc: Global, kept: usize) -> Result<bool, Refusal> {
     let bodies = changes(alloc, 70)?;
-    let mut now = first(alloc)?;
-    if bodies.len() != 70 || kept > bodies.len() {
-        return Ok(false);
-    }
-    goes_on(alloc, &mut fresh_pair(alloc), &mut now, &bodies, kept)
+    goes_on_from_first(alloc, &mut fresh_pair(alloc), &bodies, kept)
 }
 
 #[test]

@@ -119,6 +119,23 @@ fn fails<K: Keep + Drop, D: Disk>(
     )
 }
 
+// The same of empty disks of which one fails at this call.
+fn fails_at<K: Keep + Drop>(
+    alloc: Global,
+    fresh: &Replica,
+    saved: &Replica,
+    is_a: bool,
+    call: u32,
+    step: Step,
+) -> Result<bool, Refusal>
+    requires fresh { FitsImage fresh.now.saved }
+    requires first { fresh.now.saved.generation ≡ 0 }
+    requires saved { FitsImage saved.now.saved }
+{
+    let mut disks = failing(alloc, is_a, call)?;
+    fails::<K, FailDisk>(alloc, &mut disks, fresh, saved, step)
+}
+
 /// The calls of a disk, from one to another, and what fails with them. The last look at the disks makes four more.
 type Row = (u32, u32, Step);
 
@@ -168,13 +185,7 @@ fn wrong<K: Keep + Drop>(
 {
     for (first, last, step) in table {
         for call in *first..=*last {
-            if !fails::<K, FailDisk>(
-                alloc,
-                &mut failing(alloc, is_a, call)?,
-                fresh,
-                saved,
-                *step,
-            )? {
+            if !fails_at::<K>(alloc, fresh, saved, is_a, call, *step)? {
                 return Ok(Some(call));
             }
         }
@@ -182,26 +193,43 @@ fn wrong<K: Keep + Drop>(
     Ok(None)
 }
 
+/// The first wrong call of each disk of either keeper.
+type Wrongs = [Result<Option<u32>, Refusal>; 4];
+
 // The same of each disk of either keeper.
-fn wrongs(alloc: Global, fresh: &Replica, saved: &Replica) -> Result<[Option<u32>; 4], Refusal>
+fn wrongs(alloc: Global, fresh: &Replica, saved: &Replica) -> Wrongs
     requires fresh { FitsImage fresh.now.saved }
     requires first { fresh.now.saved.generation ≡ 0 }
     requires saved { FitsImage saved.now.saved }
 {
-    Ok([
-        wrong::<TwoSlot>(alloc, fresh, saved, true, SLOTS[0])?,
-        wrong::<TwoSlot>(alloc, fresh, saved, false, SLOTS[1])?,
-        wrong::<Journal>(alloc, fresh, saved, true, RECORDS[0])?,
-        wrong::<Journal>(alloc, fresh, saved, false, RECORDS[1])?,
-    ])
+    [
+        wrong::<TwoSlot>(alloc, fresh, saved, true, SLOTS[0]),
+        wrong::<TwoSlot>(alloc, fresh, saved, false, SLOTS[1]),
+        wrong::<Journal>(alloc, fresh, saved, true, RECORDS[0]),
+        wrong::<Journal>(alloc, fresh, saved, false, RECORDS[1]),
+    ]
+}
+
+// The same where the event of the record is saved behind what the replica is.
+fn wrongs_behind(alloc: Global, fresh: &Replica) -> Result<Wrongs, Refusal>
+    requires fits { FitsImage fresh.now.saved }
+    requires first { fresh.now.saved.generation ≡ 0 }
+{
+    let saved = after(alloc, fresh, MAKE)?;
+    Ok(wrongs(alloc, fresh, &saved))
+}
+
+// The same of a replica that has heard of nothing.
+fn wrongs_from_first(alloc: Global) -> Result<Wrongs, Refusal> {
+    let fresh = first(alloc)?;
+    wrongs_behind(alloc, &fresh)
 }
 
 #[test]
 fn a_call_that_fails_leaves_the_old_or_the_new(rt: HostRuntime) -> Result<(), Fail> {
-    let fresh = first(rt.alloc())?;
-    let saved = after(rt.alloc(), &fresh, MAKE)?;
-    for (place, wrong) in wrongs(rt.alloc(), &fresh, &saved)?.iter().enumerate() {
-        assert!(rt; wrong.is_none(), "disk {place}: {wrong:?}");
+    for (place, wrong) in wrongs_from_first(rt.alloc())?.iter().enumerate() {
+        let call = (*wrong)?;
+        assert!(rt; call.is_none(), "disk {place}: {call:?}");
     }
     Ok(())
 }

@@ -1,5 +1,6 @@
 // Saves, and what the disks hold after each.
-ghost use Rattle.std.specs.Prelude.{◌≡◌, ◌<◌, ◌≤◌, [], IfOk, IfSome, IsTrue, OnOk};
+ghost use Rattle.std.specs.Prelude.{◌≡◌, ◌<◌, ◌≤◌, ◌++◌, [], IfOk, IfSome, IsTrue, OnOk, length};
+ghost use Rattle.ficus_keeper.specs.Framed.{body_in, empty_head, head_size};
 ghost use Rattle.ficus_keeper.specs.Pairs.{PairSame, PairWithin};
 ghost use Rattle.ficus_stable_storage.specs.Leads.Holds.{Leads};
 ghost use Rattle.ficus_durable_state.specs.Saved.{FitsImage};
@@ -9,7 +10,7 @@ use ficus_disk::{Disk, Pair};
 use ficus_durable_state::{BYTE_LIMIT, Saved, UPDATE_LIMIT};
 use ficus_ids::{Members, Memory, Refusal};
 use ficus_image::encode_image;
-use ficus_keeper::{Keep, MakeFault, StoreFault};
+use ficus_keeper::{Keep, MakeFault, StoreFault, begin_frame};
 use ficus_record::{RecordFault, decode_record};
 use ficus_replica::Replica;
 use ficus_stable_storage::{Recovered, Stable};
@@ -91,22 +92,34 @@ fn arm<D: Disk>(disks: &mut Pair<D>, stop: Option<Stop>)
     }
 }
 
-// Saves the replica after the event of the record, with both disks armed once that is prepared; whether it was done.
+// The bytes in a frame.
+fn framed(alloc: Global, bytes: &[u8]) -> Result<Vec<u8>, Memory>
+    ensures { IfOk result (λ framed. framed.items ≡ empty_head ++ bytes.now) }
+{
+    let mut framed = Vec::new(alloc);
+    begin_frame(&mut framed)?;
+    framed.extend_from_slice(bytes)?;
+    Ok(framed)
+}
+
+// Saves the replica after the event of the record in the frame, with both disks armed once that is prepared; whether it
+// was done.
 fn saves<K: Keep + Drop, D: Disk>(
     stable: &mut Stable<K>,
     disks: &mut Pair<D>,
     next: &Replica,
-    body: Vec<u8>,
+    framed: Vec<u8>,
     stop: Option<Stop>,
 ) -> Result<bool, Memory>
     requires stop { IfSome stop (λ fuse. fuse.pick < 4) }
     requires fits { FitsImage next.now.saved }
     requires follows { D.tells
-        → MayFollow K.kept K.fits D.seen D.may_leave stable.old disks.old next.now.saved body.items }
+        → MayFollow K.kept K.fits D.seen D.may_leave stable.old disks.old next.now.saved (body_in framed.items) }
+    requires head { head_size ≤ length framed.items }
     ensures ready { D.tells → IfOk result (λ is_saved. IsTrue is_saved
         → IsReady K.kept K.fits D.seen D.may_leave stable.new disks.new next.now.saved) }
 {
-    stable.prepare(disks, &next.saved, body)?;
+    stable.prepare(disks, &next.saved, framed)?;
     arm(disks, stop);
     Ok(stable.commit(disks, &next.saved).is_ok())
 }
@@ -128,7 +141,7 @@ pub(crate) fn saves_after<K: Keep + Drop, D: Disk>(
         → IsReady K.kept K.fits D.seen D.may_leave stable.new disks.new now.new.saved) }
 {
     let next = after(alloc, now, body)?;
-    let is_saved = saves(stable, disks, &next, body.to_vec(alloc)?, stop)?;
+    let is_saved = saves(stable, disks, &next, framed(alloc, body)?, stop)?;
     *now = next;
     Ok(is_saved)
 }
@@ -159,6 +172,21 @@ fn is_same(alloc: Global, one: &Saved, other: &Saved) -> Result<bool, Refusal>
     Ok(encode_image(alloc, one)? == encode_image(alloc, other)?)
 }
 
+// Whether what was opened is what the replica saves.
+fn is_found<K: Keep + Drop>(
+    alloc: Global,
+    opened: Result<Recovered<K>, StoreFault>,
+    replica: &Replica,
+) -> Result<bool, Refusal>
+    requires opened { IfOk opened (λ found. FitsImage found.saved) }
+    requires replica { FitsImage replica.now.saved }
+{
+    match opened {
+        Ok(found) => is_same(alloc, &found.saved, &replica.saved),
+        Err(fault) => Err(told(fault)),
+    }
+}
+
 /// Whether the disks hold what the replica saves, as they are read.
 pub(crate) fn shows<K: Keep + Drop, D: Disk>(
     alloc: Global,
@@ -169,8 +197,7 @@ pub(crate) fn shows<K: Keep + Drop, D: Disk>(
     ensures same { D.tells → PairSame D.seen disks.old disks.new }
     ensures crash { PairWithin D.may_leave disks.old disks.new }
 {
-    let found = Stable::<K>::open(alloc, disks).map_err(told)?;
-    is_same(alloc, &found.saved, &replica.saved)
+    is_found(alloc, Stable::<K>::open(alloc, disks), replica)
 }
 
 /// Whether the disks, opened anew, hold what the replica saves.
@@ -181,6 +208,5 @@ pub(crate) fn holds<K: Keep + Drop, D: Disk>(
 ) -> Result<bool, Refusal>
     requires { FitsImage replica.now.saved }
 {
-    let found = Stable::<K>::reopen(alloc, disks).map_err(told)?;
-    is_same(alloc, &found.saved, &replica.saved)
+    is_found(alloc, Stable::<K>::reopen(alloc, disks), replica)
 }

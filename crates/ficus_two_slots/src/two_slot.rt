@@ -8,8 +8,8 @@ use crate::reading::read_both;
 use ficus_disk::{Disk, Pair};
 use ficus_faults::Failed;
 use ficus_ids::{Listed, Memory};
-use ficus_keeper::{Keep, MakeFault, Opened, StoreFault, Wants};
-use ficus_slot::{frame, reserve_range, save_slot};
+use ficus_keeper::{Keep, MakeFault, Opened, StoreFault, Wants, frame};
+use ficus_slot::{reserve_range, save_slot};
 use std::alloc::Global;
 use std::mem;
 

@@ -130,11 +130,17 @@ fn each_commit_is_found(rt: HostRuntime) -> Result<(), Fail> {
         b: TraceDisk::new(alloc, 64, 1024)?,
     };
     assert!(rt; TwoSlot::make(alloc, &mut disks, b"").is_ok());
-    assert!(rt; saves::<TwoSlot, TraceDisk>(alloc, &mut disks, b"first") == Ok(true));
-    assert!(rt; keeps::<TwoSlot, TraceDisk>(alloc, &mut disks, 1, b"first") == Ok(true));
-    assert!(rt; saves::<TwoSlot, TraceDisk>(alloc, &mut disks, b"the second") == Ok(true));
-    assert!(rt; keeps::<TwoSlot, TraceDisk>(alloc, &mut disks, 2, b"the second") == Ok(true));
-    assert!(rt; saves::<TwoSlot, TraceDisk>(alloc, &mut disks, b"third") == Ok(true));
-    assert!(rt; keeps::<TwoSlot, TraceDisk>(alloc, &mut disks, 3, b"third") == Ok(true));
+    let saved: [&[u8]; 3] = [b"first", b"the second", b"third"];
+    for (place, bytes) in saved.iter().enumerate() {
+        assert!(rt;
+            saves::<TwoSlot, TraceDisk>(alloc, &mut disks, bytes) == Ok(true),
+            "{place}"
+        );
+        let generation = place as u64 + 1;
+        assert!(rt;
+            keeps::<TwoSlot, TraceDisk>(alloc, &mut disks, generation, bytes) == Ok(true),
+            "{place}"
+        );
+    }
     Ok(())
 }

@@ -14,6 +14,7 @@ use Rattle.ficus_file.specs.declared.file.FileReplica.{FileReplica}
 use Rattle.ficus_durable_state.specs.declared.saved.Saved.{Saved}
 use Rattle.ficus_durable_state.specs.Saved.{FitsImage}
 use Rattle.ficus_durable_state.specs.Tables.{FitsTables}
+use Rattle.ficus_keeper.specs.Framed.{body_in}
 use Rattle.ficus_replica.specs.declared.replica.Replica.{Replica}
 use Rattle.ficus_replica.specs.Accept.{AcceptGives, IsOpen}
 use Rattle.ficus_replica.specs.Ask.{AskGives}
@@ -316,7 +317,7 @@ pub record IsTaking (came : Delivery) (index : ℕ) (bytes : List ℕ) (old : Wh
 
 -- the same, or why it takes none
 abbrev pub GivesTaking : Delivery → ℕ → List ℕ → Whole → Result Taking Refusal → Type 0
-GivesTaking came index bytes old (Ok taking) = IsTaking came index bytes old taking.next taking.noted.items
+GivesTaking came index bytes old (Ok taking) = IsTaking came index bytes old taking.next (body_in taking.noted.items)
 GivesTaking came index bytes old (Err r) =
     r ≢ refusal.Memory → TakesSpelled came index bytes old (Err r) (unchanged old)
 

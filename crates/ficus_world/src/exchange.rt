@@ -2,6 +2,7 @@ ghost use Rattle.std.specs.Prelude.{◌≡◌, ◌≢◌, ◌+◌, ◌^◌, ◌<
 ghost use Rattle.ficus_ids.specs.Members.{IsMember};
 ghost use Rattle.ficus_ids.specs.declared.refusal.Refusal.TheVariants.{Memory as OutOfMemory};
 ghost use Rattle.ficus_durable_state.specs.Saved.{FitsImage};
+ghost use Rattle.ficus_keeper.specs.Framed.{body_in, head_size};
 ghost use Rattle.ficus_wire.specs.Message.{message_bytes};
 ghost use Rattle.ficus_runs.specs.Message.{Reads};
 ghost use Rattle.ficus_runs.specs.Sequence.{unchanged};
@@ -24,10 +25,10 @@ use ficus_keeper::Keep;
 use ficus_model::{Event, History};
 use ficus_opening::Pending;
 use ficus_outside::Link;
-use ficus_record::{Record, encode_record};
+use ficus_record::Record;
 use ficus_replica::Replica;
 use ficus_script::Answer;
-use ficus_stable_storage::Stable;
+use ficus_stable_storage::{Stable, frame_record};
 use ficus_wire::{Letter, Route, encode_ask, read_letter};
 use std::alloc::Global;
 
@@ -156,11 +157,11 @@ impl<L: Link + Drop> Group<L> {
         }
     }
 
-    // What the member holds once it has asked another one, and its message; and what is noted of its ask.
+    // What the member holds once it has asked another one, and its message; and the record of its ask, in a frame.
     fn asking(&self, alloc: Global, by: u8, to: u8) -> Result<(Asking, Vec<u8>), Memory>
         requires room { length self.now.events < event_limit }
         requires may { MayAsk self.now by to }
-        ensures asks { IfOk result (λ asked. AsksWith by to asked.1.items asked.0.replica self.now) }
+        ensures asks { IfOk result (λ asked. AsksWith by to (body_in asked.1.items) asked.0.replica self.now) }
         ensures message { IfOk result (λ asked. asked.0.message.items ≡ message_bytes (ask_of by to asked.0.replica)) }
     {
         let replica = self.member(by).replica.ask(to)?;
@@ -173,7 +174,7 @@ impl<L: Link + Drop> Group<L> {
                 number,
             },
         )?;
-        let noted = encode_record(alloc, &Record::Ask, self.count())?;
+        let noted = frame_record(alloc, &Record::Ask, self.count())?;
         Ok((Asking { replica, message }, noted))
     }
 
@@ -190,7 +191,7 @@ impl<L: Link + Drop> Group<L> {
         requires room { length self.old.events < event_limit }
         requires stables { length stables.old.items ≡ length self.old.members }
         requires backed { IsBacked K.Keep D.Disk (backed_by self.old stables.old.items) disks.old.items }
-        requires asking { AsksWith by to noted.items asking.replica self.old }
+        requires asking { AsksWith by to (body_in noted.items) asking.replica self.old }
         requires message { asking.message.items ≡ message_bytes (ask_of by to asking.replica) }
         ensures asks { CarriedOn K.Keep D.Disk (KeepsAsk L.tells by to) result self.old self.new disks.old.items
             disks.new.items }
@@ -263,7 +264,8 @@ fn make_ready<K: Keep + Drop, L: Link + Drop, D: Disk>(
     requires stable { IsMember (length stables.old.items) by }
     requires pair { IsMember (length disks.old.items) by }
     requires fits { FitsImage asking.now.replica.saved }
-    ensures { MakesReady K.Keep D.Disk by asking.now.replica.saved asking.now.message.items noted.items result
+    requires head { head_size ≤ length noted.items }
+    ensures { MakesReady K.Keep D.Disk by asking.now.replica.saved asking.now.message.items (body_in noted.items) result
         history.new.room history.old.events history.new.events post.old post.new stables.old.items stables.new.items
         disks.old.items disks.new.items }
 {

@@ -1,8 +1,9 @@
 // One member's disks, of those of all.
-ghost use Rattle.std.specs.Prelude.{ℕ, ◌<◌, List, length, OnOk};
+ghost use Rattle.std.specs.Prelude.{ℕ, ◌<◌, ◌≤◌, List, length, OnOk};
 ghost use Rattle.ficus_disk.specs.declared.pair.Pair.{Pair as PairValue};
 ghost use Rattle.ficus_ids.specs.Members.{IsMember};
 ghost use Rattle.ficus_durable_state.specs.Saved.{FitsImage};
+ghost use Rattle.ficus_keeper.specs.Framed.{body_in, head_size};
 ghost use Rattle.ficus_stable_storage.specs.Stable.{MayFollow};
 ghost use Rattle.ficus_stable_storage.specs.declared.stable.Stable.{Stable as StableValue};
 ghost use Rattle.ficus_runs.specs.Numbered.{IsNumbered};
@@ -18,8 +19,8 @@ use ficus_keeper::{Keep, StoreFault};
 use ficus_stable_storage::{Stable, one_saved};
 use std::alloc::Global;
 
-/// Takes all memory for what a member saves next, by what is noted of its event. What the disks hold is as before,
-/// also where memory is refused.
+/// Takes all memory for what a member saves next, by the record of its event, in a frame. What the disks hold is as
+/// before, also where memory is refused.
 pub(crate) fn prepare_at<K: Keep + Drop, D: Disk>(
     stables: &mut Vec<Stable<K>>,
     disks: &mut Vec<Pair<D>>,
@@ -30,8 +31,9 @@ pub(crate) fn prepare_at<K: Keep + Drop, D: Disk>(
     requires member { IsMember (length stables.old.items) by }
     requires pair { IsMember (length disks.old.items) by }
     requires fits { FitsImage next.now }
+    requires head { head_size ≤ length noted.items }
     ensures prepared { OnOk result (IsPreparedAt K.wants_image K.Allows K.size_of D.room stables.new.items
-        disks.new.items by next.now noted.items) }
+        disks.new.items by next.now (body_in noted.items)) }
     ensures stays { StaysAt K.Keep D.Disk by stables.old.items stables.new.items disks.old.items disks.new.items }
 {
     let index = by as usize - 1;

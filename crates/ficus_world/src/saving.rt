@@ -1,5 +1,6 @@
 ghost use Rattle.std.specs.Prelude.{◌≡◌, ◌+◌, ◌<◌, ◌≤◌, ℕ, Err, List, length};
 ghost use Rattle.ficus_ids.specs.Members.{IsMember};
+ghost use Rattle.ficus_keeper.specs.Framed.{body_in};
 ghost use Rattle.ficus_stable_storage.specs.Leads.Holds.{Leads};
 ghost use Rattle.ficus_runs.specs.Numbered.{IsNumbered};
 ghost use Rattle.ficus_opening.specs.Disks.{AreDisksOf};
@@ -23,8 +24,9 @@ use ficus_outside::Link;
 use ficus_stable_storage::Stable;
 
 impl<K: Keep + Drop, L: Link + Drop> World<K, L> {
-    /// Saves what a member that is up is after an event of its own, of which this is noted, and stores the event. All
-    /// memory is taken before anything changes. Where the disks fail, the member is down, and the event is pending.
+    /// Saves what a member that is up is after an event of its own, whose record stands in this frame, and stores the
+    /// event. All memory is taken before anything changes. Where the disks fail, the member is down, and the event is
+    /// pending.
     pub(crate) fn save<D: Disk>(
         &mut self,
         disks: &mut Vec<Pair<D>>,
@@ -36,8 +38,8 @@ impl<K: Keep + Drop, L: Link + Drop> World<K, L> {
         requires backed { IsBacked K.Keep D.Disk self.old disks.old.items }
         requires up { IsUpIn self.old.whole by }
         requires next { (was : MemberValue) → IsNumbered self.old.whole.members by was
-            → IsSoundNext (length self.old.whole.members) (length self.old.whole.events) by noted.items was.replica
-            next.replica }
+            → IsSoundNext (length self.old.whole.members) (length self.old.whole.events) by (body_in noted.items)
+            was.replica next.replica }
         ensures { SavesMember K.Keep D.Disk by next result self.old self.new disks.old.items disks.new.items }
     {
         self.group.save(&mut self.stables, disks, by, next, noted)
@@ -59,7 +61,8 @@ impl<L: Link + Drop> Group<L> {
         requires backed { IsBacked K.Keep D.Disk (backed_by self.old stables.old.items) disks.old.items }
         requires up { IsUpIn self.old by }
         requires next { (was : MemberValue) → IsNumbered self.old.members by was
-            → IsSoundNext (length self.old.members) (length self.old.events) by noted.items was.replica next.replica }
+            → IsSoundNext (length self.old.members) (length self.old.events) by (body_in noted.items) was.replica
+            next.replica }
         ensures { SavesMember K.Keep D.Disk by next result (backed_by self.old stables.old.items)
             (backed_by self.new stables.new.items) disks.old.items disks.new.items }
     {

@@ -1,6 +1,8 @@
-ghost use Rattle.std.specs.Prelude.{◌≡◌, ◌≢◌, ◌<◌, Err, length, IfOk, OnErr};
+ghost use Rattle.std.specs.Prelude.{◌≡◌, ◌≢◌, ◌<◌, Err, length, IfOk, OnErr, if◌then◌else◌};
+ghost use Rattle.ficus_ids.specs.declared.id.Id.{Id as IdValue};
 ghost use Rattle.ficus_ids.specs.declared.refusal.Refusal.TheVariants.{Memory as OutOfMemory};
 ghost use Rattle.ficus_runs.specs.Answers.{answer_as, answer_to};
+ghost use Rattle.ficus_script.specs.declared.answer.Answer.TheVariants.{Done, Made};
 ghost use Rattle.ficus_world.specs.Disks.{IsBacked};
 ghost use Rattle.ficus_world.specs.World.{event_limit};
 ghost use Rattle.ficus_world.specs.Calls.{Does, DoesAll, Steps};
@@ -15,8 +17,9 @@ use ficus_keeper::Keep;
 use ficus_model::{Event, Op};
 use ficus_opening::Pending;
 use ficus_outside::Link;
-use ficus_record::{Record, encode_change, encode_record};
+use ficus_record::Record;
 use ficus_script::{Answer, Command};
+use ficus_stable_storage::{frame_change, frame_record};
 use std::alloc::Global;
 
 impl<K: Keep + Drop, L: Link + Drop> World<K, L> {
@@ -90,14 +93,14 @@ impl<K: Keep + Drop, L: Link + Drop> World<K, L> {
         let replica = &self.group.up(by)?.replica;
         let number = replica.next_id();
         let next = replica.change(alloc, change)?;
-        let answer = answer(number, &next.op);
-        let noted = encode_change(alloc, &next.op)?;
+        let names = names_something(&next.op);
+        let noted = frame_change(alloc, &next.op)?;
         let next = Pending {
             replica: next.replica,
             event: Event::Update { by, op: next.op },
         };
         self.save(disks, by, next, noted)?;
-        Ok(answer)
+        Ok(answer_of(names, number))
     }
 
     fn look(&self, alloc: Global, by: u8, look: &Look) -> Result<Answer, Refusal>
@@ -119,17 +122,14 @@ impl<K: Keep + Drop, L: Link + Drop> World<K, L> {
             disks.old.items disks.new.items }
     {
         let collected = self.group.up(by)?.replica.collect(alloc)?;
-        let answer = Answer::Collected {
-            entries: collected.entries,
-            files: collected.files,
-        };
-        let noted = encode_record(alloc, &Record::Collect, self.members())?;
+        let (entries, files) = (collected.entries, collected.files);
+        let noted = frame_record(alloc, &Record::Collect, self.members())?;
         let next = Pending {
             replica: collected.replica,
             event: Event::Collect { by },
         };
         self.save(disks, by, next, noted)?;
-        Ok(answer)
+        Ok(Answer::Collected { entries, files })
     }
 
     // An ask, and the gives of its message and of each piece of the answer to it.
@@ -195,18 +195,27 @@ fn answered(came_to: Result<Answer, Refusal>) -> Result<Answer, Memory>
     }
 }
 
-// The answer to an update of this number.
-fn answer(number: Id, op: &Op) -> Answer
-    ensures { result ≡ answer_to number op.now }
+// Whether an update gives something a name, so that it is answered with its number.
+fn names_something(op: &Op) -> bool
+    ensures { (number : IdValue) → answer_to number op.now ≡ (if result then Made number else Done) }
 {
     match op {
-        Op::Make { .. } | Op::Link { .. } | Op::Move { .. } | Op::Adopt { .. } => Answer::Made(
-            number,
-        ),
+        Op::Make { .. } | Op::Link { .. } | Op::Move { .. } | Op::Adopt { .. } => true,
         Op::Remove { .. }
         | Op::Write { .. }
         | Op::Settle { .. }
         | Op::Resolve { .. }
-        | Op::Discard { .. } => Answer::Done,
+        | Op::Discard { .. } => false,
+    }
+}
+
+// The answer to an update of this number.
+fn answer_of(names_something: bool, number: Id) -> Answer
+    ensures { result ≡ (if names_something then Made number else Done) }
+{
+    if names_something {
+        Answer::Made(number)
+    } else {
+        Answer::Done
     }
 }

@@ -14,6 +14,7 @@ ghost use Rattle.ficus_world.specs.Moves.{FindsTaker, GivesTaking, IsPlaced, Tak
 ghost use Rattle.ficus_world.specs.World.{IsUpIn, event_limit, most_events};
 ghost use Rattle.ficus_wire.specs.Message.{FitsMessage, piece_of};
 ghost use Rattle.ficus_wire.specs.Parts.{HasPart, no_parts, with_part};
+ghost use Rattle.ficus_keeper.specs.Framed.{empty_head};
 ghost use Rattle.ficus_record.specs.Record.{accept_front};
 ghost use Rattle.ficus_opening.specs.declared.member.Member.{Member as MemberValue};
 ghost use Rattle.ficus_world.specs.declared.post.Behind.{Behind as BehindValue};
@@ -33,12 +34,12 @@ use ficus_keeper::Keep;
 use ficus_model::Event;
 use ficus_opening::Pending;
 use ficus_outside::Link;
-use ficus_record::{accepted_tables, begin_accept};
 use ficus_script::Answer;
+use ficus_stable_storage::{frame_accept_front, framed_tables};
 use ficus_wire::{Parts, PieceHead};
 use std::alloc::Global;
 
-// What a member comes to that takes tables, and what is noted of that.
+// What a member comes to that takes tables, and the record of that, in a frame.
 #[derive(Drop)]
 struct Taking {
     next: Pending,
@@ -121,7 +122,7 @@ impl<K: Keep + Drop, L: Link + Drop> World<K, L> {
 
 impl<L: Link + Drop> Group<L> {
     // What a member comes to that takes the tables which a piece and those that it holds spell together, or why it
-    // takes none. What it holds already is shared. They are read out of what is noted of their taking.
+    // takes none. What it holds already is shared. They are read out of the record of their taking.
     fn taking(
         &self,
         alloc: Global,
@@ -140,7 +141,7 @@ impl<L: Link + Drop> Group<L> {
     {
         let noted = self.joined(alloc, came.to, head, bytes)?;
         let known = self.known_to(came.to)?;
-        let (entries, files) = rows(alloc, accepted_tables(&noted), &known)?;
+        let (entries, files) = rows(alloc, framed_tables(&noted), &known)?;
         let replica = &self.member(came.to).replica;
         let taken = replica.accept_rows(
             alloc,
@@ -164,7 +165,7 @@ impl<L: Link + Drop> Group<L> {
         })
     }
 
-    // What is noted of the taking of the tables which a piece and those that a member holds spell together.
+    // The record of the taking of the tables which a piece and those that a member holds spell together, in a frame.
     fn joined(
         &self,
         alloc: Global,
@@ -177,9 +178,9 @@ impl<L: Link + Drop> Group<L> {
         requires last { (was : MemberValue) → IsNumbered self.now.members to was
             → IsPlaced (parts_held was.parts head) head.index TheLast }
         ensures { (was : MemberValue) → IsNumbered self.now.members to was
-            → IfOk result (λ noted. noted.items ≡ accept_front ++ spelled_with was head bytes.now) }
+            → IfOk result (λ noted. noted.items ≡ empty_head ++ accept_front ++ spelled_with was head bytes.now) }
     {
-        let mut noted = begin_accept(alloc)?;
+        let mut noted = frame_accept_front(alloc)?;
         match &self.member(to).parts {
             Some(held) => held.put_whole_with(&mut noted, head.index, bytes)?,
             None => put_bytes(&mut noted, bytes)?,

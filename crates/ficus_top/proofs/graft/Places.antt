@@ -1,14 +1,16 @@
 -- One of several volumes, in its place among them.
 use Rattle.std.proofs.Common.{◌≡◌, ℕ, ◌-◌, ◌+◌, ◌≤◌, List, [], ◌∷◌, refl, sym, ap, ◌∙◌, subst, inl, inr, arith}
-use Rattle.std.specs.Prelude.{Result, Ok, Err, IfOk, OnErr, Vec, vec_items, slice_set}
+use Rattle.std.specs.Prelude.{Option, Some, Result, Ok, Err, IfErr, IfOk, OnErr, Vec, vec_items, slice_set}
 use Rattle.std.specs.declared.alloc.Global.{Global}
 use Rattle.std.proofs.lemmas.List.{length-set}
 use Rattle.ficus_disk.specs.declared.disk.Disk.{Ghosts as Disk}
 use Rattle.ficus_disk.specs.declared.pair.Pair.{Pair}
 use Rattle.ficus_ids.specs.declared.memory.Memory.{Memory}
+use Rattle.ficus_ids.specs.declared.refusal.Refusal.{Refusal}
 use Rattle.ficus_keeper.specs.declared.keep.Keep.{Ghosts as Keep}
 use Rattle.ficus_model.specs.Lawful.{Volume}
 use Rattle.ficus_script.specs.declared.answer.Answer.{Answer}
+use Rattle.ficus_script.specs.declared.answer.Answer.TheVariants.{Refused}
 use Rattle.ficus_script.specs.declared.command.Command.{Command}
 use Rattle.ficus_runs.proofs.Numbers.{number_once}
 use Rattle.ficus_runs.proofs.Replaced.{replaced}
@@ -18,9 +20,12 @@ use Rattle.ficus_path.specs.declared.path.Path.{Path}
 use Rattle.ficus_world.specs.Follows.{FollowsOn, StopsOn, TellsFor}
 use Rattle.ficus_world.specs.World.{Backed, WorldStandsFor, foreseen, most_unforeseen}
 use Rattle.ficus_world.proofs.Lifting.Sets.{set_same}
+use Rattle.ficus_top.specs.declared.graft.following.Stop.{Stop}
+use Rattle.ficus_top.specs.declared.graft.following.Stop.TheVariants as stop
 use Rattle.ficus_top.specs.Graft.Answered.{Sent, sent_so}
+use Rattle.ficus_top.specs.Graft.Following.{IsRefusedBy}
 use Rattle.ficus_top.specs.Graft.Paths.{along}
-use Rattle.ficus_top.specs.Graft.Route.{ls}
+use Rattle.ficus_top.specs.Graft.Route.{Sending, ls}
 use Rattle.ficus_world.specs.Disks.{IsBacked}
 use Rattle.ficus_top.specs.Graft.Runs.{AreHeld, Disks, EachRuns, ForeseeFew, IsCutShort, MayBeCut, Sends}
 use Rattle.ficus_top.proofs.graft.Commands.{tells_along}
@@ -163,3 +168,14 @@ module _ {K D : Type 0} (keep : Keep K) (disk : Disk D) (link tells : Type 0) (v
       old_disks) unchanged
       (subst (λ (d : Disks D). EachRuns link keep disk (sent_so v (ls by path) answer ∷ []) old new old_disks d) kept
       (each_where (λ told. (told, λ none. absurd none)) (each_one (sent_so v (ls by path) answer) old new old_disks new_disks sends))))
+
+-- what stops for a refusal that was found stops for what was sent; want of memory is free
+pub stops_refused : {K D A : Type 0} (keep : Keep K) (disk : Disk D) (link : Type 0) (what : Sending)
+    (worlds : List (Backed K)) (disks : Disks D) (found : Result (Option Refusal) Memory) (result : Result A Stop)
+    → ((why : Refusal) → found ≡ Ok (Some why)
+    → EachRuns link keep disk (record { what = what; answer = Refused why } ∷ []) worlds worlds disks disks)
+    → IfErr result (λ why. (refusal : Refusal) → why ≡ stop.Refused refusal → found ≡ Ok (Some refusal))
+    → IfErr result (λ why. IsRefusedBy link keep disk what why worlds disks)
+stops_refused keep disk link what worlds disks found (Ok done) runs refused = tt
+stops_refused keep disk link what worlds disks found (Err stop.Memory) runs refused = tt
+stops_refused keep disk link what worlds disks found (Err (stop.Refused why)) runs refused = runs why (refused why refl)

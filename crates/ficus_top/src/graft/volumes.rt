@@ -1,10 +1,12 @@
-ghost use Rattle.std.specs.Prelude.{◌≡◌, ◌≢◌, ◌+◌, ◌≤◌, ℕ, [], length, Bool, IfErr, IfNone, IfOk, IfSome, OnErr, OnOk};
+ghost use Rattle.std.specs.Prelude.{◌≡◌, ◌≢◌, ◌+◌, ◌≤◌, ℕ, [], length, Bool, Some, None, Ok, IfErr, IfNone, IfOk, IfSome, OnErr, OnOk};
 ghost use Rattle.ficus_ids.specs.Members.{IsMember};
+ghost use Rattle.ficus_ids.specs.declared.refusal.Refusal.{Refusal as RefusalValue};
 ghost use Rattle.ficus_path.specs.Path.{IsPath, path_from};
+ghost use Rattle.ficus_runs.specs.Run.{OnlyLooks};
 ghost use Rattle.ficus_script.specs.Arguments.{IsReplicaNumber};
 ghost use Rattle.ficus_script.specs.Command.{IsCommand, IsStep};
 ghost use Rattle.ficus_top.specs.Graft.Answered.{sent_so};
-ghost use Rattle.ficus_top.specs.Graft.Calls.{SendsCommand};
+ghost use Rattle.ficus_top.specs.Graft.Calls.{FindsRefusal, SendsCommand};
 ghost use Rattle.ficus_top.specs.Graft.Following.{Halts, IsRefusedBy, LineHalts, Passes, Reaches, course_path};
 ghost use Rattle.ficus_top.specs.Graft.Paths.{ArePassed, along, names_entries, paths_of, rest_behind};
 ghost use Rattle.ficus_top.specs.Graft.Route.{ls, sending};
@@ -260,11 +262,28 @@ impl<K: Keep + Drop, L: Link + Drop> Volumes<K, L> {
             by,
             look: Look::Ls { path },
         };
-        let answer = self.send(alloc, disks, volume, &command)?;
-        match refusal_of(&answer) {
-            Some(refusal) => Err(Stop::Refused(refusal)),
-            None => Ok(()),
-        }
+        unless_refused(self.refusal_to(alloc, disks, volume, &command))
+    }
+
+    // Sends the command to the volume, and finds out why it is refused, if it is.
+    fn refusal_to<D: Disk>(
+        &mut self,
+        alloc: Global,
+        disks: &mut Vec<Vec<Pair<D>>>,
+        volume: u8,
+        command: &Command,
+    ) -> Result<Option<Refusal>, Memory>
+        requires volume { IsMember (length self.old) volume }
+        requires command { IsCommand command.now }
+        requires step { IsStep command.now }
+        requires room { HaveRoom event_limit self.old }
+        requires held { AreHeld K.Keep D.Disk self.old disks.old.items }
+        ensures finds { IfOk result (λ refusal. FindsRefusal L.tells K.Keep D.Disk volume command.now refusal self.old
+            self.new disks.old.items disks.new.items) }
+        ensures same { OnlyLooks command.now → (self.new ≡ self.old) × (disks.new.items ≡ disks.old.items) }
+    {
+        let answer = self.send(alloc, disks, volume, command)?;
+        Ok(refusal_of(&answer))
     }
 
     // Sends the command to the volume.
@@ -285,6 +304,18 @@ impl<K: Keep + Drop, L: Link + Drop> Volumes<K, L> {
     {
         let index = volume as usize - 1;
         self.worlds[index].step(alloc, &mut disks[index], command)
+    }
+}
+
+// Done, unless it was found out why it is refused, or memory was wanted for that.
+fn unless_refused(found: Result<Option<Refusal>, Memory>) -> Result<(), Stop>
+    ensures done { OnOk result (found ≡ Ok None) }
+    ensures refused { IfErr result (λ stop. (refusal : RefusalValue) → stop ≡ Stop.Refused refusal
+        → found ≡ Ok (Some refusal)) }
+{
+    match found? {
+        Some(refusal) => Err(Stop::Refused(refusal)),
+        None => Ok(()),
     }
 }
 

@@ -1,11 +1,12 @@
 use Rattle.std.proofs.Common.{arith}
+use Rattle.ficus_keeper.specs.Framed.{body_in}
 use Rattle.ficus_stable_storage.proofs.Ready.{still_ready}
 use Rattle.ficus_stable_storage_tests.proofs.saves.saves.Goals as goal
 
 pub commit-requires : goal.commit-requires
 commit-requires g c =
     let prepared = c.in_ok-prepare.ensures.prepared in (
-      c.args.body.items,
+      body_in c.args.framed.items,
       record {
         framed = prepared.framed;
         image = prepared.image;

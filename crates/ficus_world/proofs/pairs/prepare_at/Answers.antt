@@ -1,10 +1,36 @@
-use Rattle.std.proofs.Common.{◌-◌, sym, ◌∙◌, refl}
+use Rattle.std.proofs.Common.{◌≡◌, ◌≤◌, ◌-◌, ℕ, List, sym, ◌∙◌, refl, inl, inr}
+use Rattle.std.specs.Prelude.{slice_set}
 use Rattle.std.proofs.lemmas.List.{length-set}
 use Rattle.ficus_world.proofs.Disks.{disks_set, follows_at, fused_same, holds_still, pair_follows_none, same_numbered}
+use Rattle.ficus_keeper.proofs.Results.{in_ok}
 use Rattle.ficus_runs.proofs.Numbers.{number_read}
+use Rattle.ficus_runs.proofs.Replaced.{replaced}
+use Rattle.ficus_runs.specs.Numbered.{IsNumbered}
 use Rattle.ficus_world.proofs.Fuses.{fuses_prepared}
 use Rattle.ficus_opening.proofs.Rests.{rests_pair}
 use Rattle.ficus_world.proofs.pairs.prepare_at.Goals as goal
+
+-- what stands where one was replaced is that one
+in_place : {A : Type 0} (list : List A) (r : ℕ) (next found : A) → 1 ≤ r → IsNumbered (slice_set list (r - 1) next) r found
+    → found ≡ next
+in_place list r next found from_one is =
+    elim (replaced list r r next found from_one is) [
+      | inl here ↦ here.1
+      | inr other ↦ absurd (other.0 refl)
+    ]
+
+pub returns-clause-prepared : goal.returns-clause-prepared
+returns-clause-prepared g c =
+    in_ok c.prepare.result
+    (λ prepared. record {
+      each = λ stable pair is_stable is_pair.
+          rw (
+            in_place c.args.stables.now.items c.args.by c.prepare.new.self stable c.requires.member.at_least is_stable,
+            in_place c.args.disks.now.items c.args.by c.prepare.new.disks pair c.requires.pair.at_least is_pair,
+          )
+          prepared;
+    })
+    c.prepare.ensures.prepared
 
 pub returns-clause-stays : goal.returns-clause-stays
 returns-clause-stays g c =

@@ -1,4 +1,5 @@
-use Rattle.std.proofs.Common.{arith, subst, ◌≡◌}
+use Rattle.std.proofs.Common.{ap, arith, subst, ◌≡◌}
+use Rattle.ficus_keeper.specs.Framed.{body_in}
 use Rattle.ficus_record.specs.declared.record.Record.TheVariants.{Ask}
 use Rattle.ficus_opening.specs.declared.member.Member.{Member}
 use Rattle.ficus_opening.specs.declared.member.MemberState.TheVariants.{Up}
@@ -23,9 +24,9 @@ returns-clause-asks g c =
           number = omega (arith, c.in_ok-replica.ensures.fits.generation);
         };
       },
-      noted_sound {noted = c.in_ok-noted.noted.items} c.member.ensures.sound.replica (record {
+      noted_sound {noted = body_in c.in_ok-noted.noted.items} c.member.ensures.sound.replica (record {
         noted = Ask;
-        is = c.in_ok-noted.ensures;
+        is = ap body_in c.in_ok-noted.ensures;
         step = c.in_ok-replica.ensures.noted;
       }),
     )

@@ -1,5 +1,7 @@
 use Rattle.std.proofs.Common.{rules, refl, sym, ap, ◌∙◌, arith}
 use Rattle.std.proofs.lemmas.Result.{err_from_is_err_and, on_err_weaker, on_ok_weaker}
+use Rattle.ficus_keeper.specs.Framed.{body_in}
+use Rattle.ficus_stable_storage.proofs.Framed.{has_head}
 use Rattle.ficus_runs.specs.Numbered.{IsNumbered}
 use Rattle.ficus_world.specs.World.{Whole, backed_by, whole_of}
 use Rattle.ficus_world.proofs.Fuses.{comes_then}
@@ -14,6 +16,10 @@ use Rattle.ficus_world.proofs.group.Group.save.Goals as goal
 
 pub prepare_at-requires-clause-fits : goal.prepare_at-requires-clause-fits
 prepare_at-requires-clause-fits g c = let next = c.requires.next c.requires.up.member c.requires.up.is in next.sound.fits
+
+pub prepare_at-requires-clause-head : goal.prepare_at-requires-clause-head
+prepare_at-requires-clause-head g c =
+    has_head c.args.noted.items (c.requires.next c.requires.up.member c.requires.up.is).leads
 
 pub invariant_of-self-2 : goal.invariant_of-self-2
 invariant_of-self-2 g c =
@@ -33,7 +39,7 @@ commit_next-requires-clause-pair g c =
 
 pub commit_next-requires-clause-prepared : goal.commit_next-requires-clause-prepared
 commit_next-requires-clause-prepared g c = (
-  c.args.noted.items,
+  body_in c.args.noted.items,
   c.in_ok-prepare_at.ensures.prepared,
   λ was is. (c.requires.next was (subst (λ (w : Whole). IsNumbered w.members c.args.by was) c.self.view_is is)).leads,
 )

@@ -2,7 +2,9 @@ use Rattle.std.proofs.Common.{rules, ◌≤◌, Err, Some, List, ℕ, length, re
 use Rattle.std.proofs.lemmas.List.{length_push}
 use Rattle.std.proofs.lemmas.Result.{err_from_is_err_and}
 use Rattle.ficus_model.specs.declared.event.Event.TheVariants.{Ask}
+use Rattle.ficus_keeper.specs.Framed.{body_in}
 use Rattle.ficus_stable_storage.specs.Leads.Holds.{Leads}
+use Rattle.ficus_stable_storage.proofs.Framed.{has_head}
 use Rattle.ficus_runs.proofs.Numbers.{number_once}
 use Rattle.ficus_opening.specs.declared.member.Member.{Member}
 use Rattle.ficus_world.specs.Disks.{CarriedOn}
@@ -32,6 +34,9 @@ make_ready-requires-clause-pair g c =
 pub make_ready-requires-clause-fits : goal.make_ready-requires-clause-fits
 make_ready-requires-clause-fits g c = c.requires.asking.2.sound.fits
 
+pub make_ready-requires-clause-head : goal.make_ready-requires-clause-head
+make_ready-requires-clause-head g c = has_head c.args.noted.items c.requires.asking.2.leads
+
 pub returns-in_err-make_ready-clause-asks : goal.returns-in_err-make_ready-clause-asks
 returns-in_err-make_ready-clause-asks g c =
     let refused = err_from_is_err_and c.from_residual.result c.from_residual.ensures.1 in
@@ -42,7 +47,7 @@ returns-in_err-make_ready-clause-asks g c =
     let x = c.args.disks.now.items in
     let y = c.make_ready.new.disks.items in
     let old = whole_of c.self.inside.members.items c.self.inside.history.events c.self.inside.post.now in
-    let asking = subst (AsksWith by to c.args.noted.items c.args.asking.replica) (sym c.self.view_is) c.requires.asking in
+    let asking = subst (AsksWith by to (body_in c.args.noted.items) c.args.asking.replica) (sym c.self.view_is) c.requires.asking in
     let message = c.requires.message in
     let moves = unready tells old by to asking.0 c.args.asking.replica asking.1 x y
     (c.in_err-make_ready.ensures.stays.follows old.members)
@@ -56,7 +61,7 @@ pub invariant_of-self-in_err-commit_next : goal.invariant_of-self-in_err-commit_
 invariant_of-self-in_err-commit_next g c =
     let by = c.args.by in
     let old = whole_of c.self.inside.members.items c.self.inside.history.events c.self.inside.post.now in
-    let asking = subst (AsksWith by c.args.to c.args.noted.items c.args.asking.replica) (sym c.self.view_is)
+    let asking = subst (AsksWith by c.args.to (body_in c.args.noted.items) c.args.asking.replica) (sym c.self.view_is)
     c.requires.asking in
     let was = asking.0 in
     let world : IsWorld old = c.self.invariant in
@@ -76,7 +81,7 @@ returns-in_err-commit_next-clause-asks g c =
     let x = c.args.disks.now.items in
     let z = c.commit_next.new.disks.items in
     let old = whole_of c.self.inside.members.items c.self.inside.history.events c.self.inside.post.now in
-    let asking = subst (AsksWith by to c.args.noted.items c.args.asking.replica) (sym c.self.view_is) c.requires.asking in
+    let asking = subst (AsksWith by to (body_in c.args.noted.items) c.args.asking.replica) (sym c.self.view_is) c.requires.asking in
     let message = c.requires.message in
     let was = asking.0 in
     let room : HasRoomFor old (ask_size by to c.args.asking.replica) =
@@ -101,7 +106,7 @@ invariant_of-self-2 g c =
     let to = c.args.to in
     let asked = c.args.asking.replica in
     let old = whole_of c.self.inside.members.items c.self.inside.history.events c.self.inside.post.now in
-    let asking = subst (AsksWith by to c.args.noted.items asked) (sym c.self.view_is) c.requires.asking in
+    let asking = subst (AsksWith by to (body_in c.args.noted.items) asked) (sym c.self.view_is) c.requires.asking in
     let message = c.requires.message in
     let was = asking.0 in
     let world : IsWorld old = c.self.invariant in
@@ -126,7 +131,7 @@ returns-clause-asks g c =
     let x = c.args.disks.now.items in
     let z = c.commit_next.new.disks.items in
     let old = whole_of c.self.inside.members.items c.self.inside.history.events c.self.inside.post.now in
-    let asking = subst (AsksWith by to c.args.noted.items asked) (sym c.self.view_is) c.requires.asking in
+    let asking = subst (AsksWith by to (body_in c.args.noted.items) asked) (sym c.self.view_is) c.requires.asking in
     let message = c.requires.message in
     let was = asking.0 in
     let room : HasRoomFor old (ask_size by to asked) =
@@ -150,11 +155,11 @@ commit_next-requires-clause-pair g c =
 
 pub commit_next-requires-clause-prepared : goal.commit_next-requires-clause-prepared
 commit_next-requires-clause-prepared g c =
-    let asking = subst (AsksWith c.args.by c.args.to c.args.noted.items c.args.asking.replica) (sym c.self.view_is)
+    let asking = subst (AsksWith c.args.by c.args.to (body_in c.args.noted.items) c.args.asking.replica) (sym c.self.view_is)
     c.requires.asking in (
-      c.args.noted.items,
+      body_in c.args.noted.items,
       c.in_ok-make_ready.ensures.prepared,
-      λ was is. subst (λ (m : Member). Leads c.args.noted.items m.replica.saved c.args.asking.replica.saved)
+      λ was is. subst (λ (m : Member). Leads (body_in c.args.noted.items) m.replica.saved c.args.asking.replica.saved)
           (number_once asking.1.is is) asking.2.leads,
     )
 

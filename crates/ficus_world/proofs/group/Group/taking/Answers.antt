@@ -5,6 +5,7 @@ use Rattle.ficus_durable_state.specs.Tables.{FitsTables}
 use Rattle.ficus_entry.specs.declared.entry.Entry.{Entry}
 use Rattle.ficus_file.specs.declared.file.FileReplica.{FileReplica}
 use Rattle.ficus_ids.specs.declared.refusal.Refusal.TheVariants.{BadMessage, Memory}
+use Rattle.ficus_keeper.specs.Framed.{body_in}
 use Rattle.ficus_record.specs.Record.{accept_front}
 use Rattle.ficus_record.specs.declared.record.Record.TheVariants.{Accept as AcceptOf}
 use Rattle.ficus_runs.specs.Numbered.{IsNumbered}
@@ -23,8 +24,8 @@ use Rattle.ficus_world.proofs.group.Group.taking.Goals as goal
 is_up : {old : Whole} {r : ℕ} {was : Member} → IsUpIn old r → IsNumbered old.members r was → was.state ≡ Up
 is_up {was = was} up is = subst (λ (m : Member). m.state ≡ Up) (number_once up.is is) up.up
 
-pub accepted_tables-requires : goal.accepted_tables-requires
-accepted_tables-requires g c =
+pub framed_tables-requires : goal.framed_tables-requires
+framed_tables-requires g c =
     let up = c.requires.up in
     omega (arith, ap length (c.deref.ensures.value ∙ c.in_ok-noted.ensures up.member up.is))
 
@@ -42,7 +43,7 @@ pub returns-in_err-entries : goal.returns-in_err-entries
 returns-in_err-entries g c = λ was is.
     let refused = err_from_is_err_and c.from_residual-in_err-entries.result c.from_residual-in_err-entries.ensures.1 in
     let r = c.in_err-entries.field-0.0 in
-    let tables = c.accepted_tables.ensures (spelled_with was c.args.head c.args.bytes.now)
+    let tables = c.framed_tables.ensures (spelled_with was c.args.head c.args.bytes.now)
     (c.deref.ensures.value ∙ c.in_ok-noted.ensures was is) in
     let unspelled = subst (λ n. r ≢ Memory → (r ≡ BadMessage) × ((entries : List Entry) (files : List FileReplica)
     → FitsTables n entries files → spelled_with was c.args.head c.args.bytes.now ≡ tables_bytes n entries files → ⊥))
@@ -54,10 +55,10 @@ returns-in_err-entries g c = λ was is.
 pub returns-in_err-taken : goal.returns-in_err-taken
 returns-in_err-taken g c = λ was is.
     let refused = err_from_is_err_and c.from_residual-in_err-taken.result c.from_residual-in_err-taken.ensures.1 in
-    let tables = c.accepted_tables.ensures (spelled_with was c.args.head c.args.bytes.now)
+    let tables = c.framed_tables.ensures (spelled_with was c.args.head c.args.bytes.now)
     (c.deref.ensures.value ∙ c.in_ok-noted.ensures was is) in
     let fits = at_rows FitsTables c.in_ok-known.ensures c.items.ensures c.items-2.ensures c.in_ok-entries.ensures.fits in
-    let spelled = at_rows (λ n entries files. c.accepted_tables.result.now ≡ tables_bytes n entries files)
+    let spelled = at_rows (λ n entries files. c.framed_tables.result.now ≡ tables_bytes n entries files)
     c.in_ok-known.ensures c.items.ensures c.items-2.ensures c.in_ok-entries.ensures.spelled in
     let there = c.member.ensures.is in
     rw (refused.1, refused.2) (λ other. SpellsTables fits (sym tables ∙ spelled)
@@ -65,10 +66,10 @@ returns-in_err-taken g c = λ was is.
 
 pub returns : goal.returns
 returns g c = λ was is.
-    let tables = c.accepted_tables.ensures (spelled_with was c.args.head c.args.bytes.now)
+    let tables = c.framed_tables.ensures (spelled_with was c.args.head c.args.bytes.now)
     (c.deref.ensures.value ∙ c.in_ok-noted.ensures was is) in
     let fits = at_rows FitsTables c.in_ok-known.ensures c.items.ensures c.items-2.ensures c.in_ok-entries.ensures.fits in
-    let spelled = sym tables ∙ at_rows (λ n entries files. c.accepted_tables.result.now ≡ tables_bytes n entries files)
+    let spelled = sym tables ∙ at_rows (λ n entries files. c.framed_tables.result.now ≡ tables_bytes n entries files)
     c.in_ok-known.ensures c.items.ensures c.items-2.ensures c.in_ok-entries.ensures.spelled in
     let there = c.member.ensures.is in
     let sound = c.member.ensures.sound.replica in
@@ -87,9 +88,9 @@ returns g c = λ was is.
       spelled = spelled;
       gives = c.in_ok-taken.ensures.gives;
       happens = refl;
-      sound = noted_sound {noted = c.in_ok-noted.noted.items} sound (record {
+      sound = noted_sound {noted = body_in c.in_ok-noted.noted.items} sound (record {
         noted = AcceptOf c.items.result.now c.items-2.result.now;
-        is = c.in_ok-noted.ensures was is ∙ ap (λ (tables : List ℕ). accept_front ++ tables) counted;
+        is = ap body_in (c.in_ok-noted.ensures was is) ∙ ap (λ (tables : List ℕ). accept_front ++ tables) counted;
         step = c.in_ok-taken.ensures.noted;
       });
     }

@@ -1,5 +1,6 @@
-use Rattle.std.proofs.Common.{refl, Err, length, subst}
+use Rattle.std.proofs.Common.{refl, Err, ap, length, sym, subst}
 use Rattle.std.proofs.lemmas.Result.{err_from_is_err_and}
+use Rattle.ficus_keeper.specs.Framed.{body_in}
 use Rattle.ficus_model.specs.declared.event.Event.TheVariants.{Update}
 use Rattle.ficus_deciding.proofs.Sound.{may_where_given}
 use Rattle.ficus_record.specs.declared.record.Record.TheVariants.{Change}
@@ -87,7 +88,7 @@ returns g c =
     let next = c.in_ok-next.next in
     record {
       moves =
-          rw (c.answer-answer.ensures, c.next_id-number.ensures)
+          rw (c.answer_of.ensures, sym (c.names_something-names.ensures c.next_id-number.result), c.next_id-number.ensures)
           (saved_done old c.save.new.self.whole change c.args.by was next.replica (Update c.args.by next.op) _
           c.args.disks.now.items c.save.new.disks.items (c.in_ok-save.ensures.saves.0 was is) c.in_ok-save.ensures.saves.1
           (change_moves g.L.Link.tells g.D.Disk.tells old c.args.by was is c.in_ok-replica.ensures.up c.args.change.now next
@@ -126,11 +127,11 @@ save-requires-clause-next g c = λ was is.
     c.in_ok-replica.ensures.is in
     let sound = subst (λ (w : Whole). IsSoundMember (length w.members) (length w.events) c.args.by found)
     (whole_is c.self.view_is) c.in_ok-replica.ensures.sound in
-    subst (λ (m : Member). IsSoundNext (length old.members) (length old.events) c.args.by c.in_ok-noted.noted.items m.replica
+    subst (λ (m : Member). IsSoundNext (length old.members) (length old.events) c.args.by (body_in c.in_ok-noted.noted.items) m.replica
     next.replica) (number_once there is)
-    (noted_sound {noted = c.in_ok-noted.noted.items} sound.replica (record {
+    (noted_sound {noted = body_in c.in_ok-noted.noted.items} sound.replica (record {
       noted = Change next.op;
-      is = c.in_ok-noted.ensures found.replica.saved.members;
+      is = ap body_in (c.in_ok-noted.ensures found.replica.saved.members);
       step = c.in_ok-next.ensures.noted;
     }))
 

@@ -1,8 +1,9 @@
-use Rattle.std.proofs.Common.{◌≡◌, ℕ, List, Err, length, subst}
+use Rattle.std.proofs.Common.{◌≡◌, ℕ, List, Err, ap, length, subst}
 use Rattle.std.proofs.lemmas.Result.{err_from_is_err_and}
 use Rattle.ficus_disk.specs.declared.disk.Disk.{Ghosts as Disk}
 use Rattle.ficus_disk.specs.declared.pair.Pair.{Pair}
 use Rattle.ficus_ids.specs.declared.refusal.Refusal.TheVariants.{Memory}
+use Rattle.ficus_keeper.specs.Framed.{body_in}
 use Rattle.ficus_keeper.specs.declared.keep.Keep.{Ghosts as Keep}
 use Rattle.ficus_model.specs.declared.event.Event.TheVariants.{Collect as Gathers}
 use Rattle.ficus_record.specs.declared.record.Record.TheVariants.{Collect}
@@ -112,10 +113,10 @@ save-requires-clause-next g c = λ was is.
     c.in_ok-up.ensures.is in
     let sound = subst (λ (w : Whole). IsSoundMember (length w.members) (length w.events) c.args.by found)
     (whole_is c.self.view_is) c.in_ok-up.ensures.sound in
-    subst (λ (m : Member). IsSoundNext (length old.members) (length old.events) c.args.by c.in_ok-noted.noted.items m.replica
+    subst (λ (m : Member). IsSoundNext (length old.members) (length old.events) c.args.by (body_in c.in_ok-noted.noted.items) m.replica
     next.replica) (number_once there is)
-    (noted_sound {noted = c.in_ok-noted.noted.items} sound.replica (record {
+    (noted_sound {noted = body_in c.in_ok-noted.noted.items} sound.replica (record {
       noted = Collect;
-      is = c.in_ok-noted.ensures;
+      is = ap body_in c.in_ok-noted.ensures;
       step = c.in_ok-collected.ensures.noted;
     }))

@@ -1,5 +1,6 @@
 use Rattle.std.proofs.Common.{Err, Ok, length, subst}
 use Rattle.std.proofs.lemmas.Result.{err_from_is_err_and}
+use Rattle.ficus_keeper.specs.Framed.{body_in}
 use Rattle.ficus_runs.specs.Sequence.{unchanged}
 use Rattle.ficus_script.specs.declared.answer.Answer.TheVariants.{Done}
 use Rattle.ficus_world.specs.Moves.{TakesSpelled, spelled_with}
@@ -54,7 +55,7 @@ save-requires-clause-next g c = λ was is.
     let taken = c.in_ok-next.field-0 in
     let taking = taking_in c.args.came c.args.head c.args.bytes.now (Ok taken) (whole_is c.self.view_is)
     c.in_ok-next.ensures was is in
-    subst (λ (m : Member). IsSoundNext (length old.members) (length old.events) c.args.came.to taken.noted.items m.replica
+    subst (λ (m : Member). IsSoundNext (length old.members) (length old.events) c.args.came.to (body_in taken.noted.items) m.replica
     taken.next.replica) (number_once taking.is is) taking.sound
 
 pub returns-in_err-next-clause-acts : goal.returns-in_err-next-clause-acts
