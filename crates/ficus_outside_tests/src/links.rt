@@ -83,12 +83,16 @@ fn fetches<L: Link>(link: &mut L) -> Result<bool, Memory> {
 
 // Whether the four calls come to that.
 fn come_to(alloc: Global, row: &Calls) -> Result<bool, Memory> {
-    let fail = row.fail.to_vec(alloc)?;
-    let mut link = FailLink::new(alloc, fail);
-    let first = post(alloc, &mut link)?;
-    let once = fetches(&mut link)?;
-    let again = fetches(&mut link)?;
-    let second = post(alloc, &mut link)?;
+    let mut link = FailLink::new(alloc, row.fail.to_vec(alloc)?);
+    come_to_over(alloc, &mut link, row)
+}
+
+// The same over this link.
+fn come_to_over(alloc: Global, link: &mut FailLink, row: &Calls) -> Result<bool, Memory> {
+    let first = post(alloc, link)?;
+    let once = fetches(link)?;
+    let again = fetches(link)?;
+    let second = post(alloc, link)?;
     let total = if second.is_some() { 24 } else { 12 };
     Ok(
         first == row.first

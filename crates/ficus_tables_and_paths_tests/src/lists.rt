@@ -218,22 +218,58 @@ fn insertions_are_those_of_a_vector(rt: HostRuntime) -> Result<(), Fail> {
 }
 
 // Whichever leaves keep their spelling: those of a list that was built at once don't, and of one that was changed some.
+// Whether a list is spelled as the items of a vector are once it is built, and after insertions in this order,
+// replacements and removals.
+fn is_spelled_so(alloc: Global, order: Order) -> Result<bool, Memory> {
+    let mut plain = Vec::new(alloc);
+    extend(&mut plain, Order::Rising, 1_000)?;
+    is_built_so(alloc, order, &mut plain)
+}
+
+// The same of a list with the items of this vector.
+fn is_built_so(alloc: Global, order: Order, plain: &mut Vec<Number>) -> Result<bool, Memory> {
+    let list = built(alloc, 1_000)?;
+    if !are_spelled_alike(alloc, &list, plain)? {
+        return Ok(false);
+    }
+    is_extended_so(alloc, list, order, plain)
+}
+
+// From the insertions on.
+fn is_extended_so(
+    alloc: Global,
+    list: PersistentList<Number>,
+    order: Order,
+    plain: &mut Vec<Number>,
+) -> Result<bool, Memory> {
+    let list = extended(alloc, list, order, 2_000)?;
+    extend(plain, order, 2_000)?;
+    if !are_spelled_alike(alloc, &list, plain)? {
+        return Ok(false);
+    }
+    is_replaced_so(alloc, list, plain)
+}
+
+// From the replacements on.
+fn is_replaced_so(
+    alloc: Global,
+    list: PersistentList<Number>,
+    plain: &mut Vec<Number>,
+) -> Result<bool, Memory> {
+    let list = replaced(alloc, list, plain)?;
+    if !are_spelled_alike(alloc, &list, plain)? {
+        return Ok(false);
+    }
+    let list = shortened(alloc, list, 1_500)?;
+    are_spelled_alike(alloc, &list, &plain[plain.len().min(1_500)..])
+}
+
 #[test]
 fn a_list_is_spelled_as_its_items(rt: HostRuntime) -> Result<(), Fail> {
-    let alloc = rt.alloc();
-    for order in [Order::Rising, Order::Falling, Order::Middle, Order::Random] {
-        let mut plain = Vec::new(alloc);
-        extend(&mut plain, Order::Rising, 1_000)?;
-        let list = built(alloc, 1_000)?;
-        assert!(rt; are_spelled_alike(alloc, &list, &plain)?);
-        let list = extended(alloc, list, order, 2_000)?;
-        extend(&mut plain, order, 2_000)?;
-        assert!(rt; are_spelled_alike(alloc, &list, &plain)?);
-        let list = replaced(alloc, list, &mut plain)?;
-        assert!(rt; are_spelled_alike(alloc, &list, &plain)?);
-        let list = shortened(alloc, list, 1_500)?;
-        let rest = &plain[plain.len().min(1_500)..];
-        assert!(rt; are_spelled_alike(alloc, &list, rest)?);
+    let orders = [Order::Rising, Order::Falling, Order::Middle, Order::Random];
+    for (place, order) in orders.into_iter().enumerate() {
+        let is_so = is_spelled_so(rt.alloc(), order)?;
+        assert!(rt; is_so, "order {place}");
     }
     Ok(())
 }
@@ -250,15 +286,32 @@ fn removals_lead_back_to_nothing(rt: HostRuntime) -> Result<(), Fail> {
     Ok(())
 }
 
+// The length of a later version of a list, after insertions and removals.
+fn later_length(alloc: Global, list: &PersistentList<Number>) -> Result<usize, Memory> {
+    let later = extended(alloc, list.copy()?, Order::Middle, 2_000)?;
+    let later = shortened(alloc, later, 4_000)?;
+    Ok(later.len())
+}
+
+// Whether a list has the items of a vector after so many insertions.
+fn agrees(alloc: Global, list: &PersistentList<Number>, count: u32) -> Result<bool, Memory> {
+    let mut plain = Vec::new(alloc);
+    extend(&mut plain, Order::Random, count)?;
+    Ok(agree(list, &plain))
+}
+
+// That length, and whether the earlier version still has its items then.
+fn earlier_stays(alloc: Global) -> Result<(usize, bool), Memory> {
+    let list = extended(alloc, PersistentList::new(), Order::Random, 3_000)?;
+    let length = later_length(alloc, &list)?;
+    let is_same = agrees(alloc, &list, 3_000)?;
+    Ok((length, is_same))
+}
+
 #[test]
 fn an_earlier_version_stays_as_it_was(rt: HostRuntime) -> Result<(), Fail> {
-    let list = extended(rt.alloc(), PersistentList::new(), Order::Random, 3_000)?;
-    let later = list.copy()?;
-    let later = extended(rt.alloc(), later, Order::Middle, 2_000)?;
-    let later = shortened(rt.alloc(), later, 4_000)?;
-    assert_eq!(rt; later.len(), 1_000);
-    let mut plain = Vec::new(rt.alloc());
-    extend(&mut plain, Order::Random, 3_000)?;
-    assert!(rt; agree(&list, &plain));
+    let (length, is_same) = earlier_stays(rt.alloc())?;
+    assert_eq!(rt; length, 1_000);
+    assert!(rt; is_same);
     Ok(())
 }
