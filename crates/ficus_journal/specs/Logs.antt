@@ -1,10 +1,23 @@
 -- What a slot with records behind it keeps, on each of two disks, and what is known of both.
-use Rattle.std.specs.Prelude.{◌≡◌, ◌==◌, ℕ, ◌%◌, ◌/◌, ◌≤◌, nat_le, Bool, false, if◌then◌else◌, List, length, Option, Some, None}
+use Rattle.std.specs.Prelude.{◌≡◌, ◌⊎◌, ◌==◌, ℕ, ◌%◌, ◌/◌, ◌≤◌, ◌<◌, nat_le, Bool, false, if◌then◌else◌, List, ◌∷◌, length, Option, Some, None}
 use Rattle.ficus_keeper.specs.Kept.{Kept}
-use Rattle.ficus_slot.specs.Slot.{SlotContent, slot_in}
-use Rattle.ficus_log.specs.Log.{is_open, tail_log}
+use Rattle.ficus_slot.specs.Slot.{IsSlot, SlotContent, slot_in}
+use Rattle.ficus_log.specs.Log.{IsLog, is_open, tail_log}
 
--- the image in a slot, and the records behind it
+-- a disk keeps this: the image in an open and whole slot, and the records that are read from its tail on
+pub record IsKeptOn (kept : Kept) (bytes : List ℕ) : Type 0 where
+  pub tail : ℕ
+  pub slot : IsSlot (record { generation = kept.generation; body = kept.image }) tail bytes
+  pub rest : List ℕ
+  pub log : IsLog kept.generation (record { bodies = kept.records; rest = rest }) (tail ∷ slot.more)
+
+-- one of the disks a and b keeps this, and the other nothing of a greater generation; nor `a` of an equal one, where it
+-- is that of `b`
+abbrev pub IsKept : Kept → List ℕ → List ℕ → Type 0
+IsKept kept a b = (IsKeptOn kept a × ((other : Kept) → IsKeptOn other b → other.generation ≤ kept.generation))
+    ⊎ (IsKeptOn kept b × ((other : Kept) → IsKeptOn other a → other.generation < kept.generation))
+
+-- the same as a function (`what_is_kept`): the image in a slot, and the records behind it
 abbrev pub log_kept : SlotContent → List ℕ → Kept
 log_kept saved bytes = record {
   generation = saved.generation;

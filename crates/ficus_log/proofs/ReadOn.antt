@@ -1,34 +1,45 @@
 -- How far records have been read.
-use Rattle.std.proofs.Common.{◌≡◌, ℕ, ◌+◌, ◌≤◌, Some, None, List, [], ◌∷◌, ◌++◌, length, refl, sym, ◌∙◌, ap, arith, append_assoc}
-use Rattle.std.proofs.lemmas.List.{append-nil}
-use Rattle.ficus_log.specs.Log.{Piece, behind, log_of, record_in}
-use Rattle.ficus_log.proofs.Walks.{ended, length-begins, one_more, read_begins}
+use Rattle.std.proofs.Common.{◌≡◌, ℕ, ◌+◌, ◌≤◌, List, [], ◌∷◌, ◌++◌, length, refl, sym, subst, arith}
+use Rattle.std.proofs.lemmas.List.{length_push}
+use Rattle.ficus_log.specs.Log.{AreRecords, IsEnd, IsLog, IsRecord}
+use Rattle.ficus_log.proofs.Walks.{length-begins}
 
--- these bodies stand in front of what is still to be read
+-- records of these bodies stand in front of what is still to be read
 pub record IsReadOn (first last : ℕ) (bytes rest : List ℕ) (bodies : List (List ℕ)) : Type 0 where
-  pub is : log_of first bytes ≡ behind bodies (log_of last rest)
+  pub records : AreRecords first bodies rest bytes
+  pub at : last ≡ first + length bodies
   pub within : length rest ≤ length bytes
 
 pub nothing_read : (first : ℕ) (bytes : List ℕ) → IsReadOn first first bytes bytes []
-nothing_read first bytes = record { is = refl; within = omega arith }
+nothing_read first bytes = record { records = refl; at = omega arith; within = omega arith }
 
-pub read_more : (first last next : ℕ) (bytes rest : List ℕ) (bodies : List (List ℕ)) (piece : Piece)
-    → IsReadOn first last bytes rest bodies → record_in last rest ≡ Some piece → next ≡ last + 1
-    → IsReadOn first next bytes piece.rest (bodies ++ piece.body ∷ [])
-read_more first last next bytes rest bodies piece gone found is =
-    let shorter = length-begins last piece.body piece.rest rest (read_begins last rest piece found) in
+-- one record more
+pushed : (first last : ℕ) (bodies : List (List ℕ)) (body bytes rest next : List ℕ) → last ≡ first + length bodies
+    → AreRecords first bodies rest bytes → IsRecord last body next rest
+    → AreRecords first (bodies ++ body ∷ []) next bytes
+pushed first last [] body bytes rest next at are more =
+    let same : last ≡ first = omega arith in (
+      next,
+      subst (λ (n : ℕ). IsRecord n body next bytes) same
+          (subst (λ (l : List ℕ). IsRecord last body next l) (sym are) more),
+      refl,
+    )
+pushed first last (other ∷ bodies) body bytes rest next at (behind, is, are) more =
+    (behind, is, pushed (first + 1) last bodies body behind rest next (omega arith) are more)
+
+pub read_more : (first last after : ℕ) (bytes rest next : List ℕ) (bodies : List (List ℕ)) (body : List ℕ)
+    → IsReadOn first last bytes rest bodies → IsRecord last body next rest → after ≡ last + 1
+    → IsReadOn first after bytes next (bodies ++ body ∷ [])
+read_more first last after bytes rest next bodies body gone more is =
+    let shorter = length-begins last body next rest more in
+    let longer = length_push bodies body in
     record {
-      is = gone.is ∙ ap (behind bodies) (one_more last rest piece found)
-          ∙ (λ i. behind bodies (behind (piece.body ∷ []) (log_of ((sym is) i) piece.rest)))
-          ∙ (λ i. record {
-            bodies = (sym (append_assoc bodies (piece.body ∷ []) (log_of next piece.rest).bodies)) i;
-            rest = (log_of next piece.rest).rest;
-          });
-      within = omega (arith, gone.within);
+      records = pushed first last bodies body bytes rest next gone.at gone.records more;
+      at = omega (arith, gone.at, is, longer);
+      within = omega (arith, gone.within, shorter);
     }
 
 pub all_read : (first last : ℕ) (bytes rest : List ℕ) (bodies : List (List ℕ)) → IsReadOn first last bytes rest bodies
-    → record_in last rest ≡ None → log_of first bytes ≡ record { bodies = bodies; rest = rest }
-all_read first last bytes rest bodies gone none =
-    gone.is ∙ ap (behind bodies) (ended last rest none)
-    ∙ ap (λ (l : List (List ℕ)). record { bodies = l; rest = rest }) (append-nil bodies)
+    → IsEnd last rest → IsLog first (record { bodies = bodies; rest = rest }) bytes
+all_read first last bytes rest bodies gone ends =
+    record { records = gone.records; ends = subst (λ (n : ℕ). IsEnd n rest) gone.at ends }

@@ -6,16 +6,7 @@ use Rattle.std.specs.Int.{w32, w64, to_be_bytes, from_be_bytes}
 use Rattle.std.proofs.lemmas.Nat.{from_be_bytes-to_be_bytes_8, from_be_bytes-to_be_bytes_4}
 use Rattle.std.proofs.lemmas.Bool.Decides.{nat_tests}
 use Rattle.ficus_slot.specs.Slot.{number_of, spelled}
-use Rattle.ficus_log.specs.Log.{Log, Piece, behind, gone_on, is_record, log_of, piece_of, record_in, record_range, short_number, short_spelled, walked}
-
--- the bytes begin with a record of this body, of the generation above this one
-pub record Begins (last : ℕ) (body rest bytes : List ℕ) : Type 0 where
-  pub head : List ℕ
-  pub is : bytes ≡ 1 ∷ (head ++ (body ++ rest))
-  pub twelve : length head ≡ 12
-  pub stamp : number_of head ≡ last + 1
-  pub count : short_number (drop 8 head) ≡ length body
-  pub more : 1 ≤ length rest
+use Rattle.ficus_log.specs.Log.{IsRecord, Log, Piece, behind, gone_on, is_record, log_of, piece_of, record_in, record_range, short_number, short_spelled, walked}
 
 -- the numbers in front of a record stand in its first twelve bytes
 pub numbers_at : (head rest : List ℕ) → length head ≡ 12
@@ -40,7 +31,7 @@ test_holds last gate rest piece opens holds is =
     ∙ ap (λ (b : Bool). if b then Some (piece_of rest) else None) holds ∙ ap Some is
 
 -- such bytes are read as this record
-pub begins_read : (last : ℕ) (body rest bytes : List ℕ) → Begins last body rest bytes
+pub begins_read : (last : ℕ) (body rest bytes : List ℕ) → IsRecord last body rest bytes
     → record_in last bytes ≡ Some (record { body = body; rest = rest })
 begins_read last body rest bytes begins =
     let head = begins.head in
@@ -103,7 +94,7 @@ first_twelve rest long =
     )
 
 begins_where : (last gate : ℕ) (rest : List ℕ) → Passes last gate rest
-    → Begins last (piece_of rest).body (piece_of rest).rest (gate ∷ rest)
+    → IsRecord last (piece_of rest).body (piece_of rest).rest (gate ∷ rest)
 begins_where last gate rest passed =
     let count : ℕ = short_number (drop 8 rest) in
     let long = passed.long in
@@ -125,14 +116,14 @@ begins_where last gate rest passed =
 
 -- and what is read as a record begins so
 pub read_begins : (last : ℕ) (bytes : List ℕ) (piece : Piece) → record_in last bytes ≡ Some piece
-    → Begins last piece.body piece.rest bytes
+    → IsRecord last piece.body piece.rest bytes
 read_begins last [] piece is = absurd (cc)
 read_begins last (gate ∷ rest) piece is =
     let both = if_some ((gate == 1) && is_record last rest) (piece_of rest) piece is in
-    subst (λ (p : Piece). Begins last p.body p.rest (gate ∷ rest)) both.1
+    subst (λ (p : Piece). IsRecord last p.body p.rest (gate ∷ rest)) both.1
     (begins_where last gate rest (passes last gate rest both.0))
 
-pub length-begins : (last : ℕ) (body rest bytes : List ℕ) → Begins last body rest bytes
+pub length-begins : (last : ℕ) (body rest bytes : List ℕ) → IsRecord last body rest bytes
     → length bytes ≡ 13 + length body + length rest
 length-begins last body rest bytes begins =
     omega (
@@ -242,7 +233,7 @@ reads_walked (body ∷ bodies) n last front tail (head, rest, is, twelve, stamp,
     ap (λ (l : List ℕ). l ++ tail) is
     ∙ ap (λ (l : List ℕ). 1 ∷ l) (append_assoc head (body ++ rest) tail
     ∙ ap (λ (l : List ℕ). head ++ l) (append_assoc body rest tail)) in
-    let begins : Begins last body (rest ++ tail) (front ++ tail) = record {
+    let begins : IsRecord last body (rest ++ tail) (front ++ tail) = record {
       head = head;
       is = whole;
       twelve = twelve;
@@ -297,7 +288,7 @@ head_numbers m n small few =
     take_all_4 n = refl
 
 pub written_begins : (last generation : ℕ) (body more : List ℕ) → generation ≡ last + 1 → generation < 2 ^ 64
-    → length body < 2 ^ 32 → Begins last body (0 ∷ more) (1 ∷ (record_range generation body ++ more))
+    → length body < 2 ^ 32 → IsRecord last body (0 ∷ more) (1 ∷ (record_range generation body ++ more))
 written_begins last generation body more next small few =
     let head : List ℕ = spelled generation ++ short_spelled (length body) in
     let numbers = head_numbers generation (length body) small few in
