@@ -19,7 +19,7 @@ use Rattle.ficus_journal.proofs.Sides.{LogIs, MayAppend, few_records, generation
 pub record_short : (keeper : Journal) (n : ℕ) → saves_image keeper ≡ false → IsShort keeper n
     → (n < 2 ^ 32) × (keeper.end < 2 ^ 62)
 record_short keeper n is short =
-    subst (λ (b : Bool). MatchBool b (n ≤ 2 ^ 60) ((n < 2 ^ 32) × (keeper.end < 2 ^ 62))) is short
+    subst (λ (b : Bool). MatchBool b (n < 2 ^ 63) ((n < 2 ^ 32) × (keeper.end < 2 ^ 62))) is short
 
 -- the disks by the one in force and the other
 abbrev residue : Bool → ℕ

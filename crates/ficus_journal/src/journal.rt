@@ -1,4 +1,4 @@
-ghost use Rattle.std.specs.Prelude.{◌≡◌, ◌+◌, ◌^◌, ◌≤◌, IfOk, OnOk};
+ghost use Rattle.std.specs.Prelude.{◌≡◌, ◌^◌, ◌<◌, MatchOption};
 
 use crate::opening::opened;
 use ficus_disk::{Disk, Pair};
@@ -42,22 +42,20 @@ impl Journal {
         self.stuck || self.count >= RECORD_LIMIT
     }
 
-    // How many bytes a disk has after a commit of so many, at most, where they aren't too many.
-    fn upto(&self, length: u64) -> Result<u64, Memory>
-        ensures value { IfOk result (λ upto. upto ≡ size_after self.now length) }
-        ensures limits { OnOk result (IsShort self.now length) }
-        ensures small { OnOk result (length ≤ 2 ^ 60) }
+    // How many bytes a disk has after a commit of so many, at most. `None` comes exactly where a record is too long for
+    // its spelling, or would stand too far behind.
+    fn upto(&self, length: u64) -> Option<u64>
+        requires { length < 2 ^ 63 }
+        ensures { MatchOption result (IsShort self.now length → ⊥)
+            (λ upto. IsShort self.now length × (upto ≡ size_after self.now length)) }
     {
-        if length > 1 << 60 {
-            return Err(Memory);
-        }
         if self.saves_image() {
-            return Ok(length + 18);
+            Some(length + 18)
+        } else if length < 1 << 32 && self.end < 1 << 62 {
+            Some(self.end + length + 14)
+        } else {
+            None
         }
-        if length > 0xffff_ffff || self.end >= 1 << 62 {
-            return Err(Memory);
-        }
-        Ok(self.end + length + 14)
     }
 }
 
@@ -117,7 +115,7 @@ impl Keep for Journal {
     }
 
     fn reserve<D: Disk>(&self, disks: &mut Pair<D>, length: u64) -> Result<(), Memory> {
-        let upto = self.upto(length)?;
+        let upto = self.upto(length).ok_or(Memory)?;
         disks.a.reserve(upto)?;
         disks.b.reserve(upto)
     }

@@ -1,3 +1,4 @@
+pub mod AsBefore
 pub mod Moments
 pub mod Results
 pub mod Sides

@@ -11,7 +11,7 @@ use Rattle.ficus_keeper.specs.Kept.{Kept, KeepsOneBetween, KeepsOneOf, Settled, 
 use Rattle.ficus_keeper.specs.Moments.{PairLeavesOld, PairSpans}
 use Rattle.ficus_keeper.specs.Pairs.{PairLeft, PairSame, PairWithin}
 use Rattle.ficus_keeper.specs.declared.fault.MakeFault.{MakeFault}
-use Rattle.ficus_keeper.specs.declared.fault.MakeFault.TheVariants.{Failed as MakeFailed, Memory as MakeMemory}
+use Rattle.ficus_keeper.specs.declared.fault.MakeFault.TheVariants.{Failed as MakeFailed}
 use Rattle.ficus_keeper.specs.declared.fault.StoreFault.{StoreFault}
 use Rattle.ficus_keeper.specs.declared.fault.StoreFault.TheVariants.{Failed as StoreFailed, Memory as StoreMemory, NoImage}
 use Rattle.ficus_keeper.specs.declared.opened.Opened.{Opened}
@@ -29,7 +29,6 @@ pub record CountsMaking {D A : Type 0} (faults : D → ℕ) (armings_in : D → 
     (result : Result A MakeFault) : Type 0 where
   pub failed : IsErrOf result MakeFailed → PairRose faults 1 old new
   pub steady : OnOk result (PairSame faults old new)
-  pub spared : IsErrOf result MakeMemory → PairSame faults old new
   pub risen : PairRose faults 0 old new
   pub armings : PairSame armings_in old new
 
@@ -63,6 +62,11 @@ pub record Keeps {D : Type 0} (tells tells_moments : Type 0) (seen : D → List 
   pub crash : PairWithin may_leave old new
   pub moments : PairLeavesOld moment left_since may_leave old new
   pub spans : tells_moments → PairSpans moment left_since old new
+
+-- both disks are as before: nothing is written, no fault is counted, no fuse is armed, and each stays as it is
+pub record AreAsBefore {D : Type 0} (disk : Disk D) (old new : Pair D) : Type 0 where
+  pub keeps : Keeps disk.tells disk.tells_moments disk.seen disk.may_leave disk.moment disk.left_since old new
+  pub spares : Spares disk.faults disk.armings disk.tells_fuse disk.image disk.fuse old new
 
 -- a read gives what a crash might have left, and a crash leaves no more than before
 pub record Crashes {D : Type 0} (tells tells_moments : Type 0) (seen : D → List ℕ) (may_leave : D → List ℕ → Type 0)

@@ -1,5 +1,5 @@
 // Frames: what is saved, with room around it for what a keeper puts there.
-ghost use Rattle.std.specs.Prelude.{◌≡◌, ◌+◌, ◌≤◌, OnOk, length, vec_capacity};
+ghost use Rattle.std.specs.Prelude.{◌≡◌, ◌+◌, ◌^◌, ◌<◌, ◌≤◌, OnOk, length, vec_capacity};
 ghost use Rattle.ficus_keeper.specs.Framed.{IsFramed, body_in, empty_head, head_size};
 
 use ficus_ids::Memory;
@@ -10,7 +10,8 @@ pub const HEAD_SIZE: usize = 16;
 /// How many bytes a frame holds to be saved.
 pub fn body_size(framed: &[u8]) -> u64
     requires { head_size ≤ length framed.now }
-    ensures { result ≡ length (body_in framed.now) }
+    ensures size { result ≡ length (body_in framed.now) }
+    ensures small { result < 2 ^ 63 }
 {
     (framed.len() - HEAD_SIZE) as u64
 }

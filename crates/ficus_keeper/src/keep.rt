@@ -1,5 +1,5 @@
-ghost use Rattle.std.specs.Prelude.{◌≡◌, ◌+◌, ◌≤◌, Some, None, Bool, true, false, [], Option, List, ℕ, length, vec_capacity, OnOk};
-ghost use Rattle.ficus_keeper.specs.Calls.{CommitsBytes, CountsMaking, CountsOpening, Finds, HasRoom, Keeps, Makes, Spares, StaysUnarmed};
+ghost use Rattle.std.specs.Prelude.{◌≡◌, ◌+◌, ◌^◌, ◌<◌, ◌≤◌, Some, None, Bool, true, false, [], Option, List, ℕ, length, vec_capacity, IsErrOf, OnOk};
+ghost use Rattle.ficus_keeper.specs.Calls.{AreAsBefore, CommitsBytes, CountsMaking, CountsOpening, Finds, HasRoom, Keeps, Makes, Spares, StaysUnarmed};
 ghost use Rattle.ficus_keeper.specs.Framed.{IsFramed, body_in};
 ghost use Rattle.ficus_keeper.specs.Fuses.{both_unarmed, fuses_of};
 ghost use Rattle.ficus_keeper.specs.Kept.{Kept, Settled, found_in, generation_of};
@@ -49,6 +49,9 @@ pub trait Keep {
         ensures other { disks.new.b ≡ disks.old.b }
         ensures counts { CountsMaking D.faults D.armings disks.old disks.new result }
 
+        // Memory is refused before anything is written.
+        ensures refused { IsErrOf result MakeFault.Memory → AreAsBefore D.Disk disks.old disks.new }
+
         // Without an armed fuse nothing fails.
         ensures by_fuse { D.tells_fuse → fuses_of D.fuse disks.old ≡ both_unarmed
             → StaysUnarmed D.fuse MakeFault.Failed disks.new result };
@@ -79,8 +82,9 @@ pub trait Keep {
         ensures keeps { Keeps D.tells D.tells_moments D.seen D.may_leave D.moment D.left_since disks.old disks.new }
         ensures spares { Spares D.faults D.armings D.tells_fuse D.image D.fuse disks.old disks.new };
 
-    /// Reserves what a commit of so many framed bytes takes, on both disks.
+    /// Reserves what a commit of so many framed bytes takes, on both disks. No frame has room for 2^63 bytes.
     fn reserve<D: Disk>(&self, disks: &mut Pair<D>, length: u64) -> Result<(), Memory>
+        requires small { length < 2 ^ 63 }
         ensures room { OnOk result (HasRoom Allows size_of D.room self.now disks.new length) }
         ensures settled { D.tells → Settled fits D.seen D.may_leave self.now disks.old
             → Settled fits D.seen D.may_leave self.now disks.new }

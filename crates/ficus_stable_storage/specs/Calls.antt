@@ -4,6 +4,7 @@ use Rattle.ficus_disk.specs.Crash.{Only}
 use Rattle.ficus_disk.specs.Pair.{PairRose}
 use Rattle.ficus_disk.specs.declared.disk.Disk.{Ghosts as Disk}
 use Rattle.ficus_disk.specs.declared.pair.Pair.{Pair}
+use Rattle.ficus_keeper.specs.Calls.{AreAsBefore}
 use Rattle.ficus_keeper.specs.Fuses.{IsRegularIn, Reopens, SameFuses, StaysRegular, both_unarmed, fuses_of}
 use Rattle.ficus_keeper.specs.Kept.{found_in}
 use Rattle.ficus_keeper.specs.Moments.{PairLeavesOld, PairSpans}
@@ -23,7 +24,8 @@ use Rattle.ficus_stable_storage.specs.declared.stable.Recovered.{Recovered}
 use Rattle.ficus_stable_storage.specs.declared.stable.Stable.{Stable}
 
 -- what a replica begins with is held, and durable on `a`, and `b` stays; where nothing was unsynced, a crash after the
--- call and at each moment of it leaves nothing, or this; without an armed fuse nothing fails
+-- call and at each moment of it leaves nothing, or this; where memory is refused, both disks are as before; without an
+-- armed fuse nothing fails
 pub record MakesState {K D A : Type 0} (keep : Keep K) (disk : Disk D) (first : Saved) (old new : Pair D)
     (result : Result A MakeFault) : Type 0 where
   pub holds : disk.tells → OnOk result (Holds (found_in keep.kept disk.seen new) first)
@@ -37,7 +39,7 @@ pub record MakesState {K D A : Type 0} (keep : Keep K) (disk : Disk D) (first : 
   pub armings : PairSame disk.armings old new
   pub failed : IsErrOf result MakeFailed → PairRose disk.faults 1 old new
   pub steady : OnOk result (PairSame disk.faults old new)
-  pub spared : IsErrOf result MakeMemory → PairSame disk.faults old new
+  pub refused : IsErrOf result MakeMemory → AreAsBefore disk old new
   pub risen : PairRose disk.faults 0 old new
   pub never : disk.tells_fuse → fuses_of disk.fuse old ≡ both_unarmed → IsErrOf result MakeFailed → ⊥
   pub unarmed : disk.tells_fuse → fuses_of disk.fuse old ≡ both_unarmed → fuses_of disk.fuse new ≡ both_unarmed

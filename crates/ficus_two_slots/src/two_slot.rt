@@ -78,9 +78,6 @@ impl Keep for TwoSlot {
     }
 
     fn reserve<D: Disk>(&self, disks: &mut Pair<D>, length: u64) -> Result<(), Memory> {
-        if length > 1 << 60 {
-            return Err(Memory);
-        }
         disks.a.reserve(length + 18)?;
         disks.b.reserve(length + 18)
     }

@@ -11,7 +11,7 @@ returns-then-self-clause-told g c told =
     let fits = fits_on true c.args.self.now _ _ c.if-self.true (c.requires.settled told).holds in
     save_told g.D.Disk kept_in Fits IsRegular false c.args.disks.now c.save_slot.ensures (c.requires.settled told)
     (image_saves true _ _ _ fits c.args.generation (body_in c.args.framed.now.items) (c.requires.next told) c.requires.image _ refl refl refl
-    (ap (λ (n : ℕ). n + 17) (c.body_size.ensures ∙ ap (λ (l : List ℕ). length (body_in l)) c.deref.ensures.value)) refl refl)
+    (ap (λ (n : ℕ). n + 17) (c.body_size.ensures.size ∙ ap (λ (l : List ℕ). length (body_in l)) c.deref.ensures.value)) refl refl)
     g.met.D.Disk.only_now (g.met.D.Disk.seen_may_be_left told) told
 
 pub returns-then-self-clause-by_fuse : goal.returns-then-self-clause-by_fuse
@@ -30,7 +30,7 @@ returns-else-self-clause-told g c told =
     let fits = fits_on false c.args.self.now _ _ c.if-self.false (c.requires.settled told).holds in
     save_told g.D.Disk kept_in Fits IsRegular true c.args.disks.now c.save_slot-else-self.ensures (c.requires.settled told)
     (image_saves false _ _ _ fits c.args.generation (body_in c.args.framed.now.items) (c.requires.next told) c.requires.image _ refl refl refl
-    (ap (λ (n : ℕ). n + 17) (c.body_size.ensures ∙ ap (λ (l : List ℕ). length (body_in l)) c.deref.ensures.value)) refl refl)
+    (ap (λ (n : ℕ). n + 17) (c.body_size.ensures.size ∙ ap (λ (l : List ℕ). length (body_in l)) c.deref.ensures.value)) refl refl)
     g.met.D.Disk.only_now (g.met.D.Disk.seen_may_be_left told) told
 
 pub returns-else-self-clause-by_fuse : goal.returns-else-self-clause-by_fuse

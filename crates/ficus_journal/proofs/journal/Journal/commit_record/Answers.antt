@@ -12,7 +12,7 @@ returns-then-self-clause-told g c told =
     save_told g.D.Disk kept_in Fits IsRegular true c.args.disks.now c.append.ensures (c.requires.settled told)
     (record_saves true _ _ _ fits c.args.generation (body_in c.args.framed.now.items) (c.requires.next told) c.requires.record_ (omega arith)
     c.requires.room.takes _ c.if-self.true refl refl
-    (ap (λ (n : ℕ). c.args.self.now.end + n + 13) (c.body_size.ensures ∙ ap (λ (l : List ℕ). length (body_in l)) c.deref.ensures.value)) refl refl)
+    (ap (λ (n : ℕ). c.args.self.now.end + n + 13) (c.body_size.ensures.size ∙ ap (λ (l : List ℕ). length (body_in l)) c.deref.ensures.value)) refl refl)
     g.met.D.Disk.only_now (g.met.D.Disk.seen_may_be_left told) told
 
 pub returns-then-self-clause-by_fuse : goal.returns-then-self-clause-by_fuse
@@ -38,7 +38,7 @@ returns-else-self-clause-told g c told =
     save_told g.D.Disk kept_in Fits IsRegular false c.args.disks.now c.append-else-self.ensures (c.requires.settled told)
     (record_saves false _ _ _ fits c.args.generation (body_in c.args.framed.now.items) (c.requires.next told) c.requires.record_ (omega arith)
     c.requires.room.takes _ c.if-self.false refl refl
-    (ap (λ (n : ℕ). c.args.self.now.end + n + 13) (c.body_size.ensures ∙ ap (λ (l : List ℕ). length (body_in l)) c.deref.ensures.value)) refl refl)
+    (ap (λ (n : ℕ). c.args.self.now.end + n + 13) (c.body_size.ensures.size ∙ ap (λ (l : List ℕ). length (body_in l)) c.deref.ensures.value)) refl refl)
     g.met.D.Disk.only_now (g.met.D.Disk.seen_may_be_left told) told
 
 pub returns-else-self-clause-by_fuse : goal.returns-else-self-clause-by_fuse

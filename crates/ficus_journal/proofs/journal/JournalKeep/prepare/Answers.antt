@@ -19,7 +19,7 @@ pub returns-clause-room : goal.returns-clause-room
 returns-clause-room g c =
     in_ok c.reserve.result
     (λ has. record {
-      takes = record { short = has.takes; room = c.in_ok-reserve_range.ensures.room };
+      takes = record { short = has.takes; room = c.in_ok-reserve_range.ensures };
       room_a = has.room_a;
       room_b = has.room_b;
     })

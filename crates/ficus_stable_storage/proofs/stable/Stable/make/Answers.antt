@@ -1,6 +1,7 @@
 use Rattle.std.proofs.Common.{ap₂, inl, inr, ◌∙◌, refl, rules, Option}
 use Rattle.std.proofs.lemmas.Result.{err_from_is_err_and, on_ok_weaker}
 use Rattle.ficus_keeper.specs.Kept.{Kept}
+use Rattle.ficus_keeper.proofs.AsBefore.{as_before}
 use Rattle.ficus_stable_storage.proofs.Decided.{holds_first}
 use Rattle.ficus_stable_storage.proofs.stable.Stable.make.Goals as goal
 
@@ -27,7 +28,7 @@ returns-in_err-image g c =
       armings = record { a = refl; b = refl };
       failed = search rules;
       steady = tt;
-      spared = λ is. record { a = refl; b = refl };
+      refused = λ is. as_before g.D.Disk c.args.disks.now;
       risen = search rules;
       never = λ fused unarmed. search rules;
       unarmed = λ fused unarmed. unarmed;
@@ -58,7 +59,7 @@ returns g c =
       armings = made.counts.armings;
       failed = made.counts.failed;
       steady = made.counts.steady;
-      spared = made.counts.spared;
+      refused = made.refused;
       risen = made.counts.risen;
       never = λ fused unarmed. (made.by_fuse fused unarmed).never;
       unarmed = λ fused unarmed. (made.by_fuse fused unarmed).unarmed;

@@ -9,7 +9,7 @@ returns g c =
     let keeper = c.args.self.now.keeper in
     let wanted = c.in_ok-frame_wanted.ensures in
     let size : c.body_size.result ≡ length (body_in c.frame_wanted.new.buffer.items) =
-    c.body_size.ensures ∙ ap (λ (l : List ℕ). length (body_in l)) c.deref.ensures.value in
+    c.body_size.ensures.size ∙ ap (λ (l : List ℕ). length (body_in l)) c.deref.ensures.value in
     record {
       prepared = in_ok c.reserve.result
           (λ has. record {
