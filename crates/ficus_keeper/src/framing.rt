@@ -1,5 +1,5 @@
 // Frames: what is saved, with room around it for what a keeper puts there.
-ghost use Rattle.std.specs.Prelude.{◌≡◌, ◌+◌, ◌^◌, ◌<◌, ◌≤◌, OnOk, length, vec_capacity};
+ghost use Rattle.std.specs.Prelude.{◌≡◌, ◌+◌, ◌^◌, ◌<◌, ◌≤◌, OnErr, OnOk, length, vec_capacity};
 ghost use Rattle.ficus_keeper.specs.Framed.{IsFramed, body_in, empty_head, head_size};
 
 use ficus_ids::Memory;
@@ -16,12 +16,26 @@ pub fn body_size(framed: &[u8]) -> u64
     (framed.len() - HEAD_SIZE) as u64
 }
 
-/// Begins a frame, in place of what the buffer holds: what is appended is what is saved.
+/// Begins a frame, in place of what the buffer holds: what is appended is what is saved. After `Memory` the buffer
+/// holds what it held.
 pub fn begin_frame(buffer: &mut Vec<u8>) -> Result<(), Memory>
-    ensures { OnOk result (buffer.new.items ≡ empty_head) }
+    ensures begun { OnOk result (buffer.new.items ≡ empty_head) }
+    ensures kept { OnErr result (buffer.new.items ≡ buffer.old.items) }
 {
+    hold_head(buffer)?;
     buffer.clear();
     buffer.extend_from_slice(&[0; HEAD_SIZE])?;
+    Ok(())
+}
+
+// Takes the room of a head, where the buffer has less.
+fn hold_head(buffer: &mut Vec<u8>) -> Result<(), Memory>
+    ensures same { buffer.new.items ≡ buffer.old.items }
+    ensures room { OnOk result (head_size ≤ vec_capacity buffer.new) }
+{
+    if buffer.capacity() < HEAD_SIZE {
+        buffer.reserve(HEAD_SIZE)?;
+    }
     Ok(())
 }
 
