@@ -2,3 +2,4 @@ pub mod Making
 pub mod Shapes
 pub mod Unique
 pub mod Reading
+pub mod Joined

@@ -1,5 +1,6 @@
-ghost use Rattle.std.specs.Prelude.{◌≡◌, ◌≤◌, ◌++◌, ◌∷◌, ℕ, List, IfOk, OnOk, length};
+ghost use Rattle.std.specs.Prelude.{◌≡◌, ◌≤◌, ◌++◌, ◌∷◌, ℕ, List, IfOk, OnErr, OnOk, length};
 ghost use Rattle.ficus_ids.specs.declared.id.Id.{Id as IdValue};
+ghost use Rattle.ficus_formats.specs.Format.{Keeps};
 ghost use Rattle.ficus_record.specs.Record.{FitsOp, FitsRecord, accept_front, adopting, ids, linking, making, moving, making_layout, op_body, op_tag, placing, record_bytes, removing, symlinking, writing};
 ghost use Rattle.ficus_record.specs.declared.record.Record.TheVariants.{Change as Changes};
 
@@ -14,7 +15,8 @@ use std::alloc::Global;
 // Appends the count of the identifiers, of which there are fewer than four bytes can count, and these.
 fn put_ids(out: &mut Vec<u8>, entries: &[Id]) -> Result<(), Memory>
     requires { ids.fits entries.now }
-    ensures { OnOk result (out.new.items ≡ out.old.items ++ ids.spell entries.now) }
+    ensures put { OnOk result (out.new.items ≡ out.old.items ++ ids.spell entries.now) }
+    ensures kept { OnErr result (Keeps out.old.items out.new.items) }
 {
     put_u32(out, entries.len() as u32)?;
     put_run(&IdSpelling {}, out, entries)
@@ -23,7 +25,8 @@ fn put_ids(out: &mut Vec<u8>, entries: &[Id]) -> Result<(), Memory>
 // Appends the directory, the name and the kind of a new object.
 fn put_making(out: &mut Vec<u8>, dir: Id, name: &Name, kind: Kind) -> Result<(), Memory>
     requires { making.fits (dir, (name.now, kind)) }
-    ensures { OnOk result (out.new.items ≡ out.old.items ++ making.spell (dir, (name.now, kind))) }
+    ensures put { OnOk result (out.new.items ≡ out.old.items ++ making.spell (dir, (name.now, kind))) }
+    ensures kept { OnErr result (Keeps out.old.items out.new.items) }
 {
     put_id(out, dir)?;
     put_short_string(out, name.bytes())?;
@@ -33,7 +36,8 @@ fn put_making(out: &mut Vec<u8>, dir: Id, name: &Name, kind: Kind) -> Result<(),
 // Appends the directory and the name of a new entry, and what it leads to.
 fn put_linking(out: &mut Vec<u8>, dir: Id, name: &Name, target: Id) -> Result<(), Memory>
     requires { linking.fits (dir, (name.now, target)) }
-    ensures { OnOk result (out.new.items ≡ out.old.items ++ linking.spell (dir, (name.now, target))) }
+    ensures put { OnOk result (out.new.items ≡ out.old.items ++ linking.spell (dir, (name.now, target))) }
+    ensures kept { OnErr result (Keeps out.old.items out.new.items) }
 {
     put_id(out, dir)?;
     put_short_string(out, name.bytes())?;
@@ -43,7 +47,8 @@ fn put_linking(out: &mut Vec<u8>, dir: Id, name: &Name, target: Id) -> Result<()
 // Appends what is removed, and its entries.
 fn put_removing(out: &mut Vec<u8>, target: Id, entries: &[Id]) -> Result<(), Memory>
     requires { removing.fits (target, entries.now) }
-    ensures { OnOk result (out.new.items ≡ out.old.items ++ removing.spell (target, entries.now)) }
+    ensures put { OnOk result (out.new.items ≡ out.old.items ++ removing.spell (target, entries.now)) }
+    ensures kept { OnErr result (Keeps out.old.items out.new.items) }
 {
     put_id(out, target)?;
     put_ids(out, entries)
@@ -58,7 +63,8 @@ fn put_moving(
     entries: &[Id],
 ) -> Result<(), Memory>
     requires { moving.fits (target, (dir, (name.now, entries.now))) }
-    ensures { OnOk result (out.new.items ≡ out.old.items ++ moving.spell (target, (dir, (name.now, entries.now)))) }
+    ensures put { OnOk result (out.new.items ≡ out.old.items ++ moving.spell (target, (dir, (name.now, entries.now)))) }
+    ensures kept { OnErr result (Keeps out.old.items out.new.items) }
 {
     put_id(out, target)?;
     put_placing(out, dir, name, entries)
@@ -67,7 +73,8 @@ fn put_moving(
 // Appends the directory and the name of a new entry, and the entries that are lost for it.
 fn put_placing(out: &mut Vec<u8>, dir: Id, name: &Name, entries: &[Id]) -> Result<(), Memory>
     requires { placing.fits (dir, (name.now, entries.now)) }
-    ensures { OnOk result (out.new.items ≡ out.old.items ++ placing.spell (dir, (name.now, entries.now))) }
+    ensures put { OnOk result (out.new.items ≡ out.old.items ++ placing.spell (dir, (name.now, entries.now))) }
+    ensures kept { OnErr result (Keeps out.old.items out.new.items) }
 {
     put_id(out, dir)?;
     put_short_string(out, name.bytes())?;
@@ -77,7 +84,8 @@ fn put_placing(out: &mut Vec<u8>, dir: Id, name: &Name, entries: &[Id]) -> Resul
 // Appends the file, and its bytes behind their length.
 fn put_writing(out: &mut Vec<u8>, file: Id, bytes: &[u8]) -> Result<(), Memory>
     requires { writing.fits (file, bytes.now) }
-    ensures { OnOk result (out.new.items ≡ out.old.items ++ writing.spell (file, bytes.now)) }
+    ensures put { OnOk result (out.new.items ≡ out.old.items ++ writing.spell (file, bytes.now)) }
+    ensures kept { OnErr result (Keeps out.old.items out.new.items) }
 {
     put_id(out, file)?;
     put_long_string(out, bytes)
@@ -86,7 +94,8 @@ fn put_writing(out: &mut Vec<u8>, file: Id, bytes: &[u8]) -> Result<(), Memory>
 // Appends the object, and the directory and the name that it gets.
 fn put_adopting(out: &mut Vec<u8>, file: Id, dir: Id, name: &Name) -> Result<(), Memory>
     requires { adopting.fits (file, (dir, name.now)) }
-    ensures { OnOk result (out.new.items ≡ out.old.items ++ adopting.spell (file, (dir, name.now))) }
+    ensures put { OnOk result (out.new.items ≡ out.old.items ++ adopting.spell (file, (dir, name.now))) }
+    ensures kept { OnErr result (Keeps out.old.items out.new.items) }
 {
     put_id(out, file)?;
     put_id(out, dir)?;
@@ -96,7 +105,8 @@ fn put_adopting(out: &mut Vec<u8>, file: Id, dir: Id, name: &Name) -> Result<(),
 // Appends the directory, the name and the text of a new symbolic link.
 fn put_symlinking(out: &mut Vec<u8>, dir: Id, name: &Name, text: &[u8]) -> Result<(), Memory>
     requires { symlinking.fits (dir, (name.now, text.now)) }
-    ensures { OnOk result (out.new.items ≡ out.old.items ++ symlinking.spell (dir, (name.now, text.now))) }
+    ensures put { OnOk result (out.new.items ≡ out.old.items ++ symlinking.spell (dir, (name.now, text.now))) }
+    ensures kept { OnErr result (Keeps out.old.items out.new.items) }
 {
     put_id(out, dir)?;
     put_short_string(out, name.bytes())?;
@@ -106,7 +116,8 @@ fn put_symlinking(out: &mut Vec<u8>, dir: Id, name: &Name, text: &[u8]) -> Resul
 // Appends the fields of the making of an object.
 fn put_made(out: &mut Vec<u8>, dir: Id, name: &Name, kind: Kind, text: &[u8]) -> Result<(), Memory>
     requires { (making_layout dir name.now kind text.now).fits }
-    ensures { OnOk result (out.new.items ≡ out.old.items ++ (making_layout dir name.now kind text.now).body) }
+    ensures put { OnOk result (out.new.items ≡ out.old.items ++ (making_layout dir name.now kind text.now).body) }
+    ensures kept { OnErr result (Keeps out.old.items out.new.items) }
 {
     match kind {
         Kind::Symlink => put_symlinking(out, dir, name, text),
@@ -146,7 +157,8 @@ fn tag_of(op: &Op) -> u8
 // Appends the fields of an operation.
 fn put_fields(out: &mut Vec<u8>, op: &Op) -> Result<(), Memory>
     requires { FitsOp op.now }
-    ensures { OnOk result (out.new.items ≡ out.old.items ++ op_body op.now) }
+    ensures put { OnOk result (out.new.items ≡ out.old.items ++ op_body op.now) }
+    ensures kept { OnErr result (Keeps out.old.items out.new.items) }
 {
     match op {
         Op::Make {
@@ -174,8 +186,9 @@ fn put_fields(out: &mut Vec<u8>, op: &Op) -> Result<(), Memory>
 /// Appends the spelling of the record of an update, from the operation alone. After `Memory` part of it may be there.
 pub fn put_change(out: &mut Vec<u8>, op: &Op) -> Result<(), Memory>
     requires { FitsOp op.now }
-    ensures { (members : ℕ)
+    ensures put { (members : ℕ)
         → OnOk result (out.new.items ≡ out.old.items ++ record_bytes members (Changes op.now)) }
+    ensures kept { OnErr result (Keeps out.old.items out.new.items) }
 {
     put_u8(out, tag_of(op))?;
     put_fields(out, op)
@@ -184,7 +197,8 @@ pub fn put_change(out: &mut Vec<u8>, op: &Op) -> Result<(), Memory>
 /// Appends what stands in front of the tables in the record of their taking: who appends their spelling, as they came,
 /// has the whole.
 pub fn put_accept_front(out: &mut Vec<u8>) -> Result<(), Memory>
-    ensures { OnOk result (out.new.items ≡ out.old.items ++ accept_front) }
+    ensures put { OnOk result (out.new.items ≡ out.old.items ++ accept_front) }
+    ensures kept { OnErr result (Keeps out.old.items out.new.items) }
 {
     put_u8(out, 11)
 }
@@ -192,7 +206,8 @@ pub fn put_accept_front(out: &mut Vec<u8>) -> Result<(), Memory>
 /// Appends the one spelling of the record in a volume of so many members. After `Memory` part of it may stand there.
 pub fn put_record(out: &mut Vec<u8>, noted: &Record, members: Members) -> Result<(), Memory>
     requires { FitsRecord members noted.now }
-    ensures { OnOk result (out.new.items ≡ out.old.items ++ record_bytes members noted.now) }
+    ensures put { OnOk result (out.new.items ≡ out.old.items ++ record_bytes members noted.now) }
+    ensures kept { OnErr result (Keeps out.old.items out.new.items) }
 {
     match noted {
         Record::Change(op) => put_change(out, op),
