@@ -1,4 +1,4 @@
-ghost use Rattle.std.specs.Prelude.{◌≡◌, ◌++◌, OnErr, OnOk};
+ghost use Rattle.std.specs.Prelude.{◌≡◌, ◌≤◌, ◌*◌, ◌++◌, [], IfOk, OnErr, OnOk, vec_capacity};
 ghost use Rattle.std.specs.List.{flat_map, AllByRecursion};
 ghost use Rattle.ficus_formats.specs.Format.{Format, IsUnique, Keeps, Reads, times};
 
@@ -73,11 +73,21 @@ where
     S::Value: Drop,
     ensures { Reads (times count (S.format spelling.now)) reader.old result reader.new }
 {
-    // However many are said to come, there is room at once for no more than the bytes that are left may spell.
-    let most = reader.len() / LEAST;
-    let mut values = Vec::with_capacity(alloc, most.min(count as usize))?;
+    let mut values = room(alloc, count, reader.len())?;
     for _ in 0..count {
         values.push(spelling.read(alloc, reader)?)?;
     }
     Ok(Listed::of(values))
+}
+
+// An empty list with room for as many values as are said to come, but for no more than the bytes that are left may
+// spell: what is said of them may be damaged.
+fn room<T>(alloc: Global, said: u32, left: usize) -> Result<Vec<T>, Memory>
+    ensures empty { IfOk result (λ values. values.items ≡ []) }
+    ensures said { IfOk result (λ values. vec_capacity values ≤ said) }
+    ensures there { IfOk result (λ values. 8 * vec_capacity values ≤ left) }
+{
+    let most = left / LEAST;
+    let values = Vec::with_capacity(alloc, most.min(said as usize))?;
+    Ok(values)
 }
