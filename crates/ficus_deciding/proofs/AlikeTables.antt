@@ -12,7 +12,8 @@ use Rattle.ficus_file.specs.declared.version.Version.{Version}
 use Rattle.ficus_durable_state.specs.Saved.{FitsImage}
 use Rattle.ficus_durable_state.specs.declared.saved.Saved.{Saved}
 use Rattle.ficus_names.specs.Binds.{BindsIn}
-use Rattle.ficus_orphan.specs.Orphan.{IsNamedBy, IsOrphanIn}
+use Rattle.ficus_entry.specs.Inside.{IsNamedBy}
+use Rattle.ficus_orphan.specs.Orphan.{IsOrphanIn}
 use Rattle.ficus_rules.specs.Alike.{AreAlike}
 use Rattle.ficus_deciding.specs.Alike.{ShowSameAt}
 use Rattle.ficus_deciding.specs.View.{HasObject, IsVisibleBy, tables_view}

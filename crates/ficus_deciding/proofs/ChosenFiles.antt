@@ -9,7 +9,8 @@ use Rattle.ficus_file.specs.declared.file.FileReplica.{FileReplica}
 use Rattle.ficus_durable_state.specs.Saved.{FitsImage}
 use Rattle.ficus_durable_state.specs.declared.saved.Saved.{Saved}
 use Rattle.ficus_orphan.specs.Made.{IsMadeOf}
-use Rattle.ficus_orphan.specs.Orphan.{IsKept, IsNamedBy}
+use Rattle.ficus_entry.specs.Inside.{IsNamedBy}
+use Rattle.ficus_orphan.specs.Orphan.{IsKept}
 use Rattle.ficus_orphan.proofs.Made.{made_none, made_push, made_stay, rising_none, rising_push}
 use Rattle.ficus_rules.specs.Detached.{AreDetachedIn, IsDetachedIn}
 use Rattle.ficus_rules.specs.View.{IsInReachIn}

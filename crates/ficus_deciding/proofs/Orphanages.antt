@@ -9,7 +9,8 @@ use Rattle.ficus_durable_state.specs.Saved.{FitsImage}
 use Rattle.ficus_durable_state.specs.declared.saved.Saved.{Saved}
 use Rattle.ficus_model.specs.Reached.{IsReached}
 use Rattle.ficus_orphan.specs.Made.{IsMadeOf}
-use Rattle.ficus_orphan.specs.Orphan.{AreOrphans, IsNamedBy, IsOrphanIn, TellsOrphan}
+use Rattle.ficus_entry.specs.Inside.{IsNamedBy}
+use Rattle.ficus_orphan.specs.Orphan.{AreOrphans, IsOrphanIn, TellsOrphan}
 use Rattle.ficus_file.specs.declared.orphan.Orphan.{Orphan}
 use Rattle.ficus_orphan.proofs.Told.{orphan_here}
 use Rattle.ficus_reach.specs.Leads.{LeadsIn}

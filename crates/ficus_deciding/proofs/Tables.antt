@@ -17,7 +17,8 @@ use Rattle.ficus_names.specs.declared.listing.ShownName.{ShownName}
 use Rattle.ficus_durable_state.specs.Saved.{FitsImage}
 use Rattle.ficus_durable_state.specs.Tables.{FitsFile, HasObjectsIn}
 use Rattle.ficus_durable_state.specs.declared.saved.Saved.{Saved}
-use Rattle.ficus_orphan.specs.Orphan.{IsKept, IsNamedBy, IsOrphanBy, IsOrphanIn}
+use Rattle.ficus_entry.specs.Inside.{IsNamedBy}
+use Rattle.ficus_orphan.specs.Orphan.{IsKept, IsOrphanBy, IsOrphanIn}
 use Rattle.ficus_rules.specs.View.{IsBoundIn, IsForIn, IsNamedIn}
 use Rattle.ficus_rules.specs.Marks.{without_state}
 use Rattle.ficus_deciding.specs.View.{HasObject, IsVisibleBy, held_as, held_live, tables_view}

@@ -8,7 +8,8 @@ use Rattle.ficus_entry.specs.declared.entry.State.TheVariants.{Live, Dead}
 use Rattle.ficus_file.specs.Version.{HasTwoTexts}
 use Rattle.ficus_file.specs.declared.file.FileReplica.{FileReplica}
 use Rattle.ficus_model.specs.Live.{ModelEntry}
-use Rattle.ficus_orphan.specs.Orphan.{IsNamedBy, IsOrphanIn}
+use Rattle.ficus_entry.specs.Inside.{IsNamedBy}
+use Rattle.ficus_orphan.specs.Orphan.{IsOrphanIn}
 use Rattle.ficus_durable_state.specs.declared.saved.Saved.{Saved}
 pub use Rattle.ficus_rules.specs.View.{View, SameShown, SameView, history_view}
 

@@ -1,4 +1,4 @@
--- What a walk along the entries finds in a directory, one entry further.
+-- What a walk along the entries finds of those that are as is asked, one entry further.
 use Rattle.std.proofs.Common.{◌≡◌, ◌↔◌, ℕ, ◌+◌, ◌<◌, List, [], ◌∷◌, ◌++◌, get_or, slice_get, Some, take, ◌∙◌, sym, ap, subst, arith, inl, inr}
 use Rattle.std.specs.Prelude.{Contains}
 use Rattle.std.specs.declared.cmp.Ordering.TheVariants.{Less}
@@ -11,51 +11,51 @@ use Rattle.ficus_ids.specs.Rising.{IsRisingBy}
 use Rattle.ficus_table.proofs.Grown.{rising_push}
 use Rattle.ficus_entry.specs.declared.entry.Entry.{Entry}
 use Rattle.ficus_entry.specs.Entry.{IsRising}
-use Rattle.ficus_entry.specs.Inside.{LiesInside}
+use Rattle.ficus_entry.specs.Inside.{HoldsSuch}
 
-module _ (entries : List Entry) (n : ℕ) (entry : Entry) (dir : Id) (ids : List Id)
+module _ (is_so : Entry → Type 0) (entries : List Entry) (n : ℕ) (entry : Entry) (ids : List Id)
     (at : slice_get entries n ≡ Some entry)
-    (found : (id : Id) → Contains ids id ↔ LiesInside (take n entries) dir id) where
+    (found : (id : Id) → Contains ids id ↔ HoldsSuch is_so (take n entries) id) where
   one_more : take (n + 1) entries ≡ take n entries ++ entry ∷ []
   one_more =
       take_more entries n entry (slice_get_within entries n entry at) ∙
       ap (λ e. take n entries ++ e ∷ []) (get_or_from_slice_get entries n entry entry at)
 
-  earlier : (id : Id) → LiesInside (take n entries) dir id → LiesInside (take n entries ++ entry ∷ []) dir id
+  earlier : (id : Id) → HoldsSuch is_so (take n entries) id → HoldsSuch is_so (take n entries ++ entry ∷ []) id
   earlier id lies = record {
     entry = lies.entry;
     inside = Contains-append_left (take n entries) (entry ∷ []) lies.entry lies.inside;
-    in_dir = lies.in_dir;
+    so = lies.so;
     has_id = lies.has_id;
   }
 
-  pub inside_more : entry.dir ≡ dir → (id : Id) →
-      Contains (ids ++ entry.id ∷ []) id ↔ LiesInside (take (n + 1) entries) dir id
-  inside_more lies_there id = rw one_more (
+  pub inside_more : is_so entry → (id : Id) →
+      Contains (ids ++ entry.id ∷ []) id ↔ HoldsSuch is_so (take (n + 1) entries) id
+  inside_more so_here id = rw one_more (
     λ inside. elim (Contains-push_cases ids entry.id id inside) [
       | inl old ↦ earlier id ((found id).0 old)
       | inr is ↦ record {
         entry = entry;
         inside = Contains-push (take n entries) entry;
-        in_dir = lies_there;
+        so = so_here;
         has_id = is;
       }
     ],
     λ lies. elim (Contains-push_cases (take n entries) entry lies.entry lies.inside) [
       | inl old ↦ Contains-append_left ids (entry.id ∷ []) id ((found id).1
-          (record { entry = lies.entry; inside = old; in_dir = lies.in_dir; has_id = lies.has_id }))
+          (record { entry = lies.entry; inside = old; so = lies.so; has_id = lies.has_id }))
       | inr is ↦ subst (Contains (ids ++ entry.id ∷ [])) (ap (λ (e : Entry). e.id) is ∙ lies.has_id)
           (Contains-push ids entry.id)
     ],
   )
 
-  pub inside_same : (entry.dir ≡ dir → ⊥) → (id : Id) → Contains ids id ↔ LiesInside (take (n + 1) entries) dir id
-  inside_same elsewhere id = rw one_more (
+  pub inside_same : (is_so entry → ⊥) → (id : Id) → Contains ids id ↔ HoldsSuch is_so (take (n + 1) entries) id
+  inside_same never id = rw one_more (
     λ inside. earlier id ((found id).0 inside),
     λ lies. elim (Contains-push_cases (take n entries) entry lies.entry lies.inside) [
       | inl old ↦ (found id).1
-          (record { entry = lies.entry; inside = old; in_dir = lies.in_dir; has_id = lies.has_id })
-      | inr is ↦ absurd (elsewhere (ap (λ (e : Entry). e.dir) is ∙ lies.in_dir))
+          (record { entry = lies.entry; inside = old; so = lies.so; has_id = lies.has_id })
+      | inr is ↦ absurd (never (subst is_so (sym is) lies.so))
     ],
   )
 

@@ -48,16 +48,8 @@ impl Entries {
         }
     }
 
-    /// These entries, whose identifiers rise strictly. It takes less time than to put one after the other.
-    pub fn of(alloc: Global, entries: &[Entry]) -> Result<Entries, Memory>
-        requires { IsRising entries.now }
-        ensures { IfOk result (λ built. built ≡ entries.now) }
-    {
-        let rows = shared(alloc, entries)?;
-        Entries::of_rows(alloc, &rows)
-    }
-
-    /// These entries, which other lists may share and whose identifiers rise strictly.
+    /// These entries, which other lists may share and whose identifiers rise strictly. It takes less time than to put
+    /// one after the other.
     pub fn of_rows(alloc: Global, rows: &[SharedEntry]) -> Result<Entries, Memory>
         requires { IsRising rows.now }
         ensures { IfOk result (λ built. built ≡ rows.now) }
@@ -292,15 +284,4 @@ fn index_of(table: &Table<SharedEntry>) -> Result<Index, Memory>
     let notes = notes(table.allocator(), &in_order)?;
     drop(in_order);
     Index::of(table.allocator(), notes)
-}
-
-// Copies of the entries, to share.
-fn shared(alloc: Global, entries: &[Entry]) -> Result<Vec<SharedEntry>, Memory>
-    ensures { IfOk result (λ shared. shared.items ≡ entries.now) }
-{
-    let mut shared = Vec::with_capacity(alloc, entries.len())?;
-    for entry in entries {
-        shared.push(SharedEntry::of(alloc, entry.copy()?)?)?;
-    }
-    Ok(shared)
 }

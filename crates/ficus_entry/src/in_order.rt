@@ -3,7 +3,6 @@ ghost use Rattle.ficus_entry.specs.Entry.{IsRising};
 
 use crate::{Entries, Entry, SharedEntry};
 use ficus_ids::Memory;
-use std::alloc::Global;
 use std::marker::Model;
 
 /// All entries in the order of their identifiers, found in one walk: a look at one takes the same time wherever it
@@ -23,15 +22,6 @@ impl<'a> Model for InOrder<'a> {
 }
 
 impl<'a> InOrder<'a> {
-    /// Entries that stand in no list, whose identifiers rise strictly.
-    pub fn over(alloc: Global, entries: &'a [Entry]) -> Result<InOrder<'a>, Memory>
-        requires { IsRising entries.now }
-        ensures { IfOk result (λ in_order. in_order ≡ entries.now) }
-    {
-        let rows = ficus_table::InOrder::over(alloc, entries)?;
-        Ok(InOrder { rows })
-    }
-
     /// Entries that stand in no list, for lists to share, whose identifiers rise strictly. Takes no memory.
     pub fn of_rows(rows: &'a [SharedEntry]) -> InOrder<'a>
         requires { IsRising rows.now }

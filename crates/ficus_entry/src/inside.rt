@@ -1,4 +1,4 @@
-ghost use Rattle.std.specs.Prelude.{◌≡◌, ◌↔◌, ◌≤◌, [], length, Contains, IsTrue, IfOk, OnOk, IfSome, IfNone};
+ghost use Rattle.std.specs.Prelude.{◌≡◌, ◌↔◌, ◌≤◌, length, Contains, IsTrue, IfOk, IfSome, IfNone};
 ghost use Rattle.ficus_ids.specs.Rising.{IsRisingBy};
 ghost use Rattle.ficus_ids.specs.declared.id.Id.{Id as IdValue};
 ghost use Rattle.ficus_entry.specs.declared.entry.Entry.{Entry as EntryValue};
@@ -6,6 +6,7 @@ ghost use Rattle.ficus_entry.specs.declared.entry.State.TheVariants.{Live};
 ghost use Rattle.ficus_entry.specs.Inside.{IsNamedIn, Leads, HasLiveInside, HasOtherName, HoldsSuch, IsNameOf, IsOtherName, LiesInside, LiesBetween};
 ghost use Rattle.ficus_index.specs.Place.{IsNotedWithin};
 
+use crate::scan::{Asked, note_asked};
 use crate::{Entries, Entry, InOrder};
 use ficus_ids::{Id, Memory, Name};
 use ficus_index::{DIGEST_END, Index, Place, Span, digest};
@@ -141,7 +142,7 @@ impl Entries {
     {
         let in_order = self.in_order()?;
         let mut ids = Vec::new(self.allocator());
-        note_inside(&mut ids, &in_order, dir)?;
+        note_asked(&mut ids, &in_order, Asked::InDirectory(dir))?;
         Ok(ids)
     }
 
@@ -284,21 +285,6 @@ fn is_other_name(entry: &Entry, dir: Id, name: &Name, target: Id) -> bool
     ensures { IsTrue result ↔ IsOtherName dir name.now target entry.now }
 {
     entry.is_live() && entry.target == target && !(entry.dir == dir && entry.name == *name)
-}
-
-// Puts the identifiers of the entries that lie in the directory into an empty list.
-fn note_inside(ids: &mut Vec<Id>, entries: &InOrder<'_>, dir: Id) -> Result<(), Memory>
-    requires { ids.old.items ≡ [] }
-    ensures entries { OnOk result ((id : IdValue) → Contains ids.new.items id ↔ LiesInside entries.now dir id) }
-    ensures rising { OnOk result (IsRisingBy (λ (id : IdValue). id) ids.new.items) }
-{
-    for index in 0..entries.len() {
-        let entry = entries.at(index);
-        if is_in(entry, dir) {
-            ids.push(entry.id)?;
-        }
-    }
-    Ok(())
 }
 
 // The identifiers that a span notes whose entries lie in the directory.

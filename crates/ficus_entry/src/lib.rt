@@ -8,10 +8,12 @@ mod inside;
 mod kill_laws;
 mod killing;
 mod laws;
+mod naming;
 mod note;
 mod replacing;
 mod row;
 mod run;
+mod scan;
 mod spelling;
 
 pub use entries::Entries;

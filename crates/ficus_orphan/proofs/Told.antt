@@ -10,7 +10,8 @@ use Rattle.ficus_entry.specs.declared.entry.Entry.{Entry}
 use Rattle.ficus_file.specs.Files.{id_of, IsRising}
 use Rattle.ficus_file.specs.declared.file.FileReplica.{FileReplica}
 use Rattle.ficus_orphan.specs.Made.{IsMadeOf}
-use Rattle.ficus_orphan.specs.Orphan.{AreOrphans, IsKept, IsNamedBy, IsNameFor, IsOrphanBy, IsOrphanIn, TellsFile, TellsOrphan}
+use Rattle.ficus_entry.specs.Inside.{IsNamedBy, IsNameFor}
+use Rattle.ficus_orphan.specs.Orphan.{AreOrphans, IsKept, IsOrphanBy, IsOrphanIn, TellsFile, TellsOrphan}
 use Rattle.ficus_file.specs.declared.orphan.Orphan.{Orphan}
 use Rattle.ficus_orphan.proofs.Made.{inside_next, made_none, made_stay, made_push, rising_none, rising_push}
 

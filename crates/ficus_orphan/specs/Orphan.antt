@@ -3,26 +3,13 @@ use Rattle.std.specs.Prelude.{◌≡◌, ◌⊎◌, ◌↔◌, List, Contains, I
 use Rattle.ficus_ids.specs.Rising.{HoldsBy, IsRisingBy}
 use Rattle.ficus_ids.specs.declared.id.Id.{Id}
 use Rattle.ficus_ids.specs.declared.kind.Kind.TheVariants.{Dir}
-use Rattle.ficus_entry.specs.Inside.{HasLiveInside}
+use Rattle.ficus_entry.specs.Inside.{HasLiveInside, IsNamedBy}
 use Rattle.ficus_entry.specs.declared.entry.Entry.{Entry}
-use Rattle.ficus_entry.specs.declared.entry.State.TheVariants.{Live}
 use Rattle.ficus_file.specs.File.{HasUncovered}
 use Rattle.ficus_file.specs.Version.{HasTwoTexts}
 use Rattle.ficus_file.specs.declared.file.FileReplica.{FileReplica}
 use Rattle.ficus_orphan.specs.Made.{AreMadeOf}
 use Rattle.ficus_file.specs.declared.orphan.Orphan.{Orphan}
-
--- the entry is live and leads to the object
-pub record IsNameFor (entry : Entry) (object : Id) : Type 0 where
-  pub live : entry.state ≡ Live
-  pub leads : entry.target ≡ object
-
--- a live entry of the list leads to the object
-pub record IsNamedBy (entries : List Entry) (object : Id) : Type 0 where
-  pub entry : Entry
-  pub inside : Contains entries entry
-  pub live : entry.state ≡ Live
-  pub leads : entry.target ≡ object
 
 -- a directory in which a live entry lies, or a file with a version that isn't covered
 abbrev pub IsKept : List Entry → FileReplica → Type 0

@@ -1,9 +1,9 @@
-ghost use Rattle.std.specs.Prelude.{◌↔◌, Contains, IsTrue, IfOk};
+ghost use Rattle.std.specs.Prelude.{◌↔◌, Contains, IfOk};
 ghost use Rattle.ficus_ids.specs.declared.id.Id.{Id as IdValue};
-ghost use Rattle.ficus_orphan.specs.Orphan.{IsNamedBy, IsNameFor};
+ghost use Rattle.ficus_entry.specs.Inside.{IsNamedBy};
 
 use crate::IdSet;
-use ficus_entry::{Entries, Entry, InOrder};
+use ficus_entry::{Entries, InOrder};
 use ficus_ids::{Id, Memory};
 use std::alloc::Global;
 
@@ -29,22 +29,4 @@ fn targets_of(alloc: Global, entries: &InOrder<'_>) -> Result<Vec<Id>, Memory>
         }
     }
     Ok(targets)
-}
-
-/// Whether a live entry leads to the object. Takes no memory, and one walk over the entries.
-pub(crate) fn is_named(entries: &Entries, object: Id) -> bool
-    ensures { IsTrue result ↔ IsNamedBy entries.now object }
-{
-    for index in 0..entries.len() {
-        if names(entries.at(index), object) {
-            return true;
-        }
-    }
-    false
-}
-
-fn names(entry: &Entry, object: Id) -> bool
-    ensures { IsTrue result ↔ IsNameFor entry.now object }
-{
-    entry.is_live() && entry.target == object
 }

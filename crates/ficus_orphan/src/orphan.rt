@@ -1,9 +1,10 @@
 ghost use Rattle.std.specs.Prelude.{◌↔◌, Contains, IsTrue, IfOk};
 ghost use Rattle.ficus_ids.specs.declared.id.Id.{Id as IdValue};
-ghost use Rattle.ficus_orphan.specs.Orphan.{AreOrphans, IsKept, IsNamedBy, IsOrphanBy, TellsFile};
+ghost use Rattle.ficus_entry.specs.Inside.{IsNamedBy};
+ghost use Rattle.ficus_orphan.specs.Orphan.{AreOrphans, IsKept, IsOrphanBy, TellsFile};
 
 use crate::IdSet;
-use crate::naming::{is_named, named};
+use crate::naming::named;
 use ficus_entry::Entries;
 use ficus_file::{FileReplica, Files, FilesInOrder, Orphan};
 use ficus_ids::{Kind, Memory};
@@ -14,7 +15,7 @@ use std::alloc::Global;
 pub fn is_orphan(entries: &Entries, file: &FileReplica) -> bool
     ensures { IsTrue result ↔ IsOrphanBy entries.now file.now }
 {
-    is_kept(entries, file) && !is_named(entries, file.id)
+    is_kept(entries, file) && !entries.live_naming(file.id)
 }
 
 /// Whether it is a directory with a live entry in it or a file with a version that isn't covered. Takes no memory.

@@ -4,7 +4,7 @@ use Rattle.std.specs.Prelude.{Contains}
 use Rattle.ficus_ids.specs.declared.id.Id.{Id}
 use Rattle.ficus_ids.specs.declared.kind.Kind.{Kind}
 use Rattle.ficus_ids.specs.declared.kind.Kind.TheVariants.{Dir}
-use Rattle.ficus_entry.specs.Inside.{HasLiveInside}
+use Rattle.ficus_entry.specs.Inside.{HasLiveInside, IsNamedBy}
 use Rattle.ficus_file.specs.Version.{HasTwoTexts}
 use Rattle.ficus_file.specs.declared.file.FileReplica.{FileReplica}
 use Rattle.ficus_file.specs.declared.version.Version.{Version}
@@ -24,7 +24,7 @@ use Rattle.ficus_held_file_laws.specs.Laws.{IsKnownFile, ListsObject}
 use Rattle.ficus_held_file_laws.proofs.Entries.{live_from_listed, live_listed, removed_from_listed, removed_listed}
 use Rattle.ficus_held_file_laws.proofs.Files.{known_file, named_listed}
 use Rattle.ficus_held_file_laws.proofs.Orphans.{orphan_listed, unseen_uncovered, uncovered_unseen}
-use Rattle.ficus_orphan.specs.Orphan.{IsNamedBy, IsOrphanIn}
+use Rattle.ficus_orphan.specs.Orphan.{IsOrphanIn}
 use Rattle.ficus_rules.specs.View.{SameView, history_view}
 use Rattle.ficus_deciding.specs.View.{HasObject, IsVisibleBy, held_live, held_dead, tables_view}
 use Rattle.ficus_replica.specs.SavedOf.{IsSavedOf}

@@ -13,7 +13,7 @@ use Rattle.ficus_file.specs.Files.{HoldsFile}
 use Rattle.ficus_model.specs.Reached.IsReached.{Base, Through}
 use Rattle.ficus_laws.proofs.Deciding.{Decided}
 use Rattle.ficus_held_laws.specs.Entries.{place_of}
-use Rattle.ficus_orphan.specs.Orphan.{IsNameFor, IsNamedBy}
+use Rattle.ficus_entry.specs.Inside.{IsNameFor, IsNamedBy}
 use Rattle.ficus_durable_state.specs.declared.saved.Saved.{Saved}
 use Rattle.ficus_rules.specs.Detached.{IsDetachedIn}
 use Rattle.ficus_rules.specs.View.{IsBoundIn, IsInReachIn}

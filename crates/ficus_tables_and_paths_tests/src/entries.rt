@@ -10,17 +10,22 @@ const fn id(number: u32) -> Id {
     Id { replica: 1, number }
 }
 
-// Enters an object of this number under a name of the root.
-fn enter(entries: &mut Entries, number: u32, name: &[u8]) -> Result<(), Fault> {
+// An entry for the object of this number under a name of the root.
+fn entry(number: u32, name: &[u8]) -> Result<Entry, NameFault> {
     let name = Name::new(name)?;
     let id = id(number);
-    entries.put(Entry {
+    Ok(Entry {
         id,
         dir: ROOT,
         name,
         target: id,
         state: State::Live,
-    })?;
+    })
+}
+
+// Enters an object of this number under a name of the root.
+fn enter(entries: &mut Entries, number: u32, name: &[u8]) -> Result<(), Fault> {
+    entries.put(entry(number, name)?)?;
     Ok(())
 }
 
@@ -85,6 +90,12 @@ fn count_inside(entries: &Entries, dir: Id) -> Result<usize, Memory> {
     Ok(inside.len())
 }
 
+// How many entries lead to the object of this number.
+fn count_naming(entries: &Entries, number: u32) -> Result<usize, Memory> {
+    let naming = entries.naming(id(number))?;
+    Ok(naming.len())
+}
+
 // How many live entries are noted to lie in the root.
 fn count_noted(entries: &Entries) -> Result<usize, Memory> {
     let live = entries.noted_live_inside(ROOT)?;
@@ -118,13 +129,15 @@ fn is_worn(entries: &Entries) -> Result<bool, Fault> {
     let leads = targets(entries)? == [1, 0];
     let inside = count_inside(entries, ROOT)?;
     let live = count_live(entries)?;
-    Ok(leads && inside == 1001 && live == 1 && entries.live_inside(ROOT))
+    let named = entries.live_naming(id(1)) && !entries.live_naming(id(2));
+    Ok(leads && inside == 1001 && live == 1 && named && entries.live_inside(ROOT))
 }
 
-// Whether nothing is live in the root, and all that was entered is dead.
+// Whether nothing is live in the root, and all that was entered is dead, and still leads to its object.
 fn is_bare(entries: &Entries) -> Result<bool, Memory> {
     let dead = are_dead(entries, 0)?;
-    Ok(dead && !entries.live_inside(ROOT))
+    let naming = count_naming(entries, 1)?;
+    Ok(dead && naming == 1 && !entries.live_naming(id(1)) && !entries.live_inside(ROOT))
 }
 
 // Whether the entries are worn, and bare once the one that stays is removed.
@@ -145,5 +158,19 @@ fn are_worn_anew(alloc: Global) -> Result<bool, Fault> {
 fn removed_entries_leave_their_names_and_stay_known(rt: HostRuntime) -> Result<(), Fail> {
     let worn = are_worn_anew(rt.alloc())?;
     assert!(rt; worn);
+    Ok(())
+}
+
+// One entry, behind none.
+fn first(alloc: Global) -> Result<Entries, Fault> {
+    let mut entries = Entries::new(alloc);
+    entries.append(entry(1, b"first")?)?;
+    Ok(entries)
+}
+
+#[test]
+fn an_entry_is_appended(rt: HostRuntime) -> Result<(), Fail> {
+    let entries = first(rt.alloc())?;
+    assert_eq!(rt; entries.len(), 1);
     Ok(())
 }

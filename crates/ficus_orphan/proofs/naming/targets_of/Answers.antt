@@ -1,7 +1,7 @@
 use Rattle.std.proofs.Common.{◌≡◌, ◌≤◌, ◌∷◌, ◌++◌, [], length, refl, sym, arith}
 use Rattle.std.proofs.lemmas.Bool.{false≢true}
 use Rattle.std.proofs.lemmas.Grind.{common_steps}
-use Rattle.ficus_orphan.specs.Orphan.{IsNameFor}
+use Rattle.ficus_entry.specs.Inside.{IsNameFor}
 use Rattle.ficus_orphan.proofs.Made.{made_all, made_push, made_stay}
 use Rattle.ficus_orphan.proofs.Told.{named_made}
 use Rattle.ficus_orphan.proofs.naming.targets_of.Goals as goal

@@ -19,5 +19,5 @@ returns-clause-live c =
     (λ missing. entry_within noted.before notes _ _ span.result.start span.result.end
     entry noted.noted span.ensures old live
     (rw (c.first_place.ensures, c.place_behind.ensures) (between_all c.args.dir entry in_dir))
-    (λ within. missing (complete entry.id (record { entry = entry; inside = inside; in_dir = in_dir; has_id = refl })
+    (λ within. missing (complete entry.id (record { entry = entry; inside = inside; so = in_dir; has_id = refl })
     within)))) c.noted_of.ensures.complete
