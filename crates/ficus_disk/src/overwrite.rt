@@ -95,9 +95,11 @@ fn picked_byte(pick: Pick, mark: Mark, byte: u8) -> u8
     ensures { result ≡ picked_byte pick mark byte }
 {
     match (pick, mark) {
+        (Pick::Synced | Pick::Written, _) => byte,
+        (Pick::Ones, Mark::Clean) => byte,
         (Pick::Ones, Mark::Front | Mark::Rest) => 1,
+        (Pick::Halves, Mark::Clean | Mark::Front) => byte,
         (Pick::Halves, Mark::Rest) => 255,
-        _ => byte,
     }
 }
 
