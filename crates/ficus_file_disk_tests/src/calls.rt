@@ -2,6 +2,7 @@
 use ficus_disk::Disk;
 use ficus_faults::Failed;
 use ficus_file_disk::{System, SystemDisk};
+use std::alloc::{AllocError, Global};
 
 /// A call, and what it answers.
 #[derive(Clone, Copy, PartialEq)]
@@ -40,4 +41,25 @@ impl Call {
             Call::Again(_) => Call::Again(Err(Failed)),
         }
     }
+}
+
+/// 5 MiB, more than what is read or written at once elsewhere.
+const LENGTH: usize = 5 * 1024 * 1024;
+
+/// So many bytes, of which none is as its neighbour.
+pub fn long_piece(alloc: Global) -> Result<Vec<u8>, AllocError> {
+    let mut piece = vec![in alloc; 0u8; LENGTH]?;
+    for (place, byte) in piece.iter_mut().enumerate() {
+        *byte = (place % 251) as u8;
+    }
+    Ok(piece)
+}
+
+/// Whether the disk gives these bytes from its start on, once it has taken them and synced them.
+pub fn takes<S: System + Drop>(disk: &mut SystemDisk<S>, piece: &[u8], into: &mut [u8]) -> bool {
+    disk.write(0, piece) == Ok(())
+        && disk.sync() == Ok(())
+        && disk.size() == Ok(piece.len() as u64)
+        && disk.read(0, into) == Ok(())
+        && &*into == piece
 }

@@ -1,6 +1,5 @@
 // Disks over files of the system, below the folder that the tests run in.
-use crate::calls::Call;
-use ficus_disk::Disk;
+use crate::calls::{Call, long_piece, takes};
 use ficus_faults::Failed;
 use ficus_file_disk::FileDisk;
 use std::alloc::AllocError;
@@ -124,21 +123,9 @@ fn disks_over_files_of_the_system(rt: HostRuntime) -> Result<(), Fail> {
     Ok(())
 }
 
-// Whether the disk gives these bytes from its start on, once it has taken them and synced them.
-fn takes(disk: &mut FileDisk<HostRuntime>, piece: &[u8], into: &mut [u8]) -> bool {
-    disk.write(0, piece) == Ok(())
-        && disk.sync() == Ok(())
-        && disk.size() == Ok(piece.len() as u64)
-        && disk.read(0, into) == Ok(())
-        && &*into == piece
-}
-
 #[test]
-fn a_file_takes_pieces_of_2_mib(rt: HostRuntime) -> Result<(), Fail> {
-    let mut piece = vec![in rt.alloc(); 0u8; 2 * 1024 * 1024]?;
-    for (place, byte) in piece.iter_mut().enumerate() {
-        *byte = (place % 251) as u8;
-    }
+fn a_file_takes_long_pieces(rt: HostRuntime) -> Result<(), Fail> {
+    let piece = long_piece(rt.alloc())?;
     let mut into = vec![in rt.alloc(); 0u8; piece.len()]?;
     let mut disk = FileDisk::new(rt, String::from_str(rt.alloc(), "long")?);
     assert!(rt; takes(&mut disk, &piece, &mut into));

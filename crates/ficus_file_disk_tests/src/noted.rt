@@ -1,5 +1,5 @@
 // Disks over a system that notes what is made and synced, and whose calls fail in turn.
-use crate::calls::Call;
+use crate::calls::{Call, long_piece, takes};
 use crate::system::System;
 use ficus_file_disk::{FileDisk, System as Asked, SystemDisk};
 use std::alloc::{AllocError, Global};
@@ -124,5 +124,38 @@ fn each_failure_of_the_system_is_a_fault_and_costs_nothing(rt: HostRuntime) -> R
         let is = is_told(rt.alloc(), fails)?;
         assert!(rt; is, "call {fails}");
     }
+    Ok(())
+}
+
+/// What is made and synced of a long file.
+const LONG_NOTES: &[u8] = b"made vol
+made vol/1
+made vol/1/a
+synced vol/1/a
+opened vol/1
+synced vol/1
+opened vol
+synced vol
+opened .
+synced .
+";
+
+// Whether a long piece is taken, synced and given as a short one.
+fn takes_long(alloc: Global, piece: &[u8], into: &mut [u8]) -> Result<bool, AllocError> {
+    let system = System::moving(alloc, 0, 1024 * 1024)?;
+    let path = String::from_str(alloc, "vol/1/a")?;
+    let is_given = takes(&mut FileDisk::new(system.clone()?, path), piece, into);
+    let Some((_, notes, bytes)) = system.into_parts() else {
+        return Ok(false);
+    };
+    Ok(is_given && notes.as_slice() == LONG_NOTES && bytes.as_slice() == piece)
+}
+
+#[test]
+fn a_long_file_is_synced_with_each_folder(rt: HostRuntime) -> Result<(), Fail> {
+    let piece = long_piece(rt.alloc())?;
+    let mut into = vec![in rt.alloc(); 0u8; piece.len()]?;
+    let is = takes_long(rt.alloc(), &piece, &mut into)?;
+    assert!(rt; is);
     Ok(())
 }

@@ -1,4 +1,6 @@
 // A system for tests, whose calls are noted and fail where they are told to.
+ghost use Rattle.std.specs.Prelude.{◌≡◌, ◌≤◌, length};
+
 use std::alloc::{AllocError, Allocator, Global};
 use std::cell::{Cell, RefCell};
 use std::fs::{Metadata, OpenFile, OpenOptions};
@@ -25,19 +27,27 @@ struct State {
     calls: Cell<u32>,
     // The number of the one that fails, from 1.
     fails: u32,
+    // How many bytes a read or a write moves at most.
+    most: usize,
 }
 
 const PARTS: [&str; 4] = [".", "vol", "vol/1", "vol/1/a"];
 
 impl System {
-    /// An empty system. The call with the number `fails` fails.
+    /// An empty system. The call with the number `fails` fails, and each read and write moves one byte at most.
     pub fn new(alloc: Global, fails: u32) -> Result<System, AllocError> {
+        System::moving(alloc, fails, 1)
+    }
+
+    /// The same, where each read and write moves so many bytes at most.
+    pub fn moving(alloc: Global, fails: u32, most: usize) -> Result<System, AllocError> {
         let state = State {
             notes: RefCell::new(Vec::new(alloc)),
             bytes: RefCell::new(Vec::new(alloc)),
             made: Cell::new(1),
             calls: Cell::new(0),
             fails,
+            most,
         };
         Ok(System {
             state: Rc::new(alloc, state)?,
@@ -101,7 +111,27 @@ impl State {
     }
 }
 
-/// An open file or folder. Each read and write moves one byte at most.
+// Puts a front of what is held from this place on into the buffer, and answers how many bytes.
+fn give(held: &[u8], at: usize, into: &mut [u8], most: usize) -> usize
+    ensures within { result ≤ length into.new }
+    ensures room { length into.new ≡ length into.old }
+{
+    let start = at.min(held.len());
+    let count = into.len().min(most).min(held.len() - start);
+    into[..count].copy_from_slice(&held[start..start + count]);
+    count
+}
+
+// Writes the bytes over what is held from this place on, or behind it.
+fn take(held: &mut Vec<u8>, at: usize, from: &[u8]) -> Result<(), AllocError> {
+    let start = at.min(held.len());
+    let over = from.len().min(held.len() - start);
+    held[start..start + over].copy_from_slice(&from[..over]);
+    held.extend_from_slice(&from[over..])?;
+    Ok(())
+}
+
+/// An open file or folder.
 #[derive(Drop)]
 pub struct Opened {
     state: Rc<State>,
@@ -113,30 +143,20 @@ impl Read for Opened {
     fn read(&mut self, into: &mut [u8]) -> io::Result<usize> {
         self.state.turn()?;
         let bytes = self.state.bytes.try_borrow()?;
-        match (into.first_mut(), bytes.get(self.at)) {
-            (Some(place), Some(byte)) => {
-                *place = *byte;
-                self.at = self.at.saturating_add(1);
-                Ok(1)
-            }
-            _ => Ok(0),
-        }
+        let count = give(&bytes, self.at, into, self.state.most);
+        self.at = self.at.saturating_add(count);
+        Ok(count)
     }
 }
 
 impl Write for Opened {
     fn write(&mut self, from: &[u8]) -> io::Result<usize> {
         self.state.turn()?;
+        let count = from.len().min(self.state.most);
         let mut bytes = self.state.bytes.try_borrow_mut()?;
-        let Some(byte) = from.first() else {
-            return Ok(0);
-        };
-        match bytes.get_mut(self.at) {
-            Some(place) => *place = *byte,
-            None => bytes.push(*byte)?,
-        }
-        self.at = self.at.saturating_add(1);
-        Ok(1)
+        take(&mut bytes, self.at, &from[..count])?;
+        self.at = self.at.saturating_add(count);
+        Ok(count)
     }
 
     fn flush(&mut self) -> io::Result<()> {
