@@ -60,7 +60,8 @@ pub record OpLayout : Type 1 where
 abbrev pub behind : {A : Type 0} → ℕ → Format A → A → OpLayout
 behind tag format fields = record { tag = tag; body = format.spell fields; fits = format.fits fields }
 
--- what is made without a text has none
+-- what is made without a text has none. A later kind is spelled without one too, unless it is listed here: with a text
+-- it would fit no record, and the code that spells asks of each kind which of the two it is
 abbrev pub making_layout : Id → List ℕ → Kind → List ℕ → OpLayout
 making_layout dir called Symlink text = behind 13 symlinking (dir, (called, text))
 making_layout dir called what text =

@@ -105,7 +105,8 @@ abbrev pub IsCommandOf : Spelling → Option Command → Type 0
 IsCommandOf spelling (Some command) = IsCommand command × (spelling_of command ≡ spelling)
 IsCommandOf spelling None = (command : Command) → IsCommand command → spelling_of command ≡ spelling → ⊥
 
--- the command is one step of a world; a sweep is several, and why asks only what is stored
+-- the command is one step of a world; a sweep is several, and why asks only what is stored. A later command is a step
+-- unless it is listed here: what that step is asks for a row of its own in `plan`, which has one for each command
 abbrev pub IsStep : Command → Type 0
 IsStep (command.Sweep order) = ⊥
 IsStep (command.Why by) = ⊥
