@@ -8,7 +8,7 @@ use Rattle.ficus_why.specs.Plain.{IsPlain}
 use Rattle.ficus_why.specs.declared.heard.Heard.{Heard}
 use Rattle.ficus_why.specs.declared.latest.KnownFile.{KnownFile}
 
--- the history is plain, this is heard of in it, and the file's versions that the reader knows have these ends
+-- the history is plain, this is heard of in it, and the file's rewrites that the reader knows have these ends
 pub record FitsFile (H : List Event) (noted : Heard) (known : KnownFile) : Type 0 where
   pub plain : IsPlain H
   pub heard : AreHeard H (length H) noted.events.items noted.replicas.items
