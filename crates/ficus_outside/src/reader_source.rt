@@ -67,7 +67,8 @@ fn read_through<R: Read>(reader: &mut R, into: &mut [u8]) -> io::Result<usize>
 pub(crate) fn unless_interrupted(answer: io::Result<usize>) -> Option<io::Result<usize>>
     ensures given { IfSome result (λ given. given ≡ answer) }
     ensures settled { IfSome result (λ given. IfErr given (λ error. error_kind error ≢ ErrorKind.Interrupted)) }
-    ensures interrupted { IfNone result (IsErr answer) }
+    ensures error { IfNone result (IsErr answer) }
+    ensures interrupted { IfNone result (IfErr answer (λ error. error_kind error ≡ ErrorKind.Interrupted)) }
 {
     match answer {
         Err(error) if error.kind() == ErrorKind::Interrupted => None,

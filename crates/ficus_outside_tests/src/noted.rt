@@ -17,7 +17,7 @@ struct Row {
     asked: &'static [(&'static str, Option<usize>)],
 }
 
-const ROWS: [Row; 5] = [
+const ROWS: [Row; 6] = [
     Row {
         turns: &[],
         puts: &[("abcd", Ok(4)), ("", Ok(0)), ("e", Ok(1))],
@@ -39,6 +39,12 @@ const ROWS: [Row; 5] = [
         turns: &[Turn::Stops, Turn::Stops, Turn::Moves(1)],
         puts: &[("ab", Ok(1)), ("b", Ok(1))],
         asked: &[("ab", None), ("ab", None), ("ab", Some(1)), ("b", Some(1))],
+    },
+    // A write to a closed pipe, and one that would wait, fail and aren't tried again.
+    Row {
+        turns: &[Turn::Breaks, Turn::Blocks],
+        puts: &[("ab", Err(Failed)), ("ab", Err(Failed)), ("ab", Ok(2))],
+        asked: &[("ab", None), ("ab", None), ("ab", Some(2))],
     },
     Row {
         turns: &[],

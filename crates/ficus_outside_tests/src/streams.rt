@@ -16,7 +16,7 @@ struct Taken {
     answers: &'static [Result<usize, Failed>],
 }
 
-const TAKEN: [Taken; 6] = [
+const TAKEN: [Taken; 7] = [
     Taken {
         turns: &[],
         answers: &[Ok(4), Ok(4), Ok(2), Ok(0), Ok(0)],
@@ -40,6 +40,10 @@ const TAKEN: [Taken; 6] = [
     Taken {
         turns: &[Turn::Stops, Turn::Stops, Turn::Moves(3), Turn::Stops],
         answers: &[Ok(3), Ok(4), Ok(3), Ok(0)],
+    },
+    Taken {
+        turns: &[Turn::Blocks, Turn::Moves(4), Turn::Breaks],
+        answers: &[Err(Failed), Ok(4), Err(Failed), Ok(4), Ok(2), Ok(0)],
     },
 ];
 
@@ -95,7 +99,7 @@ struct Put {
     shown: &'static str,
 }
 
-const PUT: [Put; 5] = [
+const PUT: [Put; 6] = [
     Put {
         turns: &[],
         puts: &[("abcd", Ok(4)), ("", Ok(0)), ("e", Ok(1))],
@@ -126,6 +130,11 @@ const PUT: [Put; 5] = [
         puts: &[("abc", Ok(2)), ("c", Ok(1))],
         shown: "abc",
     },
+    Put {
+        turns: &[Turn::Breaks, Turn::Moves(1), Turn::Blocks],
+        puts: &[("ab", Err(Failed)), ("ab", Ok(1)), ("b", Err(Failed)), ("b", Ok(1))],
+        shown: "ab",
+    },
 ];
 
 // Whether a sink over the screen answers as the row says.
@@ -143,16 +152,17 @@ fn shows(alloc: Global, row: &Put) -> bool {
     puts(&screen, row) && screen.shown.into_inner().as_slice() == row.shown.as_bytes()
 }
 
-/// 2 MiB.
-const LENGTH: usize = 2 * 1024 * 1024;
+/// 5 MiB, which is more than an answer of the largest file has.
+const LENGTH: usize = 5 * 1024 * 1024;
 
-/// What the runtime's call does with a piece of 2 MiB, and what the put of it answers.
-const LONG: [(&[Turn], Result<usize, Failed>); 5] = [
+/// What the runtime's call does with a piece of 5 MiB, and what the put of it answers.
+const LONG: [(&[Turn], Result<usize, Failed>); 6] = [
     (&[], Ok(LENGTH)),
     (&[Turn::Moves(65_537)], Ok(65_537)),
     (&[Turn::Moves(LENGTH - 1)], Ok(LENGTH - 1)),
     (&[Turn::Moves(0)], Err(Failed)),
     (&[Turn::Fails], Err(Failed)),
+    (&[Turn::Breaks], Err(Failed)),
 ];
 
 // Whether the put of the piece answers so, and the screen then shows as much of it.

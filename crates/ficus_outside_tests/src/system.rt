@@ -14,6 +14,10 @@ pub enum Turn {
     Fails,
     /// A signal interrupts it.
     Stops,
+    /// What it moves to is closed.
+    Breaks,
+    /// It would have to wait.
+    Blocks,
 }
 
 impl Turn {
@@ -23,6 +27,8 @@ impl Turn {
             Turn::Moves(most) => Ok(bytes.min(most)),
             Turn::Fails => Err(ErrorKind::Other.into()),
             Turn::Stops => Err(ErrorKind::Interrupted.into()),
+            Turn::Breaks => Err(ErrorKind::BrokenPipe.into()),
+            Turn::Blocks => Err(ErrorKind::WouldBlock.into()),
         }
     }
 }
