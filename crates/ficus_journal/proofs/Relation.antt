@@ -54,13 +54,19 @@ picked : (b : Bool) (k z kept : Kept) → nat_le z.generation k.generation ≡ b
 picked true k z kept least is =
     let same : k ≡ kept = same_kept k kept is in
     let most : z.generation ≤ k.generation = grind (arith, nat_tests) in
-    inl (is, λ other found. let also : z ≡ other = same_kept z other found in
-    omega (arith, most, ap (λ (v : Kept). v.generation) same, ap (λ (v : Kept). v.generation) also))
+    inl (
+      is,
+      λ other found. let also : z ≡ other = same_kept z other found in
+          omega (arith, most, ap (λ (v : Kept). v.generation) same, ap (λ (v : Kept). v.generation) also),
+    )
 picked false k z kept least is =
     let same : z ≡ kept = same_kept z kept is in
     let less : k.generation < z.generation = grind (arith, nat_tests) in
-    inr (is, λ other found. let also : k ≡ other = same_kept k other found in
-    omega (arith, less, ap (λ (v : Kept). v.generation) same, ap (λ (v : Kept). v.generation) also))
+    inr (
+      is,
+      λ other found. let also : k ≡ other = same_kept k other found in
+          omega (arith, less, ap (λ (v : Kept). v.generation) same, ap (λ (v : Kept). v.generation) also),
+    )
 
 later_is : (x y : Option Kept) (kept : Kept) → later x y ≡ Some kept → IsLater x y kept
 later_is None y kept is = inr (is, λ z found. absurd (cc found))

@@ -132,7 +132,12 @@ const PUT: [Put; 6] = [
     },
     Put {
         turns: &[Turn::Breaks, Turn::Moves(1), Turn::Blocks],
-        puts: &[("ab", Err(Failed)), ("ab", Ok(1)), ("b", Err(Failed)), ("b", Ok(1))],
+        puts: &[
+            ("ab", Err(Failed)),
+            ("ab", Ok(1)),
+            ("b", Err(Failed)),
+            ("b", Ok(1)),
+        ],
         shown: "ab",
     },
 ];
