@@ -58,10 +58,10 @@ up_again standings by one up = record {
 counted : (r : ℕ) → 0 + cond (r == r) 1 0 ≡ 0 → ⊥
 counted r none = omega (arith, rw (eq-eqb r r refl) at none)
 
-link_failed : NothingFails (LinkFails ∷ []) → ⊥
+pub link_failed : NothingFails (LinkFails ∷ []) → ⊥
 link_failed none = omega (arith, none.link)
 
-save_failed : (by : ℕ) → NothingFails (SaveFails by ∷ []) → ⊥
+pub save_failed : (by : ℕ) → NothingFails (SaveFails by ∷ []) → ⊥
 save_failed by none = counted by (none.stores by)
 
 opening_failed : (by : ℕ) → NothingFails (OpeningFails by ∷ []) → ⊥

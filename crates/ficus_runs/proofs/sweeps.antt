@@ -2,3 +2,4 @@ pub mod Adding
 pub mod Chains
 pub mod Rounds
 pub mod Whole
+pub mod Through

@@ -1,14 +1,26 @@
 -- The laws of sweeps, as the law functions state them.
-use Rattle.std.specs.Prelude.{◌≡◌, ℕ, ◌+◌, ◌*◌, ◌≤◌, List, length, Ok}
+use Rattle.std.specs.Prelude.{◌≡◌, ℕ, ◌+◌, ◌*◌, ◌≤◌, List, [], ◌∷◌, ◌++◌, length, sum_by, Ok}
+use Rattle.ficus_ids.specs.Members.{IsMember}
+use Rattle.ficus_ids.specs.declared.refusal.Refusal.TheVariants.{LinkFull}
 use Rattle.ficus_model.specs.declared.event.Event.{Event}
+use Rattle.ficus_model.specs.declared.event.Event.TheVariants.{Ask}
 use Rattle.ficus_model.specs.Lawful.{Volume, IsLawful}
-use Rattle.ficus_runs.specs.ModelWorld.{ModelWorld}
+use Rattle.ficus_runs.specs.Exchange.{IsServedNow, Served, size_of, total_limit}
+use Rattle.ficus_runs.specs.Message.{IsMessageAt}
+use Rattle.ficus_runs.specs.ModelWorld.{ModelWorld, IsUp}
+use Rattle.ficus_runs.specs.Outcome.{Outcome}
+use Rattle.ficus_runs.specs.Outcomes.{NothingFails}
+use Rattle.ficus_runs.specs.Run.{Step}
 use Rattle.ficus_runs.specs.Sequence.{Effect}
 use Rattle.ficus_sweep_laws.specs.Laws.{IsSwept}
 use Rattle.ficus_sweep_laws.specs.Sweeps.{take_count}
-use Rattle.ficus_runs.specs.Sweep.{Swept, Sweeps, sweep_steps, none_swept}
+use Rattle.ficus_runs.specs.Sweep.{Swept, Sweeps, sweep_steps, none_swept, swept_answer}
+use Rattle.ficus_script.specs.declared.answer.Answer.{Answer}
+use Rattle.ficus_script.specs.declared.answer.Answer.TheVariants.{Refused}
+use Rattle.ficus_script.specs.declared.command.Command.TheVariants.{Sweep}
 use Rattle.ficus_script.specs.declared.order.Order.{Order}
 use Rattle.ficus_script.specs.declared.order.Order.TheVariants.{Star, Ring}
+use Rattle.ficus_wire.specs.declared.message.Message.{Message}
 
 -- after a sweep that met no refusal all is swept
 abbrev pub SweepsSweep : Type 0
@@ -31,3 +43,24 @@ SweepsAdd =
     → 2 ≤ volume.members
     → Sweeps volume (sweep_steps order volume.members) none_swept W (Ok swept) left
     → AddsSo order volume.members W.events left.after.events
+
+-- the link has no room for the message of an ask, if that comes next, or for the pieces of what a member serves, if it
+-- serves next
+pub data LacksRoom (volume : Volume) (W : ModelWorld) : Type 0 where
+  ForAsk : (by to : ℕ) {message : Message}
+      → IsMessageAt volume (W.events ++ Ask by to ∷ []) (length W.events) 0 message
+      → (W.total + size_of message ≤ total_limit → ⊥) → LacksRoom volume W
+  ForPieces : (server ask : ℕ) {served : Served} → IsServedNow volume W.events server ask served
+      → (W.total + sum_by size_of served.messages ≤ total_limit → ⊥) → LacksRoom volume W
+
+-- a sweep is answered with its counts; or it stops where the link is full, which has no room then
+pub data GoesThrough (volume : Volume) (after : ModelWorld) : Answer → Type 0 where
+  IsCounted : {swept : Swept} → GoesThrough volume after (swept_answer swept)
+  IsFull : LacksRoom volume after → GoesThrough volume after (Refused LinkFull)
+
+-- where all members are up and nothing fails, a full link alone stops a sweep
+abbrev pub SweepsGoThrough : Type 0
+SweepsGoThrough =
+    (volume : Volume) (order : Order) (W after : ModelWorld) (outcomes : List Outcome) (answer : Answer)
+    → 2 ≤ volume.members → IsLawful volume W.events → ((r : ℕ) → IsMember volume.members r → IsUp r W)
+    → NothingFails outcomes → Step volume W (Sweep order) outcomes answer after → GoesThrough volume after answer

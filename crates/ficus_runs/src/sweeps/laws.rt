@@ -1,4 +1,4 @@
-ghost use Rattle.ficus_runs.specs.Sweeps.Laws.{SweepsAdd, SweepsSweep};
+ghost use Rattle.ficus_runs.specs.Sweeps.Laws.{SweepsAdd, SweepsGoThrough, SweepsSweep};
 
 /// The law that after a sweep that met no refusal all members know the same updates, no removed entry is held, and each
 /// object that is held has a live name or is an orphan. It does nothing when it runs.
@@ -10,4 +10,11 @@ pub fn sweeps_leave_all_swept()
 /// one for each member. It does nothing when it runs.
 pub fn sweeps_add()
     ensures { SweepsAdd }
+{}
+
+/// The law that a sweep meets no refusal where all members are up, none of what it asks of the outside fails, and the
+/// link has room for its messages. What stops it is a full link alone, which has no room then for the message of an ask
+/// that comes next, or for the pieces of what is served next. It does nothing when it runs.
+pub fn sweeps_meet_no_refusal()
+    ensures { SweepsGoThrough }
 {}
