@@ -250,37 +250,30 @@ module _ (volume : Volume) (H : List Event) (r serve : ℕ) (me next : ℕ) (me_
 
 -- what is served names and counts no update of the replica that it hasn't made
 served_past : (volume : Volume) (H : List Event) (r from number : ℕ) (entries : List Entry) (files : List FileReplica)
-    (serve : ℕ) (old : Replica) → IsLawful volume H → StandsFor volume H r old →
-    IsServed volume H r from number entries files serve → HasOwnPast old.saved.me old.saved.next entries files
-served_past volume H r from number entries files serve old lawful stands served = record {
-  each = All-weaker (Contains entries) (IsEntryOfPast old.saved.me old.saved.next)
-      (λ entry inside. entry_past volume H r serve old.saved.me old.saved.next me_is next_is some volume.members from
+    (serve : ℕ) (old : Saved) → IsLawful volume H → IsSavedOf volume H r old →
+    IsServed volume H r from number entries files serve → HasOwnPast old.me old.next entries files
+served_past volume H r from number entries files serve old lawful is served = record {
+  each = All-weaker (Contains entries) (IsEntryOfPast old.me old.next)
+      (λ entry inside. entry_past volume H r serve old.me old.next is.me is.next some volume.members from
       entry lawful (served.held.kept.each entry inside))
       entries (All-contains_itself entries);
-  each_file = All-weaker (Contains files) (IsFileOfPast old.saved.me old.saved.next)
-      (λ file inside. file_past volume H r serve old.saved.me old.saved.next me_is next_is volume.members from
-      files file
+  each_file = All-weaker (Contains files) (IsFileOfPast old.me old.next)
+      (λ file inside. file_past volume H r serve old.me old.next is.me is.next volume.members from files file
       served.held_files inside)
       files (All-contains_itself files);
 }
   where
-    me_is : old.saved.me ≡ r
-    me_is = stands.saved.me
-
-    next_is : old.saved.next ≡ count_of r H + 1
-    next_is = stands.saved.next
-
-    some : 1 ≤ old.saved.me
-    some = omega (arith, me_is, stands.saved.member.at_least)
+    some : 1 ≤ old.me
+    some = omega (arith, is.me, is.member.at_least)
 
 -- so what is served may always be taken
 pub served_fits : (volume : Volume) (H : List Event) (r from number : ℕ) (entries : List Entry)
-    (files : List FileReplica) (serve : ℕ) (old : Replica) → volume.members ≤ 8 →
-    IsLawful volume H → StandsFor volume H r old → IsServed volume H r from number entries files serve →
-    MayTake old.saved entries files
-served_fits volume H r from number entries files serve old few lawful stands served = record {
-  past = served_past volume H r from number entries files serve old lawful stands served;
-  fit = files_fit volume H r serve from lawful (of_at served.served) stands.saved.files served.held_files few;
+    (files : List FileReplica) (serve : ℕ) (old : Saved) → volume.members ≤ 8 →
+    IsLawful volume H → IsSavedOf volume H r old → IsServed volume H r from number entries files serve →
+    MayTake old entries files
+served_fits volume H r from number entries files serve old few lawful is served = record {
+  past = served_past volume H r from number entries files serve old lawful is served;
+  fit = files_fit volume H r serve from lawful (of_at served.served) is.files served.held_files few;
 }
 
 -- the members of a volume for which a replica stands whose record fits an image
@@ -305,7 +298,7 @@ accept_gives_stands volume H r from number entries files serve old (Err Memory) 
 accept_gives_stands volume H r from number entries files serve old (Err Stale) few lawful stands served gives =
     λ answers. gives (taken_open volume H r from number entries files serve old stands served answers)
 accept_gives_stands volume H r from number entries files serve old (Err BadMessage) few lawful stands served gives =
-    gives.1 (served_fits volume H r from number entries files serve old few lawful stands served)
+    gives.1 (served_fits volume H r from number entries files serve old.saved few lawful stands.saved served)
 accept_gives_stands volume H r from number entries files serve old (Err other) few lawful stands served gives =
     absurd gives
 

@@ -19,3 +19,4 @@ pub mod Accepts
 pub mod Leaving
 pub mod Collects
 pub mod Recorded
+pub mod LawfulRecords

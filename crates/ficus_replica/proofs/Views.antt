@@ -51,7 +51,7 @@ visible_made volume H r object lawful (inr orphan) = orphan_made orphan
 
 module _ {volume : Volume} {H : List Event} {r : ℕ} {saved : Saved} (lawful : IsLawful volume H)
     (is : IsSavedOf volume H r saved) where
-  live_history : (entry : ModelEntry) → (tables_view saved).live entry ↔ IsLive H (Knows H r) entry
+  pub live_history : (entry : ModelEntry) → (tables_view saved).live entry ↔ IsLive H (Knows H r) entry
   live_history entry = (
     λ inside. live_from_listed {entry = held_live entry} is.entries refl inside,
     λ live. live_listed {entry = held_live entry} is.entries is.member refl live,
@@ -151,7 +151,8 @@ module _ {volume : Volume} {H : List Event} {r : ℕ} {saved : Saved} (lawful : 
     row : ListsObject saved.files object kind
     versions : AreVersionsOf H (Knows H r) object row.file.versions
 
-  visible_listed : {object : Id} {kind : Kind} → IsVisible H (Knows H r) object → IsMade H (Knows H r) object kind →
+  -- a visible object stands among the files, with its kind
+  pub visible_listed : {object : Id} {kind : Kind} → IsVisible H (Knows H r) object → IsMade H (Knows H r) object kind →
       ListsObject saved.files object kind
   visible_listed {object} {kind} (inl named) made =
       named_listed volume H r saved.files object kind lawful is.member is.files named made

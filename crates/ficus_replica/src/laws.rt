@@ -1,4 +1,4 @@
-ghost use Rattle.std.specs.Prelude.{◌≡◌, ◌↔◌, ◌++◌, ◌∷◌, [], ℕ, List, Result};
+ghost use Rattle.std.specs.Prelude.{◌≡◌, ◌↔◌, ◌<◌, ◌-◌, ◌^◌, ◌++◌, ◌∷◌, [], ℕ, List, Result};
 ghost use Rattle.ficus_durable_state.specs.Saved.{FitsImage};
 ghost use Rattle.ficus_durable_state.specs.declared.saved.Saved.{Saved};
 ghost use Rattle.ficus_commands.specs.declared.change.Change.{Change};
@@ -14,7 +14,7 @@ ghost use Rattle.ficus_model.specs.declared.event.Event.{Event};
 ghost use Rattle.ficus_replica.specs.Change.{ChangeGives, ChangeStands};
 ghost use Rattle.ficus_replica.specs.Collect.{CollectGives, Garbage, IsGarbage};
 ghost use Rattle.ficus_record.specs.declared.record.Record.{Record};
-ghost use Rattle.ficus_replica.specs.Makes.{Makes};
+ghost use Rattle.ficus_replica.specs.Makes.{IsFit, Makes};
 ghost use Rattle.ficus_replica.specs.Recording.{IsRecordOf};
 ghost use Rattle.ficus_replica.specs.Look.{LookGives, LookStands};
 ghost use Rattle.ficus_replica.specs.SavedOf.{IsSavedOf, StandsFor};
@@ -76,4 +76,12 @@ pub fn records_stand()
         → FitsImage old → IsLawful volume H → IsSavedOf volume H replica old → MayCome volume H event
         → IsRecordOf volume H replica event noted → Makes old noted new
         → IsSavedOf volume (H ++ event ∷ []) replica new }
+{}
+
+/// Where a lawful history is followed by an event that may come, the record of the event fits what a replica saves
+/// after the history, as long as it may be saved once more: so the record is applied, and never found unfit.
+pub fn records_fit()
+    ensures { (volume : Volume) (H : List Event) (replica : ℕ) (event : Event) (noted : Record) (saved : Saved)
+        → FitsImage saved → saved.generation < 2 ^ 63 - 1 → IsLawful volume H → IsSavedOf volume H replica saved
+        → MayCome volume H event → IsRecordOf volume H replica event noted → IsFit saved noted }
 {}

@@ -15,6 +15,6 @@ mod replica;
 pub use collect::Collected;
 pub use laws::{
     alike_stands, changes_stand, looks_stand, one_collection, one_garbage, one_replica, one_saved,
-    records_stand,
+    records_fit, records_stand,
 };
 pub use replica::{Asked, Next, Replica};
