@@ -13,6 +13,7 @@ use Rattle.ficus_log.specs.Log.{Log, is_open, tail_log}
 use Rattle.ficus_journal.specs.Journal.{FitsSide, IsShort, saves_image}
 use Rattle.ficus_journal.specs.Logs.{IsRegular, IsTrim, calls_of_journal, lies_on_a}
 use Rattle.ficus_journal.specs.declared.journal.Journal.{Journal}
+use Rattle.ficus_journal.proofs.Gates.{ends_shut, none_ends, not_open}
 use Rattle.ficus_journal.proofs.Sides.{LogIs, MayAppend, few_records, generation_of_slot, grown, new_log, saved_as, still}
 
 -- what is taken
@@ -101,9 +102,7 @@ trim_log s bodies rest c is few shut = record {
       let same : s ≡ t = some_same s t (sym is.slot ∙ found) in
       let log_is = ap (λ (l : Log). length l.bodies) (ap (λ (z : SlotContent). tail_log z c) (sym same) ∙ is.log) in
       omega (arith, log_is);
-  shut = λ t found.
-      let same : s ≡ t = some_same s t (sym is.slot ∙ found) in
-      ap (λ (l : Log). is_open l.rest) (ap (λ (z : SlotContent). tail_log z c) (sym same) ∙ is.log) ∙ shut;
+  shut = ends_shut is shut;
 }
   where
     some_same : (s t : SlotContent) → Some s ≡ Some t → s ≡ t
@@ -112,7 +111,7 @@ trim_log s bodies rest c is few shut = record {
 pub trim_none : (c : List ℕ) → slot_in c ≡ None → IsTrim c
 trim_none c none = record {
   few = λ t found. absurd (let no = sym none ∙ found in cc);
-  shut = λ t found. absurd (let no = sym none ∙ found in cc);
+  shut = none_ends c none;
 }
 
 module _ (on_a : Bool) (keeper : Journal) (force other : List ℕ)
@@ -184,7 +183,7 @@ module _ (on_a : Bool) (keeper : Journal) (force other : List ℕ)
         trim = elim appends [
           | inl stays ↦ trim_log read (tail_log read force).bodies (stays.gate ∷ stays.rest) x
               (still on_a keeper force other fits new body by x stays)
-              (omega (arith, fits.records.counted, few_count)) (closed_gate stays.gate stays.shut)
+              (omega (arith, fits.records.counted, few_count)) (not_open stays.gate stays.shut)
           | inr more ↦ trim_log read ((tail_log read force).bodies ++ body ∷ []) (0 ∷ more.more) x
               (grown on_a keeper force other fits new body by x more)
               (omega (arith, fits.records.counted, few_count, length_push (tail_log read force).bodies body)) refl
@@ -197,6 +196,3 @@ module _ (on_a : Bool) (keeper : Journal) (force other : List ℕ)
         | inl stays ↦ (still on_a keeper force other fits new body by x stays).slot
         | inr more ↦ (grown on_a keeper force other fits new body by x more).slot
       ]
-
-      closed_gate : (gate : ℕ) → (gate ≡ 1 → ⊥) → (gate == 1) ≡ false
-      closed_gate gate shut = grind (arith, nat_tests)

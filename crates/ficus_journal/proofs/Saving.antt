@@ -1,5 +1,5 @@
 -- What a commit promises of the disk that it writes and of the other.
-use Rattle.std.proofs.Common.{◌≡◌, inl, inr, ℕ, ◌+◌, ◌<◌, ◌^◌, Bool, true, false, not, Some, List, length, refl, sym, subst}
+use Rattle.std.proofs.Common.{◌≡◌, inl, inr, ℕ, ◌+◌, ◌<◌, ◌^◌, Bool, true, false, not, Option, Some, List, length, refl, sym, subst}
 use Rattle.ficus_keeper.specs.Kept.{Kept, after_commit, generation_of, image_alone}
 use Rattle.ficus_keeper.proofs.Sides.{KnownAt, Saves, kept_at}
 use Rattle.ficus_slot.specs.Slot.{SlotContent}
@@ -7,10 +7,11 @@ use Rattle.ficus_slot.specs.Stays.{IsFound, Stays}
 use Rattle.ficus_two_slots.specs.Slots.{bound}
 use Rattle.ficus_log.specs.Appending.{Appends, IsAppended, IsShutAt}
 use Rattle.ficus_journal.specs.Journal.{Fits, FitsOn, FitsSide, IsShort, saves_image}
-use Rattle.ficus_journal.specs.Logs.{IsRegular, calls_of_journal, kept_in, lies_on_a}
+use Rattle.ficus_journal.specs.Logs.{EndsShut, HaveNoOpenGate, IsRegular, calls_of_journal, kept_in, lies_on_a}
 use Rattle.ficus_journal.specs.declared.journal.Journal.{Journal}
+use Rattle.ficus_journal.proofs.Gates.{ends_shut, gate_there, gates_at, not_open}
 use Rattle.ficus_journal.proofs.Regular.{image_calls, image_regular, image_side, of_side, record_calls, record_regular, record_short, record_side, to_side, turned, turned_back}
-use Rattle.ficus_journal.proofs.Sides.{MayAppend, image_fits, image_found, next_of, place, record_fits, record_found, saved_as, stays_at}
+use Rattle.ficus_journal.proofs.Sides.{MayAppend, grown, image_fits, image_found, next_of, place, record_fits, record_found, saved_as, stays_at, still}
 
 fits_side : (on_a : Bool) (keeper : Journal) (mine other : List ℕ)
     → FitsSide keeper (bound on_a keeper.generation) mine other → KnownAt (FitsOn on_a keeper) on_a mine other
@@ -87,6 +88,24 @@ module _ (on_a : Bool) (keeper : Journal) (force other : List ℕ)
       regular = λ was is_found c is. of_side on_a c other
           (record_regular on_a keeper force other fits (to_side on_a force other was) new body by c
           (appends_or keeper.end new body force is_found c is));
+    }
+
+    record_ends : (is_found : Bool) (c : List ℕ) → IsAppended is_found keeper.end new body force c → EndsShut c
+    record_ends true c more = ends_shut (grown on_a keeper force other fits new body by c more) refl
+    record_ends false c stays =
+        ends_shut (still on_a keeper force other fits new body by c stays) (not_open stays.gate stays.shut)
+
+    -- and leaves no gate open
+    pub record_gates : (after : Option Kept) (keeper_after : Journal)
+        → Saves kept_in Fits IsRegular (λ is_found c. IsAppended is_found keeper.end new body force c) on_a after
+        keeper_after force other
+        → Saves kept_in Fits HaveNoOpenGate (λ is_found c. IsAppended is_found keeper.end new body force c) on_a after
+        keeper_after force other
+    record_gates after keeper_after saves = record {
+      unchanged = saves.unchanged;
+      keeps = saves.keeps;
+      holds = saves.holds;
+      regular = λ was is_found c is. gates_at on_a c other (record_ends is_found c is) (gate_there on_a force other was);
     }
 
     pub record_turns : KnownAt IsRegular on_a force other → (calls_of_journal new ≡ 4) × (lies_on_a new ≡ on_a)

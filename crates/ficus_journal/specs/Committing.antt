@@ -3,10 +3,10 @@ use Rattle.std.specs.Prelude.{◌≡◌, ℕ, ◌+◌, Bool, List, Result, Some,
 use Rattle.ficus_disk.specs.declared.disk.Disk.{Ghosts as Disk}
 use Rattle.ficus_disk.specs.declared.pair.Pair.{Pair}
 use Rattle.ficus_keeper.specs.Calls.{Commits}
-use Rattle.ficus_keeper.specs.Fuses.{FusedSave, IsRegularIn}
+use Rattle.ficus_keeper.specs.Fuses.{FusedSave, IsRegularIn, StaysRegular}
 use Rattle.ficus_keeper.specs.Kept.{Kept, after_commit, found_in, generation_of}
 use Rattle.ficus_journal.specs.Journal.{Fits}
-use Rattle.ficus_journal.specs.Logs.{IsRegular, calls_of_journal, kept_in, lies_on_a}
+use Rattle.ficus_journal.specs.Logs.{HaveNoOpenGate, IsRegular, calls_of_journal, kept_in, lies_on_a}
 use Rattle.ficus_journal.specs.declared.journal.Journal.{Journal}
 
 -- this generation follows the kept one
@@ -26,3 +26,8 @@ FusedAs disk is_image generation bytes old new result = disk.tells_fuse → disk
     → IsRegularIn IsRegular disk.seen old
     → FusedSave kept_in disk.seen disk.image disk.fuse (calls_of_journal generation) (lies_on_a generation) old new
     (is_ok result) (after_commit is_image generation bytes (found_in kept_in disk.seen old))
+
+-- whatever a crash leaves has no open gate behind the last record, where that was so before
+abbrev pub LeavesShut : {D : Type 0} → Disk D → Pair D → Pair D → Type 0
+LeavesShut disk old new = disk.tells → StaysRegular HaveNoOpenGate disk.may_leave old
+    → StaysRegular HaveNoOpenGate disk.may_leave new

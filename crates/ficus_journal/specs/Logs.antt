@@ -55,10 +55,19 @@ calls_of_journal generation = if generation % 65 == 0 then 6 else 4
 abbrev pub lies_on_a : ℕ → Bool
 lies_on_a generation = generation / 65 % 2 == 0
 
+-- no open gate stands behind the last record, where reading ends
+abbrev pub EndsShut : List ℕ → Type 0
+EndsShut bytes = (saved : SlotContent) → slot_in bytes ≡ Some saved → is_open (tail_log saved bytes).rest ≡ false
+
+-- nor on the other disk
+pub record HaveNoOpenGate (a b : List ℕ) : Type 0 where
+  pub on_a : EndsShut a
+  pub on_b : EndsShut b
+
 -- few records stand behind the slot, and no open gate behind the last
 pub record IsTrim (bytes : List ℕ) : Type 0 where
   pub few : (saved : SlotContent) → slot_in bytes ≡ Some saved → length (tail_log saved bytes).bodies ≤ record_limit
-  pub shut : (saved : SlotContent) → slot_in bytes ≡ Some saved → is_open (tail_log saved bytes).rest ≡ false
+  pub shut : EndsShut bytes
 
 -- the images on `a` are of the generations 0, 130, and so on, those on `b` of 65, 195, and so on
 pub record IsRegular (a b : List ℕ) : Type 0 where

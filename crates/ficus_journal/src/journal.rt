@@ -1,4 +1,4 @@
-ghost use Rattle.std.specs.Prelude.{◌≡◌, ◌^◌, ◌<◌, MatchOption};
+ghost use Rattle.std.specs.Prelude.{◌≡◌, ◌^◌, ◌<◌, ◌≤◌, length, vec_capacity, MatchOption};
 
 use crate::opening::opened;
 use ficus_disk::{Disk, Pair};
@@ -60,7 +60,11 @@ impl Journal {
 }
 
 impl Keep for Journal {
-    ghost use Rattle.std.specs.Prelude.{refl};
+    ghost use Rattle.std.specs.Prelude.{length, refl, vec_capacity};
+    ghost use Rattle.ficus_keeper.specs.Calls.{CommitsBytes, HasRoom};
+    ghost use Rattle.ficus_keeper.specs.Framed.{IsFramed, body_in};
+    ghost use Rattle.ficus_keeper.specs.Kept.{Settled};
+    ghost use Rattle.ficus_journal.specs.Committing.{IsNext, LeavesShut};
     ghost use Rattle.ficus_journal.specs.Journal.{Fits, IsShort, Takes, saves_image, size_after};
     ghost use Rattle.ficus_journal.specs.Logs.{IsRegular, calls_of_journal, kept_in, lies_on_a};
 
@@ -125,7 +129,14 @@ impl Keep for Journal {
         disks: &mut Pair<D>,
         generation: u64,
         bytes: &[u8],
-    ) -> Result<(), Failed> {
+    ) -> Result<(), Failed>
+        requires settled { D.tells → Settled Fits D.seen D.may_leave self.old disks.old }
+        requires next { IsNext D.Disk generation disks.old }
+        requires room { HasRoom Takes size_after D.room self.old disks.old (length bytes.now) }
+        ensures saves { CommitsBytes kept_in Fits saves_image calls_of_journal lies_on_a IsRegular D.Disk generation
+            bytes.now self.old self.new disks.old disks.new result }
+        ensures gates { LeavesShut D.Disk disks.old disks.new }
+    {
         // The buffer is given up: an image's room would stand unused behind the records until the next one.
         let empty = Vec::new(*self.buffer.allocator());
         let mut framed = mem::replace(&mut self.buffer, empty);
@@ -138,7 +149,16 @@ impl Keep for Journal {
         disks: &mut Pair<D>,
         generation: u64,
         framed: &mut Vec<u8>,
-    ) -> Result<(), Failed> {
+    ) -> Result<(), Failed>
+        requires settled { D.tells → Settled Fits D.seen D.may_leave self.old disks.old }
+        requires next { IsNext D.Disk generation disks.old }
+        requires room { HasRoom IsShort size_after D.room self.old disks.old (length (body_in framed.old.items)) }
+        requires framed { IsFramed framed.old }
+        ensures saves { CommitsBytes kept_in Fits saves_image calls_of_journal lies_on_a IsRegular D.Disk generation
+            (body_in framed.old.items) self.old self.new disks.old disks.new result }
+        ensures room { vec_capacity framed.old ≤ vec_capacity framed.new }
+        ensures gates { LeavesShut D.Disk disks.old disks.new }
+    {
         if self.saves_image() {
             self.commit_image(disks, generation, framed)
         } else {

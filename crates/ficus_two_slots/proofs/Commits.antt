@@ -6,7 +6,8 @@ use Rattle.ficus_keeper.proofs.Sides.{KnownAt, Saves, kept_at}
 use Rattle.ficus_slot.specs.Slot.{SlotContent, slot_in}
 use Rattle.ficus_slot.specs.Stays.{IsFound, IsNew, IsOld}
 use Rattle.ficus_slot.proofs.Written.{open_of}
-use Rattle.ficus_two_slots.specs.Slots.{IsRegular, Stands, StandsOn, bound, greater, kept_in, kept_slot, lies_on_a}
+use Rattle.ficus_two_slots.proofs.Tails.{new_shut, none_shut}
+use Rattle.ficus_two_slots.specs.Slots.{HasShutTail, IsRegular, Stands, StandsOn, bound, greater, kept_in, kept_slot, lies_on_a}
 use Rattle.ficus_two_slots.specs.TwoSlot.{Fits}
 use Rattle.ficus_two_slots.specs.declared.two_slot.TwoSlot.{TwoSlot}
 
@@ -90,7 +91,7 @@ fits_as on_a keeper new mine other side generation shut stands =
     (subst (λ (n : ℕ). KnownAt (StandsOn on_a n keeper.shut) on_a mine other) (sym generation)
     (subst (λ (b : Bool). KnownAt (StandsOn on_a new b) on_a mine other) (sym shut) stands))
 
--- even generations lie on one disk, odd ones on the other
+-- even generations lie on one disk, odd ones on the other, and no record behind either
 abbrev parity : Bool → ℕ
 parity true = 0
 parity false = 1
@@ -98,14 +99,16 @@ parity false = 1
 record IsRegularSide (on_a : Bool) (mine other : List ℕ) : Type 0 where
   here : (saved : SlotContent) → slot_in mine ≡ Some saved → saved.generation % 2 ≡ parity on_a
   there : (saved : SlotContent) → slot_in other ≡ Some saved → saved.generation % 2 ≡ parity (not on_a)
+  shut : HasShutTail mine
+  shut_other : HasShutTail other
 
 to_side : (on_a : Bool) (mine other : List ℕ) → KnownAt IsRegular on_a mine other → IsRegularSide on_a mine other
-to_side true mine other is = record { here = is.even; there = is.odd }
-to_side false mine other is = record { here = is.odd; there = is.even }
+to_side true mine other is = record { here = is.even; there = is.odd; shut = is.shut_a; shut_other = is.shut_b }
+to_side false mine other is = record { here = is.odd; there = is.even; shut = is.shut_b; shut_other = is.shut_a }
 
 of_side : (on_a : Bool) (mine other : List ℕ) → IsRegularSide on_a mine other → KnownAt IsRegular on_a mine other
-of_side true mine other is = record { even = is.here; odd = is.there }
-of_side false mine other is = record { even = is.there; odd = is.here }
+of_side true mine other is = record { even = is.here; odd = is.there; shut_a = is.shut; shut_b = is.shut_other }
+of_side false mine other is = record { even = is.there; odd = is.here; shut_a = is.shut_other; shut_b = is.shut }
 
 turn : (on_a : Bool) (generation new : ℕ) → generation % 2 ≡ parity (not on_a) → new ≡ generation + 1
     → new % 2 ≡ parity on_a
@@ -167,6 +170,12 @@ module _ (on_a : Bool) (generation new : ℕ) (shut : Bool) (body mine other : L
   here_after regular false c (inr same) s at =
       (to_side on_a mine other regular).here s (sym (ap slot_in same) ∙ at)
 
+  shut_after : KnownAt IsRegular on_a mine other → (is_found : Bool) (c : List ℕ)
+      → IsFound is_found mine (saved_as new body) c → HasShutTail c
+  shut_after regular true c found = new_shut found
+  shut_after regular false c (inl none) = none_shut c none
+  shut_after regular false c (inr same) = subst HasShutTail (sym same) (to_side on_a mine other regular).shut
+
   pub saves : (after : TwoSlot) → after.on_a ≡ on_a → after.generation ≡ new → after.shut ≡ false
       → Saves kept_in Fits IsRegular (λ is_found c. IsFound is_found mine (saved_as new body) c) on_a
       (Some (image_alone new body)) after mine other
@@ -178,5 +187,7 @@ module _ (on_a : Bool) (generation new : ℕ) (shut : Bool) (body mine other : L
     regular = λ regular is_found c found. of_side on_a c other (record {
       here = here_after regular is_found c found;
       there = (to_side on_a mine other regular).there;
+      shut = shut_after regular is_found c found;
+      shut_other = (to_side on_a mine other regular).shut_other;
     });
   }

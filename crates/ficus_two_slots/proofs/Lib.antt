@@ -1,1 +1,3 @@
 mod Commits
+pub mod Tails
+pub mod Making

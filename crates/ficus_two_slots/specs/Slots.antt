@@ -1,7 +1,7 @@
 -- What two slots keep, and what is known of them.
-use Rattle.std.specs.Prelude.{◌≡◌, ◌==◌, ℕ, ◌+◌, ◌%◌, ◌<◌, nat_le, Bool, true, false, if◌then◌else◌, List, Option, Some, None}
+use Rattle.std.specs.Prelude.{◌≡◌, ◌==◌, ℕ, ◌+◌, ◌%◌, ◌<◌, nat_le, Bool, true, false, if◌then◌else◌, List, length, drop, Option, Some, None}
 use Rattle.ficus_keeper.specs.Kept.{Kept, image_alone}
-use Rattle.ficus_slot.specs.Gate.{GateIs}
+use Rattle.ficus_slot.specs.Gate.{GateIs, IsShut}
 use Rattle.ficus_slot.specs.Slot.{SlotContent, slot_in}
 
 -- the one of the greater generation, the first where they are equal
@@ -49,7 +49,13 @@ calls_of_slots generation = 6
 abbrev pub lies_on_a : ℕ → Bool
 lies_on_a generation = generation % 2 == 0
 
--- even generations lie on `a`, odd ones on `b`
+-- the tail of the slot is a closed gate, so that no record stands behind it
+abbrev pub HasShutTail : List ℕ → Type 0
+HasShutTail bytes = (saved : SlotContent) → slot_in bytes ≡ Some saved → IsShut (drop (17 + length saved.body) bytes)
+
+-- even generations lie on `a`, odd ones on `b`, and no record behind either
 pub record IsRegular (a b : List ℕ) : Type 0 where
   pub even : (saved : SlotContent) → slot_in a ≡ Some saved → saved.generation % 2 ≡ 0
   pub odd : (saved : SlotContent) → slot_in b ≡ Some saved → saved.generation % 2 ≡ 1
+  pub shut_a : HasShutTail a
+  pub shut_b : HasShutTail b

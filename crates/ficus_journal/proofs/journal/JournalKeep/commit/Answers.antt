@@ -10,5 +10,5 @@ commit_framed-requires-clause-settled g c told =
     let k = c.args.self.now in
     settled_same g.D.Disk kept_in Fits (rebuffered k.on_a k (record k { buffer = c.replace-framed.new.dest })) (c.requires.settled told)
 
-pub returns : goal.returns
-returns g c = saves_same g.D.Disk kept_in Fits (λ a b fits. fits) c.frame.ensures.body refl c.commit_framed.ensures.saves
+pub returns-clause-saves : goal.returns-clause-saves
+returns-clause-saves g c = saves_same g.D.Disk kept_in Fits (λ a b fits. fits) c.frame.ensures.body refl c.commit_framed.ensures.saves
