@@ -18,7 +18,7 @@ module _ {D : Type 0} (kept : List ℕ → List ℕ → Option Kept) (disk : Dis
     (moments : disk.tells_moments) where
   trail_count : {V U : ModelWorld} {x y : List (Pair D)} → Trail kept disk volume V U x y → length y ≡ length x
   trail_count (Still rests) = rests.count
-  trail_count (Link step crosses) = crosses.count
+  trail_count (Link step crosses spared) = crosses.count
   trail_count (Joined one two) = trail_count two ∙ trail_count one
 
   -- the pair between two parts of a trail
@@ -30,7 +30,7 @@ module _ {D : Type 0} (kept : List ℕ → List ℕ → Option Kept) (disk : Dis
   pub trail_spans : {V U : ModelWorld} {x y : List (Pair D)} → Trail kept disk volume V U x y → (r : ℕ)
       (was now : Pair D) → IsNumbered x r was → IsNumbered y r now → PairSpans disk.moment disk.left_since was now
   trail_spans (Still rests) r was now is_was is_now = (rests.each r was now is_was is_now).spans moments
-  trail_spans (Link step crosses) r was now is_was is_now = (crosses.each r was now is_was is_now).spans moments
+  trail_spans (Link step crosses spared) r was now is_was is_now = (crosses.each r was now is_was is_now).spans moments
   trail_spans (Joined one two) r was now is_was is_now =
       let mid = middle_pair one r was is_was in
       spans_then disk earlier was mid.0 now (trail_spans one r was mid.0 is_was mid.1)
@@ -43,7 +43,7 @@ module _ {D : Type 0} (kept : List ℕ → List ℕ → Option Kept) (disk : Dis
         (was now : Pair D) (c : List ℕ) → IsNumbered x r was → IsNumbered y r now
         → disk.left_since (side now) (disk.moment (side was)) c → Somewhere (LeftOn disk side r c) trail
     covered (Still rests) r was now c is_was is_now left = (was, now, is_was, is_now, left)
-    covered (Link step crosses) r was now c is_was is_now left = (was, now, is_was, is_now, left)
+    covered (Link step crosses spared) r was now c is_was is_now left = (was, now, is_was, is_now, left)
     covered (Joined one two) r was now c is_was is_now left =
         let mid = middle_pair one r was is_was in
         let first = of_side was mid.0 (trail_spans one r was mid.0 is_was mid.1) in

@@ -1,5 +1,5 @@
 -- Each moment of a run is one of its openings, or one of a command.
-use Rattle.std.proofs.Common.{ℕ, List, ◌∷◌, Option, zero, suc, inl, inr, ◌⊎◌, ⊎_elim}
+use Rattle.std.proofs.Common.{ℕ, List, ◌∷◌, Option, zero, suc, refl, inl, inr, ◌⊎◌, ⊎_elim}
 use Rattle.ficus_disk.specs.declared.disk.Disk.{Ghosts as Disk}
 use Rattle.ficus_disk.specs.declared.pair.Pair.{Pair}
 use Rattle.ficus_keeper.specs.Kept.{Kept}
@@ -28,7 +28,9 @@ module _ {D : Type 0} {kept : List ℕ → List ℕ → Option Kept} {disk : Dis
     ran_too = Then step during.ran_too;
     old = during.old;
     new = during.new;
-    trail = during.trail;
+    command = during.command;
+    is = during.is;
+    does = during.does;
     there = during.there;
   }
 
@@ -38,7 +40,7 @@ module _ {D : Type 0} {kept : List ℕ → List ℕ → Option Kept} {disk : Dis
       → Somewhere P first
       ⊎ ((k : ℕ) × DuringAt kept disk volume P V commands outcomes answers k)
   during first EndOn there = inl there
-  during {V = V} first (ThenOn {middle = M} {x = x} {y = y} step trail rest) there =
+  during {V = V} first (ThenOn {command = command} {middle = M} {x = x} {y = y} step does rest) there =
       ⊎_elim
       (λ earlier. ⊎_elim (λ before. inl before)
       (λ here. inr (
@@ -50,9 +52,11 @@ module _ {D : Type 0} {kept : List ℕ → List ℕ → Option Kept} {disk : Dis
           ran_too = Then step End;
           old = x;
           new = y;
-          trail = trail;
+          command = command;
+          is = refl;
+          does = does;
           there = here;
         },
       )) earlier)
       (λ behind. let next = behind in inr (suc next.0, later next.0 step next.1))
-      (during (Joined first trail) rest there)
+      (during (Joined first does.trail) rest there)

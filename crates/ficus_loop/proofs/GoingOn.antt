@@ -1,5 +1,5 @@
 -- Disks that stand for a world of the model stand for one history: what happened, and some of what was pending.
-use Rattle.std.proofs.Common.{◌≡◌, ◌≢◌, ℕ, ◌+◌, ◌<◌, ◌≤◌, List, [], ◌∷◌, ◌++◌, length, Option, Some, None, zero, suc, sym, subst, ◌∙◌, inl, inr, ⊎_elim, append_assoc, append-nil, arith}
+use Rattle.std.proofs.Common.{◌≡◌, ◌≢◌, ℕ, ◌+◌, ◌<◌, ◌≤◌, List, [], ◌∷◌, ◌++◌, length, Option, Some, None, zero, suc, refl, sym, subst, ◌∙◌, inl, inr, ⊎_elim, append_assoc, append-nil, arith}
 use Rattle.std.proofs.lemmas.Bool.{cases_eq}
 use Rattle.std.proofs.lemmas.List.{length-append}
 use Rattle.ficus_ids.specs.Members.{IsMember}
@@ -13,6 +13,8 @@ use Rattle.ficus_replica.specs.SavedOf.{IsSavedOf}
 use Rattle.ficus_replica.proofs.Saves.{saved_kept, saved_of_other}
 use Rattle.ficus_durable_state.specs.declared.saved.Saved.{Saved}
 use Rattle.ficus_runs.specs.ModelWorld.{Standing, Up, Down}
+use Rattle.ficus_loop.specs.Trail.{SomePending}
+use Rattle.ficus_loop.specs.Trail.SomePending.{NonePending, With, Without}
 use Rattle.ficus_world.specs.Stand.{KeepsFor, KeepsWith}
 use Rattle.ficus_opening.specs.Stand.{KeepsOf}
 use Rattle.ficus_world.specs.World.{AreOthers}
@@ -51,6 +53,7 @@ module _ (volume : Volume) (H : List Event) (lawful : IsLawful volume H) (found 
   pub record GoesOn (count : ℕ) : Type 0 where
     pub more : List Event
     pub few : length more ≤ count
+    pub pending : SomePending (λ r event. standing r ≡ Down (Some event)) count more
     pub lawful_on : IsLawful volume (H ++ more)
     pub others : (r : ℕ) → count < r → AreOthers r more
     pub each : (r : ℕ) → 1 ≤ r → r ≤ count → KeepsOf volume (H ++ more) r (found r)
@@ -59,6 +62,7 @@ module _ (volume : Volume) (H : List Event) (lawful : IsLawful volume H) (found 
   goes_none = record {
     more = [];
     few = omega arith;
+    pending = NonePending;
     lawful_on = subst (IsLawful volume) (sym (append-nil H)) lawful;
     others = λ r above. tt;
     each = λ r one within. absurd (omega (arith, one, within));
@@ -69,6 +73,7 @@ module _ (volume : Volume) (H : List Event) (lawful : IsLawful volume H) (found 
   goes_plain count on kept = record {
     more = on.more;
     few = omega (arith, on.few);
+    pending = Without on.pending;
     lawful_on = on.lawful_on;
     others = λ r above. on.others r (omega (arith, above));
     each = λ r one within. ⊎_elim
@@ -77,15 +82,16 @@ module _ (volume : Volume) (H : List Event) (lawful : IsLawful volume H) (found 
         (λ differs. on.each r one (omega (arith, within, differs))) (cases_eq r (count + 1));
   }
 
-  goes_with : (count : ℕ) (event : Event) → GoesOn count → KeepsWith volume H (count + 1) event (found (count + 1))
+  goes_with : (count : ℕ) (event : Event) → standing (count + 1) ≡ Down (Some event) → GoesOn count → KeepsWith volume H (count + 1) event (found (count + 1))
       → GoesOn (count + 1)
-  goes_with count event on kept =
+  goes_with count event waits on kept =
       let after = kept.follows on.more (on.others (count + 1) (omega arith)) on.lawful_on in
       let assoc : (H ++ on.more) ++ event ∷ [] ≡ H ++ (on.more ++ event ∷ []) =
       append_assoc H on.more (event ∷ []) in
       record {
         more = on.more ++ event ∷ [];
         few = omega (arith, on.few, length-append on.more (event ∷ []));
+        pending = With on.pending waits;
         lawful_on = subst (IsLawful volume) assoc (lawful_more volume (H ++ on.more) event on.lawful_on after.0);
         others = λ r above.
             let other : actor event ≢ r = λ same. omega (arith, above, same, kept.own) in
@@ -109,12 +115,12 @@ module _ (volume : Volume) (H : List Event) (lawful : IsLawful volume H) (found 
             }) (cases_eq r (count + 1));
       }
 
-  goes_next : (count : ℕ) (how : Standing) → GoesOn count → KeepsFor volume H (count + 1) (found (count + 1)) how
+  goes_next : (count : ℕ) (how : Standing) → standing (count + 1) ≡ how → GoesOn count → KeepsFor volume H (count + 1) (found (count + 1)) how
       → GoesOn (count + 1)
-  goes_next count Up on kept = goes_plain count on kept
-  goes_next count (Down None) on kept = goes_plain count on kept
-  goes_next count (Down (Some event)) on (inl kept) = goes_plain count on kept
-  goes_next count (Down (Some event)) on (inr kept) = goes_with count event on kept
+  goes_next count Up is on kept = goes_plain count on kept
+  goes_next count (Down None) is on kept = goes_plain count on kept
+  goes_next count (Down (Some event)) is on (inl kept) = goes_plain count on kept
+  goes_next count (Down (Some event)) is on (inr kept) = goes_with count event is on kept
 
   goes_up_to : (count : ℕ) → count ≤ volume.members → GoesOn count
   goes_up_to zero within = goes_none
@@ -122,7 +128,7 @@ module _ (volume : Volume) (H : List Event) (lawful : IsLawful volume H) (found 
       let next : count + 1 ≡ suc count = omega arith in
       let on = goes_up_to count (omega (arith, within)) in
       subst GoesOn next
-      (goes_next count (standing (count + 1)) on
+      (goes_next count (standing (count + 1)) refl on
       (keeps (count + 1) (record { at_least = omega arith; at_most = omega (arith, within) })))
 
   -- one history for all

@@ -1,5 +1,5 @@
 -- What is left of the disks of a run that was killed between two neighbours of its trail keeps one history.
-use Rattle.std.proofs.Common.{◌≡◌, ◌≢◌, ℕ, ◌-◌, ◌≤◌, List, [], ◌∷◌, ◌++◌, length, Option, Some, None, zero, suc, sym, ap, subst, ◌∙◌, inl, inr, ◌⊎◌, ⊎_elim, append_assoc, arith}
+use Rattle.std.proofs.Common.{◌≡◌, ◌≢◌, ℕ, ◌+◌, ◌-◌, ◌≤◌, List, [], ◌∷◌, ◌++◌, length, Option, Some, None, zero, suc, sym, ap, subst, ◌∙◌, inl, inr, ◌⊎◌, ⊎_elim, append_assoc, arith}
 use Rattle.std.specs.Prelude.{slice_get}
 use Rattle.std.proofs.lemmas.Bool.{cases_eq}
 use Rattle.ficus_disk.specs.declared.disk.Disk.{Ghosts as Disk}
@@ -17,7 +17,8 @@ use Rattle.ficus_runs.proofs.Replaced.{replaced}
 use Rattle.ficus_world.specs.Stand.{DisksOutlast}
 use Rattle.ficus_opening.specs.Stand.{KeepsOf}
 use Rattle.ficus_world.specs.Stand.{KeepsFor}
-use Rattle.ficus_loop.specs.Trail.{BeginsSave, KeepsFrom, Neighbours, WasLeft}
+use Rattle.ficus_loop.specs.Trail.{BeginsSave, KeepsFrom, Neighbours, SomePending, WasLeft}
+use Rattle.ficus_loop.specs.Trail.SomePending.{NonePending, With, Without}
 use Rattle.ficus_loop.proofs.GoingOn.{goes_on, keeps_later}
 
 abbrev standing_or : Option Standing → Standing
@@ -47,9 +48,21 @@ keeps_other volume H r found event (Down (Some waits)) other (inr keeps) = inr (
       rw assoc after;
 })
 
--- it keeps one lawful history for all members, which goes on from this one
-pub record KeepsOneFrom (volume : Volume) (H : List Event) (found : ℕ → Option Kept) : Type 0 where
+-- what is pending, however that is said of the members
+pending_as : {IsPending Is : ℕ → Event → Type 0} {members count : ℕ} {more : List Event}
+    → ((r : ℕ) → IsMember members r → (event : Event) → IsPending r event → Is r event) → count ≤ members
+    → SomePending IsPending count more → SomePending Is count more
+pending_as so within NonePending = NonePending
+pending_as so within (Without some) = Without (pending_as so (omega (arith, within)) some)
+pending_as so within (With {count = count} {event = event} some waits) =
+    With (pending_as so (omega (arith, within)) some)
+    (so (count + 1) (record { at_least = omega arith; at_most = within }) event waits)
+
+-- it keeps one lawful history for all members, which goes on from this one by some of what is pending
+pub record KeepsOneFrom (volume : Volume) (H : List Event) (IsPending : ℕ → Event → Type 0) (found : ℕ → Option Kept) :
+    Type 0 where
   pub more : List Event
+  pub pending : SomePending IsPending volume.members more
   pub few : length more ≤ volume.members
   pub lawful : IsLawful volume (H ++ more)
   pub each : (r : ℕ) → IsMember volume.members r → KeepsOf volume (H ++ more) r (found r)
@@ -61,11 +74,13 @@ module _ (volume : Volume) (V U : ModelWorld) (lawful : IsLawful volume V.events
     (each : (r : ℕ) → IsMember volume.members r → KeepsFor volume V.events r (found r) (was r)
     ⊎ (BeginsSave V U r × KeepsFor volume U.events r (found r) (now r))) where
   from_one : (H : List Event) → IsLawful volume H → (standing : ℕ → Standing)
-      → ((r : ℕ) → IsMember volume.members r → KeepsFor volume H r (found r) (standing r)) → KeepsOneFrom volume H found
+      → ((r : ℕ) → IsMember volume.members r → KeepsFor volume H r (found r) (standing r))
+      → KeepsOneFrom volume H (λ r event. standing r ≡ Down (Some event)) found
   from_one H along standing keeps =
       let on = goes_on volume H along found standing keeps in
       record {
         more = on.more;
+        pending = on.pending;
         few = on.few;
         lawful = on.lawful_on;
         each = λ r member. on.each r member.at_least member.at_most;
@@ -114,8 +129,8 @@ module _ (volume : Volume) (V U : ModelWorld) (lawful : IsLawful volume V.events
 
   -- what is left keeps one history for all: what was so before, or, where a save was begun, what is so after it; and
   -- some of what was pending
-  pub killed_keeps : KeepsOneFrom volume V.events found
-      ⊎ ((by : ℕ) × BeginsSave V U by × KeepsOneFrom volume U.events found)
+  pub killed_keeps : KeepsOneFrom volume V.events (λ r event. was r ≡ Down (Some event)) found
+      ⊎ ((by : ℕ) × BeginsSave V U by × KeepsOneFrom volume U.events (λ r event. now r ≡ Down (Some event)) found)
   killed_keeps =
       ⊎_elim
       (λ all. inl (from_one V.events lawful was (λ r member. all r member member.at_most)))
@@ -165,22 +180,26 @@ module _ {D : Type 0} (kept : List ℕ → List ℕ → Option Kept) (disk : Dis
       (is_stood V.standings standings r member) (is_stood U.standings standings_too r member)
       (disk.seen pair.0.a) (disk.seen pair.0.b) images.a images.b)
 
-  keeps_from : (H : List Event) → KeepsOneFrom volume H found → KeepsFrom kept disk.seen volume H left
-  keeps_from H one = record {
+  keeps_from : (W : ModelWorld) → length W.standings ≡ volume.members
+      → KeepsOneFrom volume W.events (λ r event. stood W.standings r ≡ Down (Some event)) found
+      → KeepsFrom kept disk.seen volume W left
+  keeps_from W as_many one = record {
     more = one.more;
+    pending = pending_as (λ r member event waits. subst (λ (s : Standing). IsNumbered W.standings r s) waits
+        (is_stood W.standings as_many r member)) (omega arith) one.pending;
     few = one.few;
     lawful = one.lawful;
     keeps = record {
       each = λ r pair at member.
-          subst (λ (k : Option Kept). KeepsOf volume (H ++ one.more) r k) (found_is r pair at) (one.each r member);
+          subst (λ (k : Option Kept). KeepsOf volume (W.events ++ one.more) r k) (found_is r pair at) (one.each r member);
     };
   }
 
-  pub killed_disks : KeepsFrom kept disk.seen volume V.events left
-      ⊎ ((by : ℕ) × BeginsSave V U by × KeepsFrom kept disk.seen volume U.events left)
+  pub killed_disks : KeepsFrom kept disk.seen volume V left
+      ⊎ ((by : ℕ) × BeginsSave V U by × KeepsFrom kept disk.seen volume U left)
   killed_disks =
-      ⊎_elim (λ before. inl (keeps_from V.events before))
-      (λ after. inr (after.0, after.1, keeps_from U.events after.2))
+      ⊎_elim (λ before. inl (keeps_from V standings before))
+      (λ after. inr (after.0, after.1, keeps_from U standings_too after.2))
       (killed_keeps volume V U lawful lawful_too found (stood V.standings) (stood U.standings)
       (is_stood V.standings standings) (is_stood U.standings standings_too) each_found)
 
@@ -218,11 +237,13 @@ module _ {D : Type 0} (kept : List ℕ → List ℕ → Option Kept) (seen : D �
       subst (λ (k : Option Kept). KeepsFor volume W.events r k (standing_at r)) (sym (left_is r now.0 now.1))
       (outlast.each r was.0 (standing_at r) was.1 (is_at r member) (seen now.0.a) (seen now.0.b) images.a images.b)
 
-  pub left_disks : KeepsFrom kept seen volume W.events left
+  pub left_disks : KeepsFrom kept seen volume W left
   left_disks =
       let on = goes_on volume W.events lawful left_at standing_at each_left in
       record {
         more = on.more;
+        pending = pending_as (λ r member event waits. subst (λ (s : Standing). IsNumbered W.standings r s) waits
+            (is_at r member)) (omega arith) on.pending;
         few = on.few;
         lawful = on.lawful_on;
         keeps = record {

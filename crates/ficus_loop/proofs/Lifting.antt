@@ -1,5 +1,5 @@
 -- What a command does to the disks of a world, it does to what the world stands for.
-use Rattle.std.proofs.Common.{◌≡◌, ◌≢◌, ℕ, ◌+◌, ◌-◌, ◌==◌, Bool, true, false, cond, List, [], ◌∷◌, ◌++◌, length, Option, Some, None, refl, sym, ap, subst, ◌∙◌, inl, inr, ◌⊎◌, ⊎_elim, arith, append-nil, length-append}
+use Rattle.std.proofs.Common.{◌≡◌, ◌≢◌, ℕ, ◌+◌, ◌-◌, Bool, true, false, cond, List, [], ◌∷◌, ◌++◌, length, Option, Some, None, refl, sym, ap, subst, ◌∙◌, inl, inr, ◌⊎◌, ⊎_elim, arith, append-nil, length-append}
 use Rattle.std.specs.Prelude.{slice_set}
 use Rattle.std.proofs.lemmas.Bool.{cases_eq}
 use Rattle.std.proofs.lemmas.List.{length-set, length_push}
@@ -10,7 +10,6 @@ use Rattle.ficus_ids.specs.Members.{IsMember}
 use Rattle.ficus_keeper.specs.Kept.{Kept}
 use Rattle.ficus_keeper.specs.declared.keep.Keep.{Ghosts as Keep}
 use Rattle.ficus_model.specs.declared.event.Event.{Event}
-use Rattle.ficus_model.specs.declared.event.Event.TheVariants as event
 use Rattle.ficus_model.specs.Events.{actor, generation_of, is_saved, traits}
 use Rattle.ficus_laws.proofs.Updates.{is_own}
 use Rattle.ficus_model.specs.Lawful.{Volume}
@@ -34,6 +33,10 @@ use Rattle.ficus_world.specs.Kills.Touches.{TouchesNone, TouchesOne, WritesOne}
 use Rattle.ficus_world.specs.Stand.{KeepsFor}
 use Rattle.ficus_opening.specs.Stand.{KeepsOf}
 use Rattle.ficus_world.specs.World.{IsPendingSound, IsWorld, StateStandsFor, Whole, WorldStandsFor}
+use Rattle.ficus_world.specs.Moves.{Moves}
+use Rattle.ficus_world.proofs.Refusing.{no_opening, refused_members}
+use Rattle.ficus_script.specs.declared.answer.Answer.{Answer}
+use Rattle.ficus_script.specs.declared.command.Command.{Command}
 use Rattle.ficus_world.proofs.Lifting.Following.{follow}
 use Rattle.ficus_world.proofs.Lifting.LastPart.{length_part}
 use Rattle.ficus_world.proofs.Kills.{left_old}
@@ -42,7 +45,7 @@ use Rattle.ficus_world.proofs.Lifting.Sets.{number_set}
 use Rattle.ficus_world.proofs.Lifting.Standing.{member_from, member_stands, raise, replica_stands, standing_of, up_in}
 use Rattle.ficus_world.proofs.Lifting.OneWorld.{same_list}
 use Rattle.ficus_loop.proofs.OneModel.{standing_once}
-use Rattle.ficus_loop.specs.Trail.{BeginsSave, Neighbours, PairBetween, Trail}
+use Rattle.ficus_loop.specs.Trail.{BeginsSave, EachLink, Neighbours, PairBetween, Trail}
 use Rattle.ficus_loop.specs.Trail.Trail.{Joined, Link, Still}
 
 -- what holds what a member has saved, or what is pending, keeps what its world says of it
@@ -312,32 +315,38 @@ module _ {K D : Type 0} (keep : Keep K) (disk : Disk D)
       writes.set_pair (between_writes V U old new x y stands stands_too settled sound stored extends by writes)
 
   -- where a world passes on, what it stands for does
-  pub record Lifted (W : ModelWorld) (old new : Whole) (x y : List (Pair D)) : Type 0 where
+  pub record Lifted (IsLink : Command → Type 0) (W : ModelWorld) (old new : Whole) (x y : List (Pair D)) : Type 0 where
     pub after : ModelWorld
     pub stands : WorldStandsFor volume after new
     pub trail : Trail keep.kept disk volume W after x y
+    pub own : EachLink IsLink trail
     pub stored : StoresAsMany W old after new
     pub extends : Extends W.events after.events
 
-  module _ (tells : Type 0) (told : tells) (disks_told : disk.tells) where
+  module _ {IsLink : Command → Type 0} (tells : Type 0) (told : tells) (disks_told : disk.tells) where
     pub lift : (W : ModelWorld) (old new : Whole) (x y : List (Pair D)) → WorldStandsFor volume W old
-        → Passes tells keep disk old new x y → Lifted W old new x y
+        → Passes tells keep disk IsLink old new x y → Lifted IsLink W old new x y
     lift W old new x y stands (Idles settled touches) = record {
       after = W;
       stands = stands;
       trail = Still (neighbours W W old old x y stands stands settled settled.sound refl (as_it_was W.events)
           touches);
+      own = tt;
       stored = refl;
       extends = as_it_was W.events;
     }
-    lift W old new x y stands (Links {command = command} {outcomes = outcomes} {answer = answer} settled after moves touches) =
+    lift W old new x y stands (Links {command = command} {outcomes = outcomes} {answer = answer} of settled after moves touches spared) =
         let follows = follow tells disk.tells told volume W old stands command (λ opens. disks_told) outcomes answer new
         moves in
         record {
           after = follows.after;
           stands = follows.stands;
           trail = Link follows.step (neighbours W follows.after old new x y stands follows.stands settled after.sound
-              follows.stored (step_extends follows.step) touches);
+              follows.stored (step_extends follows.step) touches) (λ r refused spares.
+              spared (no_opening old command r spares)
+              (refused_members tells disk.tells old new command outcomes r
+              (subst (λ (given : Answer). Moves tells disk.tells old command outcomes given new) refused moves) spares));
+          own = of;
           stored = follows.stored;
           extends = step_extends follows.step;
         }
@@ -348,6 +357,7 @@ module _ {K D : Type 0} (keep : Keep K) (disk : Disk D)
           after = second.after;
           stands = second.stands;
           trail = Joined first.trail second.trail;
+          own = (first.own, second.own);
           stored = omega (arith, first.stored, second.stored);
           extends = further first.extends second.extends;
         }

@@ -1,5 +1,5 @@
 -- Commands are served one after the other.
-use Rattle.std.proofs.Common.{◌≡◌, ℕ, ◌+◌, ◌<◌, ◌≤◌, List, [], ◌∷◌, ◌++◌, Option, length, get_or, take, drop, refl, sym, ◌∙◌, ap, subst, inl, inr, arith, length-append, length-take, append_assoc}
+use Rattle.std.proofs.Common.{◌≡◌, ℕ, ◌+◌, ◌<◌, ◌≤◌, List, [], ◌∷◌, ◌++◌, Option, length, get_or, take, drop, refl, sym, ◌∙◌, ap, subst, inl, inr, ⊎_elim, arith, length-append, length-take, append_assoc}
 use Rattle.std.specs.Prelude.{All}
 use Rattle.std.proofs.lemmas.List.{append-nil, take-take, take_more, drop-append-le, take-append-drop}
 use Rattle.std.proofs.lemmas.List.Concat.{flat_map-append}
@@ -20,12 +20,13 @@ use Rattle.ficus_runs.specs.Run.Run.{End, Then}
 use Rattle.ficus_world.specs.Causes.{AreCaused}
 use Rattle.ficus_world.specs.Disks.{DisksFollow}
 use Rattle.ficus_world.specs.Follows.{FollowsOn, StopsOn}
+use Rattle.ficus_world.specs.Kills.{IsDeedOf}
 use Rattle.ficus_world.specs.World.{Whole, WorldStandsFor}
 use Rattle.ficus_world.specs.Fuses.{FusesFollow, FusesPermit}
 use Rattle.ficus_world.proofs.Fuses.{fuses_none, fuses_then, permit_then}
 use Rattle.ficus_world.proofs.Disks.{follows_none, follows_then}
 use Rattle.ficus_world.proofs.Lifting.Outcomes.{both_caused, steady_caused}
-use Rattle.ficus_loop.specs.Trail.{FrontOn, RunOn, Trail}
+use Rattle.ficus_loop.specs.Trail.{FrontOn, RunOn, TrailOf}
 use Rattle.ficus_loop.specs.Trail.RunOn.{EndOn, ThenOn}
 use Rattle.ficus_loop.proofs.Stepping.{run_on_append}
 use Rattle.ficus_loop.specs.Puts.{PutsFront}
@@ -164,7 +165,8 @@ module _ {K D : Type 0} {tells : Type 0} {keep : Keep K} {disk : Disk D} {volume
   module _ (W : ModelWorld) (before : Whole) (command : Command) (answer : Answer) (world : Whole)
       (old_disks new_disks : List (Pair D))
       (on : FollowsOn keep disk volume W before command answer world old_disks new_disks)
-      (trail : disk.tells → Trail keep.kept disk volume W on.follows.after old_disks new_disks)
+      (trail : disk.tells
+      → TrailOf keep.kept disk volume (IsDeedOf command) W on.follows.after old_disks new_disks)
       (old new : List ℕ) where
     -- one command, whose answer's text was put
     abbrev pub world_one : (tells → new ≡ old ++ answer_text_of answer)
@@ -233,7 +235,7 @@ module _ {K D : Type 0} {tells : Type 0} {keep : Keep K} {disk : Disk D} {volume
   pub world_stopped : {may : Type 0} (W : ModelWorld) (before : Whole) (command : Command) (world : Whole)
       (old new : List ℕ) (old_disks new_disks : List (Pair D)) → may
       → (on : StopsOn keep disk volume W before command world old_disks new_disks)
-      → (disk.tells → Trail keep.kept disk volume W on.stops.after old_disks new_disks) → new ≡ old
+      → (disk.tells → TrailOf keep.kept disk volume (IsDeedOf command) W on.stops.after old_disks new_disks) → new ≡ old
       → ServesWorldFront tells may keep disk volume W before (command ∷ []) world old new old_disks new_disks
   world_stopped W before command world old new old_disks new_disks allowed on trail same = record {
     after = on.stops.after;
@@ -260,7 +262,7 @@ module _ {K D : Type 0} {tells : Type 0} {keep : Keep K} {disk : Disk D} {volume
     stands = on.stops.stands;
     disks = on.disks;
     fuses = on.fuses;
-    runs = λ told. record { mid = old_disks; run = EndOn; rest = inr (trail told) };
+    runs = λ told. record { mid = old_disks; run = EndOn; rest = inr (record { command = command; later = []; is = refl; does = trail told }) };
   }
 
 pub take_command : (commands : List Command) (index : ℕ) (command : Command) → index < length commands
@@ -280,8 +282,9 @@ module _ {D : Type 0} {kept : List ℕ → List ℕ → Option Kept} {disk : Dis
       {outcomes later : List (List Outcome)} {answers : List Answer} (whole last : List Answer) (count : ℕ)
       {x y z : List (Pair D)} → take n commands ≡ some ++ others → count ≤ length others
       → RunOn kept disk volume W some outcomes answers M x y
-      → FrontOn kept disk volume M (take count others) later (whole ++ last) N after y z
-      → FrontOn kept disk volume W (take (length some + count) commands) (outcomes ++ later)
+      → FrontOn kept disk volume M (take count others) (drop count others) later (whole ++ last) N after y z
+      → FrontOn kept disk volume W (take (length some + count) commands) (drop (length some + count) commands)
+      (outcomes ++ later)
       ((answers ++ whole) ++ last) N after x z
   front_runs {W} {M} {N} some others commands n {outcomes} {later} {answers} whole last count {x} split within first
       behind =
@@ -289,13 +292,25 @@ module _ {D : Type 0} {kept : List ℕ → List ℕ → Option Kept} {disk : Dis
       sym (take-take (length some + count) n commands
       (omega (arith, within, ap length split, length-append some others, length-take n commands)))
       ∙ ap (take (length some + count)) split ∙ take-append-add some others count in
+      let left : drop (length some + count) commands ≡ drop count others ++ drop n commands =
+      ap (drop (length some + count)) (sym (take-append-drop n commands))
+      ∙ drop-append-le (length some + count) (take n commands) (drop n commands)
+      (omega (arith, within, ap length split, length-append some others))
+      ∙ ap (λ (l : List Command). drop (length some + count) l ++ drop n commands) split
+      ∙ ap (λ (l : List Command). l ++ drop n commands) (drop-append-add some others count) in
       record {
         mid = behind.mid;
         run = subst (λ (given : List Command). RunOn kept disk volume W given (outcomes ++ later)
             ((answers ++ whole) ++ last) N x behind.mid) (sym all)
             (subst (λ (given : List Answer). RunOn kept disk volume W (some ++ take count others) (outcomes ++ later)
             given N x behind.mid) (sym (append_assoc answers whole last)) (run_on_append first behind.run));
-        rest = behind.rest;
+        rest = ⊎_elim (λ ended. inl ended)
+            (λ cut. inr (record {
+              command = cut.command;
+              later = cut.later ++ drop n commands;
+              is = left ∙ ap (λ (l : List Command). l ++ drop n commands) cut.is;
+              does = cut.does;
+            })) behind.rest;
       }
 
 module _ {K D : Type 0} {tells : Type 0} {keep : Keep K} {disk : Disk D} {volume : Volume} where

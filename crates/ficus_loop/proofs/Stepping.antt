@@ -15,23 +15,23 @@ use Rattle.ficus_runs.proofs.Extending.{Extends}
 use Rattle.ficus_world.specs.Follows.{StoresAsMany}
 use Rattle.ficus_world.specs.Kills.{Passes}
 use Rattle.ficus_world.specs.World.{Whole, WorldStandsFor}
-use Rattle.ficus_loop.specs.Trail.{RunOn, Trail}
+use Rattle.ficus_loop.specs.Trail.{RunOn, TrailOf}
 use Rattle.ficus_loop.specs.Trail.RunOn.{EndOn, ThenOn}
 use Rattle.ficus_loop.proofs.Lifting.{lift}
 use Rattle.ficus_loop.proofs.OneModel.{same_model}
 
--- the trail of what a world passes leads to whatever world of the model it then stands for, behind what had happened
-pub trail_to : {K D : Type 0} (keep : Keep K) (disk : Disk D)
+-- the trail of what a world passes, by such links, leads to whatever world of the model it then stands for, behind what had happened
+pub trail_to : {K D : Type 0} {IsLink : Command → Type 0} (keep : Keep K) (disk : Disk D)
     (only_now : (d : D) (c : List ℕ) → disk.left_since d (disk.moment d) c → disk.may_leave d c) (volume : Volume)
     (tells : Type 0) → tells → disk.tells → (W : ModelWorld) (old new : Whole) (x y : List (Pair D))
-    → WorldStandsFor volume W old → Passes tells keep disk old new x y → (after : ModelWorld)
+    → WorldStandsFor volume W old → Passes tells keep disk IsLink old new x y → (after : ModelWorld)
     → WorldStandsFor volume after new → Extends W.events after.events → StoresAsMany W old after new
-    → Trail keep.kept disk volume W after x y
-trail_to keep disk only_now volume tells told disks_told W old new x y stands passes after stands_after extends stored =
+    → TrailOf keep.kept disk volume IsLink W after x y
+trail_to {IsLink = IsLink} keep disk only_now volume tells told disks_told W old new x y stands passes after stands_after extends stored =
     let lifted = lift keep disk only_now volume tells told disks_told W old new x y stands passes in
-    subst (λ (V : ModelWorld). Trail keep.kept disk volume W V x y)
+    subst (λ (V : ModelWorld). TrailOf keep.kept disk volume IsLink W V x y)
     (same_model volume W lifted.after after old new stands lifted.stands stands_after lifted.extends extends
-    lifted.stored stored) lifted.trail
+    lifted.stored stored) (record { trail = lifted.trail; own = lifted.own })
 
 module _ {D : Type 0} {kept : List ℕ → List ℕ → Option Kept} {disk : Disk D} {volume : Volume} where
   -- commands, and then others
@@ -41,11 +41,11 @@ module _ {D : Type 0} {kept : List ℕ → List ℕ → Option Kept} {disk : Dis
       → RunOn kept disk volume M others later more N y z
       → RunOn kept disk volume W (commands ++ others) (outcomes ++ later) (answers ++ more) N x z
   run_on_append EndOn behind = behind
-  run_on_append (ThenOn step trail rest) behind = ThenOn step trail (run_on_append rest behind)
+  run_on_append (ThenOn step does rest) behind = ThenOn step does (run_on_append rest behind)
 
   -- commands with the disks are commands
   pub run_of : {W M : ModelWorld} {commands : List Command} {outcomes : List (List Outcome)} {answers : List Answer}
       {x y : List (Pair D)} → RunOn kept disk volume W commands outcomes answers M x y
       → Run volume W commands outcomes answers M
   run_of EndOn = End
-  run_of (ThenOn step trail rest) = Then step (run_of rest)
+  run_of (ThenOn step does rest) = Then step (run_of rest)

@@ -13,6 +13,7 @@ use Rattle.ficus_runs.specs.Sweep.{SweepStep, Pulling, Collecting, Leg, Gathers,
 use Rattle.ficus_script.specs.declared.order.Order.{Order}
 use Rattle.ficus_script.specs.declared.order.Order.TheVariants.{Star, Ring}
 use Rattle.ficus_loop.specs.SweepFollows.{IsSweepCommand}
+use Rattle.ficus_world.specs.Kills.{IsDeedOf, IsSweepLink}
 
 pull_is : (by to : ℕ) → 1 ≤ by → by ≤ 255 → 1 ≤ to → to ≤ 255 → IsCommand (command.Pull by to)
 pull_is by to a b c d = record {
@@ -87,6 +88,14 @@ is_step command (step, same) = subst IsStep (sym same) (go step)
     go : (step : SweepStep) → IsStep (command_of step)
     go (Pulling by to) = tt
     go (Collecting by) = tt
+
+-- what is done as a link of one of them, is as a link of the sweep
+pub sweep_link : (command link : Command) → IsSweepCommand command → IsDeedOf command link → IsSweepLink link
+sweep_link command link (step, same) of = go step (subst (λ (c : Command). IsDeedOf c link) same of)
+  where
+    go : (step : SweepStep) → IsDeedOf (command_of step) link → IsSweepLink link
+    go (Pulling by to) of = (Pulling by to, of)
+    go (Collecting by) of = (Collecting by, of)
 
 pub of_sweep : (items : List Command) (steps : List SweepStep) → items ≡ map command_of steps
     → All IsSweepCommand items

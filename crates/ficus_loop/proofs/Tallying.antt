@@ -9,11 +9,12 @@ use Rattle.ficus_runs.specs.ModelWorld.{ModelWorld}
 use Rattle.ficus_script.specs.declared.answer.Answer.{Answer}
 use Rattle.ficus_script.specs.declared.answer.Answer.TheVariants.{Done, Made, Mail, Mails, Part, Collected, Told, Alike, Swept, Why, Refused}
 use Rattle.ficus_script.specs.declared.command.Command.{Command}
-use Rattle.ficus_loop.specs.Trail.{Trail}
+use Rattle.ficus_loop.specs.Trail.{TrailOf}
 use Rattle.ficus_loop.specs.Tally.{Tallies, is_no_refusal, is_refusal, with_answer}
 use Rattle.ficus_loop.specs.declared.tally.Tally.{Tally}
 use Rattle.ficus_loop.proofs.Serves.{world_more, world_none, world_one}
 use Rattle.ficus_world.specs.Follows.{FollowsOn}
+use Rattle.ficus_world.specs.Kills.{IsDeedOf}
 use Rattle.ficus_world.specs.World.{Whole, WorldStandsFor}
 
 -- it is either a refusal or none
@@ -45,7 +46,7 @@ module _ {K D : Type 0} {keep : Keep K} {disk : Disk D} {volume : Volume} where
   pub tallies_one : (W : ModelWorld) (before : Whole) (command : Command) (answer : Answer) (world : Whole)
       (old new : Tally) (old_disks new_disks : List (Pair D))
       → (on : FollowsOn keep disk volume W before command answer world old_disks new_disks)
-      → (disk.tells → Trail keep.kept disk volume W on.follows.after old_disks new_disks)
+      → (disk.tells → TrailOf keep.kept disk volume (IsDeedOf command) W on.follows.after old_disks new_disks)
       → new ≡ with_answer old answer
       → Tallies keep disk volume W before (command ∷ []) world old new old_disks new_disks
   tallies_one W before command answer world old new old_disks new_disks on trail is = record {

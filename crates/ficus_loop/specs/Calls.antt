@@ -10,7 +10,7 @@ use Rattle.ficus_script.specs.declared.answer.Answer.{Answer}
 use Rattle.ficus_script.specs.declared.command.Command.{Command}
 use Rattle.ficus_world.specs.Disks.{IsBacked}
 use Rattle.ficus_world.specs.Follows.{FollowsOn, StopsOn, TellsFor}
-use Rattle.ficus_world.specs.Kills.{Passes}
+use Rattle.ficus_world.specs.Kills.{IsDeedOf, Passes}
 use Rattle.ficus_world.specs.World.{Backed, Whole, WorldStandsFor, foreseen}
 
 -- The disks are those of the world still, which has as many members: there are as many pairs, and those of no member
@@ -24,11 +24,11 @@ pub record StaysBacked {K D : Type 0} (keep : Keep K) (disk : Disk D) (most : �
   pub grows : foreseen new.whole ≤ foreseen old.whole + most
 
 -- One command is answered as the model answers it, or cut short for want of memory. At each moment of it the disks are
--- as before, or one member saves.
+-- as before, or one member saves, by a link that is of this command.
 pub record AnswersCommand {E K D : Type 0} (tells : Type 0) (keep : Keep K) (disk : Disk D) (command : Command)
     (result : Result Answer E) (old new : Whole) (old_disks new_disks : List (Pair D)) : Type 0 where
   pub stands : tells → TellsFor disk.tells command → (volume : Volume) (W : ModelWorld) → WorldStandsFor volume W old
       → IfOk result (λ answer. FollowsOn keep disk volume W old command answer new old_disks new_disks)
   pub stays : tells → (volume : Volume) (W : ModelWorld) → WorldStandsFor volume W old
       → OnErr result (StopsOn keep disk volume W old command new old_disks new_disks)
-  pub passes : Passes tells keep disk old new old_disks new_disks
+  pub passes : Passes tells keep disk (IsDeedOf command) old new old_disks new_disks

@@ -112,5 +112,6 @@ pub record ServesWorldFront {K D : Type 0} (tells may : Type 0) (keep : Keep K) 
   pub disks : DisksFollow disk.faults disk.armings (all_outcomes serves.outcomes ++ serves.more_outcomes) old_disks
       new_disks
   pub fuses : FusesPermit keep disk (all_outcomes serves.outcomes ++ serves.more_outcomes) before.members old_disks
-  pub runs : disk.tells → FrontOn keep.kept disk volume W (take serves.count commands) serves.outcomes
+  pub runs : disk.tells → FrontOn keep.kept disk volume W (take serves.count commands)
+      (drop serves.count commands) serves.outcomes
       (serves.whole ++ serves.last) serves.middle after old_disks new_disks

@@ -1,5 +1,5 @@
 -- What a kill at any moment leaves, by worlds of the model.
-use Rattle.std.specs.Prelude.{◌≡◌, ◌⊎◌, ℕ, suc, ◌-◌, ◌≤◌, true, List, [], ◌∷◌, ◌++◌, length, slice_set, take, Option, Some}
+use Rattle.std.specs.Prelude.{◌≡◌, ◌⊎◌, ℕ, suc, ◌+◌, ◌-◌, ◌≤◌, true, List, [], ◌∷◌, ◌++◌, length, slice_get, slice_set, take, Option, Some}
 use Rattle.ficus_disk.specs.declared.disk.Disk.{Ghosts as Disk}
 use Rattle.ficus_disk.specs.declared.pair.Pair.{Pair}
 use Rattle.ficus_keeper.specs.Kept.{Kept}
@@ -7,7 +7,9 @@ use Rattle.ficus_keeper.specs.Moments.{PairSpans}
 use Rattle.ficus_model.specs.declared.event.Event.{Event}
 use Rattle.ficus_model.specs.Lawful.{IsLawful, Volume}
 use Rattle.ficus_model.specs.Events.{actor, is_saved}
+use Rattle.ficus_ids.specs.declared.refusal.Refusal.{Refusal}
 use Rattle.ficus_script.specs.declared.answer.Answer.{Answer}
+use Rattle.ficus_script.specs.declared.answer.Answer.TheVariants.{Refused}
 use Rattle.ficus_script.specs.declared.command.Command.{Command}
 use Rattle.ficus_runs.specs.ModelWorld.{IsUp, ModelWorld, Standing, Down}
 use Rattle.ficus_runs.specs.Numbered.{IsNumbered}
@@ -15,6 +17,8 @@ use Rattle.ficus_runs.specs.Outcome.{Outcome}
 use Rattle.ficus_runs.specs.Run.{Run, Step}
 use Rattle.ficus_opening.specs.Rests.{PairRests}
 use Rattle.ficus_opening.specs.Stand.{DisksKeep}
+use Rattle.ficus_world.specs.Disks.{AreSpared}
+use Rattle.ficus_world.specs.Kills.{IsDeedOf, SparesDisks}
 use Rattle.ficus_world.specs.Stand.{KeepsFor}
 
 -- A save of the member, which was up, was begun: an event of its own has happened after which it saves, and all stand
@@ -45,6 +49,11 @@ pub record Neighbours {D : Type 0} (kept : List ℕ → List ℕ → Option Kept
   pub each : (r : ℕ) (was now : Pair D) → IsNumbered old r was → IsNumbered new r now
       → PairBetween kept disk volume V U r was now
 
+-- where a command is refused that has asked nothing of the disks, they are as before
+abbrev pub SparesRefused : {D : Type 0} → Disk D → Command → Answer → List (Pair D) → List (Pair D) → Type 0
+SparesRefused disk command answer old new =
+    (refusal : Refusal) → answer ≡ Refused refusal → SparesDisks command refusal → AreSpared disk old new
+
 -- States of the disks, one after the other, each with a world of the model: a state is as the one before it, or is left
 -- by one step from the world before it. A pull is a step for each of its messages.
 pub data Trail {D : Type 0} (kept : List ℕ → List ℕ → Option Kept) (disk : Disk D) (volume : Volume) :
@@ -53,7 +62,7 @@ pub data Trail {D : Type 0} (kept : List ℕ → List ℕ → Option Kept) (disk
       → Trail kept disk volume W W old new
   Link : {V U : ModelWorld} {old new : List (Pair D)} {command : Command} {outcomes : List Outcome} {answer : Answer}
       → Step volume V command outcomes answer U → Neighbours kept disk volume V U old new
-      → Trail kept disk volume V U old new
+      → SparesRefused disk command answer old new → Trail kept disk volume V U old new
   Joined : {V M U : ModelWorld} {old mid new : List (Pair D)} → Trail kept disk volume V M old mid
       → Trail kept disk volume M U mid new → Trail kept disk volume V U old new
 
@@ -62,8 +71,21 @@ abbrev pub Somewhere : {D : Type 0} {kept : List ℕ → List ℕ → Option Kep
     {V U : ModelWorld} {old new : List (Pair D)}
     → (ModelWorld → ModelWorld → List (Pair D) → List (Pair D) → Type 0) → Trail kept disk volume V U old new → Type 0
 Somewhere P (Still {W = W} {old = x} {new = y} rests) = P W W x y
-Somewhere P (Link {V = V} {U = U} {old = x} {new = y} step crosses) = P V U x y
+Somewhere P (Link {V = V} {U = U} {old = x} {new = y} step crosses spared) = P V U x y
 Somewhere P (Joined one two) = Somewhere P one ⊎ Somewhere P two
+
+-- each link of the trail is of such a command
+abbrev pub EachLink : {D : Type 0} {kept : List ℕ → List ℕ → Option Kept} {disk : Disk D} {volume : Volume}
+    {V U : ModelWorld} {old new : List (Pair D)} → (Command → Type 0) → Trail kept disk volume V U old new → Type 0
+EachLink P (Still rests) = Unit {0}
+EachLink P (Link {command = command} step crosses spared) = P command
+EachLink P (Joined one two) = EachLink P one × EachLink P two
+
+-- a trail of which each link is of such a command
+pub record TrailOf {D : Type 0} (kept : List ℕ → List ℕ → Option Kept) (disk : Disk D) (volume : Volume)
+    (IsLink : Command → Type 0) (V U : ModelWorld) (old new : List (Pair D)) : Type 0 where
+  pub trail : Trail kept disk volume V U old new
+  pub own : EachLink IsLink trail
 
 -- between these two, a crash might have left this on one disk of that number
 abbrev pub LeftOn : {D : Type 0} → Disk D → (Pair D → D) → ℕ → List ℕ → ModelWorld → ModelWorld → List (Pair D)
@@ -72,7 +94,8 @@ LeftOn {D} disk side r c V U old new =
     (was : Pair D) × (now : Pair D) × IsNumbered old r was × IsNumbered new r now
     × disk.left_since (side now) (disk.moment (side was)) c
 
--- Commands, one after the other, with the disks: each command has a trail from the world before it to the one after it.
+-- Commands, one after the other, with the disks: each command has a trail from the world before it to the one after it,
+-- of which each link is of this command.
 pub data RunOn {D : Type 0} (kept : List ℕ → List ℕ → Option Kept) (disk : Disk D) (volume : Volume) :
     ModelWorld → List Command → List (List Outcome) → List Answer → ModelWorld → List (Pair D) → List (Pair D)
     → Type 0 where
@@ -80,7 +103,8 @@ pub data RunOn {D : Type 0} (kept : List ℕ → List ℕ → Option Kept) (disk
   ThenOn : {old : ModelWorld} {command : Command} {commands : List Command} {outcomes : List Outcome}
       {more : List (List Outcome)} {answer : Answer} {answers : List Answer} {middle new : ModelWorld}
       {x y z : List (Pair D)} → Step volume old command outcomes answer middle
-      → Trail kept disk volume old middle x y → RunOn kept disk volume middle commands more answers new y z
+      → TrailOf kept disk volume (IsDeedOf command) old middle x y
+      → RunOn kept disk volume middle commands more answers new y z
       → RunOn kept disk volume old (command ∷ commands) (outcomes ∷ more) (answer ∷ answers) new x z
 
 -- what a crash might have left on each disk since the trail began, it might have left between some two neighbours of it
@@ -91,13 +115,21 @@ pub record Covers {D : Type 0} {kept : List ℕ → List ℕ → Option Kept} {d
   pub on_b : (r : ℕ) (was now : Pair D) (c : List ℕ) → IsNumbered old r was → IsNumbered new r now
       → disk.left_since now.b (disk.moment was.b) c → Somewhere (LeftOn disk (λ (p : Pair D). p.b) r c) trail
 
--- Some first commands with the disks, and then maybe what a command has done that was cut short.
+-- what the first of these commands has done, which was cut short
+pub record CutTrail {D : Type 0} (kept : List ℕ → List ℕ → Option Kept) (disk : Disk D) (volume : Volume)
+    (commands : List Command) (V U : ModelWorld) (old new : List (Pair D)) : Type 0 where
+  pub command : Command
+  pub later : List Command
+  pub is : commands ≡ command ∷ later
+  pub does : TrailOf kept disk volume (IsDeedOf command) V U old new
+
+-- Some first commands with the disks, and then maybe what the first of those behind them has done, which was cut short.
 pub record FrontOn {D : Type 0} (kept : List ℕ → List ℕ → Option Kept) (disk : Disk D) (volume : Volume)
-    (W : ModelWorld) (commands : List Command) (outcomes : List (List Outcome)) (answers : List Answer)
+    (W : ModelWorld) (commands behind : List Command) (outcomes : List (List Outcome)) (answers : List Answer)
     (middle after : ModelWorld) (old new : List (Pair D)) : Type 0 where
   pub mid : List (Pair D)
   pub run : RunOn kept disk volume W commands outcomes answers middle old mid
-  pub rest : ((after ≡ middle) × (new ≡ mid)) ⊎ Trail kept disk volume middle after mid new
+  pub rest : ((after ≡ middle) × (new ≡ mid)) ⊎ CutTrail kept disk volume behind middle after mid new
 
 -- the trail of a first part, and of commands behind it
 abbrev pub whole : {D : Type 0} {kept : List ℕ → List ℕ → Option Kept} {disk : Disk D} {volume : Volume}
@@ -105,7 +137,7 @@ abbrev pub whole : {D : Type 0} {kept : List ℕ → List ℕ → Option Kept} {
     {entry mid now : List (Pair D)} → Trail kept disk volume W V entry mid
     → RunOn kept disk volume V commands outcomes answers U mid now → Trail kept disk volume W U entry now
 whole first EndOn = first
-whole first (ThenOn step trail rest) = whole (Joined first trail) rest
+whole first (ThenOn step does rest) = whole (Joined first does.trail) rest
 
 -- A run from its entry on: the disks were opened, and then each command has a trail. What a crash might have left on a
 -- disk since the entry, it might have left there between some two neighbours.
@@ -117,16 +149,16 @@ pub record Killed {D : Type 0} (kept : List ℕ → List ℕ → Option Kept) (d
   pub run : RunOn kept disk volume W commands outcomes answers after opened now
   pub covers : disk.tells_moments → Covers (whole (Still opens) run)
 
--- the same of some first commands, and of what a command has done that was cut short
+-- the same of some first commands, and of what the first of those behind them has done, which was cut short
 pub record KilledFront {D : Type 0} (kept : List ℕ → List ℕ → Option Kept) (disk : Disk D) (volume : Volume)
-    (W : ModelWorld) (commands : List Command) (outcomes : List (List Outcome)) (answers : List Answer)
+    (W : ModelWorld) (commands behind : List Command) (outcomes : List (List Outcome)) (answers : List Answer)
     (middle after : ModelWorld) (entry now : List (Pair D)) : Type 0 where
   pub mid : List (Pair D)
   pub killed : Killed kept disk volume W commands outcomes answers middle entry mid
-  pub rest : ((after ≡ middle) × (now ≡ mid)) ⊎ Trail kept disk volume middle after mid now
+  pub rest : ((after ≡ middle) × (now ≡ mid)) ⊎ CutTrail kept disk volume behind middle after mid now
 
 -- A moment of the k-th command, from 0: two neighbours of its trail have P. The trail goes from the world after the
--- commands before it to the world after it.
+-- commands before it to the world after it, and each link of it is of this command.
 pub record DuringAt {D : Type 0} (kept : List ℕ → List ℕ → Option Kept) (disk : Disk D) (volume : Volume)
     (P : ModelWorld → ModelWorld → List (Pair D) → List (Pair D) → Type 0) (W : ModelWorld) (commands : List Command)
     (outcomes : List (List Outcome)) (answers : List Answer) (k : ℕ) : Type 0 where
@@ -136,22 +168,35 @@ pub record DuringAt {D : Type 0} (kept : List ℕ → List ℕ → Option Kept) 
   pub ran_too : Run volume W (take (suc k) commands) (take (suc k) outcomes) (take (suc k) answers) after
   pub old : List (Pair D)
   pub new : List (Pair D)
-  pub trail : Trail kept disk volume before after old new
-  pub there : Somewhere P trail
+  pub command : Command
+  pub is : slice_get commands k ≡ Some command
+  pub does : TrailOf kept disk volume (IsDeedOf command) before after old new
+  pub there : Somewhere P does.trail
 
 -- what a read of this pair gives, a crash between these two states might have left
 pub record WasLeft {D : Type 0} (disk : Disk D) (was now left : Pair D) : Type 0 where
   pub a : disk.left_since now.a (disk.moment was.a) (disk.seen left.a)
   pub b : disk.left_since now.b (disk.moment was.b) (disk.seen left.b)
 
--- The pairs of all members keep one lawful history, which goes on from this one by some of what was pending: an event
--- of a member at most.
+-- this event is pending in the world at a member, which is down
+abbrev pub IsPendingIn : ModelWorld → ℕ → Event → Type 0
+IsPendingIn W r event = IsNumbered W.standings r (Down (Some event))
+
+-- some of what is pending at the members up to this number, an event of each at most, in their order
+pub data SomePending (IsPending : ℕ → Event → Type 0) : ℕ → List Event → Type 0 where
+  NonePending : SomePending IsPending 0 []
+  Without : {count : ℕ} {more : List Event} → SomePending IsPending count more → SomePending IsPending (count + 1) more
+  With : {count : ℕ} {more : List Event} {event : Event} → SomePending IsPending count more
+      → IsPending (count + 1) event → SomePending IsPending (count + 1) (more ++ event ∷ [])
+
+-- The pairs of all members keep one lawful history: what has happened in this world, and some of what is pending there.
 pub record KeepsFrom {D : Type 0} (kept : List ℕ → List ℕ → Option Kept) (seen : D → List ℕ) (volume : Volume)
-    (H : List Event) (disks : List (Pair D)) : Type 0 where
+    (W : ModelWorld) (disks : List (Pair D)) : Type 0 where
   pub more : List Event
+  pub pending : SomePending (IsPendingIn W) volume.members more
   pub few : length more ≤ volume.members
-  pub lawful : IsLawful volume (H ++ more)
-  pub keeps : DisksKeep kept seen volume (H ++ more) disks
+  pub lawful : IsLawful volume (W.events ++ more)
+  pub keeps : DisksKeep kept seen volume (W.events ++ more) disks
 
 -- between these two, a kill might have left of all pairs what a read of these gives
 pub record AreKilled {D : Type 0} (disk : Disk D) (left : List (Pair D)) (V U : ModelWorld) (old new : List (Pair D)) :
@@ -160,11 +205,19 @@ pub record AreKilled {D : Type 0} (disk : Disk D) (left : List (Pair D)) (V U : 
   pub each : (r : ℕ) (was now found : Pair D) → IsNumbered old r was → IsNumbered new r now → IsNumbered left r found
       → WasLeft disk was now found
 
--- The pairs keep one lawful history: what had happened before, then some first events of those that happen until the
--- world after, and some of what was pending.
-pub record KeepsBetween {D : Type 0} (kept : List ℕ → List ℕ → Option Kept) (seen : D → List ℕ) (volume : Volume)
-    (before after : ModelWorld) (disks : List (Pair D)) : Type 0 where
+-- this is one of the two worlds
+abbrev pub IsEither : {D : Type 0} → ModelWorld → ModelWorld → ModelWorld → List (Pair D) → List (Pair D) → Type 0
+IsEither W V U old new = (W ≡ V) ⊎ (W ≡ U)
+
+-- The pairs keep one lawful history: what has happened in some world of the trail, and some of what is pending there.
+-- There has happened what had before the trail, and then some first events of those that happen until its end.
+pub record KeepsBetween {D : Type 0} {kept : List ℕ → List ℕ → Option Kept} {disk : Disk D} {volume : Volume}
+    {before after : ModelWorld} {old new : List (Pair D)} (trail : Trail kept disk volume before after old new)
+    (disks : List (Pair D)) : Type 0 where
+  pub there : ModelWorld
+  pub on : Somewhere (IsEither there) trail
   pub since : List Event
   pub rest : List Event
-  pub within : after.events ≡ (before.events ++ since) ++ rest
-  pub keeps : KeepsFrom kept seen volume (before.events ++ since) disks
+  pub so_far : there.events ≡ before.events ++ since
+  pub within : after.events ≡ there.events ++ rest
+  pub keeps : KeepsFrom kept disk.seen volume there disks

@@ -6,7 +6,7 @@ ghost use Rattle.ficus_script.specs.Command.{IsCommand};
 ghost use Rattle.ficus_loop.specs.Calls.{StaysBacked};
 ghost use Rattle.ficus_loop.specs.SweepFollows.{CountsFew, FollowsStep, FollowsSweep, GivesUpFew, IsSweepCommand, LeavesSwept, ReportsSo, most_steps, most_swept, swept_of, sweeping_limit};
 ghost use Rattle.ficus_world.specs.Disks.{IsBacked};
-ghost use Rattle.ficus_world.specs.Kills.{Passes};
+ghost use Rattle.ficus_world.specs.Kills.{IsSweepLink, Passes};
 ghost use Rattle.ficus_world.specs.World.{WorldStandsFor, event_limit, most_unforeseen};
 
 use crate::sweep_fault::SweepFault;
@@ -39,7 +39,8 @@ pub fn sweep<D: Disk, K: Keep + Drop, L: Link + Drop>(
     ensures swept { L.tells → (volume : Volume) (W : ModelWorld) → WorldStandsFor volume W world.old.whole
         → IfOk result (λ report. LeavesSwept volume world.new.whole) }
     // At each moment of it the disks are as before, or one member saves: link by link, a link for each message.
-    ensures passes { Passes L.tells K.Keep D.Disk world.old.whole world.new.whole disks.old.items disks.new.items }
+    ensures passes { Passes L.tells K.Keep D.Disk IsSweepLink world.old.whole world.new.whole disks.old.items
+        disks.new.items }
     ensures disks { StaysBacked K.Keep D.Disk most_swept world.old world.new disks.old.items disks.new.items }
 {
     world.settled(disks);
@@ -63,7 +64,8 @@ fn take_steps<D: Disk, K: Keep + Drop, L: Link + Drop>(
         (W : ModelWorld) → WorldStandsFor volume W world.old.whole
         → FollowsSweep K.Keep D.Disk volume W world.old.whole some result world.new.whole disks.old.items
         disks.new.items }
-    ensures passes { Passes L.tells K.Keep D.Disk world.old.whole world.new.whole disks.old.items disks.new.items }
+    ensures passes { Passes L.tells K.Keep D.Disk IsSweepLink world.old.whole world.new.whole disks.old.items
+        disks.new.items }
     ensures disks { StaysBacked K.Keep D.Disk most_swept world.old world.new disks.old.items disks.new.items }
 {
     world.settled(disks);
@@ -96,7 +98,8 @@ fn take_step<D: Disk, K: Keep + Drop, L: Link + Drop>(
         → FollowsStep K.Keep D.Disk volume W world.old.whole sweep_step (swept_of report) result world.new.whole
         disks.old.items disks.new.items }
     ensures few { (count : ℕ) → CountsFew count report → IfOk result (CountsFew (count + 1)) }
-    ensures passes { Passes L.tells K.Keep D.Disk world.old.whole world.new.whole disks.old.items disks.new.items }
+    ensures passes { Passes L.tells K.Keep D.Disk IsSweepLink world.old.whole world.new.whole disks.old.items
+        disks.new.items }
     ensures disks { StaysBacked K.Keep D.Disk most_unforeseen world.old world.new disks.old.items disks.new.items }
 {
     world.settled(disks);

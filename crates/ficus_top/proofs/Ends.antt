@@ -1,5 +1,5 @@
 -- What was served over a link that never fails, and over disks.
-use Rattle.std.proofs.Common.{◌≡◌, ◌⊎◌, ℕ, ◌≤◌, Bool, List, ◌++◌, length, take, Option, refl, sym, subst, ◌∙◌, inl, inr, arith}
+use Rattle.std.proofs.Common.{◌≡◌, ◌⊎◌, ℕ, ◌≤◌, Bool, List, ◌++◌, length, drop, take, Option, refl, sym, subst, ◌∙◌, inl, inr, arith}
 use Rattle.std.proofs.lemmas.Bool.{cases_lt}
 use Rattle.ficus_disk.specs.declared.disk.Disk.{Ghosts as Disk}
 use Rattle.ficus_disk.specs.declared.pair.Pair.{Pair}
@@ -180,7 +180,7 @@ module _ {K D : Type 0} {tells : Type 0} {keep : Keep K} {disk : Disk D} {volume
       front_on up pairs front = record {
         ends = front_ends up pairs front;
         runs = subst (λ (kept : List ℕ → List ℕ → Option Kept). FrontOn kept disk volume W
-            (take front.serves.count commands) front.serves.outcomes (front.serves.whole ++ front.serves.last)
+            (take front.serves.count commands) (drop front.serves.count commands) front.serves.outcomes (front.serves.whole ++ front.serves.last)
             front.serves.middle front.after old_disks new_disks) same (front.runs told);
       }
 

@@ -33,9 +33,9 @@ module _ {D : Type 0} (kept : List ℕ → List ℕ → Option Kept) (disk : Dis
     covers = λ moments. covers kept disk volume earlier moments (whole (Still opens) run);
   }
 
-  pub front_killed_from : {middle after : ModelWorld} {now : List (Pair D)}
-      → FrontOn kept disk volume W commands outcomes answers middle after opened now
-      → KilledFront kept disk volume W commands outcomes answers middle after entry now
+  pub front_killed_from : {behind : List Command} {middle after : ModelWorld} {now : List (Pair D)}
+      → FrontOn kept disk volume W commands behind outcomes answers middle after opened now
+      → KilledFront kept disk volume W commands behind outcomes answers middle after entry now
   front_killed_from front = record { mid = front.mid; killed = killed_from front.run; rest = front.rest }
 
 module _ {D tells : Type 0} {disk : Disk D} {Rest : (ℕ → FuseState) → Type 0} {volume : Volume} {earlier : List Event}

@@ -11,7 +11,7 @@ ghost use Rattle.ficus_script.specs.declared.command.Command.TheVariants.{Stop a
 ghost use Rattle.ficus_top.specs.Summary.Keeper.{kept_in};
 ghost use Rattle.ficus_opening.specs.Fuses.{AreUnarmed};
 ghost use Rattle.ficus_world.specs.Fuses.{at_rest};
-ghost use Rattle.ficus_loop.specs.Trail.{AreKilled, DuringAt, KeepsBetween, KeepsFrom, Killed, Somewhere, Trail, whole};
+ghost use Rattle.ficus_loop.specs.Trail.{AreKilled, DuringAt, IsPendingIn, KeepsBetween, KeepsFrom, Killed, SomePending, Somewhere, Trail, whole};
 ghost use Rattle.ficus_loop.specs.Trail.Trail.{Still};
 ghost use Rattle.ficus_runs.specs.Outcome.{Outcome};
 ghost use Rattle.ficus_script.specs.declared.answer.Answer.{Answer};
@@ -120,32 +120,34 @@ pub fn next_run_goes_on<D: Disk>()
         → DisksOutlast kept_in D.may_leave volume after disks → length left ≡ length disks
         → ((r : ℕ) (was now : PairValue D) → IsNumbered disks r was → IsNumbered left r now
         → PairLeft D.seen D.may_leave was now)
-        → (more : List Event) × StandsOn kept_in D.seen volume (after.events ++ more) left }
+        → (more : List Event) × SomePending (IsPendingIn after) volume.members more
+        × StandsOn kept_in D.seen volume (after.events ++ more) left }
 {}
 
 /// The law of a run that was killed. Let what a read of some pairs gives be what a kill might have left between two
 /// neighbours of the run's trail. Killed while the volume was opened, they keep the history of the entry. Killed after
 /// the first k answers and before the next one is whole, they keep what had happened after k commands, then some first
 /// events of those of the next command: none or all of them, but for a pull, which has an event for each of its
-/// messages, and a sweep, which has those of its pulls and collections; and then some of what was pending, an event of
-/// a member at most. With what they keep the next run begins. It does nothing when it runs.
+/// messages, and a sweep, which has those of its pulls and collections; behind them stands some of what is pending
+/// there, an event of a member at most. With what they keep the next run begins. It does nothing when it runs.
 pub fn killed_runs_go_on<D: Disk>()
     ensures run { (volume : Volume) (W after : ModelWorld) (commands : List Command) (outcomes : List (List Outcome))
         (answers : List Answer) (entry now left : List (PairValue D))
         (killed : Killed kept_in D.Disk volume W commands outcomes answers after entry now) → D.tells
         → D.tells_moments → IsLawful volume W.events → length W.standings ≡ volume.members
         → volume.members ≤ length left → Somewhere (AreKilled D.Disk left) (whole (Still killed.opens) killed.run)
-        → KeepsBetween kept_in D.seen volume W W left
+        → KeepsBetween (Still killed.opens) left
         ⊎ ((k : ℕ) × (during : DuringAt kept_in D.Disk volume (AreKilled D.Disk left) W commands outcomes answers k)
-        × KeepsBetween kept_in D.seen volume during.before during.after left) }
+        × KeepsBetween during.does.trail left) }
     // The same of the trail of a last command that was cut short.
     ensures cut { (volume : Volume) (V U : ModelWorld) (old new left : List (PairValue D))
         (trail : Trail kept_in D.Disk volume V U old new) → D.tells → D.tells_moments → IsLawful volume V.events
         → length V.standings ≡ volume.members → volume.members ≤ length left
-        → Somewhere (AreKilled D.Disk left) trail → KeepsBetween kept_in D.seen volume V U left }
-    ensures next { (volume : Volume) (H : List Event) (left : List (PairValue D)) → IsCount volume.members
-        → length H + volume.members < 2 ^ 62 → KeepsFrom kept_in D.seen volume H left
-        → (more : List Event) × StandsOn kept_in D.seen volume (H ++ more) left }
+        → Somewhere (AreKilled D.Disk left) trail → KeepsBetween trail left }
+    ensures next { (volume : Volume) (W : ModelWorld) (left : List (PairValue D)) → IsCount volume.members
+        → length W.events + volume.members < 2 ^ 62 → KeepsFrom kept_in D.seen volume W left
+        → (more : List Event) × SomePending (IsPendingIn W) volume.members more
+        × StandsOn kept_in D.seen volume (W.events ++ more) left }
 {}
 
 /// The law that the fuses of empty disks of which none is armed are at rest before anything has happened. It does

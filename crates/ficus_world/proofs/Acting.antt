@@ -30,7 +30,10 @@ use Rattle.ficus_world.proofs.Keeps.{kept_count, kept_grows}
 use Rattle.ficus_world.proofs.Kills.{rests_same, touches_others, writes_count}
 use Rattle.ficus_world.proofs.Moved.{same_refusal}
 use Rattle.ficus_opening.proofs.Others.{others_none, others_then}
+use Rattle.ficus_script.specs.declared.command.Command.{Command}
+use Rattle.ficus_world.proofs.Passing.{passes_of}
 use Rattle.ficus_world.proofs.Pulling.{stays}
+use Rattle.ficus_world.proofs.Sparing.{spared_none, writes_change}
 
 module _ {K D : Type 0} {keep : Keep K} {disk : Disk D} where
   -- disks stand under a world of the same members
@@ -49,6 +52,7 @@ module _ {K D : Type 0} {keep : Keep K} {disk : Disk D} where
     stables = refl;
     memory = λ is. stays x refl;
     touches = TouchesNone;
+    spared = λ same. spared_none disk x;
     backed = backed;
   }
 
@@ -61,6 +65,7 @@ module _ {K D : Type 0} {keep : Keep K} {disk : Disk D} where
     stables = acts.stables;
     memory = λ is. absurd (cc);
     touches = acts.touches;
+    spared = acts.spared;
     backed = acts.backed;
   }
 
@@ -73,6 +78,7 @@ module _ {K D : Type 0} {keep : Keep K} {disk : Disk D} where
     stables = acts.stables;
     memory = λ is. acts.memory (same_refusal r Memory is);
     touches = acts.touches;
+    spared = acts.spared;
     backed = acts.backed;
   }
 
@@ -87,6 +93,7 @@ module _ {K D : Type 0} {keep : Keep K} {disk : Disk D} where
     stables = refl;
     memory = λ is. stays x (memory is);
     touches = TouchesNone;
+    spared = λ same. spared_none disk x;
     backed = still_backed members backed;
   }
 
@@ -103,6 +110,7 @@ module _ {K D : Type 0} {keep : Keep K} {disk : Disk D} where
         stables = ready.count;
         memory = λ is. record { same = refl; disks = (ready.follows world.members).disks };
         touches = TouchesOne member ready.rests;
+        spared = λ same. ready.spared;
         backed = record {
           pairs = omega (arith, backed.pairs, pairs);
           disks = ready.disks world.members world.members refl backed.disks;
@@ -124,6 +132,7 @@ module _ {K D : Type 0} {keep : Keep K} {disk : Disk D} where
         stables = counted;
         memory = λ is. absurd (no_memory is);
         touches = WritesOne writes;
+        spared = λ same. absurd (writes_change writes same);
         backed = record {
           pairs = omega (arith, members, backed.pairs, pairs);
           disks = are;
@@ -156,10 +165,10 @@ module _ {K D : Type 0} {keep : Keep K} {disk : Disk D} where
       (joins (pairs_of keep disk old.members stables x counted backed.disks) stays.rests (kept_next.writes old.post after))
       kept_next.disks backed) is counted backed
 
-  module _ {tells : Type 0} where
+  module _ {tells : Type 0} {IsLink : Command → Type 0} where
     -- none
     pub acts_idle : {world : Backed K} {x : List (Pair D)} → IsBacked keep disk world x
-        → ActsOn tells keep disk world world x x
+        → ActsOn tells keep disk IsLink world world x x
     acts_idle {world} {x} backed = record {
       members = refl;
       passes = λ before after. Idles before TouchesNone;
@@ -171,8 +180,8 @@ module _ {K D : Type 0} {keep : Keep K} {disk : Disk D} where
     pub acts_once : {A : Type 0} {most : ℕ} {result : Result A Refusal} {old new : Backed K} {x y : List (Pair D)}
         → Acts keep disk most result old new x y
         → (IsSettled keep disk old.whole x → IsSettled keep disk new.whole y
-        → Passes tells keep disk old.whole new.whole x y)
-        → ActsOn tells keep disk old new x y
+        → Passes tells keep disk IsLink old.whole new.whole x y)
+        → ActsOn tells keep disk IsLink old new x y
     acts_once acts passes = record {
       members = acts.members;
       passes = passes;
@@ -181,15 +190,26 @@ module _ {K D : Type 0} {keep : Keep K} {disk : Disk D} where
     }
 
     -- some, and then others
-    pub acts_then : {old middle new : Backed K} {x y z : List (Pair D)} → ActsOn tells keep disk old middle x y
-        → IsSettled keep disk middle.whole y → ActsOn tells keep disk middle new y z
-        → ActsOn tells keep disk old new x z
+    pub acts_then : {old middle new : Backed K} {x y z : List (Pair D)} → ActsOn tells keep disk IsLink old middle x y
+        → IsSettled keep disk middle.whole y → ActsOn tells keep disk IsLink middle new y z
+        → ActsOn tells keep disk IsLink old new x z
     acts_then {old} {x = x} {y = y} {z = z} first settled second = record {
       members = second.members ∙ first.members;
       passes = λ before after. Joins (first.passes before settled) (second.passes settled after);
       others = others_then (length old.whole.members) x y z first.others
           (subst (λ n. OthersStay n y z) first.members second.others);
       backed = second.backed;
+    }
+
+    -- so they do, of whatever other kind their links are too
+    pub acts_of : {More : Command → Type 0} {old new : Backed K} {x y : List (Pair D)}
+        → ((link : Command) → IsLink link → More link) → ActsOn tells keep disk IsLink old new x y
+        → ActsOn tells keep disk More old new x y
+    acts_of more acts = record {
+      members = acts.members;
+      passes = λ before after. passes_of more (acts.passes before after);
+      others = acts.others;
+      backed = acts.backed;
     }
 
   -- no room is taken
@@ -199,5 +219,6 @@ module _ {K D : Type 0} {keep : Keep K} {disk : Disk D} where
     disks = disks_same;
     follows = λ members. record { disks = follows_none; fuses = fuses_none };
     rests = rests_same disk by x pair is;
+    spared = spared_none disk x;
     count = refl;
   }

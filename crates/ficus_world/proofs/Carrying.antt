@@ -1,5 +1,5 @@
 -- What is carried out on a world and its disks, one action after the other.
-use Rattle.std.proofs.Common.{◌≡◌, ◌≢◌, ℕ, ◌+◌, ◌-◌, List, [], ◌∷◌, ◌++◌, Result, Ok, Err, Option, refl, sym, ap, ap₂, subst, ◌∙◌}
+use Rattle.std.proofs.Common.{◌≡◌, ◌≢◌, ℕ, ◌+◌, List, [], ◌∷◌, ◌++◌, Result, Ok, Err, Option, refl, sym, ap, ap₂, subst, ◌∙◌}
 use Rattle.ficus_model.specs.declared.event.Event.{Event}
 use Rattle.ficus_replica.specs.declared.replica.Replica.{Replica}
 use Rattle.std.specs.Prelude.{IsErrOf}

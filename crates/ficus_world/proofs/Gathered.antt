@@ -45,6 +45,7 @@ use Rattle.ficus_world.specs.Moves.TakesSpelled.{SpellsNone, SpellsTables}
 use Rattle.ficus_world.specs.Moves.TakesTables.{Takes, TakesNot}
 use Rattle.ficus_world.specs.Post.{Outbox}
 use Rattle.ficus_world.specs.World.{IsSoundMember, IsUpIn, IsWorld, Whole, backed_by, whole_of}
+use Rattle.ficus_world.proofs.Sparing.{spared_none}
 use Rattle.ficus_world.proofs.Carrying.{carried_none, carried_then, or_refused}
 use Rattle.ficus_world.proofs.Disks.{OthersStay, disks_moved, follows_none, others_as, set_as}
 use Rattle.ficus_world.proofs.Placing.{joined_one}
@@ -140,6 +141,7 @@ piece_acts {keep = keep} {disk = disk} {old = old} {new = new} {stables = stable
       stables = refl;
       memory = λ e. absurd (cc);
       touches = TouchesNone;
+      spared = λ e. spared_none disk x;
       backed = record {
         pairs = omega (arith, members, backed.pairs);
         disks = holding_disks old.members by was is (Some parts) keep disk stables x old.members new.members

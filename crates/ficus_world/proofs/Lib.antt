@@ -18,6 +18,8 @@ pub mod AtRest
 pub mod Kills
 pub mod Passing
 pub mod Growing
+pub mod Sparing
+pub mod Refusing
 pub mod Acting
 pub mod Likeness
 pub mod Lifting

@@ -5,10 +5,11 @@ use Rattle.ficus_disk.specs.declared.pair.Pair.{Pair}
 use Rattle.ficus_ids.specs.declared.refusal.Refusal.{Refusal}
 use Rattle.ficus_ids.specs.declared.refusal.Refusal.TheVariants.{Memory, Store}
 use Rattle.ficus_keeper.specs.declared.keep.Keep.{Ghosts as Keep}
+use Rattle.ficus_script.specs.declared.command.Command.{Command}
 use Rattle.ficus_runs.specs.Numbered.{IsNumbered}
 use Rattle.ficus_runs.specs.Outcome.{IsSaved, SaveFails}
 use Rattle.ficus_stable_storage.specs.declared.stable.Stable.{Stable}
-use Rattle.ficus_world.specs.Disks.{DisksComeTo, DisksStay, IsBacked, StaysOn}
+use Rattle.ficus_world.specs.Disks.{AreSpared, DisksComeTo, DisksStay, IsBacked, StaysOn}
 use Rattle.ficus_world.specs.Kills.{IsSettled, Passes, Touches}
 use Rattle.ficus_opening.specs.Rests.{OthersStay, RestsAt}
 use Rattle.ficus_world.specs.Moves.{advanced, downed}
@@ -18,7 +19,7 @@ use Rattle.ficus_world.specs.World.{Backed, Whole}
 
 -- One action on a world over its disks: it stores so many events at most, there are as many members, with a keeper
 -- each, the disks are still those of the world, and of them it touches those of one member at most. Where memory is
--- refused, the world is as it was.
+-- refused, the world is as it was; where no member has changed, the disks are as they were.
 pub record Acts {A K D : Type 0} (keep : Keep K) (disk : Disk D) (most : ℕ) (result : Result A Refusal)
     (old new : Backed K) (old_disks new_disks : List (Pair D)) : Type 0 where
   pub grows : length new.whole.events ≤ length old.whole.events + most
@@ -26,24 +27,26 @@ pub record Acts {A K D : Type 0} (keep : Keep K) (disk : Disk D) (most : ℕ) (r
   pub stables : length new.stables ≡ length old.stables
   pub memory : IsErrOf result Memory → StaysOn disk.faults disk.armings old.whole new.whole old_disks new_disks
   pub touches : Touches keep disk old.whole new.whole old_disks new_disks
+  pub spared : new.whole.members ≡ old.whole.members → AreSpared disk old_disks new_disks
   pub backed : IsBacked keep disk new new_disks
 
 -- Several actions, one after the other: at each moment of them the disks are as before, or one member saves, link by
--- link, and the pairs of no member stay.
-pub record ActsOn {K D : Type 0} (tells : Type 0) (keep : Keep K) (disk : Disk D) (old new : Backed K)
-    (old_disks new_disks : List (Pair D)) : Type 0 where
+-- link, each of such a kind, and the pairs of no member stay.
+pub record ActsOn {K D : Type 0} (tells : Type 0) (keep : Keep K) (disk : Disk D) (IsLink : Command → Type 0)
+    (old new : Backed K) (old_disks new_disks : List (Pair D)) : Type 0 where
   pub members : length new.whole.members ≡ length old.whole.members
   pub passes : IsSettled keep disk old.whole old_disks → IsSettled keep disk new.whole new_disks
-      → Passes tells keep disk old.whole new.whole old_disks new_disks
+      → Passes tells keep disk IsLink old.whole new.whole old_disks new_disks
   pub others : OthersStay (length old.whole.members) old_disks new_disks
   pub backed : IsBacked keep disk new new_disks
 
--- Room was taken on the disks of member `by`, where nothing is written, and which are those of the members still.
+-- Room was taken on the disks of member `by`, which are as before, and those of the members still.
 pub record StaysAt {K D : Type 0} (keep : Keep K) (disk : Disk D) (by : ℕ) (old_stables new_stables : List (Stable K))
     (old new : List (Pair D)) : Type 0 where
   pub disks : DisksStay keep disk old_stables new_stables old new
   pub follows : (members : List Member) → DisksComeTo keep disk [] members members old new
   pub rests : RestsAt disk by old new
+  pub spared : AreSpared disk old new
   pub count : length new_stables ≡ length old_stables
 
 -- What became of a save: it is done, and its event is stored; or the member is down, and it is pending; or memory was

@@ -37,11 +37,11 @@ use Rattle.ficus_script.specs.declared.command.Command.TheVariants.{Restart}
 use Rattle.ficus_stable_storage.specs.declared.stable.Stable.{Stable}
 use Rattle.ficus_wire.specs.Message.{piece_limit}
 use Rattle.ficus_world.specs.Acts.{Acts, ActsOn, SavesNext, StaysAt}
-use Rattle.ficus_world.specs.Disks.{CarriedOn, DisksComeTo, DisksFollow, DisksPass, DisksStay, IsBacked, IsHeldBy, IsPreparedAt, IsReadAt, ReopensAt, SavesAt}
+use Rattle.ficus_world.specs.Disks.{AreSpared, CarriedOn, DisksComeTo, DisksFollow, DisksPass, DisksStay, IsBacked, IsHeldBy, IsPreparedAt, IsReadAt, ReopensAt, SavesAt, StaysOn}
 use Rattle.ficus_world.specs.Disks.{save_outcome}
 use Rattle.ficus_world.specs.Follows.{FollowsOn, StopsOn, TellsFor}
 use Rattle.ficus_world.specs.Fuses.{AreAtRest, FusesFollow, FusesStand, IsReadBy, at_rest}
-use Rattle.ficus_world.specs.Kills.{Passes, SavesOn, WritesAt}
+use Rattle.ficus_world.specs.Kills.{IsDeedOf, IsGive, IsPull, Passes, SavesOn, Spares, Touches, WritesAt}
 use Rattle.ficus_world.specs.Moves.{GivesMessage, GivesMessages, GivesSomeMessages, HasCollected, KeepsAsk, parts_after, restarted}
 use Rattle.ficus_world.specs.Post.{HasRoom, Outbox, PostState}
 use Rattle.ficus_world.specs.Stepped.{ComesTo, CutOn, CutPart, Stepped}
@@ -104,7 +104,12 @@ pub record Steps {E K D : Type 0} (tells : Type 0) (keep : Keep K) (disk : Disk 
   -- that, or what is pending.
   pub backed : IsBacked keep disk new now.items
   -- At each moment of it the disks are as before, or one member saves: link by link, a link for each message of a pull.
-  pub passes : Passes tells keep disk old.whole new.whole was.items now.items
+  pub passes : Passes tells keep disk (IsDeedOf command) old.whole new.whole was.items now.items
+  -- One that is no pull is one link. Where no member has changed, as after a refusal that no disk made and after
+  -- `Memory`, the disks are as before; but a restart may have opened those of its member again. It writes nothing.
+  pub touches : (IsPull command → ⊥) → Touches keep disk old.whole new.whole was.items now.items
+  pub spared : (IsPull command → ⊥) → Spares disk old.whole command new.whole was.items now.items
+  pub unwritten : (by : ℕ) → command ≡ Restart by → AllRest disk was.items now.items
   -- What a read gives after a restart, a crash might have left before. The pairs of no member stay.
   pub left : disk.tells → (by : ℕ) → command ≡ Restart by → AreLeft disk.seen disk.may_leave was.items now.items
   pub others : OthersStay (length old.whole.members) was.items now.items
@@ -181,6 +186,7 @@ pub record ArmsAt {K D : Type 0} (keep : Keep K) (disk : Disk D) (by calls pick 
   pub follows : (members : List Member) → ((was : Member) → IsNumbered members by was → was.state ≡ Up)
       → DisksComeTo keep disk (IsArmed by calls pick ∷ []) members members old new
   pub rests : RestsAt disk by old new
+  pub spared : AreSpared disk old new
   pub disks : (stables : List (Stable K)) → DisksStay keep disk stables stables old new
 
 -- member `by` saves what it is after an event of its own, and stores that
@@ -195,12 +201,19 @@ pub record Does {K D : Type 0} (tells : Type 0) (keep : Keep K) (disk : Disk D) 
   pub moves : ComesTo tells keep disk old.whole command result new.whole old_disks new_disks
   pub acts : Acts keep disk most result old new old_disks new_disks
 
--- the same of a restart: what a read then gives, a crash might have left
+-- the same of a restart, which may have opened the disks of its member again, and writes nothing: what a read then
+-- gives, a crash might have left
 pub record Restarts {K D : Type 0} (tells : Type 0) (keep : Keep K) (disk : Disk D) (by : ℕ)
     (result : Result Answer Refusal) (old new : Backed K) (old_disks new_disks : List (Pair D)) : Type 0 where
   pub moves : ComesTo tells keep disk old.whole (Restart by) result new.whole old_disks new_disks
-  pub acts : Acts keep disk 2 result old new old_disks new_disks
+  pub members : length new.whole.members ≡ length old.whole.members
+  pub memory : IsErrOf result refusal.Memory
+      → StaysOn disk.faults disk.armings old.whole new.whole old_disks new_disks
+  pub touches : Touches keep disk old.whole new.whole old_disks new_disks
+  pub spared : (IsMember (length old.whole.members) by → ⊥) → AreSpared disk old_disks new_disks
+  pub rests : AllRest disk old_disks new_disks
   pub left : disk.tells → AreLeft disk.seen disk.may_leave old_disks new_disks
+  pub backed : IsBacked keep disk new new_disks
 
 -- one command is carried out, of however many actions
 pub record DoesAll {K D : Type 0} (tells : Type 0) (keep : Keep K) (disk : Disk D) (command : Command)
@@ -208,8 +221,11 @@ pub record DoesAll {K D : Type 0} (tells : Type 0) (keep : Keep K) (disk : Disk 
   pub moves : ComesTo tells keep disk old.whole command result new.whole was.items now.items
   pub memory : IsErrOf result refusal.Memory → CutOn tells keep disk command old.whole new.whole was.items now.items
   pub unsaved : OnlyLooks command → (new ≡ old) × (now ≡ was)
+  pub touches : (IsPull command → ⊥) → Touches keep disk old.whole new.whole was.items now.items
+  pub spared : (IsPull command → ⊥) → Spares disk old.whole command new.whole was.items now.items
+  pub unwritten : (by : ℕ) → command ≡ Restart by → AllRest disk was.items now.items
   pub left : disk.tells → (by : ℕ) → command ≡ Restart by → AreLeft disk.seen disk.may_leave was.items now.items
-  pub acts : ActsOn tells keep disk old new was.items now.items
+  pub acts : ActsOn tells keep disk (IsDeedOf command) old new was.items now.items
 
 -- member `by` asks another for its state
 pub record AsksPeer {K D : Type 0} (tells : Type 0) (keep : Keep K) (disk : Disk D) (by to : ℕ)
@@ -232,7 +248,7 @@ pub record GivesEach {K D : Type 0} (tells : Type 0) (keep : Keep K) (disk : Dis
   pub gives : CarriedOn keep disk (GivesMessages tells mails) result old.whole new.whole old_disks new_disks
   pub memory : IsErrOf result refusal.Memory
       → CutPart keep disk (GivesSomeMessages tells mails) old.whole new.whole old_disks new_disks
-  pub acts : ActsOn tells keep disk old new old_disks new_disks
+  pub acts : ActsOn tells keep disk IsGive old new old_disks new_disks
 
 -- all memory is taken for a message, where it may be posted, and for what member `by` saves next
 pub record MakesReady {A K D : Type 0} (keep : Keep K) (disk : Disk D) (by : ℕ) (next : Saved)

@@ -21,6 +21,8 @@ use Rattle.ficus_runs.specs.Numbered.{IsNumbered}
 use Rattle.ficus_runs.specs.Outcome.{Outcome, IsSaved, SaveFails, armings_in, store_failures}
 use Rattle.ficus_runs.specs.Sequence.{Effect}
 use Rattle.ficus_opening.specs.Disks.{AreDisksOf, ArePairsOf}
+use Rattle.ficus_opening.specs.Opening.{SeenSame, Steady}
+use Rattle.ficus_opening.specs.Rests.{AllRest}
 use Rattle.ficus_opening.specs.declared.member.Member.{Member}
 use Rattle.ficus_opening.specs.declared.member.Pending.{Pending}
 use Rattle.ficus_world.specs.declared.member.Rising.{Rising}
@@ -50,6 +52,12 @@ pub record DisksFollow {D : Type 0} (faults : D → ℕ) (armings : D → Option
   pub count : length new ≡ length old
   pub each : (r : ℕ) (was now : Pair D) → IsNumbered old r was → IsNumbered new r now
       → PairFollows faults armings (store_failures r outcomes) (armings_in r outcomes) was now
+
+-- the disks are as before: nothing is written on them, a read of each gives what it gave, and none has failed
+pub record AreSpared {D : Type 0} (disk : Disk D) (old new : List (Pair D)) : Type 0 where
+  pub rests : AllRest disk old new
+  pub seen : disk.tells → SeenSame disk.seen old new
+  pub faults : Steady disk.faults old new
 
 -- an action on the world was carried out, by some outcomes, or memory was refused
 pub record Carried {A : Type 0} (action : Result A Refusal → Effect Whole → Type 0) (result : Result A Refusal)

@@ -1,5 +1,5 @@
 //! What worlds stand for.
-ghost use Rattle.std.specs.Prelude.{◌≡◌, ◌↔◌, ℕ, length, Contains};
+ghost use Rattle.std.specs.Prelude.{◌≡◌, ◌↔◌, ℕ, List, length, Contains};
 ghost use Rattle.ficus_deciding.specs.View.{held_dead};
 ghost use Rattle.ficus_model.specs.Held.{IsHeldEntry};
 ghost use Rattle.ficus_model.specs.Lawful.{Volume};
@@ -8,6 +8,12 @@ ghost use Rattle.ficus_removal_laws.specs.Marks.{IsMarked};
 ghost use Rattle.ficus_runs.specs.ModelWorld.{ModelWorld};
 ghost use Rattle.ficus_runs.specs.Numbered.{IsNumbered};
 ghost use Rattle.ficus_opening.specs.Disks.{AreDisksOf};
+ghost use Rattle.ficus_ids.specs.declared.refusal.Refusal.{Refusal as RefusalValue};
+ghost use Rattle.ficus_runs.specs.Outcome.{Outcome};
+ghost use Rattle.ficus_script.specs.declared.answer.Answer.TheVariants.{Refused};
+ghost use Rattle.ficus_script.specs.declared.command.Command.{Command as CommandValue};
+ghost use Rattle.ficus_world.specs.Kills.{IsPull, SparesDisks};
+ghost use Rattle.ficus_world.specs.Moves.{CutShort, Moves};
 ghost use Rattle.ficus_world.specs.Stand.{ArePending, DisksOutlast, DisksStand};
 ghost use Rattle.ficus_world.specs.World.{Whole, WorldStandsFor};
 ghost use Rattle.ficus_opening.specs.declared.member.Member.{Member as MemberValue};
@@ -35,6 +41,18 @@ pub fn knowledge_is_held()
         → Contains member.replica.saved.entries (held_dead entry knowing knowing_all_know)
         ↔ (IsHeldEntry volume.members W.events number entry
         × IsMarked volume.members W.events number entry.id knowing knowing_all_know) }
+{}
+
+/// A command that is refused, but where a disk has failed, leaves each member as it was; so does one that is cut short
+/// for want of memory. An ask whose post failed stands, and a pull keeps what it has done. Of a restart that is refused
+/// it says nothing. It does nothing when it runs.
+pub fn refusals_save_nothing<L: Link, D: Disk>()
+    ensures refused { (old new : Whole) (command : CommandValue) (outcomes : List Outcome) (refusal : RefusalValue)
+        → Moves L.tells D.tells old command outcomes (Refused refusal) new → SparesDisks command refusal
+        → new.members ≡ old.members }
+    ensures memory { (old new : Whole) (command : CommandValue) (outcomes : List Outcome)
+        → CutShort L.tells command old (record { outcomes = outcomes; after = new }) → (IsPull command → ⊥)
+        → new.members ≡ old.members }
 {}
 
 /// Where a world stands for one of the model, what is pending there may still come. It does nothing when it runs.

@@ -19,5 +19,7 @@ mod step;
 mod taking;
 mod world;
 
-pub use laws::{disks_stand, knowledge_is_held, one_world, pending_events_may_come};
+pub use laws::{
+    disks_stand, knowledge_is_held, one_world, pending_events_may_come, refusals_save_nothing,
+};
 pub use world::{DEFAULT_BYTES, DEFAULT_IDS, World};

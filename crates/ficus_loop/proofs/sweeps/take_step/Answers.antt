@@ -6,7 +6,8 @@ use Rattle.ficus_loop.specs.SweepFollows.{FollowsStep, swept_of}
 use Rattle.ficus_loop.proofs.SweepFollowing.{step_stops, step_follows, tells_for}
 use Rattle.ficus_loop.proofs.Backing.{step_backed}
 use Rattle.ficus_loop.proofs.FewSteps.{steps_give_few}
-use Rattle.ficus_loop.proofs.SweepCommands.{is_step}
+use Rattle.ficus_loop.proofs.SweepCommands.{is_step, sweep_link}
+use Rattle.ficus_world.proofs.Passing.{passes_of}
 use Rattle.ficus_loop.proofs.sweeps.take_step.Goals as goal
 
 pub returns-in_err-answer-clause-follows : goal.returns-in_err-answer-clause-follows
@@ -28,6 +29,14 @@ returns-clause-follows g c = λ told sweep_step same volume W stands.
     c.step.new.self.whole c.args.disks.now.items c.step.new.disks.items) same
     (c.in_ok-answer.ensures.stands told (tells_for g.D.Disk.tells sweep_step c.args.step.now same) volume W stands) in
     step_follows sweep_step c.args.report c.in_ok-answer.answer c.report_of.result on c.report_of.ensures.reports
+
+pub returns-in_err-answer-clause-passes : goal.returns-in_err-answer-clause-passes
+returns-in_err-answer-clause-passes g c =
+    passes_of (λ link of. sweep_link c.args.step.now link c.requires.step of) c.step.ensures.passes
+
+pub returns-clause-passes : goal.returns-clause-passes
+returns-clause-passes g c =
+    passes_of (λ link of. sweep_link c.args.step.now link c.requires.step of) c.step.ensures.passes
 
 pub returns-in_err-answer-clause-disks : goal.returns-in_err-answer-clause-disks
 returns-in_err-answer-clause-disks g c = step_backed c.step.ensures

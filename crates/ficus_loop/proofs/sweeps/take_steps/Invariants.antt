@@ -4,7 +4,7 @@ use Rattle.ficus_runs.specs.ModelWorld.{ModelWorld}
 use Rattle.ficus_runs.specs.Sweep.{SweepStep, Sweeps, command_of, none_swept}
 use Rattle.ficus_loop.specs.Calls.{StaysBacked}
 use Rattle.ficus_loop.specs.SweepFollows.{CountsFew, FollowsAction, swept_of}
-use Rattle.ficus_world.specs.Kills.{Passes}
+use Rattle.ficus_world.specs.Kills.{IsSweepLink, Passes}
 use Rattle.ficus_world.specs.World.{WorldStandsFor, most_unforeseen}
 use Rattle.ficus_loop.proofs.sweeps.take_steps.Given as goal
 
@@ -17,7 +17,8 @@ invariant-loop-step g l = record {
       → FollowsAction g.K.Keep g.D.Disk volume W l.fn.world.whole
       (Sweeps volume (take l.step-index some) none_swept) (Ok (swept_of l.report)) l.world.whole l.fn.disks.items
       l.disks.items;
-  passes : Passes g.L.Link.tells g.K.Keep g.D.Disk l.fn.world.whole l.world.whole l.fn.disks.items l.disks.items;
+  passes : Passes g.L.Link.tells g.K.Keep g.D.Disk IsSweepLink l.fn.world.whole l.world.whole l.fn.disks.items
+      l.disks.items;
   disks : StaysBacked g.K.Keep g.D.Disk (most_unforeseen * l.step-index) l.fn.world l.world l.fn.disks.items
       l.disks.items;
   few : CountsFew l.step-index l.report;

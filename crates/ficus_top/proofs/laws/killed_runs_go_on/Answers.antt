@@ -11,5 +11,5 @@ returns-clause-cut g c = λ volume V U old new left trail told moments lawful co
     killed_between told moments left pairs trail lawful count there
 
 pub returns-clause-next : goal.returns-clause-next
-returns-clause-next g c = λ volume H left count few keeps.
-    kept_stands kept_in g.D.Disk.seen volume H left count few keeps
+returns-clause-next g c = λ volume W left count few keeps.
+    kept_stands kept_in g.D.Disk.seen volume W left count few keeps

@@ -15,6 +15,6 @@ returns-clause-outlasts g c = λ volume after disks left count lawful few standi
 
 pub returns-clause-down : goal.returns-clause-down
 returns-clause-down g c = λ volume after disks left count lawful few standings pairs outlast same leaves.
-    kept_stands kept_in g.D.Disk.seen volume after.events left count few
+    kept_stands kept_in g.D.Disk.seen volume after left count few
     (left_disks kept_in g.D.Disk.seen g.D.Disk.may_leave volume after disks left lawful standings pairs same outlast
     leaves)

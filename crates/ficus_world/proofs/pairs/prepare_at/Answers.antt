@@ -8,6 +8,7 @@ use Rattle.ficus_runs.proofs.Replaced.{replaced}
 use Rattle.ficus_runs.specs.Numbered.{IsNumbered}
 use Rattle.ficus_world.proofs.Fuses.{fuses_prepared}
 use Rattle.ficus_opening.proofs.Rests.{rests_pair}
+use Rattle.ficus_world.proofs.Sparing.{spared_set}
 use Rattle.ficus_world.proofs.pairs.prepare_at.Goals as goal
 
 -- what stands where one was replaced is that one
@@ -60,5 +61,11 @@ returns-clause-stays g c =
       };
       rests = rests_pair g.D.Disk c.args.by c.args.disks.now.items c.index_mut-2.result.now c.prepare.new.disks is_pair
           c.prepare.ensures.crash c.prepare.ensures.moments c.prepare.ensures.spans;
+      spared = spared_set g.D.Disk c.args.by c.args.disks.now.items c.index_mut-2.result.now c.prepare.new.disks is_pair
+          (record {
+            within = c.prepare.ensures.crash;
+            leaves = c.prepare.ensures.moments;
+            spans = c.prepare.ensures.spans;
+          }) c.prepare.ensures.same c.prepare.ensures.steady;
       count = length-set c.args.stables.now.items (c.args.by - 1) c.prepare.new.self;
     }

@@ -25,7 +25,7 @@ loop-index-preserved g c =
           c.give.new.self.whole c.give.new.disks.items c.in_ok-give.ensures.gives;
       settled = c.settled-in-loop-index.ensures;
       acts = acts_then l.invariant.acts l.invariant.settled (acts_once c.give.ensures.acts (λ before after.
-          given before after c.give.ensures.acts.touches _ (Ok c.in_ok-give.field-0) c.in_ok-give.ensures.gives
+          given before after c.give.ensures.acts.touches c.give.ensures.acts.spared _ (Ok c.in_ok-give.field-0) tt c.in_ok-give.ensures.gives
           c.in_ok-give.ensures.acts.memory));
       grows = omega (arith, c.give.ensures.acts.grows, l.invariant.grows);
     }
@@ -49,7 +49,7 @@ returns-in_err-give g c =
           (c.in_err-give.ensures.acts.memory (same_refusal c.in_err-give.field-0.0 Memory is)));
       acts =
           acts_then l.invariant.acts l.invariant.settled (acts_once c.give.ensures.acts (λ before after.
-          given before after c.give.ensures.acts.touches _ (Err c.in_err-give.field-0.0) c.in_err-give.ensures.gives
+          given before after c.give.ensures.acts.touches c.give.ensures.acts.spared _ (Err c.in_err-give.field-0.0) tt c.in_err-give.ensures.gives
           c.in_err-give.ensures.acts.memory));
     }
 

@@ -1,4 +1,4 @@
-use Rattle.std.proofs.Common.{◌≡◌, Err, Ok, arith, ap, subst}
+use Rattle.std.proofs.Common.{◌≡◌, Err, Ok, arith, refl, ap, subst, inl, inr}
 use Rattle.std.proofs.lemmas.Result.{err_from_is_err_and}
 use Rattle.ficus_ids.specs.declared.refusal.Refusal.TheVariants.{Memory}
 use Rattle.ficus_script.specs.declared.command.Command.TheVariants.{Pull as Pulls}
@@ -9,7 +9,7 @@ use Rattle.ficus_world.proofs.Carrying.{comes_to, whole_is}
 use Rattle.ficus_world.proofs.Moved.{comes_to_none, peers_end, peers_known, same_refusal}
 use Rattle.ficus_world.proofs.Pulling.{cut_given, cut_unasked, cut_ungiven, pull_given, pull_unasked, pull_ungiven}
 use Rattle.ficus_world.proofs.Passing.{asked, given, unasked}
-use Rattle.ficus_world.proofs.Acting.{acts_idle, acts_once, acts_then}
+use Rattle.ficus_world.proofs.Acting.{acts_idle, acts_of, acts_once, acts_then}
 use Rattle.ficus_world.proofs.world.World.pull.Goals as goal
 
 pub returns-in_err-up_peers : goal.returns-in_err-up_peers
@@ -28,6 +28,9 @@ returns-in_err-up_peers g c =
           let same : r ≡ Memory = cc in
           absurd (peers_known c.args.by c.args.to old r (unchanged old) finds same);
       unsaved = λ looks. absurd looks;
+      touches = λ single. absurd (single tt);
+      spared = λ single. absurd (single tt);
+      unwritten = λ r is. absurd (cc);
       left = λ told r is. absurd (cc);
       acts = acts_idle c.requires.backed;
     })
@@ -48,10 +51,13 @@ returns-in_err-asked g c =
           peers c.args.disks.now.items c.ask_peer.new.self.whole c.ask_peer.new.disks.items
           (c.in_err-asked.ensures.acts.memory (same_refusal c.in_err-asked.field-0.0 Memory is));
       unsaved = λ looks. absurd looks;
+      touches = λ single. absurd (single tt);
+      spared = λ single. absurd (single tt);
+      unwritten = λ r is. absurd (cc);
       left = λ told r is. absurd (cc);
       acts =
           acts_once c.ask_peer.ensures.acts (λ before after.
-          unasked before after c.ask_peer.ensures.acts.touches c.args.by c.args.to c.in_err-asked.field-0.0
+          unasked before after c.ask_peer.ensures.acts.touches c.ask_peer.ensures.acts.spared c.args.by c.args.to c.in_err-asked.field-0.0 (inl refl)
           c.in_err-asked.ensures.asks (λ e. c.in_err-asked.ensures.acts.memory (ap Err e)));
     })
 
@@ -73,12 +79,16 @@ returns-in_err-given g c =
           c.ask_peer.new.disks.items c.in_ok-asked.ensures.asks c.give.new.self.whole c.give.new.disks.items
           (c.in_err-given.ensures.acts.memory (same_refusal c.in_err-given.field-0.0 Memory is));
       unsaved = λ looks. absurd looks;
+      touches = λ single. absurd (single tt);
+      spared = λ single. absurd (single tt);
+      unwritten = λ r is. absurd (cc);
       left = λ told r is. absurd (cc);
       acts = acts_then
           (acts_once c.ask_peer.ensures.acts (λ before after.
-          asked before after c.ask_peer.ensures.acts.touches c.args.by c.args.to c.in_ok-asked.asked c.in_ok-asked.ensures.asks)) c.settled.ensures
+          asked before after c.ask_peer.ensures.acts.touches c.ask_peer.ensures.acts.spared c.args.by c.args.to
+          c.in_ok-asked.asked (inl refl) c.in_ok-asked.ensures.asks)) c.settled.ensures
           (acts_once c.give.ensures.acts (λ before after.
-          given before after c.give.ensures.acts.touches c.in_ok-asked.asked (Err c.in_err-given.field-0.0)
+          given before after c.give.ensures.acts.touches c.give.ensures.acts.spared c.in_ok-asked.asked (Err c.in_err-given.field-0.0) (inr tt)
           c.in_err-given.ensures.gives c.in_err-given.ensures.acts.memory));
     })
 
@@ -102,14 +112,19 @@ returns g c =
           c.in_ok-given.ensures.gives c.give_each.new.self.whole c.give_each.new.disks.items
           (rw c.mails_in-first.ensures.are at c.give_each.ensures.memory is);
       unsaved = λ looks. absurd looks;
+      touches = λ single. absurd (single tt);
+      spared = λ single. absurd (single tt);
+      unwritten = λ r is. absurd (cc);
       left = λ told r is. absurd (cc);
       acts = acts_then
           (acts_once c.ask_peer.ensures.acts (λ before after.
-          asked before after c.ask_peer.ensures.acts.touches c.args.by c.args.to c.in_ok-asked.asked c.in_ok-asked.ensures.asks)) c.settled.ensures
+          asked before after c.ask_peer.ensures.acts.touches c.ask_peer.ensures.acts.spared c.args.by c.args.to
+          c.in_ok-asked.asked (inl refl) c.in_ok-asked.ensures.asks)) c.settled.ensures
           (acts_then
           (acts_once c.give.ensures.acts (λ before after.
-          given before after c.give.ensures.acts.touches c.in_ok-asked.asked (Ok c.in_ok-given.given)
-          c.in_ok-given.ensures.gives c.in_ok-given.ensures.acts.memory)) c.settled-2.ensures c.give_each.ensures.acts);
+          given before after c.give.ensures.acts.touches c.give.ensures.acts.spared c.in_ok-asked.asked (Ok c.in_ok-given.given) (inr tt)
+          c.in_ok-given.ensures.gives c.in_ok-given.ensures.acts.memory)) c.settled-2.ensures
+          (acts_of (λ link gives. inr gives) c.give_each.ensures.acts));
     }
 
 pub settled-requires : goal.settled-requires

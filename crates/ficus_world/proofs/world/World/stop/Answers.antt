@@ -64,6 +64,7 @@ returns g c =
         stables = refl;
         memory = λ is. absurd (cc);
         touches = TouchesOne is.member c.arm_at.ensures.rests;
+        spared = λ same. c.arm_at.ensures.spared;
         backed = record {
           pairs = omega (arith, c.requires.backed.pairs, rests_count c.arm_at.ensures.rests);
           disks = c.arm_at.ensures.disks c.args.self.now.stables c.args.self.now.whole.members c.args.self.now.whole.members
