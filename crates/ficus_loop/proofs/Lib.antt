@@ -18,3 +18,5 @@ pub mod SweepAnswers
 pub mod SweepCommands
 pub mod FewSteps
 pub mod SweepFollowing
+pub mod Performing
+pub mod Performed

@@ -8,6 +8,7 @@ use Rattle.ficus_opening.specs.Rests.{OthersStay}
 use Rattle.ficus_runs.specs.ModelWorld.{ModelWorld}
 use Rattle.ficus_script.specs.declared.answer.Answer.{Answer}
 use Rattle.ficus_script.specs.declared.command.Command.{Command}
+use Rattle.ficus_loop.specs.Performing.{Performs, PerformsPart}
 use Rattle.ficus_world.specs.Disks.{IsBacked}
 use Rattle.ficus_world.specs.Follows.{FollowsOn, StopsOn, TellsFor}
 use Rattle.ficus_world.specs.Kills.{IsDeedOf, Passes}
@@ -31,4 +32,7 @@ pub record AnswersCommand {E K D : Type 0} (tells : Type 0) (keep : Keep K) (dis
       → IfOk result (λ answer. FollowsOn keep disk volume W old command answer new old_disks new_disks)
   pub stays : tells → (volume : Volume) (W : ModelWorld) → WorldStandsFor volume W old
       → OnErr result (StopsOn keep disk volume W old command new old_disks new_disks)
+  -- Whatever the world stands for, this comes of what its members hold.
+  pub performs : IfOk result (λ answer. Performs tells keep disk old command answer new old_disks new_disks)
+  pub part : OnErr result (PerformsPart tells keep disk old command new old_disks new_disks)
   pub passes : Passes tells keep disk (IsDeedOf command) old new old_disks new_disks

@@ -6,3 +6,5 @@ pub mod Tally
 pub mod Legs
 pub mod SweepFollows
 pub mod Calls
+pub mod Performing
+pub mod Performed

@@ -5,6 +5,7 @@ ghost use Rattle.ficus_runs.specs.ModelWorld.{ModelWorld};
 ghost use Rattle.ficus_script.specs.Answer.{answer_text_of};
 ghost use Rattle.ficus_script.specs.Command.{IsCommand};
 ghost use Rattle.ficus_loop.specs.Calls.{StaysBacked};
+ghost use Rattle.ficus_loop.specs.Performed.{PutsPerformed, PutsPerformedFront};
 ghost use Rattle.ficus_loop.specs.Puts.{PutsFront};
 ghost use Rattle.ficus_loop.specs.Serving.{serving_limit, ServesWorld, ServesWorldFront};
 ghost use Rattle.ficus_loop.specs.Serving.{script_limit};
@@ -45,6 +46,12 @@ pub fn answer_all<K: Sink, D: Disk, P: Keep + Drop, L: Link + Drop>(
         → ServesWorldFront K.tells (fault ≡ AnsweringFault.Memory) P.Keep D.Disk volume W world.old.whole commands.now
         world.new.whole (K.written output.old) (K.written output.new)
         disks.old.items disks.new.items) }
+    // Whatever the world stood for, and over any link: what each command comes to by what the members hold.
+    ensures moves { OnOk result (PutsPerformed K.tells L.tells P.Keep D.Disk world.old.whole commands.now
+        world.new.whole (K.written output.old) (K.written output.new) disks.old.items disks.new.items) }
+    ensures moves_front { IfErr result (λ fault. PutsPerformedFront K.tells (fault ≡ AnsweringFault.Memory) L.tells
+        P.Keep D.Disk world.old.whole commands.now world.new.whole (K.written output.old) (K.written output.new)
+        disks.old.items disks.new.items) }
     ensures backed { IsBacked P.Keep D.Disk world.new disks.new.items }
     ensures members { length world.new.whole.members ≡ length world.old.whole.members }
     ensures others { OthersStay (length world.old.whole.members) disks.old.items disks.new.items }
@@ -78,6 +85,11 @@ fn answer_one<K: Sink, D: Disk, P: Keep + Drop, L: Link + Drop>(
         → WorldStandsFor volume W world.old.whole
         → ServesWorldFront K.tells (fault ≡ AnsweringFault.Memory) P.Keep D.Disk volume W world.old.whole
         (command.now ∷ []) world.new.whole (K.written output.old) (K.written output.new)
+        disks.old.items disks.new.items) }
+    ensures moves { OnOk result (PutsPerformed K.tells L.tells P.Keep D.Disk world.old.whole (command.now ∷ [])
+        world.new.whole (K.written output.old) (K.written output.new) disks.old.items disks.new.items) }
+    ensures moves_front { IfErr result (λ fault. PutsPerformedFront K.tells (fault ≡ AnsweringFault.Memory) L.tells
+        P.Keep D.Disk world.old.whole (command.now ∷ []) world.new.whole (K.written output.old) (K.written output.new)
         disks.old.items disks.new.items) }
     ensures disks { StaysBacked P.Keep D.Disk most_swept world.old world.new disks.old.items disks.new.items }
     ensures failed { IsErrOf result AnsweringFault.Sink → Rose (K.faults output.old) (K.faults output.new) }

@@ -3,7 +3,8 @@ ghost use Rattle.ficus_model.specs.Lawful.{Volume};
 ghost use Rattle.ficus_runs.specs.ModelWorld.{ModelWorld};
 ghost use Rattle.ficus_runs.specs.Run.{CommandMayWantMemory, Step};
 ghost use Rattle.ficus_script.specs.declared.command.Command.TheVariants.{Why as Whys};
-ghost use Rattle.ficus_world.specs.World.{WorldStandsFor};
+ghost use Rattle.ficus_loop.specs.Performing.{AnswersWhy};
+ghost use Rattle.ficus_world.specs.World.{IsUpIn, WorldStandsFor};
 
 use ficus_ids::{Memory, Refusal};
 use ficus_keeper::Keep;
@@ -22,6 +23,9 @@ pub(crate) fn answer_why<P: Keep + Drop, L: Link + Drop>(
 ) -> Result<Answer, Memory>
     ensures answers { (volume : Volume) (W : ModelWorld) → WorldStandsFor volume W world.now.whole
         → IfOk result (λ answer. Step volume W (Whys by) [] answer W) }
+    // Whatever the world stands for.
+    ensures explains { IfOk result (AnswersWhy by world.now.whole) }
+    ensures up { OnErr result (IsUpIn world.now.whole by) }
     ensures wants { (volume : Volume) (W : ModelWorld) → WorldStandsFor volume W world.now.whole
         → OnErr result (CommandMayWantMemory volume W (Whys by)) }
 {

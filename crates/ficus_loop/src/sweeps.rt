@@ -4,6 +4,7 @@ ghost use Rattle.ficus_runs.specs.ModelWorld.{ModelWorld};
 ghost use Rattle.ficus_runs.specs.Sweep.{SweepStep, command_of, sweep_steps};
 ghost use Rattle.ficus_script.specs.Command.{IsCommand};
 ghost use Rattle.ficus_loop.specs.Calls.{StaysBacked};
+ghost use Rattle.ficus_loop.specs.Performing.{SweepStepsTo, SweepsTo, sweep_commands};
 ghost use Rattle.ficus_loop.specs.SweepFollows.{CountsFew, FollowsStep, FollowsSweep, GivesUpFew, IsSweepCommand, LeavesSwept, ReportsSo, most_steps, most_swept, swept_of, sweeping_limit};
 ghost use Rattle.ficus_world.specs.Disks.{IsBacked};
 ghost use Rattle.ficus_world.specs.Kills.{IsSweepLink, Passes};
@@ -34,6 +35,10 @@ pub fn sweep<D: Disk, K: Keep + Drop, L: Link + Drop>(
     ensures follows { L.tells → (volume : Volume) (W : ModelWorld) → WorldStandsFor volume W world.old.whole
         → FollowsSweep K.Keep D.Disk volume W world.old.whole (sweep_steps order volume.members) result world.new.whole
         disks.old.items disks.new.items }
+    // Whatever it stood for, and over any link: each pull and each collection comes to what the members hold, `Stopped`
+    // is the answer of one, and the counts are those that they were answered with.
+    ensures moves { SweepsTo L.tells K.Keep D.Disk world.old.whole
+        (sweep_commands order (length world.old.whole.members)) result world.new.whole disks.old.items disks.new.items }
     // Where nothing was refused, all members know the same updates, no removed entry is held anywhere, and every object
     // that is held has a live name or is an orphan.
     ensures swept { L.tells → (volume : Volume) (W : ModelWorld) → WorldStandsFor volume W world.old.whole
@@ -63,6 +68,8 @@ fn take_steps<D: Disk, K: Keep + Drop, L: Link + Drop>(
     ensures follows { L.tells → (some : List SweepStep) → steps.now ≡ map command_of some → (volume : Volume)
         (W : ModelWorld) → WorldStandsFor volume W world.old.whole
         → FollowsSweep K.Keep D.Disk volume W world.old.whole some result world.new.whole disks.old.items
+        disks.new.items }
+    ensures moves { SweepsTo L.tells K.Keep D.Disk world.old.whole steps.now result world.new.whole disks.old.items
         disks.new.items }
     ensures passes { Passes L.tells K.Keep D.Disk IsSweepLink world.old.whole world.new.whole disks.old.items
         disks.new.items }
@@ -96,6 +103,8 @@ fn take_step<D: Disk, K: Keep + Drop, L: Link + Drop>(
     ensures follows { L.tells → (sweep_step : SweepStep) → step.now ≡ command_of sweep_step → (volume : Volume)
         (W : ModelWorld) → WorldStandsFor volume W world.old.whole
         → FollowsStep K.Keep D.Disk volume W world.old.whole sweep_step (swept_of report) result world.new.whole
+        disks.old.items disks.new.items }
+    ensures moves { SweepStepsTo L.tells K.Keep D.Disk world.old.whole step.now (swept_of report) result world.new.whole
         disks.old.items disks.new.items }
     ensures few { (count : ℕ) → CountsFew count report → IfOk result (CountsFew (count + 1)) }
     ensures passes { Passes L.tells K.Keep D.Disk IsSweepLink world.old.whole world.new.whole disks.old.items

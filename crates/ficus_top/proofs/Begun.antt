@@ -97,10 +97,10 @@ unfailed_more worlds index world within is none before v own at =
 
 -- each volume has run what was sent to it from its beginning, where its link has never failed
 pub runs_fresh : (volume : Volume) (sent : List Sent) (old new : List (Backed Keeper)) (disks later : Disks MemDisk)
-    (told : Type 0) → told → AreFresh volume old disks
-    → EachRuns told keeper MemDiskDisk.TheImpl.ghosts sent old new disks later → AreUnfailed new
+    (link told : Type 0) → told → AreFresh volume old disks
+    → EachRuns link told keeper MemDiskDisk.TheImpl.ghosts sent old new disks later → AreUnfailed new
     → (v : ℕ) → IsMember (length old) v → RunsFresh volume v sent
-runs_fresh volume sent old new disks later told is_told are runs unfailed v member =
+runs_fresh volume sent old new disks later link told is_told are runs unfailed v member =
     let world = number_exists old v member in
     let next = number_exists new v (subst (λ n. IsMember n v) (sym runs.count) member) in
     let of : IsMember (length disks) v = subst (λ n. IsMember n v) (sym are.held.count) member in
@@ -139,14 +139,14 @@ module _ (tells : Type 0) (volume : Volume) (count : ℕ) (lines : List VolumeLi
   number : length old ≡ count
   number = ap length same ∙ counted
 
-  pub answers_fresh : AnswersLines tells (Told ⊤ ⊤ lines) keeper MemDiskDisk.TheImpl.ghosts lines old
+  pub answers_fresh : AnswersLines tells ⊤ (Told ⊤ ⊤ lines) keeper MemDiskDisk.TheImpl.ghosts lines old
       new disks later was now → AnswersFresh tells volume count lines was now
   answers_fresh answers = record {
     sent = answers.sent;
     answers = answers.answers;
     answered = subst (λ n. AreAnswered n lines answers.sent answers.answers) number answers.answered;
     each = λ v member.
-        runs_fresh volume answers.sent old new disks later (Told ⊤ ⊤ lines) (told_always lines) fresh answers.runs unfailed
+        runs_fresh volume answers.sent old new disks later ⊤ (Told ⊤ ⊤ lines) (told_always lines) fresh answers.runs unfailed
         v (subst (λ n. IsMember n v) (sym number) member);
     put = answers.put;
   }
@@ -201,7 +201,7 @@ module _ (tells : Type 0) (volume : Volume) (count : ℕ) (lines : List VolumeLi
       answered = subst (λ n. AreAnswered n (take front.count lines) front.sent (front.whole ++ front.last)) number
           front.answered;
       each = λ v member.
-          runs_fresh volume front.sent old front.worlds disks front.disks (Told ⊤ ⊤ lines) (told_always lines) fresh
+          runs_fresh volume front.sent old front.worlds disks front.disks ⊤ (Told ⊤ ⊤ lines) (told_always lines) fresh
           front.runs unfailed_before v (subst (λ n. IsMember n v) (sym number) member);
       put = front.put;
     }

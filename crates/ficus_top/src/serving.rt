@@ -3,6 +3,7 @@ ghost use Rattle.ficus_model.specs.Lawful.{Volume};
 ghost use Rattle.ficus_faults.specs.Faults.{Rose};
 ghost use Rattle.ficus_runs.specs.ModelWorld.{ModelWorld};
 ghost use Rattle.ficus_script.specs.Command.{IsCommand};
+ghost use Rattle.ficus_loop.specs.Performed.{PutsPerformed, PutsPerformedFront};
 ghost use Rattle.ficus_loop.specs.Serving.{serving_limit, ServesWorld, ServesWorldFront};
 ghost use Rattle.ficus_loop.specs.Serving.{script_limit};
 ghost use Rattle.ficus_world.specs.Disks.{IsBacked};
@@ -47,6 +48,12 @@ pub fn serve<K: Sink, D: Disk, P: Keep + Drop, L: Link + Drop>(
         → (volume : Volume) (W : ModelWorld) → WorldStandsFor volume W world.old.whole
         → ServesWorldFront K.tells (result.code ≡ 3) P.Keep D.Disk volume W world.old.whole commands.now
         world.new.whole (K.written output.old) (K.written output.new) disks.old.items disks.new.items }
+    // Whatever it stood for, and over any link: each command comes to what the members hold, up to where it ended.
+    ensures moves { result.code ≡ 0 → PutsPerformed K.tells L.tells P.Keep D.Disk world.old.whole commands.now
+        world.new.whole (K.written output.old) (K.written output.new) disks.old.items disks.new.items }
+    ensures moves_front { (result.code ≡ 3) ⊎ (result.code ≡ 5) → PutsPerformedFront K.tells (result.code ≡ 3) L.tells
+        P.Keep D.Disk world.old.whole commands.now world.new.whole (K.written output.old) (K.written output.new)
+        disks.old.items disks.new.items }
     ensures backed { IsBacked P.Keep D.Disk world.new disks.new.items }
     ensures members { length world.new.whole.members ≡ length world.old.whole.members }
     ensures pairs { length disks.new.items ≡ length disks.old.items }

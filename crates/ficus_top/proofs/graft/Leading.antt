@@ -48,7 +48,7 @@ pub record IsUnderway {K D : Type 0} (told : Type 0) (keep : Keep K) (disk : Dis
       (left_of course end.passed) looks last rest
       → CourseLeads (length worlds) by volume course (sendings passed ++ looks) last rest
   pub unrefused : All IsUnrefused passed
-  pub runs : EachRuns told keep disk passed worlds worlds disks disks
+  pub runs : EachRuns told told keep disk passed worlds worlds disks disks
   pub among : IsMember (length worlds) end.volume
   pub within : end.passed ≤ course.most
 
@@ -190,7 +190,7 @@ module _ {K D : Type 0} (told : Type 0) (keep : Keep K) (disk : Disk D) (by volu
 
       -- or it is, and that is the answer
       pub halts_here : (refusal : Refusal)
-          → EachRuns told keep disk (record { what = look_here; answer = Refused refusal } ∷ []) worlds worlds disks disks
+          → EachRuns told told keep disk (record { what = look_here; answer = Refused refusal } ∷ []) worlds worlds disks disks
           → IsStopped told keep disk by volume course refusal worlds disks
       halts_here refusal runs =
           let rest = always_leads (length worlds) by (kept_of course) next Root first.behind in

@@ -45,14 +45,14 @@ kept_by_set list r v next from_one other x is =
     (subst (λ n. IsMember n v) (sym (length-set list (r - 1) next)) is.member)
     (get_or-set_other list (r - 1) (v - 1) next x apart ∙ get_or_from_slice_get list (v - 1) x x is.is)
 
-module _ {K D : Type 0} {told : Type 0} {keep : Keep K} {disk : Disk D} (line : VolumeLine) (old new : List (Backed K))
+module _ {K D : Type 0} {link told : Type 0} {keep : Keep K} {disk : Disk D} (line : VolumeLine) (old new : List (Backed K))
     (old_disks new_disks : Disks D) where
   -- the paths were followed, and the command was sent
   pub line_ends : (passed : List Sent) (volume : ℕ) (command : Command) (answer : Answer)
       → Route (length old) line (sendings passed) (Arrives volume command) → All IsUnrefused passed
-      → EachRuns told keep disk passed old old old_disks old_disks
-      → Sends told keep disk (sent_so volume command answer) old new old_disks new_disks
-      → AnswersLine told keep disk line answer old new old_disks new_disks
+      → EachRuns link told keep disk passed old old old_disks old_disks
+      → Sends link told keep disk (sent_so volume command answer) old new old_disks new_disks
+      → AnswersLine link told keep disk line answer old new old_disks new_disks
   line_ends passed volume command answer route unrefused runs sends = record {
     sent = passed ++ sent_so volume command answer ∷ [];
     answered = AtEnd passed route unrefused refl;
@@ -71,10 +71,12 @@ module _ {K D : Type 0} {told : Type 0} {keep : Keep K} {disk : Disk D} (line : 
         );
   }
 
+module _ {K D : Type 0} {told : Type 0} {keep : Keep K} {disk : Disk D} (line : VolumeLine) (old new : List (Backed K))
+    (old_disks new_disks : Disks D) where
   -- or it may have been cut short
   pub line_cut : (passed : List Sent) (volume : ℕ) (command : Command)
       → Route (length old) line (sendings passed) (Arrives volume command) → All IsUnrefused passed
-      → EachRuns told keep disk passed old old old_disks old_disks
+      → EachRuns told told keep disk passed old old old_disks old_disks
       → MayBeCut told keep disk volume command old new old_disks new_disks
       → StopsLine told keep disk line old new old_disks new_disks
   line_cut passed volume command route unrefused runs (inl same) = inl same
@@ -88,13 +90,13 @@ module _ {K D : Type 0} {told : Type 0} {keep : Keep K} {disk : Disk D} (line : 
     cut = cut;
   })
 
-module _ {K D : Type 0} {told : Type 0} {keep : Keep K} {disk : Disk D} (line : VolumeLine) (worlds : List (Backed K))
+module _ {K D : Type 0} {link told : Type 0} {keep : Keep K} {disk : Disk D} (line : VolumeLine) (worlds : List (Backed K))
     (disks : Disks D) where
   -- a look was refused
   pub line_stops : (passed : List Sent) (last : Sent) (behind : List Sending) {ending : Ending} (refusal : Refusal)
       → Route (length worlds) line (sendings passed ++ last.what ∷ behind) ending → All IsUnrefused passed
-      → last.answer ≡ Refused refusal → EachRuns told keep disk (passed ++ last ∷ []) worlds worlds disks disks
-      → AnswersLine told keep disk line (Refused refusal) worlds worlds disks disks
+      → last.answer ≡ Refused refusal → EachRuns link told keep disk (passed ++ last ∷ []) worlds worlds disks disks
+      → AnswersLine link told keep disk line (Refused refusal) worlds worlds disks disks
   line_stops passed last behind refusal route unrefused refused runs = record {
     sent = passed ++ last ∷ [];
     answered = AtLook passed last behind route unrefused refused refl;
@@ -104,8 +106,8 @@ module _ {K D : Type 0} {told : Type 0} {keep : Keep K} {disk : Disk D} (line : 
 
   -- the paths lead to different volumes
   pub line_parts : (passed : List Sent) → Route (length worlds) line (sendings passed) Apart → All IsUnrefused passed
-      → EachRuns told keep disk passed worlds worlds disks disks
-      → AnswersLine told keep disk line (Refused refusal.Crossing) worlds worlds disks disks
+      → EachRuns link told keep disk passed worlds worlds disks disks
+      → AnswersLine link told keep disk line (Refused refusal.Crossing) worlds worlds disks disks
   line_parts passed route unrefused runs = record {
     sent = passed;
     answered = AtCrossing route unrefused;
@@ -146,7 +148,7 @@ module _ {K D : Type 0} (told also_told : Type 0) (further : also_told → told)
       (is : IsCourse (names_entries line.command) course path) where
     -- a command with one path: a look was refused
     pub one_stops : (refusal : Refusal) → IsStopped told keep disk by line.volume course refusal worlds disks
-        → AnswersLine also_told keep disk line (Refused refusal) worlds worlds disks disks
+        → AnswersLine told also_told keep disk line (Refused refusal) worlds worlds disks disks
     one_stops refusal stopped =
         line_stops line worlds disks stopped.passed stopped.last stopped.behind refusal
         (WithOne paths (path_leads (length worlds) line course path is by actor _ _ _ stopped.leads) refl)
@@ -175,10 +177,10 @@ module _ {K D : Type 0} (told also_told : Type 0) (further : also_told → told)
     -- or it was sent
     pub one_ends : (end : End) (new : List (Backed K)) (new_disks : Disks D) (answer : Answer)
         → Reaches told keep disk by line.volume course end worlds disks
-        → Sends also_told keep disk
+        → Sends told also_told keep disk
         (sent_so end.volume (along (rest_behind end.passed) (rest_behind 0) line.command) answer) worlds new disks
         new_disks
-        → AnswersLine also_told keep disk line answer worlds new disks new_disks
+        → AnswersLine told also_told keep disk line answer worlds new disks new_disks
     one_ends end new new_disks answer reaches sends =
         line_ends line worlds new disks new_disks reaches.passed end.volume
         (along (rest_behind end.passed) (rest_behind 0) line.command) answer
@@ -189,7 +191,7 @@ module _ {K D : Type 0} (told also_told : Type 0) (further : also_told → told)
       (also : IsCourse (names_entries line.command) second other) where
     -- a command with two: a look on the first was refused
     pub first_stops : (refusal : Refusal) → IsStopped told keep disk by line.volume first refusal worlds disks
-        → AnswersLine also_told keep disk line (Refused refusal) worlds worlds disks disks
+        → AnswersLine told also_told keep disk line (Refused refusal) worlds worlds disks disks
     first_stops refusal stopped =
         let leads = path_leads (length worlds) line first path is by actor _ _ _ stopped.leads in
         let most = crossable (names_entries line.command) other.parts in
@@ -208,7 +210,7 @@ module _ {K D : Type 0} (told also_told : Type 0) (further : also_told → told)
 
       -- a look on the second was
       pub second_stops : (refusal : Refusal) → IsStopped told keep disk by line.volume second refusal worlds disks
-          → AnswersLine also_told keep disk line (Refused refusal) worlds worlds disks disks
+          → AnswersLine told also_told keep disk line (Refused refusal) worlds worlds disks disks
       second_stops refusal stopped =
           let more = path_leads (length worlds) line second other also by actor _ _ _ stopped.leads in
           let route = ends_somehow paths leads more in
@@ -221,7 +223,7 @@ module _ {K D : Type 0} (told also_told : Type 0) (further : also_told → told)
           line_stops line worlds disks passed stopped.last stopped.behind refusal
           (subst (λ (l : List Sending). Route (length worlds) line l route.0) looks route.1)
           (All-append IsUnrefused reaches.passed stopped.passed reaches.unrefused stopped.unrefused) stopped.refused
-          (subst (λ (sent : List Sent). EachRuns also_told keep disk sent worlds worlds disks disks)
+          (subst (λ (sent : List Sent). EachRuns told also_told keep disk sent worlds worlds disks disks)
           (sym (append_assoc reaches.passed stopped.passed (stopped.last ∷ [])))
           (each_where further (each_then reaches.runs stopped.runs)))
 
@@ -241,16 +243,16 @@ module _ {K D : Type 0} (told also_told : Type 0) (further : also_told → told)
         unfolding passed
         unrefused = All-append IsUnrefused reaches.passed reaches_too.passed reaches.unrefused reaches_too.unrefused
 
-        looked : EachRuns told keep disk passed worlds worlds disks disks
+        looked : EachRuns told told keep disk passed worlds worlds disks disks
         unfolding passed
         looked = each_then reaches.runs reaches_too.runs
 
-        runs : EachRuns also_told keep disk passed worlds worlds disks disks
+        runs : EachRuns told also_told keep disk passed worlds worlds disks disks
         runs = each_where further looked
 
         -- they lead to different volumes
         pub two_part : end.volume ≢ far.volume
-            → AnswersLine also_told keep disk line (Refused refusal.Crossing) worlds worlds disks disks
+            → AnswersLine told also_told keep disk line (Refused refusal.Crossing) worlds worlds disks disks
         two_part apart =
             line_parts line worlds disks passed
             (Parting paths leads more (sym looks_are) apart)
@@ -280,20 +282,20 @@ module _ {K D : Type 0} (told also_told : Type 0) (further : also_told → told)
 
         -- or was sent
         pub two_end : (new : List (Backed K)) (new_disks : Disks D) (answer : Answer) → end.volume ≡ far.volume
-            → Sends also_told keep disk
+            → Sends told also_told keep disk
             (sent_so end.volume (along (rest_behind end.passed) (rest_behind far.passed) line.command) answer) worlds new
             disks new_disks
-            → AnswersLine also_told keep disk line answer worlds new disks new_disks
+            → AnswersLine told also_told keep disk line answer worlds new disks new_disks
         two_end new new_disks answer same sends =
             let sent = along (rest_behind end.passed) (rest_behind far.passed) line.command in
             line_ends line worlds new disks new_disks passed end.volume sent answer
             (two_arrive same) unrefused runs sends
 
 -- a command without a path
-pub without_path : {K D : Type 0} {told : Type 0} {keep : Keep K} {disk : Disk D} (line : VolumeLine)
+pub without_path : {K D : Type 0} {link told : Type 0} {keep : Keep K} {disk : Disk D} (line : VolumeLine)
     (old new : List (Backed K)) (old_disks new_disks : Disks D) (answer : Answer) → paths_of line.command ≡ []
-    → Sends told keep disk (sent_so line.volume line.command answer) old new old_disks new_disks
-    → AnswersLine told keep disk line answer old new old_disks new_disks
+    → Sends link told keep disk (sent_so line.volume line.command answer) old new old_disks new_disks
+    → AnswersLine link told keep disk line answer old new old_disks new_disks
 without_path line old new old_disks new_disks answer none sends =
     line_ends line old new old_disks new_disks [] line.volume line.command answer (WithoutPath none)
     (All-nil IsUnrefused) (each_none old old_disks) sends
@@ -316,20 +318,20 @@ cut_as {told} {keep} {disk} {v} {command} {old} {mid} {new} {old_disks} {mid_dis
     (subst (λ (d : Disks _). MayBeCut told keep disk v command mid new d new_disks) kept cut)
 
 -- the same of equal worlds and disks
-pub halts_as : {K D : Type 0} (told : Type 0) (keep : Keep K) (disk : Disk D) (line : VolumeLine) (stop : Stop)
+pub halts_as : {K D : Type 0} (link told : Type 0) (keep : Keep K) (disk : Disk D) (line : VolumeLine) (stop : Stop)
     {old new : List (Backed K)} {old_disks new_disks : Disks D} → new ≡ old → new_disks ≡ old_disks
-    → LineHalts told keep disk line stop old old old_disks old_disks
-    → LineHalts told keep disk line stop old new old_disks new_disks
-halts_as told keep disk line stop {old} {new} {old_disks} {new_disks} same kept halts =
-    subst (λ (w : List (Backed _)). LineHalts told keep disk line stop old w old_disks new_disks) (sym same)
-    (subst (λ (d : Disks _). LineHalts told keep disk line stop old old old_disks d) (sym kept) halts)
+    → LineHalts link told keep disk line stop old old old_disks old_disks
+    → LineHalts link told keep disk line stop old new old_disks new_disks
+halts_as link told keep disk line stop {old} {new} {old_disks} {new_disks} same kept halts =
+    subst (λ (w : List (Backed _)). LineHalts link told keep disk line stop old w old_disks new_disks) (sym same)
+    (subst (λ (d : Disks _). LineHalts link told keep disk line stop old old old_disks d) (sym kept) halts)
 
-pub sends_as : {K D : Type 0} {told : Type 0} {keep : Keep K} {disk : Disk D} {one : Sent} {old mid new : List (Backed K)}
+pub sends_as : {K D : Type 0} {link told : Type 0} {keep : Keep K} {disk : Disk D} {one : Sent} {old mid new : List (Backed K)}
     {old_disks mid_disks new_disks : Disks D} → mid ≡ old → mid_disks ≡ old_disks
-    → Sends told keep disk one mid new mid_disks new_disks → Sends told keep disk one old new old_disks new_disks
-sends_as {told} {keep} {disk} {one} {old} {mid} {new} {old_disks} {mid_disks} {new_disks} same kept sends =
-    subst (λ (w : List (Backed _)). Sends told keep disk one w new old_disks new_disks) same
-    (subst (λ (d : Disks _). Sends told keep disk one mid new d new_disks) kept sends)
+    → Sends link told keep disk one mid new mid_disks new_disks → Sends link told keep disk one old new old_disks new_disks
+sends_as {link} {told} {keep} {disk} {one} {old} {mid} {new} {old_disks} {mid_disks} {new_disks} same kept sends =
+    subst (λ (w : List (Backed _)). Sends link told keep disk one w new old_disks new_disks) same
+    (subst (λ (d : Disks _). Sends link told keep disk one mid new d new_disks) kept sends)
 
 module _ {K D : Type 0} (told also_told : Type 0) (further : also_told → told) (keep : Keep K) (disk : Disk D)
     (line : VolumeLine) (worlds : List (Backed K)) (disks : Disks D) where
@@ -337,20 +339,20 @@ module _ {K D : Type 0} (told also_told : Type 0) (further : also_told → told)
   pub one_halts : (by : ℕ) (course : Course) (stop : Stop) (new : List (Backed K)) (new_disks : Disks D)
       → AreCourses line.command (courses.One by course) → new ≡ worlds → new_disks ≡ disks
       → Halts told keep disk by line.volume course stop worlds disks
-      → LineHalts also_told keep disk line stop worlds new disks new_disks
+      → LineHalts told also_told keep disk line stop worlds new disks new_disks
   one_halts by course stop.Memory new new_disks are same kept halts = tt
   one_halts by course (stop.Refused refusal) new new_disks (actor, path, paths, is) same kept halts =
-      halts_as also_told keep disk line (stop.Refused refusal) same kept
+      halts_as told also_told keep disk line (stop.Refused refusal) same kept
       (one_stops told also_told further keep disk by line actor worlds disks course path paths is refusal halts)
 
   -- or with two, at the first or the second
   pub first_halts : (by : ℕ) (first second : Course) (stop : Stop) (new : List (Backed K)) (new_disks : Disks D)
       → AreCourses line.command (courses.Two by first second) → new ≡ worlds → new_disks ≡ disks
       → Halts told keep disk by line.volume first stop worlds disks
-      → LineHalts also_told keep disk line stop worlds new disks new_disks
+      → LineHalts told also_told keep disk line stop worlds new disks new_disks
   first_halts by first second stop.Memory new new_disks are same kept halts = tt
   first_halts by first second (stop.Refused refusal) new new_disks (actor, path, other, paths, is, also) same kept halts =
-      halts_as also_told keep disk line (stop.Refused refusal) same kept
+      halts_as told also_told keep disk line (stop.Refused refusal) same kept
       (first_stops told also_told further keep disk by line actor worlds disks first second path other paths is also
       refusal halts)
 
@@ -359,11 +361,11 @@ module _ {K D : Type 0} (told also_told : Type 0) (further : also_told → told)
       → mid_disks ≡ disks → new ≡ mid → new_disks ≡ mid_disks
       → Reaches told keep disk by line.volume first end worlds disks
       → Halts told keep disk by line.volume second stop mid mid_disks
-      → LineHalts also_told keep disk line stop worlds new disks new_disks
+      → LineHalts told also_told keep disk line stop worlds new disks new_disks
   second_halts by first second end stop.Memory mid new mid_disks new_disks are begun kept_first same kept reaches halts = tt
   second_halts by first second end (stop.Refused refusal) mid new mid_disks new_disks (actor, path, other, paths, is, also)
       begun kept_first same kept reaches halts =
-      halts_as also_told keep disk line (stop.Refused refusal) (same ∙ begun) (kept ∙ kept_first)
+      halts_as told also_told keep disk line (stop.Refused refusal) (same ∙ begun) (kept ∙ kept_first)
       (second_stops told also_told further keep disk by line actor worlds disks first second path other paths is also
       end reaches refusal
       (subst (λ (w : List (Backed K)). IsStopped told keep disk by line.volume second refusal w disks) begun
@@ -381,10 +383,10 @@ module _ {K D : Type 0} (told also_told : Type 0) (further : also_told → told)
       → AreCourses line.command (courses.Two by first second) → new ≡ worlds → new_disks ≡ disks
       → Reaches told keep disk by line.volume first end worlds disks
       → Reaches told keep disk by line.volume second far worlds disks → end.volume ≢ far.volume
-      → LineHalts also_told keep disk line (stop.Refused refusal.Crossing) worlds new disks new_disks
+      → LineHalts told also_told keep disk line (stop.Refused refusal.Crossing) worlds new disks new_disks
   parted_halts by first second end far new new_disks (actor, path, other, paths, is, also) same kept reaches reaches_too
       apart =
-      halts_as also_told keep disk line (stop.Refused refusal.Crossing) same kept
+      halts_as told also_told keep disk line (stop.Refused refusal.Crossing) same kept
       (two_part told also_told further keep disk by line actor worlds disks first second path other paths is also end
       reaches far reaches_too apart)
 
@@ -415,10 +417,10 @@ module _ {K D : Type 0} (told also_told : Type 0) (further : also_told → told)
   pub one_answers : (by : ℕ) (course : Course) (end : End) (mid new : List (Backed K)) (mid_disks new_disks : Disks D)
       (answer : Answer) → AreCourses line.command (courses.One by course) → mid ≡ worlds → mid_disks ≡ disks
       → Reaches told keep disk by line.volume course end worlds disks
-      → Sends also_told keep disk
+      → Sends told also_told keep disk
       (sent_so end.volume (along (rest_behind end.passed) (rest_behind 0) line.command) answer) mid new mid_disks
       new_disks
-      → AnswersLine also_told keep disk line answer worlds new disks new_disks
+      → AnswersLine told also_told keep disk line answer worlds new disks new_disks
   one_answers by course end mid new mid_disks new_disks answer (actor, path, paths, is) same kept reaches sends =
       one_ends told also_told further keep disk by line actor worlds disks course path paths is end new new_disks answer
       reaches (sends_as same kept sends)
@@ -427,10 +429,10 @@ module _ {K D : Type 0} (told also_told : Type 0) (further : also_told → told)
       (mid_disks new_disks : Disks D) (answer : Answer) → AreCourses line.command (courses.Two by first second)
       → mid ≡ worlds → mid_disks ≡ disks → Reaches told keep disk by line.volume first end worlds disks
       → Reaches told keep disk by line.volume second far worlds disks → end.volume ≡ far.volume
-      → Sends also_told keep disk
+      → Sends told also_told keep disk
       (sent_so end.volume (along (rest_behind end.passed) (rest_behind far.passed) line.command) answer) mid new
       mid_disks new_disks
-      → AnswersLine also_told keep disk line answer worlds new disks new_disks
+      → AnswersLine told also_told keep disk line answer worlds new disks new_disks
   two_answers by first second end far mid new mid_disks new_disks answer (actor, path, other, paths, is, also) same kept
       reaches reaches_too together sends =
       two_end told also_told further keep disk by line actor worlds disks first second path other paths is also end

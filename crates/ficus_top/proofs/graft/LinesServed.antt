@@ -31,10 +31,10 @@ module _ {count : ℕ} where
       → AreAnswered count (line ∷ []) sent (answer ∷ [])
   answered_one {sent} is = Next is None (sym (append-nil sent))
 
-module _ {K D : Type 0} {tells told : Type 0} {keep : Keep K} {disk : Disk D} where
+module _ {K D : Type 0} {tells link told : Type 0} {keep : Keep K} {disk : Disk D} where
   -- no line
   pub lines_none : (worlds : List (Backed K)) (disks : Disks D) (was : List ℕ)
-      → AnswersLines tells told keep disk [] worlds worlds disks disks was was
+      → AnswersLines tells link told keep disk [] worlds worlds disks disks was was
   lines_none worlds disks was = record {
     sent = [];
     answers = [];
@@ -46,14 +46,14 @@ module _ {K D : Type 0} {tells told : Type 0} {keep : Keep K} {disk : Disk D} wh
   module _ {more : Type 0} {old mid : List (Backed K)} {old_disks mid_disks : Disks D} {was then : List ℕ}
       (lines : List VolumeLine) (index : ℕ) (line : VolumeLine) (within : index < length lines)
       (is : line ≡ get_or lines index line) (further : told → more) (counted : length mid ≡ length old)
-      (first : AnswersLines tells told keep disk (take index lines) old mid old_disks mid_disks was then) where
+      (first : AnswersLines tells link told keep disk (take index lines) old mid old_disks mid_disks was then) where
     line_behind : take (index + 1) lines ≡ take index lines ++ line ∷ []
     line_behind = take_more lines index line within ∙ ap (λ (l : VolumeLine). take index lines ++ l ∷ []) (sym is)
 
     -- the first lines, and the next one
     pub lines_more : (new : List (Backed K)) (new_disks : Disks D) (now : List ℕ)
-        → PutsLine tells more keep disk line mid new mid_disks new_disks then now
-        → AnswersLines tells told keep disk (take (index + 1) lines) old new old_disks new_disks was now
+        → PutsLine tells link more keep disk line mid new mid_disks new_disks then now
+        → AnswersLines tells link told keep disk (take (index + 1) lines) old new old_disks new_disks was now
     lines_more new new_disks now puts = record {
       sent = first.sent ++ puts.answers.sent;
       answers = first.answers ++ puts.answer ∷ [];
@@ -69,10 +69,10 @@ module _ {K D : Type 0} {tells told : Type 0} {keep : Keep K} {disk : Disk D} wh
     }
 
     -- the first lines, and of the next one's answer a front was put
-    front_more : (link : Type 0) (new : List (Backed K)) (new_disks : Disks D) (now : List ℕ)
-        → IsPutInPart tells more keep disk line mid new mid_disks new_disks then now
+    front_more : (new : List (Backed K)) (new_disks : Disks D) (now : List ℕ)
+        → IsPutInPart tells link more keep disk line mid new mid_disks new_disks then now
         → AnswersFront tells link told keep disk lines old new old_disks new_disks was now
-    front_more link new new_disks now part = record {
+    front_more new new_disks now part = record {
       count = index + 1;
       within = omega arith;
       sent = first.sent ++ part.answers.sent;
@@ -99,17 +99,17 @@ module _ {K D : Type 0} {tells told : Type 0} {keep : Keep K} {disk : Disk D} wh
         number_read lines (index + 1) line line (record { at_least = omega arith; at_most = omega arith })
         (subst (λ n. get_or lines n line ≡ line) (sym place) (sym is))
 
-    left_by : (link : Type 0) (new : List (Backed K)) (new_disks : Disks D)
+    left_by : (new : List (Backed K)) (new_disks : Disks D)
         → StopsLine link keep disk line mid new mid_disks new_disks
         → ((new ≡ mid) × (new_disks ≡ mid_disks))
         ⊎ IsNextCut link keep disk lines index [] mid new mid_disks new_disks
-    left_by link new new_disks (inl same) = inl same
-    left_by link new new_disks (inr cut) = inr (record { all = refl; line = line; next = is_next; cut = cut })
+    left_by new new_disks (inl same) = inl same
+    left_by new new_disks (inr cut) = inr (record { all = refl; line = line; next = is_next; cut = cut })
 
-    front_same : (link : Type 0) (new : List (Backed K)) (new_disks : Disks D) (now : List ℕ)
+    front_same : (new : List (Backed K)) (new_disks : Disks D) (now : List ℕ)
         → (now ≡ then) × StopsLine link keep disk line mid new mid_disks new_disks
         → AnswersFront tells link told keep disk lines old new old_disks new_disks was now
-    front_same link new new_disks now (same, stops) = record {
+    front_same new new_disks now (same, stops) = record {
       count = index;
       within = omega arith;
       sent = first.sent;
@@ -120,7 +120,7 @@ module _ {K D : Type 0} {tells told : Type 0} {keep : Keep K} {disk : Disk D} wh
           (sym (append-nil first.answers)) first.answered;
       worlds = mid;
       disks = mid_disks;
-      left = left_by link new new_disks stops;
+      left = left_by new new_disks stops;
       runs = first.runs;
       put = λ tell. record {
         front = [];
@@ -131,12 +131,12 @@ module _ {K D : Type 0} {tells told : Type 0} {keep : Keep K} {disk : Disk D} wh
     }
 
     -- either of them
-    pub front_next : (link : Type 0) (new : List (Backed K)) (new_disks : Disks D) (now : List ℕ)
+    pub front_next : (new : List (Backed K)) (new_disks : Disks D) (now : List ℕ)
         → ((now ≡ then) × StopsLine link keep disk line mid new mid_disks new_disks)
-        ⊎ IsPutInPart tells more keep disk line mid new mid_disks new_disks then now
+        ⊎ IsPutInPart tells link more keep disk line mid new mid_disks new_disks then now
         → AnswersFront tells link told keep disk lines old new old_disks new_disks was now
-    front_next link new new_disks now (inl same) = front_same link new new_disks now same
-    front_next link new new_disks now (inr part) = front_more link new new_disks now part
+    front_next new new_disks now (inl same) = front_same new new_disks now same
+    front_next new new_disks now (inr part) = front_more new new_disks now part
 
 -- what is told of all lines is told of each
 pub told_at : {link tells : Type 0} (lines : List VolumeLine) (index : ℕ) (line : VolumeLine) → index < length lines

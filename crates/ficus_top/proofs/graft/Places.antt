@@ -18,6 +18,7 @@ use Rattle.ficus_runs.specs.ModelWorld.{ModelWorld}
 use Rattle.ficus_runs.specs.Numbered.{IsNumbered}
 use Rattle.ficus_path.specs.declared.path.Path.{Path}
 use Rattle.ficus_world.specs.Follows.{FollowsOn, StopsOn, TellsFor}
+use Rattle.ficus_world.specs.Stepped.{CutOn, Stepped}
 use Rattle.ficus_world.specs.World.{Backed, WorldStandsFor, foreseen, most_unforeseen}
 use Rattle.ficus_world.proofs.Lifting.Sets.{set_same}
 use Rattle.ficus_top.specs.declared.graft.following.Stop.{Stop}
@@ -35,19 +36,32 @@ module _ {K D : Type 0} (keep : Keep K) (disk : Disk D) (worlds : List (Backed K
     (world next : Backed K) (pairs later : Vec (Pair D) Global) (is : IsNumbered worlds v world)
     (of : IsNumbered disks v pairs) where
   -- the command was sent there, and answered
-  pub sends_at : (told : Type 0) (command : Command) (result : Result Answer Memory)
+  pub sends_at : (link told : Type 0) (command : Command) (result : Result Answer Memory)
+      → IfOk result (λ answer. Stepped link keep disk world.whole command answer next.whole (vec_items pairs)
+      (vec_items later))
       → (told → (volume : Volume) (W : ModelWorld) → WorldStandsFor volume W world.whole
       → IfOk result (λ answer. FollowsOn keep disk volume W world.whole command answer next.whole (vec_items pairs)
       (vec_items later)))
-      → IfOk result (λ answer. Sends told keep disk (sent_so v command answer) worlds (slice_set worlds (v - 1) next)
+      → IfOk result (λ answer. Sends link told keep disk (sent_so v command answer) worlds (slice_set worlds (v - 1) next)
       disks (slice_set disks (v - 1) later))
-  sends_at told command (Err memory) follows = tt
-  sends_at told command (Ok answer) follows = record {
+  sends_at link told command (Err memory) stepped follows = tt
+  sends_at link told command (Ok answer) stepped follows = record {
     next = next;
     later = later;
     member = is.member;
     set = refl;
     set_disks = refl;
+    steps = record {
+      world = world;
+      pairs = pairs;
+      next = next;
+      later = later;
+      is = is;
+      of = of;
+      set = refl;
+      set_disks = refl;
+      step = stepped;
+    };
     follows = λ is_told volume W own own_pairs here there stands.
         let same : world ≡ own = number_once is here in
         let alike : pairs ≡ own_pairs = number_once of there in
@@ -63,10 +77,11 @@ module _ {K D : Type 0} (keep : Keep K) (disk : Disk D) (worlds : List (Backed K
   pub cut_at : (told : Type 0) (command : Command) (result : Result Answer Memory)
       → (told → (volume : Volume) (W : ModelWorld) → WorldStandsFor volume W world.whole
       → OnErr result (StopsOn keep disk volume W world.whole command next.whole (vec_items pairs) (vec_items later)))
+      → OnErr result (CutOn told keep disk command world.whole next.whole (vec_items pairs) (vec_items later))
       → OnErr result (IsCutShort told keep disk v command worlds (slice_set worlds (v - 1) next) disks
       (slice_set disks (v - 1) later))
-  cut_at told command (Ok answer) stops = tt
-  cut_at told command (Err memory) stops = record {
+  cut_at told command (Ok answer) stops cut = tt
+  cut_at told command (Err memory) stops cut = record {
     next = next;
     later = later;
     member = is.member;
@@ -81,6 +96,12 @@ module _ {K D : Type 0} (keep : Keep K) (disk : Disk D) (worlds : List (Backed K
         (vec_items later)) same
         (subst (λ (p : Vec (Pair D) Global). StopsOn keep disk volume W world.whole command next.whole (vec_items p)
         (vec_items later)) alike (stops is_told volume W standing));
+    cut = λ own own_pairs here there.
+        let same : world ≡ own = number_once is here in
+        let alike : pairs ≡ own_pairs = number_once of there in
+        subst (λ (w : Backed K). CutOn told keep disk command w.whole next.whole (vec_items own_pairs) (vec_items later)) same
+        (subst (λ (p : Vec (Pair D) Global). CutOn told keep disk command world.whole next.whole (vec_items p) (vec_items later))
+        alike cut);
   }
 
   -- the disks are still those of the worlds
@@ -124,15 +145,16 @@ module _ {K D : Type 0} (keep : Keep K) (disk : Disk D) (worlds : List (Backed K
       ap (λ (p : Vec (Pair D) Global). slice_set disks (v - 1) p) same ∙ set_same disks v pairs of
 
 -- less has to be told
-pub sends_where : {K D : Type 0} {told more : Type 0} {keep : Keep K} {disk : Disk D} {one : Sent}
+pub sends_where : {K D : Type 0} {link told more : Type 0} {keep : Keep K} {disk : Disk D} {one : Sent}
     {old new : List (Backed K)} {old_disks new_disks : Disks D} → (more → told)
-    → Sends told keep disk one old new old_disks new_disks → Sends more keep disk one old new old_disks new_disks
+    → Sends link told keep disk one old new old_disks new_disks → Sends link more keep disk one old new old_disks new_disks
 sends_where further sends = record {
   next = sends.next;
   later = sends.later;
   member = sends.member;
   set = sends.set;
   set_disks = sends.set_disks;
+  steps = sends.steps;
   follows = λ is_told. sends.follows (further is_told);
 }
 
@@ -140,14 +162,14 @@ module _ {K D : Type 0} (keep : Keep K) (disk : Disk D) (link tells : Type 0) (v
     (old_disks new_disks : Disks D) where
   -- what is left of the command was sent in its place
   pub sends_rest : (f g : Path → Path) (command rest : Command) (result : Result Answer Memory) → rest ≡ along f g command
-      → IfOk result (λ answer. Sends (link × TellsFor tells rest) keep disk (sent_so v rest answer) old new old_disks
+      → IfOk result (λ answer. Sends link (link × TellsFor tells rest) keep disk (sent_so v rest answer) old new old_disks
       new_disks)
-      → IfOk result (λ answer. Sends (link × TellsFor tells command) keep disk (sent_so v (along f g command) answer) old
+      → IfOk result (λ answer. Sends link (link × TellsFor tells command) keep disk (sent_so v (along f g command) answer) old
       new old_disks new_disks)
   sends_rest f g command rest (Err memory) same sends = tt
   sends_rest f g command rest (Ok answer) same sends =
       sends_where (λ told. (told.0, tells_along f g tells command told.1))
-      (subst (λ (it : Command). Sends (link × TellsFor tells it) keep disk (sent_so v it answer) old new old_disks
+      (subst (λ (it : Command). Sends link (link × TellsFor tells it) keep disk (sent_so v it answer) old new old_disks
       new_disks) same sends)
 
   -- or that was cut short
@@ -160,20 +182,20 @@ module _ {K D : Type 0} (keep : Keep K) (disk : Disk D) (link tells : Type 0) (v
 
   -- a look was sent, and changed nothing
   pub look_runs : (by : ℕ) (path own : Path) (answer : Answer) → path ≡ own → new ≡ old → new_disks ≡ old_disks
-      → Sends (link × TellsFor tells (ls by path)) keep disk (sent_so v (ls by path) answer) old new old_disks new_disks
-      → EachRuns link keep disk (sent_so v (ls by own) answer ∷ []) old old old_disks old_disks
+      → Sends link (link × TellsFor tells (ls by path)) keep disk (sent_so v (ls by path) answer) old new old_disks new_disks
+      → EachRuns link link keep disk (sent_so v (ls by own) answer ∷ []) old old old_disks old_disks
   look_runs by path own answer same unchanged kept sends =
-      subst (λ (p : Path). EachRuns link keep disk (sent_so v (ls by p) answer ∷ []) old old old_disks old_disks) same
-      (subst (λ (w : List (Backed K)). EachRuns link keep disk (sent_so v (ls by path) answer ∷ []) old w old_disks
+      subst (λ (p : Path). EachRuns link link keep disk (sent_so v (ls by p) answer ∷ []) old old old_disks old_disks) same
+      (subst (λ (w : List (Backed K)). EachRuns link link keep disk (sent_so v (ls by path) answer ∷ []) old w old_disks
       old_disks) unchanged
-      (subst (λ (d : Disks D). EachRuns link keep disk (sent_so v (ls by path) answer ∷ []) old new old_disks d) kept
+      (subst (λ (d : Disks D). EachRuns link link keep disk (sent_so v (ls by path) answer ∷ []) old new old_disks d) kept
       (each_where (λ told. (told, λ none. absurd none)) (each_one (sent_so v (ls by path) answer) old new old_disks new_disks sends))))
 
 -- what stops for a refusal that was found stops for what was sent; want of memory is free
 pub stops_refused : {K D A : Type 0} (keep : Keep K) (disk : Disk D) (link : Type 0) (what : Sending)
     (worlds : List (Backed K)) (disks : Disks D) (found : Result (Option Refusal) Memory) (result : Result A Stop)
     → ((why : Refusal) → found ≡ Ok (Some why)
-    → EachRuns link keep disk (record { what = what; answer = Refused why } ∷ []) worlds worlds disks disks)
+    → EachRuns link link keep disk (record { what = what; answer = Refused why } ∷ []) worlds worlds disks disks)
     → IfErr result (λ why. (refusal : Refusal) → why ≡ stop.Refused refusal → found ≡ Ok (Some refusal))
     → IfErr result (λ why. IsRefusedBy link keep disk what why worlds disks)
 stops_refused keep disk link what worlds disks found (Ok done) runs refused = tt

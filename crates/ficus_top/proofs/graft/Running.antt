@@ -28,7 +28,8 @@ use Rattle.ficus_world.proofs.Disks.{follows_none, follows_then}
 use Rattle.ficus_world.proofs.Fuses.{fuses_none, fuses_then}
 use Rattle.ficus_world.proofs.Lifting.Outcomes.{both_caused, steady_caused}
 use Rattle.ficus_top.specs.Graft.Answered.{Sent, answers_to, commands_to}
-use Rattle.ficus_top.specs.Graft.Runs.{Disks, EachRuns, RunsOn, Sends}
+use Rattle.ficus_top.specs.Graft.Runs.{Disks, EachRuns, EachSteps, RunsOn, Sends}
+use Rattle.ficus_top.specs.Graft.Runs.EachSteps.{NoneSteps, OneSteps}
 use Rattle.ficus_top.proofs.graft.Sending.{answers_append, commands_append, to_it, to_other}
 
 module _ {K D : Type 0} {keep : Keep K} {disk : Disk D} {volume : Volume} where
@@ -103,12 +104,22 @@ map_commands sent = map (λ one. one.what.command) sent
 abbrev map_answers : List Sent → List Answer
 map_answers sent = map (λ one. one.answer) sent
 
-module _ {K D : Type 0} {told : Type 0} {keep : Keep K} {disk : Disk D} where
+module _ {K D : Type 0} {link : Type 0} {keep : Keep K} {disk : Disk D} where
+  -- steps, and then others
+  steps_then : {sent more : List Sent} {old mid new : List (Backed K)} {old_disks mid_disks new_disks : Disks D}
+      → EachSteps link keep disk sent old mid old_disks mid_disks
+      → EachSteps link keep disk more mid new mid_disks new_disks
+      → EachSteps link keep disk (sent ++ more) old new old_disks new_disks
+  steps_then NoneSteps behind = behind
+  steps_then (OneSteps first rest) behind = OneSteps first (steps_then rest behind)
+
+module _ {K D : Type 0} {link told : Type 0} {keep : Keep K} {disk : Disk D} where
   -- nothing was sent
-  pub each_none : (worlds : List (Backed K)) (disks : Disks D) → EachRuns told keep disk [] worlds worlds disks disks
+  pub each_none : (worlds : List (Backed K)) (disks : Disks D) → EachRuns link told keep disk [] worlds worlds disks disks
   each_none worlds disks = record {
     count = refl;
     lists = refl;
+    steps = NoneSteps;
     each = λ told v volume W world next pairs later is now of becomes stands.
         let same : world ≡ next = number_once is now in
         let alike : pairs ≡ later = number_once of becomes in
@@ -120,11 +131,12 @@ module _ {K D : Type 0} {told : Type 0} {keep : Keep K} {disk : Disk D} where
 
   -- what was sent, and then more
   pub each_then : {sent more : List Sent} {old mid new : List (Backed K)} {old_disks mid_disks new_disks : Disks D}
-      → EachRuns told keep disk sent old mid old_disks mid_disks → EachRuns told keep disk more mid new mid_disks new_disks
-      → EachRuns told keep disk (sent ++ more) old new old_disks new_disks
+      → EachRuns link told keep disk sent old mid old_disks mid_disks → EachRuns link told keep disk more mid new mid_disks new_disks
+      → EachRuns link told keep disk (sent ++ more) old new old_disks new_disks
   each_then {sent} {more} {old} {mid} {new} {old_disks} {mid_disks} {new_disks} first behind = record {
     count = behind.count ∙ first.count;
     lists = behind.lists ∙ first.lists;
+    steps = steps_then first.steps behind.steps;
     each = λ is_told v volume W world next pairs later is now of becomes stands.
         let between = number_exists mid v (subst (λ n. IsMember n v) (sym first.count) is.member) in
         let disks = number_exists mid_disks v (subst (λ n. IsMember n v) (sym first.lists) of.member) in
@@ -135,16 +147,17 @@ module _ {K D : Type 0} {told : Type 0} {keep : Keep K} {disk : Disk D} where
 
   -- the same where less has to be told
   pub each_where : {more : Type 0} {sent : List Sent} {old new : List (Backed K)} {old_disks new_disks : Disks D}
-      → (more → told) → EachRuns told keep disk sent old new old_disks new_disks
-      → EachRuns more keep disk sent old new old_disks new_disks
+      → (more → told) → EachRuns link told keep disk sent old new old_disks new_disks
+      → EachRuns link more keep disk sent old new old_disks new_disks
   each_where further runs = record {
     count = runs.count;
     lists = runs.lists;
+    steps = runs.steps;
     each = λ is_told. runs.each (further is_told);
   }
 
   module _ (one : Sent) (old new : List (Backed K)) (old_disks new_disks : Disks D)
-      (sends : Sends told keep disk one old new old_disks new_disks) where
+      (sends : Sends link told keep disk one old new old_disks new_disks) where
     from_one : 1 ≤ one.what.volume
     from_one = sends.member.at_least
 
@@ -162,10 +175,11 @@ module _ {K D : Type 0} {told : Type 0} {keep : Keep K} {disk : Disk D} where
           (subst (λ (list : Disks D). IsNumbered list v later) sends.set_disks becomes)
 
     -- one command was sent
-    pub each_one : EachRuns told keep disk (one ∷ []) old new old_disks new_disks
+    pub each_one : EachRuns link told keep disk (one ∷ []) old new old_disks new_disks
     each_one = record {
       count = ap length sends.set ∙ length-set old (one.what.volume - 1) sends.next;
       lists = ap length sends.set_disks ∙ length-set old_disks (one.what.volume - 1) sends.later;
+      steps = OneSteps sends.steps NoneSteps;
       each = each;
     }
       where

@@ -18,8 +18,8 @@ use Rattle.ficus_top.specs.Graft.Runs.{AreHeld, Disks, ForeseeFew, IsCutShort, S
 -- it only looks, so does this one.
 pub record SendsCommand {K D : Type 0} (tells : Type 0) (keep : Keep K) (disk : Disk D) (v : ℕ) (command : Command)
     (result : Result Answer Memory) (old new : List (Backed K)) (old_disks new_disks : Disks D) : Type 0 where
-  pub sends : IfOk result (λ answer. Sends (tells × TellsFor disk.tells command) keep disk (sent_so v command answer)
-      old new old_disks new_disks)
+  pub sends : IfOk result (λ answer. Sends tells (tells × TellsFor disk.tells command) keep disk
+      (sent_so v command answer) old new old_disks new_disks)
   pub memory : OnErr result (IsCutShort tells keep disk v command old new old_disks new_disks)
   pub same : OnlyLooks command → (new ≡ old) × (new_disks ≡ old_disks)
   pub held : AreHeld keep disk new new_disks

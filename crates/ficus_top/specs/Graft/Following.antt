@@ -25,13 +25,13 @@ pub record Passes {K D : Type 0} (told : Type 0) (keep : Keep K) (disk : Disk D)
     (worlds : List (Backed K)) (disks : Disks D) : Type 0 where
   pub answer : Answer
   pub unrefused : is_refusal answer ≡ false
-  pub runs : EachRuns told keep disk (record { what = what; answer = answer } ∷ []) worlds worlds disks disks
+  pub runs : EachRuns told told keep disk (record { what = what; answer = answer } ∷ []) worlds worlds disks disks
 
 abbrev pub IsRefusedBy : {K D : Type 0} → Type 0 → Keep K → Disk D → Sending → Stop → List (Backed K) → Disks D
     → Type 0
 IsRefusedBy told keep disk what stop.Memory worlds disks = Unit {0}
 IsRefusedBy told keep disk what (stop.Refused refusal) worlds disks =
-    EachRuns told keep disk (record { what = what; answer = Refused refusal } ∷ []) worlds worlds disks disks
+    EachRuns told told keep disk (record { what = what; answer = Refused refusal } ∷ []) worlds worlds disks disks
 
 abbrev pub course_path : Course → Path
 course_path course = path_from course.base course.parts.now
@@ -49,7 +49,7 @@ pub record Reaches {K D : Type 0} (told : Type 0) (keep : Keep K) (disk : Disk D
   pub leads : CourseLeads (length worlds) by volume course (sendings passed) end.volume
       (rest_behind end.passed (course_path course))
   pub unrefused : All IsUnrefused passed
-  pub runs : EachRuns told keep disk passed worlds worlds disks disks
+  pub runs : EachRuns told told keep disk passed worlds worlds disks disks
   pub among : IsMember (length worlds) end.volume
   pub within : end.passed ≤ course.most
 
@@ -64,7 +64,7 @@ pub record IsStopped {K D : Type 0} (told : Type 0) (keep : Keep K) (disk : Disk
   pub leads : CourseLeads (length worlds) by volume course (sendings passed ++ last.what ∷ behind) end rest
   pub unrefused : All IsUnrefused passed
   pub refused : last.answer ≡ Refused refusal
-  pub runs : EachRuns told keep disk (passed ++ last ∷ []) worlds worlds disks disks
+  pub runs : EachRuns told told keep disk (passed ++ last ∷ []) worlds worlds disks disks
 
 -- the same, by why it stopped
 abbrev pub Halts : {K D : Type 0} → Type 0 → Keep K → Disk D → ℕ → ℕ → Course → Stop → List (Backed K) → Disks D
@@ -74,8 +74,8 @@ Halts told keep disk by volume course (stop.Refused refusal) worlds disks =
     IsStopped told keep disk by volume course refusal worlds disks
 
 -- What stopped a line: memory was refused; or this refusal is its answer.
-abbrev pub LineHalts : {K D : Type 0} → Type 0 → Keep K → Disk D → VolumeLine → Stop → List (Backed K)
+abbrev pub LineHalts : {K D : Type 0} → Type 0 → Type 0 → Keep K → Disk D → VolumeLine → Stop → List (Backed K)
     → List (Backed K) → Disks D → Disks D → Type 0
-LineHalts told keep disk line stop.Memory old new old_disks new_disks = Unit {0}
-LineHalts told keep disk line (stop.Refused refusal) old new old_disks new_disks =
-    AnswersLine told keep disk line (Refused refusal) old new old_disks new_disks
+LineHalts link told keep disk line stop.Memory old new old_disks new_disks = Unit {0}
+LineHalts link told keep disk line (stop.Refused refusal) old new old_disks new_disks =
+    AnswersLine link told keep disk line (Refused refusal) old new old_disks new_disks

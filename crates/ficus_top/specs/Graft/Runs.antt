@@ -1,5 +1,5 @@
 -- What commands do to one of several volumes, and what lines do to all.
-use Rattle.std.specs.Prelude.{◌≡◌, ◌⊎◌, ℕ, ◌+◌, ◌-◌, ◌<◌, ◌≤◌, All, List, [], ◌++◌, length, slice_set, take, Vec, vec_items}
+use Rattle.std.specs.Prelude.{◌≡◌, ◌⊎◌, ℕ, ◌+◌, ◌-◌, ◌<◌, ◌≤◌, All, List, [], ◌∷◌, ◌++◌, length, slice_set, take, Vec, vec_items}
 use Rattle.std.specs.declared.alloc.Global.{Global}
 use Rattle.ficus_disk.specs.declared.disk.Disk.{Ghosts as Disk}
 use Rattle.ficus_disk.specs.declared.pair.Pair.{Pair}
@@ -17,6 +17,7 @@ use Rattle.ficus_world.specs.Causes.{AreCaused}
 use Rattle.ficus_world.specs.Disks.{IsBacked, DisksFollow}
 use Rattle.ficus_world.specs.Follows.{FollowsOn, StopsOn, StoresAsMany}
 use Rattle.ficus_world.specs.Fuses.{FusesFollow}
+use Rattle.ficus_world.specs.Stepped.{CutOn, Stepped}
 use Rattle.ficus_world.specs.World.{Backed, Whole, WorldStandsFor, foreseen}
 use Rattle.ficus_script.specs.declared.volume_line.VolumeLine.{VolumeLine}
 use Rattle.ficus_top.specs.Graft.Answered.{AreAnswered, IsAnswered, IsLastTo, IsUnrefused, Sent, answers_to, commands_to, sendings}
@@ -45,11 +46,36 @@ pub record RunsOn {K D : Type 0} (keep : Keep K) (disk : Disk D) (volume : Volum
 abbrev pub Disks : Type 0 → Type 0
 Disks D = List (Vec (Pair D) Global)
 
--- Each volume has run, alone, what was sent to it, with the answers that it gave, whatever its world stood for before.
-pub record EachRuns {K D : Type 0} (told : Type 0) (keep : Keep K) (disk : Disk D) (sent : List Sent)
+-- One that was sent is a step of its volume's world, answered by what the members hold; the other volumes stay.
+pub record StepsAt {K D : Type 0} (link : Type 0) (keep : Keep K) (disk : Disk D) (one : Sent)
+    (old new : List (Backed K)) (old_disks new_disks : Disks D) : Type 0 where
+  pub world : Backed K
+  pub pairs : Vec (Pair D) Global
+  pub next : Backed K
+  pub later : Vec (Pair D) Global
+  pub is : IsNumbered old one.what.volume world
+  pub of : IsNumbered old_disks one.what.volume pairs
+  pub set : new ≡ slice_set old (one.what.volume - 1) next
+  pub set_disks : new_disks ≡ slice_set old_disks (one.what.volume - 1) later
+  pub step : Stepped link keep disk world.whole one.what.command one.answer next.whole (vec_items pairs)
+      (vec_items later)
+
+-- what was sent is such a step each, one after the other
+pub data EachSteps {K D : Type 0} (link : Type 0) (keep : Keep K) (disk : Disk D) :
+    List Sent → List (Backed K) → List (Backed K) → Disks D → Disks D → Type 0 where
+  NoneSteps : {worlds : List (Backed K)} {disks : Disks D} → EachSteps link keep disk [] worlds worlds disks disks
+  OneSteps : {one : Sent} {more : List Sent} {old mid new : List (Backed K)} {old_disks mid_disks new_disks : Disks D}
+      → StepsAt link keep disk one old mid old_disks mid_disks
+      → EachSteps link keep disk more mid new mid_disks new_disks
+      → EachSteps link keep disk (one ∷ more) old new old_disks new_disks
+
+-- What was sent are steps of the volumes' worlds, one after the other, whatever these stand for. Where this is told,
+-- each volume has run, alone, what was sent to it, with the answers that it gave, whatever its world stood for before.
+pub record EachRuns {K D : Type 0} (link told : Type 0) (keep : Keep K) (disk : Disk D) (sent : List Sent)
     (old new : List (Backed K)) (old_disks new_disks : Disks D) : Type 0 where
   pub count : length new ≡ length old
   pub lists : length new_disks ≡ length old_disks
+  pub steps : EachSteps link keep disk sent old new old_disks new_disks
   pub each : told → (v : ℕ) (volume : Volume) (W : ModelWorld) (world next : Backed K)
       (pairs later : Vec (Pair D) Global)
       → IsNumbered old v world → IsNumbered new v next → IsNumbered old_disks v pairs → IsNumbered new_disks v later
@@ -63,15 +89,15 @@ IsKeptAt {A} v old new = (x : A) → IsNumbered old v x → IsNumbered new v x
 
 -- The line has this answer, by what was sent for it. Each volume has run what was sent to it; and all but the one to
 -- which the last command was sent are as before.
-pub record AnswersLine {K D : Type 0} (told : Type 0) (keep : Keep K) (disk : Disk D) (line : VolumeLine)
+pub record AnswersLine {K D : Type 0} (link told : Type 0) (keep : Keep K) (disk : Disk D) (line : VolumeLine)
     (answer : Answer) (old new : List (Backed K)) (old_disks new_disks : Disks D) : Type 0 where
   pub sent : List Sent
   pub answered : IsAnswered (length old) line sent answer
-  pub runs : EachRuns told keep disk sent old new old_disks new_disks
+  pub runs : EachRuns link told keep disk sent old new old_disks new_disks
   pub others : (v : ℕ) → (IsLastTo v sent → ⊥) → IsKeptAt v old new × IsKeptAt v old_disks new_disks
 
 -- One command was sent, and answered; the other volumes are as before.
-pub record Sends {K D : Type 0} (told : Type 0) (keep : Keep K) (disk : Disk D) (one : Sent)
+pub record Sends {K D : Type 0} (link told : Type 0) (keep : Keep K) (disk : Disk D) (one : Sent)
     (old new : List (Backed K)) (old_disks new_disks : Disks D) : Type 0 where
   pub next : Backed K
   pub later : Vec (Pair D) Global
@@ -83,9 +109,10 @@ pub record Sends {K D : Type 0} (told : Type 0) (keep : Keep K) (disk : Disk D) 
       → WorldStandsFor volume W world.whole
       → FollowsOn keep disk volume W world.whole one.what.command one.answer next.whole (vec_items pairs)
       (vec_items later)
+  pub steps : StepsAt link keep disk one old new old_disks new_disks
 
--- The command was cut short in this volume, for want of memory, and its world stands for what the command has done; the
--- other volumes are as before.
+-- The command was cut short in this volume, for want of memory: it has done what one does that is cut short, and its
+-- world stands for that; the other volumes are as before.
 pub record IsCutShort {K D : Type 0} (told : Type 0) (keep : Keep K) (disk : Disk D) (v : ℕ) (command : Command)
     (old new : List (Backed K)) (old_disks new_disks : Disks D) : Type 0 where
   pub next : Backed K
@@ -96,6 +123,8 @@ pub record IsCutShort {K D : Type 0} (told : Type 0) (keep : Keep K) (disk : Dis
   pub stops : told → (volume : Volume) (W : ModelWorld) (world : Backed K) (pairs : Vec (Pair D) Global)
       → IsNumbered old v world → IsNumbered old_disks v pairs → WorldStandsFor volume W world.whole
       → StopsOn keep disk volume W world.whole command next.whole (vec_items pairs) (vec_items later)
+  pub cut : (world : Backed K) (pairs : Vec (Pair D) Global) → IsNumbered old v world → IsNumbered old_disks v pairs
+      → CutOn told keep disk command world.whole next.whole (vec_items pairs) (vec_items later)
 
 -- the same, or nothing has changed
 abbrev pub MayBeCut : {K D : Type 0} → Type 0 → Keep K → Disk D → ℕ → Command → List (Backed K) → List (Backed K)
@@ -112,7 +141,7 @@ pub record LineIsCut {K D : Type 0} (told : Type 0) (keep : Keep K) (disk : Disk
   pub command : Command
   pub route : Route (length old) line (sendings passed) (Arrives volume command)
   pub unrefused : All IsUnrefused passed
-  pub runs : EachRuns told keep disk passed old old old_disks old_disks
+  pub runs : EachRuns told told keep disk passed old old old_disks old_disks
   pub cut : IsCutShort told keep disk volume command old new old_disks new_disks
 
 -- the same, or nothing has changed
@@ -138,12 +167,12 @@ pub record AreHeld {K D : Type 0} (keep : Keep K) (disk : Disk D) (worlds : List
 
 -- The lines have these answers, by what was sent for them, and each volume has run what was sent to it. Over a sink
 -- that tells, the texts of the answers were put, in order, and nothing else.
-pub record AnswersLines {K D : Type 0} (tells told : Type 0) (keep : Keep K) (disk : Disk D) (lines : List VolumeLine)
-    (old new : List (Backed K)) (old_disks new_disks : Disks D) (was now : List ℕ) : Type 0 where
+pub record AnswersLines {K D : Type 0} (tells link told : Type 0) (keep : Keep K) (disk : Disk D)
+    (lines : List VolumeLine) (old new : List (Backed K)) (old_disks new_disks : Disks D) (was now : List ℕ) : Type 0 where
   pub sent : List Sent
   pub answers : List Answer
   pub answered : AreAnswered (length old) lines sent answers
-  pub runs : EachRuns told keep disk sent old new old_disks new_disks
+  pub runs : EachRuns link told keep disk sent old new old_disks new_disks
   pub put : tells → now ≡ was ++ texts_of answers
 
 -- All answers to so many lines were put, and the next line's command was cut short.
@@ -169,7 +198,7 @@ pub record AnswersFront {K D : Type 0} (tells link told : Type 0) (keep : Keep K
   pub answered : AreAnswered (length old) (take count lines) sent (whole ++ last)
   pub worlds : List (Backed K)
   pub disks : Disks D
-  pub runs : EachRuns told keep disk sent old worlds old_disks disks
+  pub runs : EachRuns link told keep disk sent old worlds old_disks disks
   pub left : ((new ≡ worlds) × (new_disks ≡ disks))
       ⊎ IsNextCut link keep disk lines count last worlds new disks new_disks
   pub put : tells → PutsFront (was ++ texts_of whole) (texts_of last) now

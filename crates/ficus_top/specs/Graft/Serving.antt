@@ -16,17 +16,17 @@ pub record Told (link disk : Type 0) (lines : List VolumeLine) : Type 0 where
   pub held : All (λ line. TellsFor disk line.command) lines
 
 -- a line was answered, and its answer's text was put
-pub record PutsLine {K D : Type 0} (tells told : Type 0) (keep : Keep K) (disk : Disk D) (line : VolumeLine)
+pub record PutsLine {K D : Type 0} (tells link told : Type 0) (keep : Keep K) (disk : Disk D) (line : VolumeLine)
     (old new : List (Backed K)) (old_disks new_disks : Disks D) (was now : List ℕ) : Type 0 where
   pub answer : Answer
-  pub answers : AnswersLine told keep disk line answer old new old_disks new_disks
+  pub answers : AnswersLine link told keep disk line answer old new old_disks new_disks
   pub put : tells → now ≡ was ++ answer_text_of answer
 
 -- a line was answered, and a front of its answer's text was put
-pub record IsPutInPart {K D : Type 0} (tells told : Type 0) (keep : Keep K) (disk : Disk D) (line : VolumeLine)
+pub record IsPutInPart {K D : Type 0} (tells link told : Type 0) (keep : Keep K) (disk : Disk D) (line : VolumeLine)
     (old new : List (Backed K)) (old_disks new_disks : Disks D) (was now : List ℕ) : Type 0 where
   pub answer : Answer
-  pub answers : AnswersLine told keep disk line answer old new old_disks new_disks
+  pub answers : AnswersLine link told keep disk line answer old new old_disks new_disks
   pub put : tells → PutsFront was (answer_text_of answer) now
 
 -- or it wasn't answered, for want of memory, and nothing was put
@@ -34,4 +34,4 @@ abbrev pub PutsLineFront : {K D : Type 0} → Type 0 → Type 0 → Type 0 → K
     → List (Backed K) → Disks D → Disks D → List ℕ → List ℕ → Type 0
 PutsLineFront tells link told keep disk line old new old_disks new_disks was now =
     ((now ≡ was) × StopsLine link keep disk line old new old_disks new_disks)
-    ⊎ IsPutInPart tells told keep disk line old new old_disks new_disks was now
+    ⊎ IsPutInPart tells link told keep disk line old new old_disks new_disks was now

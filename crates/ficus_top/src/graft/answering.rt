@@ -28,7 +28,7 @@ pub fn answer_lines<S: Sink, D: Disk, K: Keep + Drop, L: Link + Drop>(
     requires count { length lines.now ≤ script_limit }
     requires room { HaveRoom serving_limit volumes.old }
     requires held { AreHeld K.Keep D.Disk volumes.old disks.old.items }
-    ensures answers { OnOk result (AnswersLines S.tells (Told L.tells D.tells lines.now) K.Keep D.Disk lines.now
+    ensures answers { OnOk result (AnswersLines S.tells L.tells (Told L.tells D.tells lines.now) K.Keep D.Disk lines.now
         volumes.old volumes.new disks.old.items disks.new.items (S.written output.old) (S.written output.new)) }
     ensures prefix { OnErr result (AnswersFront S.tells L.tells (Told L.tells D.tells lines.now) K.Keep D.Disk lines.now
         volumes.old volumes.new disks.old.items disks.new.items (S.written output.old) (S.written output.new)) }
@@ -53,8 +53,8 @@ fn answer_line<S: Sink, D: Disk, K: Keep + Drop, L: Link + Drop>(
     requires line { IsLineOf (length volumes.old) line.now }
     requires room { HaveRoom event_limit volumes.old }
     requires held { AreHeld K.Keep D.Disk volumes.old disks.old.items }
-    ensures answers { OnOk result (PutsLine S.tells (L.tells × TellsFor D.tells line.now.command) K.Keep D.Disk line.now
-        volumes.old volumes.new disks.old.items disks.new.items (S.written output.old) (S.written output.new)) }
+    ensures answers { OnOk result (PutsLine S.tells L.tells (L.tells × TellsFor D.tells line.now.command) K.Keep D.Disk
+        line.now volumes.old volumes.new disks.old.items disks.new.items (S.written output.old) (S.written output.new)) }
     ensures prefix { OnErr result (PutsLineFront S.tells L.tells (L.tells × TellsFor D.tells line.now.command) K.Keep
         D.Disk line.now volumes.old volumes.new disks.old.items disks.new.items (S.written output.old)
         (S.written output.new)) }

@@ -75,6 +75,9 @@ impl<K: Keep + Drop, L: Link + Drop> Volumes<K, L> {
     /// `Crossing`. Else the command is carried out in the volume where they end, with what is left of its paths; one
     /// without a path, in the line's volume. Only the volume to which something was sent last may change.
     ///
+    /// Each look, and the command, comes to what the members of its volume hold, whatever the worlds stand for and over
+    /// any link.
+    ///
     /// `Memory` comes where memory was refused. Then nothing has changed; or the paths were followed, and the command
     /// has done in its volume what one leaves that is cut short.
     pub fn step<D: Disk>(
@@ -88,8 +91,8 @@ impl<K: Keep + Drop, L: Link + Drop> Volumes<K, L> {
         requires step { IsStep line.now.command }
         requires room { HaveRoom event_limit self.old }
         requires held { AreHeld K.Keep D.Disk self.old disks.old.items }
-        ensures answers { IfOk result (λ answer. AnswersLine (L.tells × TellsFor D.tells line.now.command) K.Keep D.Disk
-            line.now answer self.old self.new disks.old.items disks.new.items) }
+        ensures answers { IfOk result (λ answer. AnswersLine L.tells (L.tells × TellsFor D.tells line.now.command) K.Keep
+            D.Disk line.now answer self.old self.new disks.old.items disks.new.items) }
         ensures memory { OnErr result (StopsLine L.tells K.Keep D.Disk line.now self.old self.new disks.old.items
             disks.new.items) }
         ensures held { AreHeld K.Keep D.Disk self.new disks.new.items }
@@ -115,10 +118,10 @@ impl<K: Keep + Drop, L: Link + Drop> Volumes<K, L> {
         requires step { IsStep line.now.command }
         requires room { HaveRoom event_limit self.old }
         requires held { AreHeld K.Keep D.Disk self.old disks.old.items }
-        ensures answers { IfOk result (λ answer. AnswersLine (L.tells × TellsFor D.tells line.now.command) K.Keep D.Disk
-            line.now answer self.old self.new disks.old.items disks.new.items) }
-        ensures halts { IfErr result (λ stop. LineHalts (L.tells × TellsFor D.tells line.now.command) K.Keep D.Disk
-            line.now stop self.old self.new disks.old.items disks.new.items) }
+        ensures answers { IfOk result (λ answer. AnswersLine L.tells (L.tells × TellsFor D.tells line.now.command) K.Keep
+            D.Disk line.now answer self.old self.new disks.old.items disks.new.items) }
+        ensures halts { IfErr result (λ stop. LineHalts L.tells (L.tells × TellsFor D.tells line.now.command) K.Keep
+            D.Disk line.now stop self.old self.new disks.old.items disks.new.items) }
         ensures stays { OnErr result (StopsLine L.tells K.Keep D.Disk line.now self.old self.new disks.old.items
             disks.new.items) }
         ensures held { AreHeld K.Keep D.Disk self.new disks.new.items }
@@ -167,7 +170,7 @@ impl<K: Keep + Drop, L: Link + Drop> Volumes<K, L> {
         requires passed { ArePassed (names_entries command.now) first second (paths_of command.now) }
         requires room { HaveRoom event_limit self.old }
         requires held { AreHeld K.Keep D.Disk self.old disks.old.items }
-        ensures sends { IfOk result (λ answer. Sends (L.tells × TellsFor D.tells command.now) K.Keep D.Disk
+        ensures sends { IfOk result (λ answer. Sends L.tells (L.tells × TellsFor D.tells command.now) K.Keep D.Disk
             (sent_so volume (along (rest_behind first) (rest_behind second) command.now) answer) self.old self.new
             disks.old.items disks.new.items) }
         ensures memory { OnErr result (MayBeCut L.tells K.Keep D.Disk volume

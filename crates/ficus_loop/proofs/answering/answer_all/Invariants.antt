@@ -3,6 +3,7 @@ use Rattle.std.specs.Prelude.{All}
 use Rattle.ficus_model.specs.Lawful.{Volume}
 use Rattle.ficus_runs.specs.ModelWorld.{ModelWorld}
 use Rattle.ficus_loop.specs.Calls.{StaysBacked}
+use Rattle.ficus_loop.specs.Performed.{PutsPerformed}
 use Rattle.ficus_loop.specs.Serving.{ServesWorld}
 use Rattle.ficus_loop.specs.SweepFollows.{most_swept}
 use Rattle.ficus_world.specs.Follows.{TellsFor}
@@ -16,6 +17,9 @@ invariant-loop-command g l = record {
   served : g.L.Link.tells → All (TellsFor g.D.Disk.tells) l.commands → (volume : Volume) (W : ModelWorld)
       → WorldStandsFor volume W l.fn.world.whole
       → ServesWorld g.K.Sink.tells g.P.Keep g.D.Disk volume W l.fn.world.whole
+      (take l.command-index l.commands) l.world.whole (g.K.Sink.written l.fn.output) (g.K.Sink.written l.output)
+      l.fn.disks.items l.disks.items;
+  moves : PutsPerformed g.K.Sink.tells g.L.Link.tells g.P.Keep g.D.Disk l.fn.world.whole
       (take l.command-index l.commands) l.world.whole (g.K.Sink.written l.fn.output) (g.K.Sink.written l.output)
       l.fn.disks.items l.disks.items;
   disks : StaysBacked g.P.Keep g.D.Disk (most_swept * l.command-index) l.fn.world l.world l.fn.disks.items l.disks.items;

@@ -4,6 +4,7 @@ use Rattle.ficus_runs.proofs.Extending.{step_extends}
 use Rattle.ficus_runs.proofs.Extending.{part_extends}
 use Rattle.ficus_loop.proofs.Stepping.{trail_to}
 use Rattle.ficus_loop.proofs.Faults.{if_front}
+use Rattle.ficus_loop.proofs.Performed.{performed_front, performed_one, performed_part}
 use Rattle.ficus_loop.proofs.Serves.{world_one, world_front, world_stopped}
 use Rattle.ficus_loop.proofs.answering.answer_one.Goals as goal
 
@@ -47,3 +48,20 @@ returns-in_err-answer-clause-disks g c = c.carry_out.ensures.disks
 
 pub returns-clause-disks : goal.returns-clause-disks
 returns-clause-disks g c = c.carry_out.ensures.disks
+
+pub returns-in_err-answer-clause-moves_front : goal.returns-in_err-answer-clause-moves_front
+returns-in_err-answer-clause-moves_front g c =
+    let p = err_from_is_err_and c.from_residual.result c.from_residual.ensures.1 in
+    rw p.1 (performed_part c.args.command.now _ _ p.2 c.in_err-answer.ensures.answers.part refl)
+
+pub returns-clause-moves : goal.returns-clause-moves
+returns-clause-moves g c =
+    on_ok_weaker c.put_answer.result
+    (λ put. performed_one c.args.command.now _ _ c.in_ok-answer.answer c.in_ok-answer.ensures.answers.performs put)
+    c.put_answer.ensures.put
+
+pub returns-clause-moves_front : goal.returns-clause-moves_front
+returns-clause-moves_front g c =
+    if_front c.put_answer.result
+    (λ fault put. performed_front c.args.command.now _ _ c.in_ok-answer.answer c.in_ok-answer.ensures.answers.performs
+    put) c.put_answer.ensures.front

@@ -4,6 +4,8 @@ use Rattle.ficus_script.specs.declared.command.Command.{Command}
 use Rattle.ficus_world.specs.Kills.Passes.{Idles}
 use Rattle.ficus_world.specs.Kills.Touches.{TouchesNone}
 use Rattle.ficus_loop.specs.Calls.{AnswersCommand}
+use Rattle.ficus_loop.specs.Performing.Performs.{AsStep, AsWhy}
+use Rattle.ficus_loop.specs.Performing.PerformsPart.{PartOfStep, PartOfWhy}
 use Rattle.ficus_loop.specs.SweepFollows.{most_swept}
 use Rattle.ficus_loop.proofs.Backing.{backed_none, backed_within, step_backed}
 use Rattle.ficus_loop.proofs.Certificates.{why_follows, why_stops}
@@ -26,6 +28,8 @@ returns-in-Why-clause-answers g c =
           on_err_weaker c.answer_why.result
           (λ wanted. why_stops g.P.Keep g.D.Disk volume W world stands c.in-Why.by disks)
           (c.answer_why.ensures.wants volume W stands);
+      performs = IfOk-weaker c.answer_why.result _ _ (λ given explains. AsWhy explains) c.answer_why.ensures.explains;
+      part = on_err_weaker c.answer_why.result (λ up. PartOfWhy up) c.answer_why.ensures.up;
       passes = Idles c.settled.ensures TouchesNone;
     })
 
@@ -36,6 +40,8 @@ pub returns-in_default-clause-answers : goal.returns-in_default-clause-answers
 returns-in_default-clause-answers g c = record {
   stands = c.step.ensures.stands;
   stays = c.step.ensures.stays;
+  performs = IfOk-weaker c.step.result _ _ (λ given stepped. AsStep stepped) c.step.ensures.moves;
+  part = on_err_weaker c.step.result (λ cut. PartOfStep cut) c.step.ensures.memory;
   passes = c.step.ensures.passes;
 }
 

@@ -1,7 +1,9 @@
-use Rattle.std.proofs.Common.{Err, map, sym, subst, ap, ◌∙◌}
+use Rattle.std.proofs.Common.{List, Err, length, map, refl, sym, subst, ap, ◌∙◌, inl}
 use Rattle.std.proofs.lemmas.Result.{err_from_is_err_and}
 use Rattle.ficus_ids.specs.Members.{IsCount}
 use Rattle.ficus_runs.specs.Sweep.{command_of, sweep_steps}
+use Rattle.ficus_script.specs.declared.command.Command.{Command}
+use Rattle.ficus_loop.specs.Performing.{SweepsTo, sweep_commands}
 use Rattle.ficus_loop.specs.SweepFollows.{FollowsSweep, most_swept}
 use Rattle.ficus_loop.proofs.Backing.{backed_none}
 use Rattle.ficus_loop.proofs.SweepCommands.{commands_of, few_commands, of_sweep}
@@ -59,3 +61,17 @@ returns-clause-disks g c = c.take_steps.ensures.disks
 
 pub settled-requires : goal.settled-requires
 settled-requires g c = c.requires.backed.disks
+
+pub returns-in_err-steps-clause-moves : goal.returns-in_err-steps-clause-moves
+returns-in_err-steps-clause-moves g c =
+    let p = err_from_is_err_and c.from_residual.result c.from_residual.ensures.1 in
+    subst (λ r. SweepsTo g.L.Link.tells g.K.Keep g.D.Disk c.args.world.now.whole
+    (sweep_commands c.args.order (length c.args.world.now.whole.members)) r c.args.world.now.whole
+    c.args.disks.now.items c.args.disks.now.items) (sym (p.1 ∙ ap Err p.2)) (inl (refl, refl))
+
+pub returns-clause-moves : goal.returns-clause-moves
+returns-clause-moves g c =
+    subst (λ (some : List Command). SweepsTo g.L.Link.tells g.K.Keep g.D.Disk c.args.world.now.whole some
+    c.take_steps.result c.take_steps.new.world.whole c.args.disks.now.items c.take_steps.new.disks.items)
+    (c.deref.ensures.value ∙ c.in_ok-steps.ensures ∙ ap (λ n. sweep_commands c.args.order n)
+    (c.count.ensures.value ∙ c.members.ensures)) c.take_steps.ensures.moves

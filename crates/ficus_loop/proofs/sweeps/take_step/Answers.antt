@@ -2,10 +2,12 @@ use Rattle.std.proofs.Common.{Err, sym, subst, ap, ◌∙◌}
 use Rattle.std.proofs.lemmas.Result.{err_from_is_err_and}
 use Rattle.ficus_world.specs.Follows.{FollowsOn, StopsOn}
 use Rattle.ficus_runs.specs.Sweep.{command_of}
+use Rattle.ficus_loop.specs.Performing.{SweepStepsTo}
 use Rattle.ficus_loop.specs.SweepFollows.{FollowsStep, swept_of}
 use Rattle.ficus_loop.proofs.SweepFollowing.{step_stops, step_follows, tells_for}
 use Rattle.ficus_loop.proofs.Backing.{step_backed}
 use Rattle.ficus_loop.proofs.FewSteps.{steps_give_few}
+use Rattle.ficus_loop.proofs.Performing.{step_counts}
 use Rattle.ficus_loop.proofs.SweepCommands.{is_step, sweep_link}
 use Rattle.ficus_world.proofs.Passing.{passes_of}
 use Rattle.ficus_loop.proofs.sweeps.take_step.Goals as goal
@@ -54,3 +56,15 @@ report_of-requires-clause-gives g c =
 
 pub settled-requires : goal.settled-requires
 settled-requires g c = c.requires.backed.disks
+
+pub returns-in_err-answer-clause-moves : goal.returns-in_err-answer-clause-moves
+returns-in_err-answer-clause-moves g c =
+    let p = err_from_is_err_and c.from_residual.result c.from_residual.ensures.1 in
+    subst (λ r. SweepStepsTo g.L.Link.tells g.K.Keep g.D.Disk c.args.world.now.whole c.args.step.now
+    (swept_of c.args.report) r c.step.new.self.whole c.args.disks.now.items c.step.new.disks.items)
+    (sym (p.1 ∙ ap Err p.2)) c.in_err-answer.ensures.memory
+
+pub returns-clause-moves : goal.returns-clause-moves
+returns-clause-moves g c =
+    step_counts c.args.step.now c.args.report c.in_ok-answer.answer c.report_of.result c.in_ok-answer.ensures.moves
+    c.report_of.ensures.reports

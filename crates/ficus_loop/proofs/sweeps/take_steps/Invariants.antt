@@ -3,6 +3,7 @@ use Rattle.ficus_model.specs.Lawful.{Volume}
 use Rattle.ficus_runs.specs.ModelWorld.{ModelWorld}
 use Rattle.ficus_runs.specs.Sweep.{SweepStep, Sweeps, command_of, none_swept}
 use Rattle.ficus_loop.specs.Calls.{StaysBacked}
+use Rattle.ficus_loop.specs.Performing.{SweepsAll}
 use Rattle.ficus_loop.specs.SweepFollows.{CountsFew, FollowsAction, swept_of}
 use Rattle.ficus_world.specs.Kills.{IsSweepLink, Passes}
 use Rattle.ficus_world.specs.World.{WorldStandsFor, most_unforeseen}
@@ -19,6 +20,8 @@ invariant-loop-step g l = record {
       l.disks.items;
   passes : Passes g.L.Link.tells g.K.Keep g.D.Disk IsSweepLink l.fn.world.whole l.world.whole l.fn.disks.items
       l.disks.items;
+  moves : SweepsAll g.L.Link.tells g.K.Keep g.D.Disk l.fn.world.whole (take l.step-index l.steps) l.report l.world.whole
+      l.fn.disks.items l.disks.items;
   disks : StaysBacked g.K.Keep g.D.Disk (most_unforeseen * l.step-index) l.fn.world l.world l.fn.disks.items
       l.disks.items;
   few : CountsFew l.step-index l.report;

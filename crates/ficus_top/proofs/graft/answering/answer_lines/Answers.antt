@@ -39,5 +39,5 @@ returns-in_err-answer_line-clause-prefix g c =
     rw p.1
     (front_next c.args.lines.now c.loop-line.line-index c.line-item.result c.loop-line-test.true c.line-item.is
     (told_at c.args.lines.now c.loop-line.line-index c.line-item.result c.loop-line-test.true c.line-item.is)
-    c.loop-line.invariant.count c.loop-line.invariant.served g.L.Link.tells c.answer_line.new.volumes
+    c.loop-line.invariant.count c.loop-line.invariant.served c.answer_line.new.volumes
     c.answer_line.new.disks.items _ c.in_err-answer_line.ensures.prefix)

@@ -9,7 +9,7 @@ use Rattle.ficus_top.proofs.graft.answering.answer_lines.Given as goal
 -- the sink was counted
 abbrev pub invariant-loop-line : goal.invariant-loop-line
 invariant-loop-line g l = record {
-  served : AnswersLines g.S.Sink.tells (Told g.L.Link.tells g.D.Disk.tells l.lines) g.K.Keep g.D.Disk
+  served : AnswersLines g.S.Sink.tells g.L.Link.tells (Told g.L.Link.tells g.D.Disk.tells l.lines) g.K.Keep g.D.Disk
       (take l.line-index l.lines) l.fn.volumes l.volumes l.fn.disks.items l.disks.items (g.S.Sink.written l.fn.output)
       (g.S.Sink.written l.output);
   held : AreHeld g.K.Keep g.D.Disk l.volumes l.disks.items;

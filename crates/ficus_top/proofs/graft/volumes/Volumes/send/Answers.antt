@@ -32,12 +32,12 @@ returns g c =
     record {
       sends =
           rw (← c.self.view_is)
-          (sends_at g.K.Keep g.D.Disk worlds disks v world next pairs later is of _ c.args.command.now c.step.result
-          (λ told. c.step.ensures.stands told.0 told.1));
+          (sends_at g.K.Keep g.D.Disk worlds disks v world next pairs later is of g.L.Link.tells _
+          c.args.command.now c.step.result c.step.ensures.moves (λ told. c.step.ensures.stands told.0 told.1));
       memory =
           rw (← c.self.view_is)
           (cut_at g.K.Keep g.D.Disk worlds disks v world next pairs later is of g.L.Link.tells c.args.command.now
-          c.step.result c.step.ensures.stays);
+          c.step.result c.step.ensures.stays c.step.ensures.memory);
       same = λ looks.
           let same = c.step.ensures.unsaved looks in (
             same_at g.K.Keep g.D.Disk _ disks v _ _ pairs later is of same.0 ∙ c.self.view_is,
