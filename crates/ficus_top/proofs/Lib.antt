@@ -20,3 +20,4 @@ pub mod KilledRuns
 pub mod Begun
 pub mod Joined
 pub mod Judging
+pub mod ModeLaws

@@ -9,6 +9,7 @@ pub mod graft;
 mod joining;
 mod laws;
 mod making;
+mod mode_laws;
 mod program;
 mod read;
 mod running;
@@ -22,6 +23,10 @@ pub use laws::{
     all_but_the_last_are_put, empty_disks_are_at_rest, fronts_go_on, idle_codes, killed_runs_go_on,
     mode_codes, next_run_goes_on, only_stops_arm_disks, read_codes, same_script_same_answers,
     unrisen_counts_are_no_failures,
+};
+pub use mode_laws::{
+    checks_judge_each_replica, nothing_removed_returns, runs_leave_trails,
+    volumes_are_made_or_in_part, what_is_pending_may_come,
 };
 pub use program::ficus;
 pub use serving::serve;
