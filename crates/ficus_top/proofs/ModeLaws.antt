@@ -32,7 +32,7 @@ lines_at line first (one ∷ others) zero d within = (
   [],
   numbered_lines line (first + 1) others,
   let same : first ≡ first + 0 = omega arith in
-  ap (λ (n : ℕ). line n one ++ numbered_lines line (first + 1) others) same,
+      ap (λ (n : ℕ). line n one ++ numbered_lines line (first + 1) others) same,
 )
 lines_at line first (one ∷ others) (suc k) d within =
     let behind = lines_at line (first + 1) others k d (omega (arith, within)) in

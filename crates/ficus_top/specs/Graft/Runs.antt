@@ -168,7 +168,8 @@ pub record AreHeld {K D : Type 0} (keep : Keep K) (disk : Disk D) (worlds : List
 -- The lines have these answers, by what was sent for them, and each volume has run what was sent to it. Over a sink
 -- that tells, the texts of the answers were put, in order, and nothing else.
 pub record AnswersLines {K D : Type 0} (tells link told : Type 0) (keep : Keep K) (disk : Disk D)
-    (lines : List VolumeLine) (old new : List (Backed K)) (old_disks new_disks : Disks D) (was now : List ℕ) : Type 0 where
+    (lines : List VolumeLine) (old new : List (Backed K)) (old_disks new_disks : Disks D) (was now : List ℕ) :
+    Type 0 where
   pub sent : List Sent
   pub answers : List Answer
   pub answered : AreAnswered (length old) lines sent answers

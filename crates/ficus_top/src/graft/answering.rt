@@ -54,7 +54,8 @@ fn answer_line<S: Sink, D: Disk, K: Keep + Drop, L: Link + Drop>(
     requires room { HaveRoom event_limit volumes.old }
     requires held { AreHeld K.Keep D.Disk volumes.old disks.old.items }
     ensures answers { OnOk result (PutsLine S.tells L.tells (L.tells × TellsFor D.tells line.now.command) K.Keep D.Disk
-        line.now volumes.old volumes.new disks.old.items disks.new.items (S.written output.old) (S.written output.new)) }
+        line.now volumes.old volumes.new disks.old.items disks.new.items (S.written output.old)
+        (S.written output.new)) }
     ensures prefix { OnErr result (PutsLineFront S.tells L.tells (L.tells × TellsFor D.tells line.now.command) K.Keep
         D.Disk line.now volumes.old volumes.new disks.old.items disks.new.items (S.written output.old)
         (S.written output.new)) }

@@ -91,8 +91,8 @@ impl<K: Keep + Drop, L: Link + Drop> Volumes<K, L> {
         requires step { IsStep line.now.command }
         requires room { HaveRoom event_limit self.old }
         requires held { AreHeld K.Keep D.Disk self.old disks.old.items }
-        ensures answers { IfOk result (λ answer. AnswersLine L.tells (L.tells × TellsFor D.tells line.now.command) K.Keep
-            D.Disk line.now answer self.old self.new disks.old.items disks.new.items) }
+        ensures answers { IfOk result (λ answer. AnswersLine L.tells (L.tells × TellsFor D.tells line.now.command)
+            K.Keep D.Disk line.now answer self.old self.new disks.old.items disks.new.items) }
         ensures memory { OnErr result (StopsLine L.tells K.Keep D.Disk line.now self.old self.new disks.old.items
             disks.new.items) }
         ensures held { AreHeld K.Keep D.Disk self.new disks.new.items }
@@ -118,8 +118,8 @@ impl<K: Keep + Drop, L: Link + Drop> Volumes<K, L> {
         requires step { IsStep line.now.command }
         requires room { HaveRoom event_limit self.old }
         requires held { AreHeld K.Keep D.Disk self.old disks.old.items }
-        ensures answers { IfOk result (λ answer. AnswersLine L.tells (L.tells × TellsFor D.tells line.now.command) K.Keep
-            D.Disk line.now answer self.old self.new disks.old.items disks.new.items) }
+        ensures answers { IfOk result (λ answer. AnswersLine L.tells (L.tells × TellsFor D.tells line.now.command)
+            K.Keep D.Disk line.now answer self.old self.new disks.old.items disks.new.items) }
         ensures halts { IfErr result (λ stop. LineHalts L.tells (L.tells × TellsFor D.tells line.now.command) K.Keep
             D.Disk line.now stop self.old self.new disks.old.items disks.new.items) }
         ensures stays { OnErr result (StopsLine L.tells K.Keep D.Disk line.now self.old self.new disks.old.items
