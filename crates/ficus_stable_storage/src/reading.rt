@@ -1,4 +1,4 @@
-ghost use Rattle.std.specs.Prelude.{◌≡◌, Some, IfOk, IsErrOf};
+ghost use Rattle.std.specs.Prelude.{◌≡◌, ◌≢◌, ◌↔◌, Ok, Some, IfOk, IsErrOf};
 ghost use Rattle.ficus_keeper.specs.Kept.{kept_of};
 ghost use Rattle.ficus_stable_storage.specs.Leads.Holds.{Holds};
 ghost use Rattle.ficus_durable_state.specs.Saved.{FitsImage};
@@ -35,9 +35,19 @@ fn read_image(alloc: Global, opened: &Opened) -> Result<Saved, StoreFault>
     ensures none { IsErrOf result StoreFault.NoImage → (base : SavedValue) → IsSpelledIn opened.now base → ⊥ }
     ensures never { IsErrOf result StoreFault.Failed → ⊥ }
 {
-    match decode_image(alloc, opened.image.items()) {
+    of_generation(decode_image(alloc, opened.image.items()), opened.generation)
+}
+
+// What was decoded, where it is of this generation.
+fn of_generation(decoded: Result<Saved, ImageFault>, generation: u64) -> Result<Saved, StoreFault>
+    ensures found { IfOk result (λ base. (decoded ≡ Ok base) × (base.generation ≡ generation)) }
+    ensures none { IsErrOf result StoreFault.NoImage → IfOk decoded (λ base. base.generation ≢ generation) }
+    ensures memory { IsErrOf result StoreFault.Memory ↔ IsErrOf decoded ImageFault.Memory }
+    ensures never { IsErrOf result StoreFault.Failed → ⊥ }
+{
+    match decoded {
         Ok(base) => {
-            if base.generation == opened.generation {
+            if base.generation == generation {
                 Ok(base)
             } else {
                 Err(StoreFault::NoImage)
@@ -48,9 +58,10 @@ fn read_image(alloc: Global, opened: &Opened) -> Result<Saved, StoreFault>
     }
 }
 
-// Bytes that are no record, and a record that doesn't fit, are told as an image that isn't one.
+// Bytes that are no record, and a record that doesn't fit, are told as an image that isn't one; want of memory, and
+// nothing else, as what it is.
 fn told(fault: RecordFault) -> StoreFault
-    ensures none { result ≡ StoreFault.NoImage → fault ≡ RecordFault.Memory → ⊥ }
+    ensures memory { result ≡ StoreFault.Memory ↔ fault ≡ RecordFault.Memory }
     ensures never { result ≡ StoreFault.Failed → ⊥ }
 {
     match fault {

@@ -21,5 +21,5 @@ returns-in-Err-clause-none c is saved holds =
     let told : c.told.result ≡ NoImage = cc in
     let none = rw c.into_vec.ensures at c.in-Err.ensures.none in
     holds_nothing c.args.opened c.in_ok-base.base saved c.in_ok-base.ensures.spelled holds
-    c.in-Err.fault (c.told.ensures.none told) (λ e end leads. (none end leads).0 (ap Err e))
+    c.in-Err.fault (λ wanted. let memory = c.told.ensures.memory.1 wanted in absurd (cc)) (λ e end leads. (none end leads).0 (ap Err e))
     (λ e end leads. (none end leads).1 (ap Err e))
