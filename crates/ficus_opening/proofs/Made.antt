@@ -1,10 +1,12 @@
 -- What is found of the disks before a volume is made, and what is made of them.
 use Rattle.std.proofs.Common.{◌≡◌, ◌≢◌, ℕ, ◌+◌, ◌<◌, ◌≤◌, Bool, true, false, List, [], ◌∷◌, Option, Some, None, refl, sym, ap, ap₂, subst, ◌∙◌, inl, inr, ◌⊎◌, arith}
-use Rattle.std.specs.Prelude.{◌↔◌, slice_set, IsTrue, Result, Err}
+use Rattle.std.specs.Prelude.{◌↔◌, slice_set, length, IsErrOf, IsTrue, Result, Err}
 use Rattle.std.proofs.lemmas.Bool.{cases_lt}
+use Rattle.std.proofs.lemmas.List.{length-set}
 use Rattle.ficus_disk.specs.declared.disk.Disk.{Ghosts as Disk}
 use Rattle.ficus_disk.specs.declared.pair.Pair.{Pair}
 use Rattle.ficus_ids.specs.Members.{IsMember}
+use Rattle.ficus_keeper.specs.Calls.{AreAsBefore}
 use Rattle.ficus_keeper.specs.Kept.{Kept, found_in}
 use Rattle.ficus_model.specs.Lawful.{Volume}
 use Rattle.ficus_replica.specs.SavedOf.{fresh_saved}
@@ -12,12 +14,14 @@ use Rattle.ficus_stable_storage.specs.Leads.Holds.{Holds}
 use Rattle.ficus_stable_storage.proofs.leads.Led.{held_at}
 use Rattle.ficus_stable_storage.specs.Holds.{HoldsOneOf}
 use Rattle.ficus_runs.specs.Numbered.{IsNumbered}
-use Rattle.ficus_opening.specs.Rests.{AllRest}
+use Rattle.ficus_opening.specs.Rests.{AllRest, OthersRest, PairRests}
 use Rattle.ficus_opening.specs.Check.Judged.{IsEmptyPair}
-use Rattle.ficus_opening.specs.Opening.{AreEmpty, AreMade, AreMadeInPart, AreSynced, IsFirstOccupied, IsFoundFault, Steady}
+use Rattle.ficus_opening.specs.Opening.{AreEmpty, AreMade, AreMadeBefore, AreMadeInPart, AreSynced, IsFirstOccupied, IsFoundFault, IsMadeInPart, IsStoreFault, SomeAreMade, Steady}
 use Rattle.ficus_opening.specs.declared.fault.WorldFault.{WorldFault}
 use Rattle.ficus_opening.specs.declared.fault.WorldFault.TheVariants.{Image, Memory, Occupied, Store}
-use Rattle.ficus_runs.proofs.Numbers.{number_exists}
+use Rattle.ficus_runs.proofs.Numbers.{number_exists, number_once}
+use Rattle.ficus_opening.proofs.Others.{all_others_rest, others_rest_then}
+use Rattle.ficus_opening.proofs.Rests.{all_rest_then, rests_none}
 use Rattle.ficus_opening.proofs.Steadies.{set_at}
 
 -- what is known of the disks of the members so far: none holds something, or this one is the first that does
@@ -138,6 +142,14 @@ module _ {D : Type 0} (seen : D → List ℕ) where
       go (inl some) = some both.0
       go (inr some) = some both.1
 
+-- where both disks are as before, nothing is written on them
+pub rests_before : {D : Type 0} {disk : Disk D} {old new : Pair D} → AreAsBefore disk old new → PairRests disk old new
+rests_before as_before = record {
+  within = as_before.keeps.crash;
+  leaves = as_before.keeps.moments;
+  spans = as_before.keeps.spans;
+}
+
 -- the disks of the members up to this one are made, and those behind it are as they were
 pub record MadeSo {D : Type 0} (kept : List ℕ → List ℕ → Option Kept) (seen : D → List ℕ) (volume : Volume)
     (old new : List (Pair D)) (before : ℕ) : Type 0 where
@@ -175,66 +187,138 @@ module _ {D : Type 0} (kept : List ℕ → List ℕ → Option Kept) (seen : D �
     each = λ r pair at member. so.made r pair at (omega (arith, member.at_most, all));
   }
 
-  -- one more is made in part
-  pub made_in_part : (may_leave : D → List ℕ → Type 0) (new : List (Pair D)) (before : ℕ) (after : Pair D)
-      → MadeSo kept seen volume old new before → AreEmpty seen old volume.members
-      → AreSynced seen may_leave old volume.members → AreSynced seen may_leave new volume.members
-      → HoldsOneOf kept may_leave after None (Some (fresh_saved volume (before + 1)))
-      → AreMadeInPart kept may_leave volume (slice_set new before after)
-  made_in_part may_leave new before after so empty synced all holds = record {
-    at = before + 1;
-    before = λ r pair at member below a b left_a left_b. elim (set_at new before r after pair at) [
-      | inl (number, is) ↦ absurd (omega (arith, number, below))
-      | inr (differs, here) ↦
-          let only = all.each r pair here member.at_most in
-          let made = so.made r pair here (omega (arith, below)) in
-          held_at _ _ _ (ap₂ kept (only.a a left_a) (only.b b left_b)) made
-    ];
-    there = λ pair at member. elim (set_at new before (before + 1) after pair at) [
-      | inl (number, is) ↦
-          subst (λ (p : Pair D). HoldsOneOf kept may_leave p None (Some (fresh_saved volume (before + 1)))) (sym is)
-          holds
-      | inr (differs, here) ↦ absurd (differs refl)
-    ];
-    behind = λ r pair at member above a b left_a left_b. elim (set_at new before r after pair at) [
-      | inl (number, is) ↦ absurd (omega (arith, number, above))
-      | inr (differs, here) ↦
-          let was = so.rest r pair here (omega (arith, above)) in
-          let only = synced.each r pair was member.at_most in
-          let nothing = empty.each r pair was member.at_most in
-          (only.a a left_a ∙ nothing.0, only.b b left_b ∙ nothing.1)
-    ];
+  module _ (disk : Disk D) (new : List (Pair D)) (before : ℕ) (after : Pair D)
+      (so : MadeSo kept seen volume old new before) (count : length new ≡ length old) where
+    -- those before stay made, whatever a crash leaves
+    before_made : AreSynced seen disk.may_leave new volume.members
+        → AreMadeBefore kept disk.may_leave volume (before + 1) (slice_set new before after)
+    before_made all = record {
+      each = λ r pair at member below a b left_a left_b. elim (set_at new before r after pair at) [
+        | inl (number, is) ↦ absurd (omega (arith, number, below))
+        | inr (differs, here) ↦
+            let only = all.each r pair here member.at_most in
+            let made = so.made r pair here (omega (arith, below)) in
+            held_at _ _ _ (ap₂ kept (only.a a left_a) (only.b b left_b)) made
+      ];
+    }
+
+    -- the disk of one more failed
+    pub one_in_part : AreSynced seen disk.may_leave new volume.members
+        → HoldsOneOf kept disk.may_leave after None (Some (fresh_saved volume (before + 1)))
+        → IsMadeInPart kept disk volume (before + 1) old (slice_set new before after)
+    one_in_part all holds = record {
+      before = before_made all;
+      there = λ pair at. elim (set_at new before (before + 1) after pair at) [
+        | inl (number, is) ↦
+            subst (λ (p : Pair D). HoldsOneOf kept disk.may_leave p None (Some (fresh_saved volume (before + 1))))
+            (sym is) holds
+        | inr (differs, here) ↦ absurd (differs refl)
+      ];
+      rest = record {
+        pairs = length-set new before after ∙ count;
+        each = λ r was now past at at_now. elim (set_at new before r after now at_now) [
+          | inl (number, is) ↦ absurd (omega (arith, number, past))
+          | inr (differs, here) ↦ stays_at r was now (omega (arith, past)) at here
+        ];
+      };
+    }
+      where
+        stays_at : (r : ℕ) (was now : Pair D) → before < r → IsNumbered old r was → IsNumbered new r now
+            → PairRests disk was now
+        stays_at r was now past at here =
+            subst (λ (p : Pair D). PairRests disk was p) (number_once at (so.rest r now here past)) (rests_none disk was)
+
+    -- memory was refused to one more
+    pub some_made : (pair : Pair D) → IsNumbered new (before + 1) pair → PairRests disk pair after
+        → AreSynced seen disk.may_leave new volume.members
+        → SomeAreMade kept disk volume old (slice_set new before after)
+    some_made pair there rests all = record {
+      count = before;
+      first = record {
+        made = before_made all;
+        rest = record {
+          pairs = length-set new before after ∙ count;
+          each = λ r was now past at at_now. elim (set_at new before r after now at_now) [
+            | inl (number, is) ↦
+                let here : IsNumbered old (before + 1) was = subst (λ n. IsNumbered old n was) number at in
+                let same = number_once here (so.rest (before + 1) pair there (omega arith)) in
+                subst (λ (p : Pair D). PairRests disk p now) (sym same)
+                (subst (λ (p : Pair D). PairRests disk pair p) (sym is) rests)
+            | inr (differs, here) ↦
+                subst (λ (p : Pair D). PairRests disk was p) (number_once at (so.rest r now here past))
+                (rests_none disk was)
+          ];
+        };
+      };
+    }
+
+    -- so what is made is made in part, as the fault says
+    pub made_in_part : (fault : WorldFault) → IsStoreFault fault
+        → ((r : ℕ) → IsErrOf {T = Unit {0}} (Err fault) (Store r) → r ≡ before + 1)
+        → IsMadeInPart kept disk volume (before + 1) old (slice_set new before after)
+        → (IsErrOf {T = Unit {0}} (Err fault) Memory → SomeAreMade kept disk volume old (slice_set new before after))
+        → AreMadeInPart kept disk volume old (slice_set new before after) fault
+    made_in_part (Store r) store named part some =
+        inr (subst (λ n. IsMadeInPart kept disk volume n old (slice_set new before after)) (sym (named r refl)) part)
+    made_in_part Memory store named part some = some refl
+    made_in_part (Occupied r) store named part some = absurd store
+    made_in_part (Image r) store named part some = absurd store
+
+module _ {D : Type 0} (kept : List ℕ → List ℕ → Option Kept) (disk : Disk D) (volume : Volume) where
+  -- where nothing is written, nothing is made
+  pub none_made : (old new : List (Pair D)) → AllRest disk old new → SomeAreMade kept disk volume old new
+  none_made old new rests = record {
+    count = 0;
+    first = record {
+      made = record { each = λ r pair at member below. absurd (omega (arith, member.at_least, below)) };
+      rest = all_others_rest disk 0 old new rests;
+    };
   }
 
--- where nothing is written on empty disks, nothing is made
-pub none_in_part : {D : Type 0} (kept : List ℕ → List ℕ → Option Kept) (disk : Disk D) (volume : Volume)
-    (old new : List (Pair D)) → AllRest disk old new → AreEmpty disk.seen old volume.members
-    → AreSynced disk.seen disk.may_leave old volume.members → AreMadeInPart kept disk.may_leave volume new
-none_in_part kept disk volume old new rests empty synced = record {
-  at = 0;
-  before = λ r pair at member below a b left_a left_b. absurd (omega (arith, below));
-  there = λ pair at member. absurd (omega (arith, member.at_least));
-  behind = λ r pair at member above a b left_a left_b.
-      let was = number_exists old r (subst (λ n. IsMember n r) rests.count at.member) in
-      let within = (rests.each r was.0 pair was.1 at).within in
-      let only = synced.each r was.0 was.1 member.at_most in
-      let nothing = empty.each r was.0 was.1 member.at_most in
-      (only.a a (within.a a left_a) ∙ nothing.0, only.b b (within.b b left_b) ∙ nothing.1);
-}
+  -- so it is where something was looked for on empty disks, and nothing was there
+  pub found_in_part : (old new : List (Pair D)) (fault : WorldFault) → IsFoundFault fault → AllRest disk old new
+      → AreEmpty disk.seen old volume.members
+      → ((r : ℕ) → IsErrOf {T = Unit {0}} (Err fault) (Occupied r)
+      → IsFirstOccupied disk.seen old r × (r ≤ volume.members))
+      → AreMadeInPart kept disk volume old new fault
+  found_in_part old new (Store r) found rests empty occupied = inl rests
+  found_in_part old new (Occupied r) found rests empty occupied =
+      let first = occupied r refl in
+      absurd (none_occupied disk.seen old volume.members r empty first.0 first.1)
+  found_in_part old new (Image r) found rests empty occupied = absurd found
+  found_in_part old new Memory found rests empty occupied = absurd found
 
--- where nothing is written on disks on which all is made, all is made
-pub made_rests : {D : Type 0} (kept : List ℕ → List ℕ → Option Kept) (disk : Disk D) (volume : Volume)
-    (mid new : List (Pair D)) → AreMade kept disk.seen volume mid
-    → AreSynced disk.seen disk.may_leave mid volume.members → AllRest disk mid new
-    → AreMadeInPart kept disk.may_leave volume new
-made_rests kept disk volume mid new made synced rests = record {
-  at = volume.members + 1;
-  before = λ r pair at member below a b left_a left_b.
-      let was = number_exists mid r (subst (λ n. IsMember n r) rests.count at.member) in
-      let within = (rests.each r was.0 pair was.1 at).within in
-      let only = synced.each r was.0 was.1 member.at_most in
-      let holds = made.each r was.0 was.1 member in
-      held_at _ _ _ (ap₂ kept (only.a a (within.a a left_a)) (only.b b (within.b b left_b))) holds;
-  there = λ pair at member. absurd (omega (arith, member.at_most));
-  behind = λ r pair at member above a b left_a left_b. absurd (omega (arith, above, member.at_most));
-}
+  -- and what is made behind that is made of what was there at first
+  pub part_behind : ((d : D) (t u : ℕ) (c : List ℕ) → t ≤ u → disk.left_since d u c → disk.left_since d t c)
+      → (old mid new : List (Pair D)) → AllRest disk old mid → (fault : WorldFault)
+      → AreMadeInPart kept disk volume mid new fault → AreMadeInPart kept disk volume old new fault
+  part_behind earlier old mid new first = go
+    where
+      behind : (count : ℕ) → OthersRest disk count mid new → OthersRest disk count old new
+      behind count rest =
+          others_rest_then disk count earlier old mid new (all_others_rest disk count old mid first) rest
+
+      go : (fault : WorldFault) → AreMadeInPart kept disk volume mid new fault
+          → AreMadeInPart kept disk volume old new fault
+      go (Store r) (inl rests) = inl (all_rest_then disk earlier old mid new first rests)
+      go (Store r) (inr part) =
+          inr (record { before = part.before; there = part.there; rest = behind r part.rest })
+      go Memory some = record {
+        count = some.count;
+        first = record { made = some.first.made; rest = behind some.count some.first.rest };
+      }
+      go (Occupied r) none = none
+      go (Image r) none = none
+
+  -- where nothing is written on disks on which all is made, all is made
+  pub made_rests : (mid new : List (Pair D)) → AreMade kept disk.seen volume mid
+      → AreSynced disk.seen disk.may_leave mid volume.members → AllRest disk mid new
+      → AreMadeBefore kept disk.may_leave volume (volume.members + 1) new
+  made_rests mid new made synced rests = record {
+    each = λ r pair at member below a b left_a left_b.
+        let was = number_exists mid r (subst (λ n. IsMember n r) rests.count at.member) in
+        let within = (rests.each r was.0 pair was.1 at).within in
+        let only = synced.each r was.0 was.1 member.at_most in
+        let holds = made.each r was.0 was.1 member in
+        held_at _ _ _ (ap₂ kept (only.a a (within.a a left_a)) (only.b b (within.b b left_b))) holds;
+  }

@@ -7,6 +7,7 @@ use Rattle.ficus_disk.specs.declared.pair.Pair.{Pair}
 use Rattle.ficus_durable_state.specs.Saved.{FitsImage}
 use Rattle.ficus_durable_state.specs.declared.saved.Saved.{Saved}
 use Rattle.ficus_ids.specs.Members.{IsCount}
+use Rattle.ficus_keeper.specs.Calls.{AreAsBefore}
 use Rattle.ficus_keeper.specs.Fuses.{IsRegularIn}
 use Rattle.ficus_keeper.specs.Kept.{found_in}
 use Rattle.ficus_keeper.specs.declared.keep.Keep.{Ghosts as Keep}
@@ -22,7 +23,7 @@ use Rattle.ficus_opening.specs.Fuses.{AreRegular}
 use Rattle.ficus_opening.specs.Opening.{AreEmpty, AreMade, AreMadeInPart, AreOpened, AreSynced, DisksAsked, DisksLooked, IsAtFault, IsBad, IsFirstBad, IsFirstOccupied, IsFoundFault, IsOneMore, IsStoreFault, IsSynced, IsUnfailed, Opens, PairAsked, PairLooked, SeenSame, Steady, Unfailing}
 use Rattle.ficus_opening.specs.Rests.{AllRest, OthersStay, RestsAt}
 use Rattle.ficus_opening.specs.declared.fault.WorldFault.{WorldFault}
-use Rattle.ficus_opening.specs.declared.fault.WorldFault.TheVariants.{Image, Occupied, Store}
+use Rattle.ficus_opening.specs.declared.fault.WorldFault.TheVariants.{Image, Memory, Occupied, Store}
 use Rattle.ficus_opening.specs.declared.member.Member.{Member}
 use Rattle.ficus_opening.specs.declared.opening.Opened.{Opened}
 
@@ -55,6 +56,8 @@ pub record MakesMember {A K D : Type 0} (keep : Keep K) (disk : Disk D) (volume 
       → HoldsOneOf keep.kept disk.may_leave new None (Some (fresh_saved volume me))
   pub synced : disk.tells → IsSynced disk.seen disk.may_leave old
       → OnOk result (IsSynced disk.seen disk.may_leave new)
+  -- Where memory is refused, its disks are as before.
+  pub wanted : IsErrOf result Memory → AreAsBefore disk old new
   pub regular : disk.tells → OnOk result (IsRegularIn keep.Regular disk.seen new)
   pub asked : PairAsked disk me result old new
 
@@ -65,7 +68,7 @@ pub record MakesMembers {A K D : Type 0} (keep : Keep K) (disk : Disk D) (volume
   pub member : (r : ℕ) → IsErrOf result (Store r) → r ≤ volume.members
   pub refused : IfErr result IsStoreFault
   pub partly : disk.tells → AreSynced disk.seen disk.may_leave old volume.members
-      → OnErr result (AreMadeInPart keep.kept disk.may_leave volume new)
+      → IfErr result (AreMadeInPart keep.kept disk volume old new)
   pub others : OthersStay volume.members old new
   pub synced : disk.tells → AreSynced disk.seen disk.may_leave old volume.members
       → OnOk result (AreSynced disk.seen disk.may_leave new volume.members)
@@ -83,10 +86,9 @@ pub record MakesVolume {K D : Type 0} (keep : Keep K) (disk : Disk D) (members i
   pub held : disk.tells → (r : ℕ) → r ≤ members → IsFirstOccupied disk.seen old r → SeenSame disk.seen old new
   pub rests : disk.tells → (r : ℕ) → r ≤ members → IsFirstOccupied disk.seen old r → AllRest disk old new
   -- Where nothing was there and nothing unsynced, nothing else is there after a fault than what is made: some first
-  -- members, and one in part. The pairs of no member stay.
+  -- members, and the one whose disk failed in part. The pairs of no member stay.
   pub partly : disk.tells → AreEmpty disk.seen old members → AreSynced disk.seen disk.may_leave old members
-      → OnErr result (AreMadeInPart keep.kept disk.may_leave
-      (record { members = members; ids = ids; bytes = bytes }) new)
+      → IfErr result (AreMadeInPart keep.kept disk (record { members = members; ids = ids; bytes = bytes }) old new)
   pub others : OthersStay members old new
   -- No disk has failed where no such fault is told.
   pub spared : (fault : WorldFault) → IsUnfailed fault → IsErrOf result fault → Steady disk.faults old new

@@ -24,7 +24,7 @@ use Rattle.ficus_opening.specs.declared.fault.WorldFault.{WorldFault}
 use Rattle.ficus_opening.specs.declared.fault.WorldFault.TheVariants.{Image, Memory, Occupied, Store}
 use Rattle.ficus_opening.specs.Disks.{are_fused}
 use Rattle.ficus_opening.specs.Fuses.{AreUnarmed}
-use Rattle.ficus_opening.specs.Rests.{AllRest, PairRests}
+use Rattle.ficus_opening.specs.Rests.{AllRest, OthersRest, PairRests}
 use Rattle.ficus_opening.specs.Stand.{DisksKeep}
 
 -- the disks of the members up to this one hold nothing
@@ -44,18 +44,42 @@ pub record AreMade {D : Type 0} (kept : List ℕ → List ℕ → Option Kept) (
   pub each : (r : ℕ) (pair : Pair D) → IsNumbered disks r pair → IsMember volume.members r
       → Holds (found_in kept seen pair) (fresh_saved volume r)
 
--- Whatever a crash leaves of the disks, some first members are made, the one behind them is made in part, and of no
--- other there is anything: of each before it what it saves before anything has happened is held, of it that or nothing,
--- and the disks of those behind it are empty.
-pub record AreMadeInPart {D : Type 0} (kept : List ℕ → List ℕ → Option Kept) (may_leave : D → List ℕ → Type 0)
-    (volume : Volume) (disks : List (Pair D)) : Type 0 where
-  pub at : ℕ
-  pub before : (r : ℕ) (pair : Pair D) → IsNumbered disks r pair → IsMember volume.members r → r < at → (a b : List ℕ)
+-- the members before this one are made: whatever a crash leaves of their disks, what each saves before anything has
+-- happened is held
+pub record AreMadeBefore {D : Type 0} (kept : List ℕ → List ℕ → Option Kept) (may_leave : D → List ℕ → Type 0)
+    (volume : Volume) (at : ℕ) (disks : List (Pair D)) : Type 0 where
+  pub each : (r : ℕ) (pair : Pair D) → IsNumbered disks r pair → IsMember volume.members r → r < at → (a b : List ℕ)
       → may_leave pair.a a → may_leave pair.b b → Holds (kept a b) (fresh_saved volume r)
-  pub there : (pair : Pair D) → IsNumbered disks at pair → IsMember volume.members at
-      → HoldsOneOf kept may_leave pair None (Some (fresh_saved volume at))
-  pub behind : (r : ℕ) (pair : Pair D) → IsNumbered disks r pair → IsMember volume.members r → at < r → (a b : List ℕ)
-      → may_leave pair.a a → may_leave pair.b b → (a ≡ []) × (b ≡ [])
+
+-- so many first members are made, and on the disks of those behind them nothing is written
+pub record AreMadeFirst {D : Type 0} (kept : List ℕ → List ℕ → Option Kept) (disk : Disk D) (volume : Volume)
+    (count : ℕ) (old new : List (Pair D)) : Type 0 where
+  pub made : AreMadeBefore kept disk.may_leave volume (count + 1) new
+  pub rest : OthersRest disk count old new
+
+-- some first members are made, or none
+pub record SomeAreMade {D : Type 0} (kept : List ℕ → List ℕ → Option Kept) (disk : Disk D) (volume : Volume)
+    (old new : List (Pair D)) : Type 0 where
+  pub count : ℕ
+  pub first : AreMadeFirst kept disk volume count old new
+
+-- this member is made in part: whatever a crash leaves of its disks, what it saves before anything has happened is
+-- held, or nothing; those before it are made, and on the disks of those behind it nothing is written
+pub record IsMadeInPart {D : Type 0} (kept : List ℕ → List ℕ → Option Kept) (disk : Disk D) (volume : Volume)
+    (r : ℕ) (old new : List (Pair D)) : Type 0 where
+  pub before : AreMadeBefore kept disk.may_leave volume r new
+  pub there : (pair : Pair D) → IsNumbered new r pair
+      → HoldsOneOf kept disk.may_leave pair None (Some (fresh_saved volume r))
+  pub rest : OthersRest disk r old new
+
+-- What is made where this ended it, over disks that held nothing. Where a disk of this member failed, nothing is
+-- written, or it is made in part; where memory was refused, some first members are made; nothing else ends it.
+abbrev pub AreMadeInPart : {D : Type 0} → (List ℕ → List ℕ → Option Kept) → Disk D → Volume → List (Pair D)
+    → List (Pair D) → WorldFault → Type 0
+AreMadeInPart kept disk volume old new (Store r) = AllRest disk old new ⊎ IsMadeInPart kept disk volume r old new
+AreMadeInPart kept disk volume old new Memory = SomeAreMade kept disk volume old new
+AreMadeInPart kept disk volume old new (Occupied r) = ⊥
+AreMadeInPart kept disk volume old new (Image r) = ⊥
 
 -- what is held of a member, of which a world may be opened by what is held of the first one
 pub record Opens {D : Type 0} (kept : List ℕ → List ℕ → Option Kept) (seen : D → List ℕ) (disks : List (Pair D))

@@ -19,8 +19,8 @@ use std::alloc::Global;
 /// Makes a fresh volume on the disks: for each member what it saves before anything has happened.
 ///
 /// `Store` comes only where a disk of that replica failed; `Occupied` exactly where none failed when asked for its
-/// size and a disk of a member holds something. After `Store` and `Memory` some first members may be made, and the
-/// one at fault in part.
+/// size and a disk of a member holds something. After `Store` and `Memory` some first members may be made; after
+/// `Store` the one at fault may be made in part, and after `Memory` its disks are as before.
 pub fn make_volume<K: Keep + Drop, D: Disk>(
     alloc: Global,
     disks: &mut Vec<Pair<D>>,

@@ -20,8 +20,8 @@ impl<K: Keep + Drop, L: Link + Drop> World<K, L> {
     /// Makes a fresh volume on the disks: for each member what it saves before anything has happened.
     ///
     /// `Store` comes only where a disk of that replica failed; `Occupied` exactly where none failed when asked for its
-    /// size and a disk of a member holds something. After `Store` and `Memory` some first members may be made, and the
-    /// one at fault in part.
+    /// size and a disk of a member holds something. After `Store` and `Memory` some first members may be made; after
+    /// `Store` the one at fault may be made in part, and after `Memory` its disks are as before.
     pub fn make<D: Disk>(
         alloc: Global,
         disks: &mut Vec<Pair<D>>,

@@ -1,7 +1,8 @@
 use Rattle.std.proofs.Common.{◌+◌, ◌<◌, ◌≤◌, Err, subst, sym, ◌∙◌, arith}
 use Rattle.std.proofs.lemmas.Result.{err_from_is_err_and}
+use Rattle.ficus_model.specs.Lawful.{Volume}
 use Rattle.ficus_runs.specs.Numbered.{IsNumbered}
-use Rattle.ficus_opening.proofs.Made.{made_all, made_in_part, made_more, made_none}
+use Rattle.ficus_opening.proofs.Made.{made_all, made_in_part, made_more, made_none, one_in_part, rests_before, some_made}
 use Rattle.ficus_opening.proofs.Others.{others_none, others_set}
 use Rattle.ficus_opening.proofs.Steadies.{next_at, steady_none, steady_set, synced_set}
 use Rattle.ficus_opening.proofs.Unarmed.{regular_more, regular_none, unarmed_set}
@@ -86,11 +87,17 @@ returns-in_err-make_one g c =
           omega (arith, named, c.loop-before-test.true, c.count-before-end.ensures.value);
       refused = made.refused;
       partly = λ tells at_first.
+          let volume : Volume = record { members = c.args.members; ids = c.args.ids; bytes = c.args.bytes } in
           let all = was.synced tells at_first in
+          let holds = made.partly tells (all.each (c.from.result + 1) pair at (omega (arith, within))) in
+          let here = subst (λ n. IsNumbered mid (n + 1) pair) c.from.ensures at in
           rw c.from.ensures
-          (made_in_part g.K.Keep.kept g.D.Disk.seen _ old g.D.Disk.may_leave mid c.loop-before.before c.make_one.new.pair
-          (was.made tells) (c.requires.empty tells) at_first all
-          (made.partly tells (all.each (c.from.result + 1) pair at (omega (arith, within)))));
+          (made_in_part g.K.Keep.kept g.D.Disk.seen volume old g.D.Disk mid c.loop-before.before c.make_one.new.pair
+          (was.made tells) was.faults.count fault made.refused (λ r is. (made.asked.failed r is).0)
+          (one_in_part g.K.Keep.kept g.D.Disk.seen volume old g.D.Disk mid c.loop-before.before c.make_one.new.pair
+          (was.made tells) was.faults.count all holds)
+          (λ is. some_made g.K.Keep.kept g.D.Disk.seen volume old g.D.Disk mid c.loop-before.before c.make_one.new.pair
+          (was.made tells) was.faults.count pair here (rests_before (made.wanted is)) all));
       others = others_set c.args.members old mid c.from.result c.make_one.new.pair was.others within;
       synced = λ tells at_first. tt;
       regular = λ tells. tt;

@@ -1,11 +1,11 @@
 use Rattle.std.proofs.Common.{subst, refl}
 use Rattle.std.specs.Prelude.{IfErr}
-use Rattle.std.proofs.lemmas.Result.{err_from_is_err_and}
+use Rattle.std.proofs.lemmas.Result.{IfErr-weaker, err_from_is_err_and}
 use Rattle.ficus_opening.specs.Opening.{IsFoundFault, IsStoreFault}
 use Rattle.ficus_opening.specs.declared.fault.WorldFault.TheVariants.{Image}
 use Rattle.ficus_opening.proofs.Asking.{disks_behind, on_ok}
 use Rattle.ficus_opening.proofs.Faults.{same_err}
-use Rattle.ficus_opening.proofs.Made.{empty_same, found_comes, none_in_part, none_occupied}
+use Rattle.ficus_opening.proofs.Made.{empty_same, found_comes, found_in_part, none_occupied, part_behind}
 use Rattle.ficus_opening.proofs.Others.{others_then}
 use Rattle.ficus_opening.proofs.making.make_volume.Goals as goal
 
@@ -28,8 +28,9 @@ returns-in_err-look_for_empty g c =
       held = λ tells r within first. looked.same tells;
       rests = λ tells r within first. looked.rests;
       partly = λ tells empty at_first.
-          none_in_part g.K.Keep.kept g.D.Disk _ c.args.disks.now.items c.look_for_empty.new.disks.items looked.rests empty
-          at_first;
+          found_in_part g.K.Keep.kept g.D.Disk
+          (record { members = c.args.members; ids = c.args.ids; bytes = c.args.bytes }) c.args.disks.now.items
+          c.look_for_empty.new.disks.items fault found.refused looked.rests empty (found.occupied tells);
       others = c.look_for_empty.ensures.others;
       spared = looked.asked.spared;
       comes = λ tells r first within.
@@ -63,7 +64,12 @@ returns g c =
           absurd (none_occupied g.D.Disk.seen old c.args.members r (found.empty tells) first within);
       rests = λ tells r within first.
           absurd (none_occupied g.D.Disk.seen old c.args.members r (found.empty tells) first within);
-      partly = λ tells empty at_first. made.partly tells (found.synced tells at_first);
+      partly = λ tells empty at_first.
+          IfErr-weaker c.make_all.result _ _
+          (part_behind g.K.Keep.kept g.D.Disk
+          (record { members = c.args.members; ids = c.args.ids; bytes = c.args.bytes }) g.met.D.Disk.left_earlier old
+          c.look_for_empty.new.disks.items c.make_all.new.disks.items found.looked.rests)
+          (made.partly tells (found.synced tells at_first));
       others =
           others_then c.args.members old c.look_for_empty.new.disks.items c.make_all.new.disks.items
           c.look_for_empty.ensures.others made.others;
