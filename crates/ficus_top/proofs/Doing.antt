@@ -1,8 +1,9 @@
 -- What the program does in a mode, by how the run ended.
 use Rattle.std.proofs.Common.{◌≡◌, ◌≢◌, ◌⊎◌, ℕ, ◌<◌, ◌≤◌, List, [], Option, Result, Ok, Err, refl, sym, ap, subst, inl, inr, arith, length}
 use Rattle.std.specs.declared.alloc.Global.{Global}
-use Rattle.std.specs.Prelude.{IfErr, IsErrOf, OnErr, OnOk, Vec, vec_items}
+use Rattle.std.specs.Prelude.{IfErr, IsErrOf, OnOk, Vec, vec_items}
 use Rattle.ficus_disk.specs.declared.pair.Pair.{Pair}
+use Rattle.ficus_keeper.specs.Kept.{Kept}
 use Rattle.ficus_model.specs.Lawful.{Volume}
 use Rattle.ficus_model.specs.declared.event.Event.{Event}
 use Rattle.ficus_top.specs.Summary.Keeper.{kept_in}
@@ -14,13 +15,13 @@ use Rattle.ficus_top.specs.Headline.{CarriesOutNothing}
 use Rattle.ficus_top.specs.Making.{MakesVolume, volume_of}
 use Rattle.ficus_top.specs.Modes.Gen.{IsGenCode}
 use Rattle.ficus_top.specs.Modes.Init.{DoesInit, IsInitCode}
-use Rattle.ficus_top.specs.Modes.Replay.{DoesReplay, IsReplayCode, StaysUnmade}
+use Rattle.ficus_top.specs.Modes.Replay.{DoesReplay, IsMadeSo, IsReplayCode, StaysUnmade}
 use Rattle.ficus_top.specs.Killed.{KilledFrontOf, KilledOf}
 use Rattle.ficus_top.specs.Modes.Run.{DoesRun, HoldsSame, IsRunCode, StaysUnopened}
 use Rattle.ficus_top.proofs.Kills.{killed_where}
 use Rattle.ficus_opening.specs.Rests.{AllRest, OthersRest, OthersStay}
 use Rattle.ficus_opening.proofs.Rests.{all_rest_none}
-use Rattle.ficus_opening.proofs.Made.{none_in_part}
+use Rattle.ficus_opening.proofs.Made.{none_made}
 use Rattle.ficus_opening.proofs.Others.{all_others_rest, others_none}
 use Rattle.ficus_top.specs.Program.{Does, EndsAsAny, RunsProgram}
 use Rattle.ficus_top.specs.Reading.{TakesUntil}
@@ -41,7 +42,7 @@ use Rattle.ficus_words.specs.declared.mode.Mode.{Mode}
 use Rattle.ficus_words.specs.declared.mode.Mode.TheVariants.{Init, Run, Check, Replay, Volumes, Gen}
 use Rattle.ficus_words.specs.declared.mode.Size.{Size}
 use Rattle.ficus_opening.specs.Fuses.{AreUnarmed}
-use Rattle.ficus_opening.specs.Opening.{AreEmpty, AreMadeInPart, AreSynced, IsAtFault, IsUnfailed, StandsOn, Steady}
+use Rattle.ficus_opening.specs.Opening.{AreEmpty, AreMadeFirst, AreMadeInPart, AreSynced, IsAtFault, IsUnfailed, SomeAreMade, StandsOn, Steady}
 use Rattle.ficus_opening.specs.declared.fault.WorldFault.{WorldFault}
 use Rattle.ficus_opening.specs.declared.fault.WorldFault.TheVariants as world
 use Rattle.ficus_opening.proofs.Steadies.{steady_none}
@@ -145,12 +146,17 @@ module _ {Done : Type 0} where
   run_code ended used occupied =
       but_nine (replay_code ended used) (λ nine. occupied (replica_of ended) (occupied_of_code ended nine))
 
--- a run that doesn't end with code 0 ended with a fault
-where_failed : {Done P : Type 0} (ended : Result Done Fault) → (code_of ended ≡ 3) ⊎ (code_of ended ≡ 6) → OnErr ended P
-    → P
-where_failed (Ok done) (inl three) failed = absurd (cc)
-where_failed (Ok done) (inr six) failed = absurd (cc)
-where_failed (Err fault) codes failed = failed
+-- a run that makes a volume wants memory for this alone
+memory_of_code : {Done : Type 0} (ended : Result Done Fault) → IfErr ended IsOfMaking → code_of ended ≡ 3
+    → IsErrOf ended (Storing world.Memory)
+memory_of_code (Ok done) making code = absurd (cc)
+memory_of_code (Err (Words fault)) making code = absurd making
+memory_of_code (Err (Reading fault)) making code = absurd making
+memory_of_code (Err (Storing (world.Store r))) making code = absurd (cc)
+memory_of_code (Err (Storing (world.Occupied r))) making code = absurd (cc)
+memory_of_code (Err (Storing (world.Image r))) making code = absurd (cc)
+memory_of_code (Err (Storing world.Memory)) making code = refl
+memory_of_code (Err (Answering fault)) making code = absurd making
 
 idle_either : {code : ℕ} → (code ≡ 6) ⊎ (code ≡ 7) → IsIdleCode code
 idle_either (inl six) = inr (inr (inl six))
@@ -310,7 +316,8 @@ module _ {S K D Done : Type 0} (seen : Seen S K D) (ended : Result Done Fault) w
       → OnOk ended (AreSynced seen.disk.seen seen.disk.may_leave (disks_after seen) size.members))
       → (seen.disk.tells → AreEmpty seen.disk.seen (disks_before seen) size.members
       → AreSynced seen.disk.seen seen.disk.may_leave (disks_before seen) size.members
-      → OnErr ended (AreMadeInPart kept_in seen.disk.may_leave (volume_of size) (disks_after seen)))
+      → (fault : WorldFault) → IsErrOf ended (Storing fault)
+      → AreMadeInPart kept_in seen.disk (volume_of size) (disks_before seen) (disks_after seen) fault)
       → OthersStay size.members (disks_before seen) (disks_after seen) → DoesInit size seen (status_of ended)
   init_of size making unread silent unarmed fault makes made member steady spared synced partly others = record {
     codes = making_code ended making;
@@ -322,7 +329,9 @@ module _ {S K D Done : Type 0} (seen : Seen S K D) (ended : Result Done Fault) w
     makes = makes_of size.members makes;
     made = λ tells code. done_of_code ended code (made tells);
     synced = λ tells code at_first. done_of_code ended code (synced tells at_first);
-    partly = λ tells codes empty synced. where_failed ended codes (partly tells empty synced);
+    wanted = λ tells code empty synced. partly tells empty synced world.Memory (memory_of_code ended making code);
+    partly = λ tells code empty synced.
+        partly tells empty synced (world.Store (replica_of ended)) (store_of_code ended code);
     others = others;
     complete = λ tells empty none. made_of_code ended making (record {
       store = λ r is. not_at_fault none r (fault r is);
@@ -428,6 +437,52 @@ module _ {S K D Done : Type 0} (seen : Seen S K D) (ended : Result Done Fault) w
       on_fault (Ok done) makes holds = tt
       on_fault (Err fault) makes holds = makes fault holds
 
+  -- what is made where no command was carried out, by the fault that ended the run
+  abbrev pub MadeAsEnded : Size → Type 0
+  MadeAsEnded size = (fault : WorldFault) → IsErrOf ended (Storing fault)
+      → AreMadeFirst kept_in seen.disk (volume_of size) size.members (disks_before seen) (disks_after seen)
+      ⊎ AreMadeInPart kept_in seen.disk (volume_of size) (disks_before seen) (disks_after seen) fault
+
+  some_made_so : (size : Size) (fault : Fault) → ended ≡ Err fault → IsIdle fault
+      → (IsUntouched fault → seen.disks.new ≡ seen.disks.old) → MadeAsEnded size → code_of ended ≡ 3
+      → SomeAreMade kept_in seen.disk (volume_of size) (disks_before seen) (disks_after seen)
+  some_made_so size fault is idle same made code = go fault is idle same
+    where
+      none : seen.disks.new ≡ seen.disks.old
+          → SomeAreMade kept_in seen.disk (volume_of size) (disks_before seen) (disks_after seen)
+      none untouched =
+          none_made kept_in seen.disk (volume_of size) (disks_before seen) (disks_after seen)
+          (subst (λ (disks : Vec (Pair D) Global). AllRest seen.disk (disks_before seen) (vec_items disks))
+          (sym untouched) (all_rest_none seen.disk (disks_before seen)))
+
+      go : (fault : Fault) → ended ≡ Err fault → IsIdle fault
+          → (IsUntouched fault → seen.disks.new ≡ seen.disks.old)
+          → SomeAreMade kept_in seen.disk (volume_of size) (disks_before seen) (disks_after seen)
+      go (Words fault) is idle same = none (same tt)
+      go (Reading fault) is idle same = none (same tt)
+      go (Storing (world.Store r)) is idle same =
+          let other : code_of ended ≡ 6 = ap code_of is in
+          absurd (omega (arith, code, other))
+      go (Storing (world.Occupied r)) is idle same =
+          let other : code_of ended ≡ 9 = ap code_of is in
+          absurd (omega (arith, code, other))
+      go (Storing (world.Image r)) is idle same =
+          let other : code_of ended ≡ 7 = ap code_of is in
+          absurd (omega (arith, code, other))
+      go (Storing world.Memory) is idle same = elim (made world.Memory is) [
+        | inl all ↦ record { count = size.members; first = all }
+        | inr some ↦ some
+      ]
+      go (Answering fault) is idle same = absurd idle
+
+  made_so : (size : Size) (fault : Fault) → ended ≡ Err fault → IsIdle fault
+      → (IsUntouched fault → seen.disks.new ≡ seen.disks.old) → MadeAsEnded size
+      → IsMadeSo size seen (status_of ended)
+  made_so size fault is idle same made = record {
+    wanted = some_made_so size fault is idle same made;
+    failed = λ code. made (world.Store (replica_of ended)) (store_of_code ended code);
+  }
+
   pub replay_of : (size : Size) → AreUsed ended → EndedAsAny
       → TellsOfMaking seen.disk size.members ended (disks_before seen) (disks_after seen)
       → (seen.source.tells → TakesAsEnded (script_of seen) (left_of seen) ended)
@@ -441,8 +496,7 @@ module _ {S K D Done : Type 0} (seen : Seen S K D) (ended : Result Done Fault) w
       → (seen.disk.tells → (r : ℕ) → IsErrOf ended (Storing (world.Image r)) → ⊥)
       → Spares
       → (seen.disk.tells → AreEmpty seen.disk.seen (disks_before seen) size.members
-      → AreSynced seen.disk.seen seen.disk.may_leave (disks_before seen) size.members → IfErr ended (λ fault. IsIdle fault
-      → AreMadeInPart kept_in seen.disk.may_leave (volume_of size) (disks_after seen)))
+      → AreSynced seen.disk.seen seen.disk.may_leave (disks_before seen) size.members → MadeAsEnded size)
       → (seen.disk.tells → (r : ℕ) → IsErrOf ended (Storing (world.Store r)) → r ≤ size.members)
       → (seen.disk.tells → OthersRest seen.disk size.members (disks_before seen) (disks_after seen))
       → DoesReplay size seen (status_of ended)
@@ -480,19 +534,16 @@ module _ {S K D Done : Type 0} (seen : Seen S K D) (ended : Result Done Fault) w
           }) any.write_fault script
 
       unmade : IfErr ended (λ fault. IsIdle fault → StaysUnmade size seen (status_of ended))
-      unmade = go ended refl partly (unfailed_idle spared any.untouched)
+      unmade = go ended refl (unfailed_idle spared any.untouched) any.untouched
         where
           go : (result : Result Done Fault) → ended ≡ result
-              → (seen.disk.tells → AreEmpty seen.disk.seen (disks_before seen) size.members
-              → AreSynced seen.disk.seen seen.disk.may_leave (disks_before seen) size.members
-              → IfErr result (λ fault. IsIdle fault
-              → AreMadeInPart kept_in seen.disk.may_leave (volume_of size) (disks_after seen)))
               → IfErr result (λ fault. IsIdle fault → (code_of ended ≡ 6 → ⊥)
               → Steady seen.disk.faults (disks_before seen) (disks_after seen))
+              → IfErr result (λ fault. IsUntouched fault → seen.disks.new ≡ seen.disks.old)
               → IfErr result (λ fault. IsIdle fault → StaysUnmade size seen (status_of ended))
-          go (Ok done) is made unfailed = tt
-          go (Err fault) is made unfailed = λ idle. record {
-            partly = λ tells empty synced. made tells empty synced idle;
+          go (Ok done) is unfailed same = tt
+          go (Err fault) is unfailed same = λ idle. record {
+            partly = λ tells empty synced. made_so size fault is idle same (partly tells empty synced);
             unfailed = unfailed idle;
           }
 
@@ -654,6 +705,16 @@ module _ {S K D : Type 0} (seen : Seen S K D) (unread : seen.input.new ≡ seen.
       subst (λ (disks : Vec (Pair D) Global). OthersStay count (disks_before seen) (vec_items disks))
       (sym untouched) (others_none count (disks_before seen))
 
+  -- memory alone was wanted
+  made_of_memory : {kept : List ℕ → List ℕ → Option Kept} {volume : Volume} (fault : WorldFault)
+      → IsErrOf {T = Unit {0}} (Err (Storing world.Memory)) (Storing fault)
+      → SomeAreMade kept seen.disk volume (disks_before seen) (disks_after seen)
+      → AreMadeInPart kept seen.disk volume (disks_before seen) (disks_after seen) fault
+  made_of_memory (world.Store r) is some = absurd (cc is)
+  made_of_memory (world.Occupied r) is some = absurd (cc is)
+  made_of_memory (world.Image r) is some = absurd (cc is)
+  made_of_memory world.Memory is some = some
+
   takes : TakesUntil (script_of seen) (left_of seen) reading.Memory
   takes = record {
     count = 0;
@@ -698,8 +759,9 @@ module _ {S K D : Type 0} (seen : Seen S K D) (unread : seen.input.new ≡ seen.
       init_of seen unmade_end size tt unread silent unarmed (λ r is. absurd (cc is))
       (making_now (Storing world.Memory) tt size.members) (λ tells. tt) (λ r is. absurd (cc is)) tt
       (λ fault unfailed is. unfailed_now) (λ tells at_first. tt)
-      (λ tells empty synced.
-      none_in_part kept_in seen.disk (volume_of size) (disks_before seen) (disks_after seen) rests_now empty synced)
+      (λ tells empty synced fault is.
+      made_of_memory fault is
+      (none_made kept_in seen.disk (volume_of size) (disks_before seen) (disks_after seen) rests_now))
       (others_now size.members)
   nothing_done (Run root) =
       run_of seen unread_end used any opening_now (λ tells. takes) (λ tells told. tt) (λ tells told is. absurd is)
@@ -720,8 +782,7 @@ module _ {S K D : Type 0} (seen : Seen S K D) (unread : seen.input.new ≡ seen.
       (λ tells told. tt) (λ tells told is. absurd is)
       (λ idle. record { put = silent; unarmed = unarmed; besides = tt }) (λ fused none r is. cc) (λ tells r is. cc)
       (λ fault unfailed is. unfailed_now)
-      (λ tells empty synced idle.
-      none_in_part kept_in seen.disk (volume_of size) (disks_before seen) (disks_after seen) rests_now empty synced)
+      (λ tells empty synced fault is. absurd (cc is))
       (λ tells r is. absurd (cc is))
       (λ tells. all_others_rest seen.disk size.members (disks_before seen) (disks_after seen) rests_now)
   nothing_done (Volumes size count) = record {

@@ -1,11 +1,11 @@
 -- What the modes promise, in the words of those who rely on it.
-use Rattle.std.proofs.Common.{◌≡◌, ℕ, ◌+◌, ◌-◌, ◌<◌, suc, zero, List, [], ◌∷◌, ◌++◌, get_or, length, take, Option, refl, sym, ap, subst, ◌∙◌, inl, inr, arith, append_assoc}
+use Rattle.std.proofs.Common.{◌≡◌, ◌⊎◌, ℕ, ◌+◌, ◌-◌, ◌<◌, suc, zero, List, [], ◌∷◌, ◌++◌, get_or, length, take, Option, Some, refl, sym, ap, subst, ◌∙◌, inl, inr, arith, append_assoc}
 use Rattle.std.proofs.lemmas.List.{append-nil, take_at}
 use Rattle.std.proofs.lemmas.Option.{get_or_from_slice_get}
 use Rattle.ficus_disk.specs.declared.disk.Disk.{Ghosts as Disk}
 use Rattle.ficus_disk.specs.declared.pair.Pair.{Pair}
 use Rattle.ficus_keeper.specs.Kept.{Kept}
-use Rattle.ficus_loop.specs.Trail.{Killed, KilledFront, Trail, whole}
+use Rattle.ficus_loop.specs.Trail.{CutTrail, Killed, KilledFront, Trail, whole}
 use Rattle.ficus_loop.specs.Trail.Trail.{Joined, Still}
 use Rattle.ficus_model.specs.Known.{Knows}
 use Rattle.ficus_model.specs.Lawful.{IsLawful, MayCome, Volume}
@@ -100,14 +100,15 @@ module _ {D : Type 0} {kept : List ℕ → List ℕ → Option Kept} {disk : Dis
 
 -- and of one that was cut short
 pub front_trail : {D : Type 0} {kept : List ℕ → List ℕ → Option Kept} {disk : Disk D} {volume : Volume}
-    {W middle after : ModelWorld} {commands : List Command} {outcomes : List (List Outcome)} {answers : List Answer}
-    {entry now : List (Pair D)} → KilledFront kept disk volume W commands outcomes answers middle after entry now
+    {W middle after : ModelWorld} {commands behind : List Command} {outcomes : List (List Outcome)} {answers : List Answer}
+    {entry now : List (Pair D)}
+    → KilledFront kept disk volume W commands behind outcomes answers middle after entry now
     → Trail kept disk volume W after entry now
-front_trail {D} {kept} {disk} {volume} {W} {middle} {after} {entry = entry} {now = now} front = go front.rest
+front_trail {D} {kept} {disk} {volume} {W} {middle} {after} {behind = behind} {entry = entry} {now = now} front = go front.rest
   where
-    go : ((after ≡ middle) × (now ≡ front.mid)) ⊎ Trail kept disk volume middle after front.mid now
+    go : ((after ≡ middle) × (now ≡ front.mid)) ⊎ CutTrail kept disk volume behind middle after front.mid now
         → Trail kept disk volume W after entry now
     go (inl (same, still)) =
         subst (λ (V : ModelWorld). Trail kept disk volume W V entry now) (sym same)
         (subst (λ (d : List (Pair D)). Trail kept disk volume W middle entry d) (sym still) (killed_trail front.killed))
-    go (inr more) = Joined (killed_trail front.killed) more
+    go (inr more) = Joined (killed_trail front.killed) more.does.trail

@@ -1,4 +1,4 @@
-ghost use Rattle.std.specs.Prelude.{◌≡◌, ◌≤◌, ℕ, [], length, IfErr, IsErrOf, OnErr, OnOk};
+ghost use Rattle.std.specs.Prelude.{◌≡◌, ◌≤◌, ℕ, [], length, IfErr, IsErrOf, OnOk};
 ghost use Rattle.ficus_top.specs.Summary.Keeper.{keeper, kept_in};
 ghost use Rattle.ficus_top.specs.Ending.{IsOfMaking};
 ghost use Rattle.ficus_top.specs.Making.{FitsSize, volume_of};
@@ -30,7 +30,8 @@ pub(crate) fn init<D: Disk>(
     ensures makes { TellsOfMaking D.Disk size.members result disks.old.items disks.new.items }
     ensures partly { D.tells → AreEmpty D.seen disks.old.items size.members
         → AreSynced D.seen D.may_leave disks.old.items size.members
-        → OnErr result (AreMadeInPart kept_in D.may_leave (volume_of size) disks.new.items) }
+        → (fault : WorldFaultValue) → IsErrOf result (Fault.Storing fault)
+        → AreMadeInPart kept_in D.Disk (volume_of size) disks.old.items disks.new.items fault }
     ensures others { OthersStay size.members disks.old.items disks.new.items }
     ensures spared { (fault : WorldFaultValue) → IsUnfailed fault → IsErrOf result (Fault.Storing fault)
         → Steady D.faults disks.old.items disks.new.items }

@@ -10,7 +10,7 @@ ghost use Rattle.ficus_model.specs.Live.{IsLive, IsRemoved, ModelEntry};
 ghost use Rattle.ficus_model.specs.declared.event.Event.{Event};
 ghost use Rattle.ficus_opening.specs.Check.Judged.{IsJudged};
 ghost use Rattle.ficus_opening.specs.Check.Lines.{checked_line};
-ghost use Rattle.ficus_opening.specs.Opening.{AreEmpty, AreMadeInPart, AreSynced, StandsOn};
+ghost use Rattle.ficus_opening.specs.Opening.{AreEmpty, AreSynced, IsMadeInPart, SomeAreMade, StandsOn};
 ghost use Rattle.ficus_opening.specs.Rests.{AllRest};
 ghost use Rattle.ficus_opening.specs.declared.check.checked.Checked.{Checked};
 ghost use Rattle.ficus_runs.specs.ModelWorld.{Down, ModelWorld};
@@ -84,12 +84,15 @@ pub fn runs_leave_trails<S: Source, K: Sink, D: Disk>()
 {}
 
 /// The law that of empty disks with nothing unsynced `init` makes a volume to which nothing has happened, with code 0;
-/// or, with whatever other code, some first replicas and one in part, and nothing else. It does nothing when it runs.
+/// with code 3 some first replicas, and nothing else; and with code 6 nothing, or those before the one that it names, and
+/// this in part. It ends with no other code. It does nothing when it runs.
 pub fn volumes_are_made_or_in_part<S: Source, K: Sink, D: Disk>()
     ensures { (size : SizeValue) (before after : S) (was now : K) (disks later : Vec (PairValue D) GlobalValue)
         (status : StatusValue) → DoesInit size (seen_of S.Source before after K.Sink was now D.Disk disks later) status
         → D.tells → AreEmpty D.seen (vec_items disks) size.members
         → AreSynced D.seen D.may_leave (vec_items disks) size.members
         → ((status.code ≡ 0) × StandsOn kept_in D.seen (volume_of size) [] (vec_items later))
-        ⊎ AreMadeInPart kept_in D.may_leave (volume_of size) (vec_items later) }
+        ⊎ ((status.code ≡ 3) × SomeAreMade kept_in D.Disk (volume_of size) (vec_items disks) (vec_items later))
+        ⊎ ((status.code ≡ 6) × (AllRest D.Disk (vec_items disks) (vec_items later)
+        ⊎ IsMadeInPart kept_in D.Disk (volume_of size) status.replica (vec_items disks) (vec_items later))) }
 {}

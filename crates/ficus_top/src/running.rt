@@ -1,4 +1,4 @@
-ghost use Rattle.std.specs.Prelude.{◌≡◌, ◌<◌, ◌≤◌, All, ℕ, List, [], length, IfErr, IsErrOf, OnOk};
+ghost use Rattle.std.specs.Prelude.{◌≡◌, ◌⊎◌, ◌<◌, ◌≤◌, All, ℕ, List, [], length, IfErr, IsErrOf, OnOk};
 ghost use Rattle.ficus_faults.specs.Faults.{Rose};
 ghost use Rattle.ficus_model.specs.Lawful.{Volume};
 ghost use Rattle.ficus_model.specs.declared.event.Event.{Event as EventValue};
@@ -18,7 +18,7 @@ ghost use Rattle.ficus_world.specs.Disks.{IsBacked};
 ghost use Rattle.ficus_opening.specs.Rests.{OthersRest, OthersStay};
 ghost use Rattle.ficus_world.specs.World.{WorldStandsFor};
 ghost use Rattle.ficus_opening.specs.Fuses.{AreUnarmed};
-ghost use Rattle.ficus_opening.specs.Opening.{AreEmpty, AreMadeInPart, AreSynced, IsAtFault, IsUnfailed, SeenSame, StandsOn, Steady};
+ghost use Rattle.ficus_opening.specs.Opening.{AreEmpty, AreMadeFirst, AreMadeInPart, AreSynced, IsAtFault, IsUnfailed, SeenSame, StandsOn, Steady};
 ghost use Rattle.ficus_opening.specs.declared.fault.WorldFault.{WorldFault as WorldFaultValue};
 ghost use Rattle.ficus_words.specs.declared.fault.WordsFault.{WordsFault as WordsFaultValue};
 
@@ -111,8 +111,10 @@ pub(crate) fn replay<S: Source, K: Sink, D: Disk>(
     ensures never_image { D.tells → (r : ℕ) → IsErrOf result (Fault.Storing (WorldFault.Image r)) → ⊥ }
     ensures makes { TellsOfMaking D.Disk size.members result disks.old.items disks.new.items }
     ensures partly { D.tells → AreEmpty D.seen disks.old.items size.members
-        → AreSynced D.seen D.may_leave disks.old.items size.members → IfErr result (λ fault. IsIdle fault
-        → AreMadeInPart kept_in D.may_leave (volume_of size) disks.new.items) }
+        → AreSynced D.seen D.may_leave disks.old.items size.members
+        → (fault : WorldFaultValue) → IsErrOf result (Fault.Storing fault)
+        → AreMadeFirst kept_in D.Disk (volume_of size) size.members disks.old.items disks.new.items
+        ⊎ AreMadeInPart kept_in D.Disk (volume_of size) disks.old.items disks.new.items fault }
     ensures member { D.tells → (r : ℕ) → IsErrOf result (Fault.Storing (WorldFault.Store r)) → r ≤ size.members }
     ensures others { D.tells → OthersRest D.Disk size.members disks.old.items disks.new.items }
     ensures spared { (fault : WorldFaultValue) → IsUnfailed fault → IsErrOf result (Fault.Storing fault)

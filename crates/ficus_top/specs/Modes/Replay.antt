@@ -3,8 +3,8 @@ use Rattle.std.specs.Prelude.{◌≡◌, ◌≢◌, ◌⊎◌, ◌≤◌, ℕ, [
 use Rattle.ficus_top.specs.Summary.Keeper.{kept_in}
 use Rattle.ficus_words.specs.declared.mode.Size.{Size}
 use Rattle.ficus_opening.specs.Fuses.{AreUnarmed}
-use Rattle.ficus_opening.specs.Rests.{OthersRest}
-use Rattle.ficus_opening.specs.Opening.{AreEmpty, AreMadeInPart, AreSynced, Steady}
+use Rattle.ficus_opening.specs.Rests.{AllRest, OthersRest}
+use Rattle.ficus_opening.specs.Opening.{AreEmpty, AreMadeFirst, AreSynced, IsMadeInPart, SomeAreMade, Steady}
 use Rattle.ficus_top.specs.Ends.{NoneFailed}
 use Rattle.ficus_top.specs.Making.{MakesVolume, volume_of}
 use Rattle.ficus_top.specs.Script.{AnswersScript, HasScript, ReadsScript}
@@ -15,12 +15,20 @@ abbrev pub IsReplayCode : ℕ → Type 0
 IsReplayCode code = (code ≡ 0) ⊎ (code ≡ 2) ⊎ (code ≡ 3) ⊎ (code ≡ 4) ⊎ (code ≡ 5) ⊎ (code ≡ 6) ⊎ (code ≡ 7)
     ⊎ (code ≡ 8) ⊎ (code ≡ 9)
 
+-- What is made where no command was carried out. With code 3 it is some first members; with code 6 all, or nothing, or
+-- the members before the one that it names, and this in part.
+pub record IsMadeSo {S K D : Type 0} (size : Size) (seen : Seen S K D) (status : Status) : Type 0 where
+  pub wanted : status.code ≡ 3 → SomeAreMade kept_in seen.disk (volume_of size) (disks_before seen) (disks_after seen)
+  pub failed : status.code ≡ 6
+      → AreMadeFirst kept_in seen.disk (volume_of size) size.members (disks_before seen) (disks_after seen)
+      ⊎ AllRest seen.disk (disks_before seen) (disks_after seen)
+      ⊎ IsMadeInPart kept_in seen.disk (volume_of size) status.replica (disks_before seen) (disks_after seen)
+
 -- No command was carried out: where nothing was there and nothing unsynced, nothing else is there than what is made
 -- of a volume of this size. No disk has failed, unless the code says so.
 pub record StaysUnmade {S K D : Type 0} (size : Size) (seen : Seen S K D) (status : Status) : Type 0 where
   pub partly : seen.disk.tells → AreEmpty seen.disk.seen (disks_before seen) size.members
-      → AreSynced seen.disk.seen seen.disk.may_leave (disks_before seen) size.members
-      → AreMadeInPart kept_in seen.disk.may_leave (volume_of size) (disks_after seen)
+      → AreSynced seen.disk.seen seen.disk.may_leave (disks_before seen) size.members → IsMadeSo size seen status
   pub unfailed : status.code ≢ 6 → Steady seen.disk.faults (disks_before seen) (disks_after seen)
 
 -- The script is answered on a volume of this size to which nothing has happened. What was made can be opened, so that

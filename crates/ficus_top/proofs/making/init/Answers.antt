@@ -1,5 +1,5 @@
 use Rattle.std.proofs.Common.{Ok}
-use Rattle.std.proofs.lemmas.Result.{err_from_is_err_and}
+use Rattle.std.proofs.lemmas.Result.{IfErr-at_err, err_from_is_err_and}
 use Rattle.ficus_opening.specs.declared.fault.WorldFault.TheVariants.{Store}
 use Rattle.ficus_top.proofs.Stored.{handed_on}
 use Rattle.ficus_top.proofs.Storing.{making_behind, making_handed}
@@ -18,9 +18,10 @@ returns-in_err-make-clause-member g c = λ r is.
     (handed_on c.make.result c.from_residual.result _ _ c.in_err-make.was given.1 given.2 (Store r) is)
 
 pub returns-in_err-make-clause-partly : goal.returns-in_err-make-clause-partly
-returns-in_err-make-clause-partly g c = λ tells empty synced.
+returns-in_err-make-clause-partly g c = λ tells empty synced fault is.
     let given = err_from_is_err_and c.from_residual.result c.from_residual.ensures.1 in
-    rw given.1 (c.in_err-make.ensures.makes.partly tells empty synced)
+    IfErr-at_err _ (handed_on c.make.result c.from_residual.result _ _ c.in_err-make.was given.1 given.2 fault is)
+    (c.make.ensures.makes.partly tells empty synced)
 
 pub returns-in_err-make-clause-makes : goal.returns-in_err-make-clause-makes
 returns-in_err-make-clause-makes g c =

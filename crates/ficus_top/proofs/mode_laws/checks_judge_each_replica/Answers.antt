@@ -1,4 +1,4 @@
-use Rattle.std.proofs.Common.{List, sym, subst, ap, ◌∙◌, inl, inr}
+use Rattle.std.proofs.Common.{List, ◌++◌, sym, subst, ap, ◌∙◌, inl, inr}
 use Rattle.ficus_ids.specs.Members.{IsMember}
 use Rattle.ficus_opening.specs.Check.Lines.{checked_line}
 use Rattle.ficus_runs.proofs.Numbers.{number_exists}

@@ -1,14 +1,16 @@
-use Rattle.std.proofs.Common.{[], subst, ◌∙◌, arith}
-use Rattle.std.proofs.lemmas.Result.{IfErr-weaker, err_from_is_err_and, on_ok_weaker}
+use Rattle.std.proofs.Common.{[], inl, inr, subst, ◌∙◌, arith}
+use Rattle.std.proofs.lemmas.Result.{IfErr-at_err, IfErr-weaker, err_from_is_err_and, on_ok_weaker}
 use Rattle.ficus_opening.specs.declared.fault.WorldFault.TheVariants.{Store}
 use Rattle.ficus_top.specs.declared.fault.Fault.TheVariants.{Reading}
-use Rattle.ficus_opening.specs.Rests.{OthersRest}
+use Rattle.ficus_top.specs.declared.fault.Fault.{Fault}
+use Rattle.ficus_opening.specs.Rests.{AllRest, OthersRest}
 use Rattle.ficus_opening.proofs.Rests.{all_rest_none}
-use Rattle.ficus_opening.proofs.Made.{made_rests, none_in_part}
+use Rattle.ficus_opening.proofs.Made.{made_rests}
 use Rattle.ficus_opening.proofs.Stand.{first_opens}
 use Rattle.ficus_opening.proofs.Others.{all_others_rest, others_rest_then, stay_rests}
 use Rattle.ficus_opening.proofs.Steadies.{fault_behind, steady_trans}
 use Rattle.ficus_top.specs.Summary.Keeper.{kept_in}
+use Rattle.ficus_top.specs.Ending.{IsIdle}
 use Rattle.ficus_top.specs.Making.{volume_of}
 use Rattle.ficus_top.proofs.Answering.{answers_of, front_of}
 use Rattle.ficus_top.proofs.Earlier.{ends_since, front_since}
@@ -81,23 +83,26 @@ pub returns-clause-spared : goal.returns-clause-spared
 returns-clause-spared g c = λ fault unfailed is.
     steady_trans g.D.Disk.faults _ _ _ c.in_ok-make.ensures.makes.steady (c.run_on.ensures.opens.spared fault unfailed is)
 
-pub returns-in_err-commands-clause-partly : goal.returns-in_err-commands-clause-partly
-returns-in_err-commands-clause-partly g c = λ tells empty synced.
-    let given = err_from_is_err_and c.from_residual.result c.from_residual.ensures.1 in
-    rw given.1 (λ idle.
-    none_in_part kept_in g.D.Disk (volume_of c.args.size) c.args.disks.now.items c.args.disks.now.items
-    (all_rest_none g.D.Disk c.args.disks.now.items) empty synced)
-
 pub returns-in_err-make-clause-partly : goal.returns-in_err-make-clause-partly
-returns-in_err-make-clause-partly g c = λ tells empty synced.
+returns-in_err-make-clause-partly g c = λ tells empty synced fault is.
     let given = err_from_is_err_and c.from_residual-in_err-make.result c.from_residual-in_err-make.ensures.1 in
-    rw given.1 (λ idle. c.in_err-make.ensures.makes.partly tells empty synced)
+    inr (IfErr-at_err _ (handed_on c.make.result c.from_residual-in_err-make.result _ _ c.in_err-make.was given.1 given.2 fault is)
+    (c.make.ensures.makes.partly tells empty synced))
 
 pub returns-clause-partly : goal.returns-clause-partly
-returns-clause-partly g c = λ tells empty synced.
-    IfErr-weaker c.run_on.result _ _ (λ fault rests idle.
-    made_rests kept_in g.D.Disk (volume_of c.args.size) c.make.new.disks.items c.run_on.new.disks.items
-    (c.in_ok-make.ensures.makes.made tells) (c.in_ok-make.ensures.makes.synced tells synced) (rests idle)) c.run_on.ensures.opens.rests
+returns-clause-partly g c = λ tells empty synced fault is.
+    let old = c.args.disks.now.items in
+    let mid = c.make.new.disks.items in
+    let new = c.run_on.new.disks.items in
+    let members = c.args.size.members in
+    let none = IfErr-at_err (λ (f : Fault). IsIdle f → AllRest g.D.Disk mid new) is c.run_on.ensures.opens.rests in
+    let rests = none tt in
+    inl (record {
+      made = made_rests kept_in g.D.Disk (volume_of c.args.size) mid new (c.in_ok-make.ensures.makes.made tells)
+          (c.in_ok-make.ensures.makes.synced tells synced) rests;
+      rest = others_rest_then g.D.Disk members g.met.D.Disk.left_earlier old mid new
+          (stay_rests g.D.Disk members old mid c.make.ensures.makes.others) (all_others_rest g.D.Disk members mid new rests);
+    })
 
 pub returns-in_err-make-clause-member : goal.returns-in_err-make-clause-member
 returns-in_err-make-clause-member g c = λ tells r is.
