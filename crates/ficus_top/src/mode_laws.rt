@@ -84,8 +84,8 @@ pub fn runs_leave_trails<S: Source, K: Sink, D: Disk>()
 {}
 
 /// The law that of empty disks with nothing unsynced `init` makes a volume to which nothing has happened, with code 0;
-/// with code 3 some first replicas, and nothing else; and with code 6 nothing, or those before the one that it names, and
-/// this in part. It ends with no other code. It does nothing when it runs.
+/// with code 3 some first replicas, and nothing else; with code 6 nothing, or those before the one that it names, and
+/// this one in part. It ends with no other code. It does nothing when it runs.
 pub fn volumes_are_made_or_in_part<S: Source, K: Sink, D: Disk>()
     ensures { (size : SizeValue) (before after : S) (was now : K) (disks later : Vec (PairValue D) GlobalValue)
         (status : StatusValue) → DoesInit size (seen_of S.Source before after K.Sink was now D.Disk disks later) status

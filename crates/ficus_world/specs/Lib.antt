@@ -10,3 +10,4 @@ pub mod Stand
 pub mod Kills
 pub mod Acts
 pub mod Calls
+pub mod Machines

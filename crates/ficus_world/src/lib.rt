@@ -6,6 +6,7 @@ mod checking;
 mod exchange;
 mod group;
 mod laws;
+pub mod machines;
 mod mails;
 mod member;
 mod opening;

@@ -1,0 +1,11 @@
+pub mod Alike
+pub mod Parts
+pub mod Sends
+pub mod Steps
+pub mod Mail
+pub mod Deeds
+pub mod Worlds
+pub mod Processes
+pub mod Starting
+pub mod Names
+pub mod Killed

@@ -1,0 +1,6 @@
+-- Members on machines of their own, and what they do together.
+pub mod Part
+pub mod Together
+pub mod Names
+pub mod Killed
+pub mod Laws
