@@ -1,76 +1,107 @@
-"""The tools of `./ficus`, which ask the program and know nothing that it doesn't print; and the lock under which the
-launcher runs the program over the folder of a volume. None of it is proved."""
+"""`./ficus`: finds what its words ask for, says what is wrong with them, proves and builds the program where that is to be
+done, and runs it or a tool. The tools ask the program and know nothing that it doesn't print. None of this is proved."""
 from __future__ import annotations
 
 import os
 import sys
 from argparse import ArgumentParser
+from collections.abc import Sequence
 from importlib import import_module
-from pathlib import Path
 from typing import NoReturn
 
-import lock
-import program
 from faults import Fault, Status
+from modes import MODES, RUN, Misuse, judge, likely, place_of_mode
+from tools_list import TOOLS
 
-# The module of each tool. It has `add`, which adds its words to a parser, and `run`, which does it and gives a status.
-TOOLS = {"shell": "shell", "echo": "echo", "import": "importing", "export": "exporting", "picture": "picture"}
-
-# The modes of the program over the folder of a volume, and its options, each of which takes a value.
-MAKE = "init"
-IN_FOLDERS = (MAKE, "run", "check")
-OPTIONS = ("--members", "--ids", "--bytes", "--seed", "--steps")
+# What the launcher itself does.
+PROVE, HELP, VERSION = "prove", "help", "version"
+HELP_WORDS = ("-h", "--help")
+KNOWN = (*MODES, *TOOLS, PROVE, HELP)
+USAGE = f"usage: ./ficus MODE ..., where MODE is one of {', '.join(KNOWN)}; ./ficus help MODE tells of one"
 
 
 class Words(ArgumentParser):
     """A parser that ends as the program does where the words are others."""
 
     def error(self, message: str) -> NoReturn:
+        print(f"ficus: {message}", file=sys.stderr)
         self.print_usage(sys.stderr)
-        self.exit(Status.USAGE, f"ficus: {message}\n")
+        self.exit(Status.USAGE)
 
 
-def run_tool(name: str, words: list[str]) -> int:
-    tool = import_module(TOOLS[name])
+def parser_of(name: str) -> ArgumentParser:
     parser = Words(prog=f"./ficus {name}", allow_abbrev=False)
-    tool.add(parser)
-    return int(tool.run(parser.parse_args(words)))
+    import_module(TOOLS[name]).add(parser)
+    return parser
 
 
-def mode_and_root(words: list[str]) -> tuple[str, Path] | None:
-    """The mode of the words for the program and the folder, where they are of one."""
-    values: list[str] = []
-    rest = iter(words)
-    for word in rest:
-        if word == "--":
-            values += rest
-        elif word in OPTIONS:
-            next(rest, None)
-        elif word == "-" or not word.startswith("-"):
-            values.append(word)
-    if len(values) != 2 or values[0] not in IN_FOLDERS or not values[1]:
-        return None
-    return values[0], Path(values[1])
+def run_tool(name: str, words: Sequence[str]) -> int:
+    parsed = parser_of(name).parse_args(words)
+    import building
+    building.prove()
+    from program import VARIABLE
+    os.environ[VARIABLE] = str(building.PROGRAM)
+    return int(import_module(TOOLS[name]).run(parsed))
 
 
-def run_program(words: list[str]) -> NoReturn:
-    """Becomes the program, which has the lock on its folder until it ends."""
-    found = mode_and_root(words)
-    folder = None
-    if found:
-        mode, root = found
-        folder = lock.take_to_make(root) if mode == MAKE else lock.take(root)
-    if folder is not None:
-        os.set_inheritable(folder, True)
-    executable = program.executable()
-    os.execv(executable, [executable, *words])
+def tell_help(words: Sequence[str]) -> int:
+    """Tells of one mode or tool, or of all."""
+    name = words[0] if words else None
+    if name in MODES:
+        print(MODES[name].help)
+    elif name in TOOLS:
+        print(parser_of(name).format_help(), end="")
+    elif name is None or name in (HELP, PROVE):
+        import building
+        sys.stdout.write((building.TOP / "docs" / "usage.txt").read_text(encoding="utf-8"))
+    else:
+        raise Misuse(f"no mode is called {name}{likely(name, KNOWN)}", USAGE)
+    return Status.DONE
+
+
+def tell_version() -> int:
+    import building
+    import release
+    print(release.versions(building.built() if building.is_built() else None))
+    return Status.DONE
+
+
+def prove() -> int:
+    import building
+    building.prove()
+    building.say("the program is proved and built of these sources")
+    return Status.DONE
+
+
+def carry_out(words: list[str]) -> int:
+    if words and words[0] == "--version":
+        return tell_version()
+    place = place_of_mode(words)
+    if place is None:
+        if any(word in HELP_WORDS for word in words):
+            return tell_help([])
+        raise Misuse("no mode is given", USAGE)
+    name, behind = words[place], [*words[:place], *words[place + 1:]]
+    if name == HELP:
+        return tell_help(behind)
+    if any(word in HELP_WORDS for word in behind) and "--" not in words:
+        return tell_help([name])
+    if name in TOOLS:
+        return run_tool(name, behind)
+    if name == PROVE and not behind:
+        return prove()
+    if name not in MODES:
+        raise Misuse(f"no mode is called {name}{likely(name, KNOWN)}" if name != PROVE else "prove takes no words", USAGE)
+    call = judge(MODES[name], words)
+    if call.mode is RUN and call.root is not None and not call.flags and sys.stdin and sys.stdin.isatty():
+        return run_tool("shell", ["--", call.root])
+    from launching import launch
+    return launch(call)
 
 
 def main() -> int:
     try:
-        if sys.argv[1:] and sys.argv[1] in TOOLS:
-            return run_tool(sys.argv[1], sys.argv[2:])
-        run_program(sys.argv[1:])
+        return carry_out(sys.argv[1:])
     except Fault as fault:
         print(f"ficus: {fault}", file=sys.stderr)
         return fault.status

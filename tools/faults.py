@@ -9,10 +9,13 @@ class Status(IntEnum):
 
     DONE = 0
     USAGE = 1
+    WRITE_FAULT = 5
+    UNBUILT = 70
     IN_USE = 71
     UNFIT = 72
     OUTSIDE = 73
     REFUSED = 74
+    DAMAGED = 75
     INTERRUPTED = 130
 
 

@@ -6,11 +6,13 @@ from argparse import ArgumentParser, Namespace, RawDescriptionHelpFormatter
 from html import escape
 from pathlib import Path
 
+import places
 import story
 from chart import Chart
 from faults import Fault, Status
 from folding import fold
 from formats import usage_of
+from modes import MEMBERS
 from program import Memory, is_command
 from spelling import to_str
 from svg import visible
@@ -38,7 +40,7 @@ def add(parser: ArgumentParser) -> None:
     parser.description = DESCRIPTION
     parser.formatter_class = RawDescriptionHelpFormatter
     parser.add_argument("script", metavar="SCRIPT", type=Path, help="the script, in a file")
-    parser.add_argument("--members", metavar="N",
+    parser.add_argument("--members", metavar="N", type=places.number(MEMBERS),
                         help="how many replicas the volume has; else as many as NAME.members beside NAME.script "
                              "says, or the greatest that the script names")
     parser.add_argument("-o", dest="out", metavar="FILE", type=Path,

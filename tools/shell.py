@@ -11,9 +11,10 @@ import explain
 import formats
 import places
 import spelling
-from answers import read_row
+from answers import Answer, read_row
 from faults import Fault, Status
 from formats import Usage
+from grammar import why_none
 from lock import locked
 from program import BAD_LINE, Ended, is_command
 from sessions import FolderSession, MemorySession, Session
@@ -37,6 +38,8 @@ HISTORY_LINES = 1_000
 # What stands in the form of a command where a path does.
 PATHS = ("N", "E", "P")
 LEAVE = ("quit", "exit")
+# Commands that bring a replica what others did.
+BRINGS = ("pull", "sweep")
 HELP_WORD = "help"
 
 
@@ -67,6 +70,8 @@ class Shell(cmd.Cmd):
         self.prompt = session.prompt if self.is_terminal else ""
         self.use_rawinput = self.is_terminal
         self.history = os.path.expanduser(HISTORY)
+        # How many conflicts each replica showed when that was looked at last.
+        self.shown: dict[str, int] = {}
 
     def serve(self) -> int:
         """Answers until the end of the input."""
@@ -117,8 +122,8 @@ class Shell(cmd.Cmd):
             lines = list(answer.lines)
             if answer.refusal:
                 lines[0] = explain.refused(self.session.look, line, answer.refusal)
-            if self.is_terminal and self.session.note:
-                lines.append(self.session.note)
+            if self.is_terminal:
+                lines += [note for note in (self.session.note, self.conflicts(line, answer)) if note]
         except Ended as ended:
             lines = [self.why_no_command(line) if ended.status == BAD_LINE else f"ficus: {ended}"]
         except Fault as fault:
@@ -126,14 +131,24 @@ class Shell(cmd.Cmd):
         sys.stdout.buffer.write(b"".join(to_bytes(told) + b"\n" for told in lines))
         sys.stdout.buffer.flush()
 
+    def conflicts(self, line: str, answer: Answer) -> str:
+        """What is said of conflicts behind a command with which some may have come: how many the replica shows, where
+        they are more than it showed at the last such command."""
+        words = line.split(" ")
+        if answer.refusal or words[0] not in BRINGS:
+            return ""
+        replica = words[1] if words[0] == "pull" else "1"
+        count = len(self.session.look(f"{replica} conflicts").listed)
+        came, self.shown[replica] = count - self.shown.get(replica, 0), count
+        if came <= 0:
+            return ""
+        return f"({'a conflict' if came == 1 else f'{came} conflicts'} came: `{replica} conflicts` lists what is in conflict)"
+
     def why_no_command(self, line: str) -> str:
-        usage = formats.usage_of(line)
-        if usage:
-            return f"this is no command; its form is: {usage}"
-        named = formats.commands().get(line.split(" ")[0])
-        if named:
-            return f"the number of a replica comes first: {named}"
-        return "this is no command: `help` lists all"
+        wrong = why_none(line)
+        if wrong is None:
+            return "this is no command: `help` lists all"
+        return f"this is no command: {wrong.why} (column {wrong.column})"
 
     def tell(self, word: str) -> None:
         """Tells of all commands, of one, or of a refusal."""

@@ -1,0 +1,204 @@
+"""The modes of the program, their options, and what is wrong with words that fit none.
+
+A word that isn't an option's is a value: the mode first, then the folder of a volume. The words fit a mode exactly where
+the program takes them (`docs/FORMATS.md`), so whatever is wrong is said before anything is built.
+"""
+from __future__ import annotations
+
+from collections.abc import Mapping, Sequence
+from dataclasses import dataclass, field
+from difflib import get_close_matches
+
+from faults import Fault, Status
+
+
+@dataclass(frozen=True)
+class Option:
+    """An option with a number: its letter in the usage, what it says, and its least and its greatest value."""
+
+    name: str
+    letter: str
+    what: str
+    least: int
+    most: int
+    rule: str
+
+    def why_none(self, value: str) -> str | None:
+        """Why this is no number of the option, or nothing where it is one."""
+        if not (value.isascii() and value.isdigit()):
+            return f"{value} is no number; {self.rule}"
+        if value != "0" and value.startswith("0"):
+            return f"{value} has zeros in front"
+        if len(value) > len(str(self.most)) or not self.least <= int(value) <= self.most:
+            return f"{value}: {self.rule}"
+        return None
+
+
+MEMBERS = Option("--members", "N", "how many replicas keep the volume", 2, 8, "a volume has 2 to 8 members")
+IDS = Option("--ids", "I", "how many updates each replica may make over its life", 1, 100_000,
+             "a replica makes 1 to 100,000 updates over its life")
+BYTES = Option("--bytes", "B", "how many bytes each replica may write over its life", 0, 4_194_304,
+               "a replica writes at most 4,194,304 bytes over its life")
+VOLUMES = Option("--volumes", "V", "how many volumes there are", 1, 4, "there are 1 to 4 volumes")
+SEED = Option("--seed", "S", "the number from which the script follows", 0, 2_147_483_647,
+              "a seed is 0 to 2,147,483,647")
+STEPS = Option("--steps", "T", "how many steps the script has", 0, 5_000, "a script of a number has at most 5,000 steps")
+OPTIONS = {it.name: it for it in (MEMBERS, IDS, BYTES, VOLUMES, SEED, STEPS)}
+
+STRICT = "--strict"
+ALL = "--all"
+# Words of the launcher's own, which the program doesn't see, with what they do.
+FLAGS = {
+    STRICT: "ends with 74 where a command was refused",
+    ALL: "tells each line that is no command, and carries out nothing",
+}
+
+
+@dataclass(frozen=True)
+class Mode:
+    """A mode: what it does, which options it needs and which it may have, whether it wants the folder of a volume, and
+    whether it reads a script."""
+
+    name: str
+    does: str
+    needs: tuple[Option, ...] = ()
+    may_have: tuple[Option, ...] = ()
+    has_root: bool = False
+    has_script: bool = False
+
+    @property
+    def form(self) -> str:
+        """Its words, as the program takes them."""
+        words = [self.name, *(f"{it.name} {it.letter}" for it in self.needs)]
+        words += [f"[{it.name} {it.letter}]" for it in self.may_have]
+        return " ".join(words + ["ROOT"] * self.has_root)
+
+    @property
+    def usage(self) -> str:
+        return f"usage: ./ficus {self.form}" + " <SCRIPT" * self.has_script
+
+    @property
+    def flags(self) -> tuple[str, ...]:
+        return tuple(FLAGS) if self.has_script else ()
+
+    @property
+    def help(self) -> str:
+        """All of its words, with what each means."""
+        rows = [(f"{it.name} {it.letter}", f"{it.what}, {it.least:,} to {it.most:,}") for it in (*self.needs, *self.may_have)]
+        rows += [("ROOT", "the folder of the volume")] * self.has_root
+        rows += [(flag, FLAGS[flag]) for flag in self.flags]
+        width = max(len(word) for word, _ in rows)
+        return "\n".join([self.usage, "", self.does, "", *(f"    {word:{width}}  {what}" for word, what in rows)])
+
+
+INIT = Mode("init", "Makes a fresh volume in the folder ROOT.", (MEMBERS,), (IDS, BYTES), has_root=True)
+RUN = Mode("run", "Carries out the commands of a script on the volume in ROOT, and answers each on standard output.",
+           has_root=True, has_script=True)
+CHECK = Mode("check", "Tells of each replica of the volume in ROOT whether its files are damaged.", has_root=True)
+REPLAY = Mode("replay", "Carries out a script on a fresh volume in memory, of which nothing stays.", (MEMBERS,),
+              (IDS, BYTES), has_script=True)
+VOLUMES_MODE = Mode("volumes", "Carries out a script on several fresh volumes in memory, which names join.",
+                    (MEMBERS, VOLUMES), (IDS, BYTES), has_script=True)
+GEN = Mode("gen", "Makes a script from a number, carries it out in memory, and tells what it came to.",
+           (MEMBERS, SEED, STEPS))
+MODES = {it.name: it for it in (INIT, RUN, CHECK, REPLAY, VOLUMES_MODE, GEN)}
+
+
+class Misuse(Fault):
+    """The words fit no mode."""
+
+    def __init__(self, words: str, usage: str) -> None:
+        super().__init__(f"{words}\n{usage}", Status.USAGE)
+
+
+@dataclass(frozen=True)
+class Call:
+    """Words that fit a mode: those for the program, the folder, and the launcher's own."""
+
+    mode: Mode
+    words: tuple[str, ...]
+    root: str | None = None
+    flags: frozenset[str] = field(default_factory=frozenset)
+
+
+def is_value(word: str) -> bool:
+    """Whether a word may stand alone, or behind an option."""
+    return word == "-" or not word.startswith("-")
+
+
+def place_of_mode(words: Sequence[str]) -> int | None:
+    """Where the first value stands, which is to be a mode or a tool. What stands behind an option is none."""
+    place = 0
+    while place < len(words):
+        word = words[place]
+        if word == "--":
+            return place + 1 if place + 1 < len(words) else None
+        if is_value(word):
+            return place
+        place += 2 if word in OPTIONS else 1
+    return None
+
+
+def likely(word: str, known: Sequence[str]) -> str:
+    """What was meant, as a question, where something known is like it."""
+    found = get_close_matches(word.lower(), known, 1, 0.6)
+    return f" (did you mean {found[0]}?)" if found else ""
+
+
+def judge(mode: Mode, words: Sequence[str]) -> Call:
+    """The words, the mode's name among them, where they fit it."""
+    given, values, flags, kept = _read(mode, words)
+    for option in mode.needs:
+        if option.name not in given:
+            raise Misuse(f"{mode.name} needs {option.name} {option.letter}, {option.what}", mode.usage)
+    for name, value in given.items():
+        why = OPTIONS[name].why_none(value)
+        if why:
+            raise Misuse(f"{name} {why}", mode.usage)
+    rest = values[1:]
+    if mode.has_root and not rest:
+        raise Misuse(f"{mode.name} needs ROOT, the folder of the volume", mode.usage)
+    if mode.has_root and not rest[0]:
+        raise Misuse("ROOT is empty", mode.usage)
+    if len(rest) > mode.has_root:
+        raise Misuse(f"{mode.name} takes no {rest[mode.has_root]!r}" + _script_hint(mode), mode.usage)
+    return Call(mode, tuple(kept), rest[0] if mode.has_root else None, frozenset(flags))
+
+
+def _script_hint(mode: Mode) -> str:
+    return ": a script comes on standard input" if mode.has_script else ""
+
+
+def _read(mode: Mode, words: Sequence[str]) -> tuple[Mapping[str, str], list[str], set[str], list[str]]:
+    """The options with their values, the values that stand alone, the launcher's own words, and all others."""
+    given: dict[str, str] = {}
+    values: list[str] = []
+    flags: set[str] = set()
+    kept: list[str] = []
+    allowed = [it.name for it in (*mode.needs, *mode.may_have)]
+    rest = iter(words)
+    for word in rest:
+        if word in mode.flags:
+            flags.add(word)
+            continue
+        kept.append(word)
+        if word == "--":
+            behind = list(rest)
+            values += behind
+            kept += behind
+            break
+        if is_value(word):
+            values.append(word)
+        else:
+            name, joined, value = word.partition("=")
+            if name not in allowed:
+                raise Misuse(f"{mode.name} has no option {name}{likely(name, [*allowed, *mode.flags])}", mode.usage)
+            if not joined:
+                value = next(rest, "--")
+                kept.append(value)
+                if not is_value(value):
+                    raise Misuse(f"{name} needs a number behind it, {OPTIONS[name].what}", mode.usage)
+            if name in given:
+                raise Misuse(f"{name} is given twice", mode.usage)
+            given[name] = value
+    return given, values, flags, kept
