@@ -4,43 +4,38 @@ from __future__ import annotations
 
 import os
 import sys
-from argparse import ArgumentParser
-from collections.abc import Sequence
-from importlib import import_module
-from typing import NoReturn
 
-from faults import Fault, Status
+from faults import Fault, Status, say
 from modes import MODES, RUN, Misuse, judge, likely, place_of_mode
 from tools_list import TOOLS
+
+TYPE_CHECKING = False
+if TYPE_CHECKING:
+    from argparse import ArgumentParser
+    from collections.abc import Sequence
 
 # What the launcher itself does.
 PROVE, HELP, VERSION = "prove", "help", "version"
 HELP_WORDS = ("-h", "--help")
-KNOWN = (*MODES, *TOOLS, PROVE, HELP)
+VERSION_WORD = "--version"
+KNOWN = (*MODES, *TOOLS, PROVE, HELP, VERSION)
 USAGE = f"usage: ./ficus MODE ..., where MODE is one of {', '.join(KNOWN)}; ./ficus help MODE tells of one"
 
 
-class Words(ArgumentParser):
-    """A parser that ends as the program does where the words are others."""
-
-    def error(self, message: str) -> NoReturn:
-        print(f"ficus: {message}", file=sys.stderr)
-        self.print_usage(sys.stderr)
-        self.exit(Status.USAGE)
-
-
 def parser_of(name: str) -> ArgumentParser:
-    parser = Words(prog=f"./ficus {name}", allow_abbrev=False)
+    from importlib import import_module
+    from argparse import RawDescriptionHelpFormatter
+
+    from words import Words
+    parser = Words(prog=f"./ficus {name}", allow_abbrev=False, formatter_class=RawDescriptionHelpFormatter)
     import_module(TOOLS[name]).add(parser)
     return parser
 
 
 def run_tool(name: str, words: Sequence[str]) -> int:
+    from importlib import import_module
     parsed = parser_of(name).parse_args(words)
-    import building
-    building.prove()
-    from program import VARIABLE
-    os.environ[VARIABLE] = str(building.PROGRAM)
+    prove()
     return int(import_module(TOOLS[name]).run(parsed))
 
 
@@ -51,33 +46,33 @@ def tell_help(words: Sequence[str]) -> int:
         print(MODES[name].help)
     elif name in TOOLS:
         print(parser_of(name).format_help(), end="")
-    elif name is None or name in (HELP, PROVE):
-        import building
-        sys.stdout.write((building.TOP / "docs" / "usage.txt").read_text(encoding="utf-8"))
+    elif name in (None, HELP, PROVE, VERSION):
+        from built import TOP
+        with open(os.path.join(TOP, "docs", "usage.txt"), encoding="utf-8") as usage:
+            sys.stdout.write(usage.read())
     else:
-        raise Misuse(f"no mode is called {name}{likely(name, KNOWN)}", USAGE)
+        raise Misuse(f"no mode is called {name}{likely(name or '', KNOWN)}", USAGE)
     return Status.DONE
 
 
 def tell_version() -> int:
-    import building
     import release
-    print(release.versions(building.built() if building.is_built() else None))
+    print(release.versions())
     return Status.DONE
 
 
-def prove() -> int:
-    import building
-    building.prove()
-    building.say("the program is proved and built of these sources")
-    return Status.DONE
+def prove() -> None:
+    import built
+    if not built.is_built():
+        import building
+        building.prove()
 
 
 def carry_out(words: list[str]) -> int:
-    if words and words[0] == "--version":
-        return tell_version()
     place = place_of_mode(words)
     if place is None:
+        if VERSION_WORD in words:
+            return tell_version()
         if any(word in HELP_WORDS for word in words):
             return tell_help([])
         raise Misuse("no mode is given", USAGE)
@@ -86,14 +81,20 @@ def carry_out(words: list[str]) -> int:
         return tell_help(behind)
     if any(word in HELP_WORDS for word in behind) and "--" not in words:
         return tell_help([name])
+    if name in (PROVE, VERSION) and behind:
+        raise Misuse(f"{name} takes no words", USAGE)
+    if name == VERSION:
+        return tell_version()
     if name in TOOLS:
         return run_tool(name, behind)
-    if name == PROVE and not behind:
-        return prove()
+    if name == PROVE:
+        prove()
+        say("the program is proved and built of these sources")
+        return Status.DONE
     if name not in MODES:
-        raise Misuse(f"no mode is called {name}{likely(name, KNOWN)}" if name != PROVE else "prove takes no words", USAGE)
+        raise Misuse(f"no mode is called {name}{likely(name, KNOWN)}", USAGE)
     call = judge(MODES[name], words)
-    if call.mode is RUN and call.root is not None and not call.flags and sys.stdin and sys.stdin.isatty():
+    if call.mode is RUN and call.root is not None and not call.flags and os.isatty(0):
         return run_tool("shell", ["--", call.root])
     from launching import launch
     return launch(call)
@@ -103,7 +104,7 @@ def main() -> int:
     try:
         return carry_out(sys.argv[1:])
     except Fault as fault:
-        print(f"ficus: {fault}", file=sys.stderr)
+        say(str(fault))
         return fault.status
     except BrokenPipeError:
         # Whoever read has gone; nothing more is to be said.
@@ -111,10 +112,10 @@ def main() -> int:
         return Status.OUTSIDE
     except OSError as error:
         where = os.fsdecode(error.filename) if error.filename else "the system"
-        print(f"ficus: {where}: {error.strerror}", file=sys.stderr)
+        say(f"{where}: {error.strerror}")
         return Status.OUTSIDE
     except KeyboardInterrupt:
-        print("ficus: interrupted", file=sys.stderr)
+        say("interrupted")
         return Status.INTERRUPTED
 
 

@@ -1,87 +1,75 @@
-"""Whether the program is built of the sources as they stand, and how it is proved and built.
+"""How the program is proved and built, and what it is built of.
 
-What was built is noted in build/built: the sum of the sources, the kit that proved them, and a quick look at the files by
-their sizes and times. As long as the quick look is the same no file is read. A built checkout needs no kit. What is
-installed (`release.py`) has no sources, and is what it was built of.
+That is noted in build/built: the sum of the sources, and below it the kit that proved them. The note has the time at
+which its sources were read, so that `./ficus` sees whether anything has changed since. A built checkout needs no kit.
 """
 from __future__ import annotations
 
 import fcntl
 import hashlib
-import json
 import os
 import subprocess
-import sys
 import threading
 import time
 from collections.abc import Iterator
 from contextlib import contextmanager, suppress
-from dataclasses import asdict, dataclass
+from dataclasses import dataclass
 from pathlib import Path
 from shutil import which
+from typing import IO
 
-from faults import Fault, Status
+import built
+from faults import Fault, Status, say
 
-TOP = Path(__file__).resolve().parent.parent
-# The program, where it is installed beside the tools, or where it is built.
-INSTALLED = TOP / "ficus_cli"
-IS_INSTALLED = INSTALLED.exists()
-PROGRAM = INSTALLED if IS_INSTALLED else TOP / "crates" / "ficus_cli" / "out" / "ficus_cli"
-BUILD = TOP if IS_INSTALLED else TOP / "build"
-NOTE = BUILD / "built"
+TOP = Path(built.TOP)
+NOTE = Path(built.NOTE)
+BUILD = Path(built.BUILD)
 LOG = BUILD / "log"
 SUFFIXES = (".rt", ".antt")
 PARTS = ("src", "specs", "proofs")
 # How often it is looked which crate the build is at, in seconds, and how much of its log is shown where it fails.
 PAUSE = 1.0
 TAIL = 40
+# How far the time of the note lies before its sources were read, in seconds: times of files are somewhat coarse.
+BEFORE = 1.0
 
 
 @dataclass(frozen=True)
 class Built:
-    """What a program was built of."""
+    """What a program was built of, and from when that is so."""
 
     sources: str
     kit: str
-    look: str
+    since: float
 
 
-def _files() -> Iterator[tuple[str, os.stat_result]]:
-    """Each file from which the program is made, below the top, in order, with what the system says of it."""
-    for name in ("HANDLES", "crates.txt"):
-        with suppress(OSError):
-            yield name, os.stat(TOP / name)
+def _files() -> Iterator[str]:
+    """Each file from which the program is made, below the top, in order."""
+    yield from ("HANDLES", "crates.txt")
     for crate in sorted(os.listdir(TOP / "crates")):
         for part in PARTS:
             yield from _below(f"crates/{crate}/{part}")
 
 
-def _below(folder: str) -> Iterator[tuple[str, os.stat_result]]:
+def _below(folder: str) -> Iterator[str]:
     try:
         entries = sorted(os.scandir(TOP / folder), key=lambda entry: entry.name)
     except OSError:
         return
     for entry in entries:
         if entry.name.endswith(SUFFIXES):
-            yield f"{folder}/{entry.name}", entry.stat()
+            yield f"{folder}/{entry.name}"
         elif entry.is_dir():
             yield from _below(f"{folder}/{entry.name}")
-
-
-def quick_look() -> str:
-    """A sum of the names, sizes and times of the sources."""
-    looked = hashlib.sha256()
-    for name, found in _files():
-        looked.update(f"{name} {found.st_size} {found.st_mtime_ns}\n".encode())
-    return looked.hexdigest()
 
 
 def sources() -> str:
     """A sum of the sources."""
     summed = hashlib.sha256()
-    for name, _ in _files():
-        content = hashlib.sha256((TOP / name).read_bytes()).hexdigest()
-        summed.update(f"{name} {content}\n".encode())
+    for name in _files():
+        with suppress(FileNotFoundError):
+            content = hashlib.sha256((TOP / name).read_bytes()).hexdigest()
+            summed.update(f"{name} {content}\n".encode())
     return summed.hexdigest()
 
 
@@ -93,27 +81,28 @@ def kit() -> str:
     return ran.stdout.strip()
 
 
-def built() -> Built | None:
-    """What the program that is there was built of, if there is one."""
-    if not os.access(PROGRAM, os.X_OK):
-        return None
+def as_it_stands() -> Built:
+    """What a program that is built now is built of."""
+    since = time.time() - BEFORE
+    return Built(sources(), kit(), since)
+
+
+def noted() -> Built | None:
+    """What the program that is there was built of, if that is noted."""
     try:
-        return Built(**json.loads(NOTE.read_text(encoding="utf-8")))
-    except (OSError, ValueError, TypeError):
+        summed, _, rest = NOTE.read_text(encoding="utf-8").partition("\n")
+        return Built(summed, rest.strip(), NOTE.stat().st_mtime)
+    except (OSError, ValueError):
         return None
 
 
-def is_built() -> bool:
-    """Whether the program is built of the sources as they stand."""
-    found = built()
-    if found is None or IS_INSTALLED:
-        return IS_INSTALLED
-    look = quick_look()
-    if found.look == look:
-        return True
-    if found.sources != sources():
+def is_of_sources() -> bool:
+    """Whether the program that is there is built of the sources, all of which are read."""
+    found = noted()
+    since = time.time() - BEFORE
+    if found is None or found.sources != sources():
         return False
-    note(Built(found.sources, found.kit, look))
+    note(Built(found.sources, found.kit, since))
     return True
 
 
@@ -122,7 +111,8 @@ def note(found: Built) -> None:
     with suppress(OSError):
         BUILD.mkdir(exist_ok=True)
         beside = NOTE.with_name(f"built-{os.getpid()}")
-        beside.write_text(json.dumps(asdict(found)) + "\n", encoding="utf-8")
+        beside.write_text(f"{found.sources}\n{found.kit}\n", encoding="utf-8")
+        os.utime(beside, (found.since, found.since))
         beside.replace(NOTE)
 
 
@@ -134,14 +124,15 @@ def need_kit() -> None:
 
 def prove() -> None:
     """Proves and builds the program, unless that is done. Who comes second waits, and finds it done."""
-    if is_built():
+    if built.is_built():
         return
     need_kit()
     BUILD.mkdir(exist_ok=True)
     with _alone():
-        if not is_built() and not _make():
+        if not built.is_built() and not _make():
             lines = LOG.read_text(encoding="utf-8", errors="replace").splitlines()
-            raise Fault("\n".join(["the program isn't built; the end of build/log says why:", *lines[-TAIL:]]), Status.UNBUILT)
+            raise Fault("\n".join(["the program isn't built; the end of build/log says why:", *lines[-TAIL:]]),
+                        Status.UNBUILT)
 
 
 @contextmanager
@@ -151,13 +142,9 @@ def _alone() -> Iterator[None]:
         yield
 
 
-def say(line: str) -> None:
-    print(f"ficus: {line}", file=sys.stderr, flush=True)
-
-
 def _make() -> bool:
     """Proves the crates, side by side where none stands on another, then builds the program and runs it over no script."""
-    now = Built(sources(), kit(), quick_look())
+    now = as_it_stands()
     crates = crates_of_the_program()
     say(f"the program isn't built of these sources yet: first its {len(crates)} crates are proved and it is built.")
     say("that takes some half an hour where nothing is kept; build/log has what the toolchain says")
@@ -166,10 +153,12 @@ def _make() -> bool:
         ended = threading.Event()
         follower = threading.Thread(target=_follow, args=(crates, began, ended))
         follower.start()
-        done = all(_logged(words, log) for words in (
-            ["rt", "all", "check", "--jobs", str(os.cpu_count())], ["rt", "run", "--", "replay", "--members", "2"]))
-        ended.set()
-        follower.join()
+        try:
+            done = all(_logged(words, log) for words in (
+                ["rt", "all", "check", "--jobs", str(os.cpu_count())], ["rt", "run", "--", "replay", "--members", "2"]))
+        finally:
+            ended.set()
+            follower.join()
     if not done:
         return False
     took = int(time.time() - began)
@@ -178,9 +167,9 @@ def _make() -> bool:
     return True
 
 
-def _logged(words: list[str], log: object) -> bool:
+def _logged(words: list[str], log: IO[bytes]) -> bool:
     # (unbuffered, so that the log has what is said as it is said)
-    ran = subprocess.run(words, cwd=PROGRAM.parent.parent, stdin=subprocess.DEVNULL, stdout=log, stderr=log,  # type: ignore
+    ran = subprocess.run(words, cwd=built.CRATE, stdin=subprocess.DEVNULL, stdout=log, stderr=log,
                          env={**os.environ, "PYTHONUNBUFFERED": "1"}, check=False)
     return ran.returncode == 0
 

@@ -7,8 +7,7 @@ from collections.abc import Sequence
 
 import places
 from faults import Status
-from lock import locked
-from program import Ended, Place, ask, is_command
+from program import Ended, Place, ask, is_command, locked
 from spelling import to_bytes, to_str
 
 # Commands up to this width have their answer beside them, longer ones below.

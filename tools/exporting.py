@@ -8,8 +8,7 @@ import places
 import unfit
 from answers import Version
 from faults import Fault, Status
-from lock import locked
-from program import ask
+from program import ask, locked
 from progress import followed
 from spelling import Path, read_name, to_bytes
 from tree import Node, content, list_below, read_files

@@ -1,15 +1,19 @@
-"""Why a tool ends before its end."""
+"""Why the launcher or a tool ends before its end, and what it says beside its answers."""
 from __future__ import annotations
 
-from enum import IntEnum
+import sys
 
 
-class Status(IntEnum):
-    """The statuses of the tools. Where the program ended with a code that isn't 0, a tool ends with that."""
+class Status:
+    """The statuses of the launcher and the tools. Where the program ended with another than 0, they end with that."""
 
     DONE = 0
     USAGE = 1
+    BAD_LINE = 2
     WRITE_FAULT = 5
+    STORE_FAULT = 6
+    NO_IMAGE = 7
+    OCCUPIED = 9
     UNBUILT = 70
     IN_USE = 71
     UNFIT = 72
@@ -20,8 +24,12 @@ class Status(IntEnum):
 
 
 class Fault(Exception):
-    """A tool can't go on: in plain words, and with the status with which it ends."""
+    """It can't go on: in plain words, and with the status with which it ends."""
 
     def __init__(self, words: str, status: int) -> None:
         super().__init__(words)
-        self.status = int(status)
+        self.status = status
+
+
+def say(line: str) -> None:
+    print(f"ficus: {line}", file=sys.stderr, flush=True)

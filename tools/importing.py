@@ -11,8 +11,7 @@ import formats
 import places
 import unfit
 from faults import Fault, Status
-from lock import locked
-from program import Folder, ask, ask_all
+from program import Folder, ask, ask_all, locked
 from progress import followed
 from refusals import in_words
 from spelling import FILE_BYTES, LINK_BYTES, PATH_PARTS, Path, spell_name, spell_text, why_no_name

@@ -1,94 +1,97 @@
-"""Runs the program as it was asked for, and says beside its own words what they don't tell: which line is bad and why,
-which file a fault is about, and how many commands were refused by disks."""
+"""Runs the program as it was asked for, and says beside its own words what they don't tell (`telling.py`).
+
+Each call comes by here, so nothing is imported that takes long and isn't needed by most.
+"""
 from __future__ import annotations
 
 import os
-import re
-import shutil
 import signal
-import subprocess
 import sys
-from collections import Counter
-from collections.abc import Iterator
-from contextlib import contextmanager
-from dataclasses import dataclass, field
-from pathlib import Path
-from tempfile import TemporaryDirectory, TemporaryFile
 
-import building
+import built
 import causes
 import lock
-import program
-import unproved
-from building import say
-from faults import Fault, Status
-from modes import ALL, CHECK, INIT, REPLAY, RUN, STRICT, VOLUMES_MODE, GEN, Call
-from program import SCRIPT_BYTES, VARIABLE, is_command
-from sessions import LOOKS
-from spelling import to_str
+from faults import Fault, Status, say
+from modes import ALL, CHECK, GEN, INIT, JSON, REPLAY, RUN, VOLUMES_MODE
+
+TYPE_CHECKING = False
+if TYPE_CHECKING:
+    from collections.abc import Sequence
+    from types import FrameType
+
+    from modes import Call
 
 BLOCK = 65_536
+SCRIPT_BYTES = 1_048_576
 # Where the script comes from, where that isn't standard input.
 INPUT = "FICUS_INPUT"
-# A refusal: no line of a listing has this form.
-REFUSAL = re.compile(rb"^no ([a-z]+)$", re.MULTILINE)
-REPLICA = re.compile(r"at replica (\d+)|replica (\d+) is")
-BAD_LINE = re.compile(r"bad line (\d+)")
-JUDGED = re.compile(r"replica (\d+) (empty|damaged|members (\d+))")
-# The program's statuses of which more is said.
-USAGE_STATUS, BAD_LINE_STATUS, WRITE_FAULT, STORE_FAULT, NO_IMAGE, OCCUPIED = 1, 2, 5, 6, 7, 9
-# Modes that touch no folder, and answer before the program is proved.
+# Modes that touch no folder, and answer before the program is proved, but with this in the environment.
 UNPROVED = (REPLAY, VOLUMES_MODE, GEN)
-SHOWN = 200
+WAITS_FOR_PROOF = "FICUS_PROVED"
+# What is handed on to the program, where it comes to this.
+SIGNALS = (signal.SIGINT, signal.SIGTERM, signal.SIGHUP)
+# Commands with which conflicts may come.
+BRINGS = (b"pull ", b"sweep ", b"give ")
 
 
-@dataclass
 class Run:
-    """A run of the program: the script that it is given, how it ended, and what it said."""
+    """A run of the program: how it ended, what it said, how many commands it refused with which word, and what it
+    answered, where that was kept."""
 
-    status: int = 0
-    said: str = ""
-    refusals: Counter[str] = field(default_factory=Counter)
-    written: bytes = b""
-    reader_is_gone: bool = False
+    def __init__(self, status: int = 0, said: str = "") -> None:
+        self.status = status
+        self.said = said
+        self.refused: dict[str, int] = {}
+        self.kept = bytearray()
+        self.reader_is_gone = False
+
+    def take(self, answers: bytes) -> None:
+        """Keeps all answers."""
+        self.kept += answers
+        _count(b"\n" + answers, self.refused)
 
 
 def launch(call: Call) -> int:
     """Does what the words ask for."""
     script = _script() if call.mode.has_script else b""
     if ALL in call.flags:
+        from telling import tell_bad_lines
         return tell_bad_lines(call, script or b"")
-    if not building.is_built():
+    if not built.is_built():
+        import building
         building.need_kit()
-        if call.mode in UNPROVED and not os.environ.get(unproved.WAITS_FOR_PROOF) and script is not None:
+        if call.mode in UNPROVED and not os.environ.get(WAITS_FOR_PROOF) and script is not None:
+            import unproved
             answered = unproved.answer(call.words, script)
             if answered:
-                return tell(call, script, Run(*answered))
+                return _finish(call, script, answered)
         building.prove()
-    os.environ[VARIABLE] = str(building.PROGRAM)
-    if call.mode is CHECK:
-        return check(call)
-    with _locked(call) as locks, _where(call, script) as words:
-        looks = call.mode is RUN and sys.stdout.isatty()
-        before = _conflicts(call, locks) if looks else {}
-        run = carry_out(words, script, locks)
-        after = _conflicts(call, locks) if looks and not run.status else {}
-    status = tell(call, script, run)
-    for replica, count in after.items():
-        came = count - before.get(replica, 0)
-        if came > 0:
-            say(f"{'a conflict' if came == 1 else f'{came} conflicts'} came at replica {replica}")
+    why = causes.why_no_volume(call.root) if call.mode is CHECK and call.root else None
+    if why:
+        raise Fault(why, Status.NO_IMAGE)
+    folder = _locked(call)
+    try:
+        return _carry_out(call, script, () if folder is None else (folder,))
+    finally:
+        if folder is not None:
+            os.close(folder)
+
+
+def _carry_out(call: Call, script: bytes | None, locks: tuple[int, ...]) -> int:
+    if call.mode is RUN and script is not None and causes.is_read_only(call.root or ""):
+        from copying import over_copy
+        with over_copy(call, script) as words:
+            return _finish(call, script, ask(words, script, locks, keep=True))
+    counts = script and call.mode is RUN and sys.stdout.isatty() and any(word in script for word in BRINGS)
+    if not counts:
+        keep = call.mode is CHECK or JSON in call.flags
+        return _finish(call, script, ask(call.words, script, locks, keep=keep))
+    from telling import conflicts, tell_of_conflicts
+    before = conflicts(call, locks)
+    status = _finish(call, script, ask(call.words, script, locks))
+    if not status:
+        tell_of_conflicts(before, conflicts(call, locks))
     return status
-
-
-def _conflicts(call: Call, locks: tuple[int, ...]) -> dict[int, int]:
-    """How many conflicts each member of a volume shows, of those that are up."""
-    root = Path(call.root or "")
-    replicas = causes.members(root)
-    script = b"".join(b"%d conflicts\n" % replica for replica in replicas)
-    run = carry_out([RUN.name, "--", str(root)], script, locks, keep=True)
-    counts = re.findall(rb"^ok (\d+)$|^no \w+$", run.written, re.MULTILINE)
-    return {replica: int(count) for replica, count in zip(replicas, counts) if count}
 
 
 def _script() -> bytes | None:
@@ -110,93 +113,78 @@ def _input() -> int:
     return int(os.environ.get(INPUT, "0"))
 
 
-@contextmanager
-def _locked(call: Call) -> Iterator[tuple[int, ...]]:
+def _locked(call: Call) -> int | None:
     """The lock on the folder of the volume, where the mode has one."""
     if call.root is None:
-        yield ()
-        return
-    root = Path(call.root)
-    folder = lock.take_to_make(root) if call.mode is INIT else lock.take(root)
-    try:
-        yield () if folder is None else (folder,)
-    finally:
-        if folder is not None:
-            os.close(folder)
+        return None
+    return lock.take_to_make(call.root) if call.mode is INIT else lock.take(call.root)
 
 
-@contextmanager
-def _where(call: Call, script: bytes | None) -> Iterator[list[str]]:
-    """The words for the program. A script that only looks goes over a copy, where the volume can't be written."""
-    words = list(call.words)
-    if call.mode is not RUN or call.root is None or script is None or not _needs_copy(Path(call.root), script):
-        yield words
-        return
-    root = Path(call.root)
-    with TemporaryDirectory() as room:
-        for replica in causes.members(root):
-            os.mkdir(os.path.join(room, str(replica)))
-            for disk in causes.disks_of(root, replica):
-                if disk.exists():
-                    shutil.copyfile(disk, os.path.join(room, str(replica), disk.name))
-        say(f"{root} can't be written; the script only looks, so it goes over a copy")
-        yield [RUN.name, "--", room]
-
-
-def _needs_copy(root: Path, script: bytes) -> bool:
-    """Whether files of the volume can be read and not written, and no line changes anything."""
-    there = [disk for replica in causes.members(root) for disk in causes.disks_of(root, replica) if disk.exists()]
-    if not there or all(os.access(disk, os.W_OK) for disk in there) or not all(os.access(it, os.R_OK) for it in there):
-        return False
-    lines = filter(is_command, to_str(script).split("\n"))
-    return all(LOOKS & set(line.split(" ")[:2]) for line in lines)
-
-
-def carry_out(words: list[str], given: bytes | None, locks: tuple[int, ...], keep: bool = False) -> Run:
+def ask(words: Sequence[str], given: bytes | None, locks: tuple[int, ...] = (), keep: bool = False) -> Run:
     """Runs the program over this input, or over standard input itself where that can't be read, and hands on its answers
-    as they come, or keeps them."""
+    as they come, or keeps them. The locks are the program's too, so that they stay where this alone is killed."""
     run = Run()
-    with TemporaryFile() as source:
-        source.write(given or b"")
-        source.seek(0)
-        stdin = _input() if given is None else source.fileno()
-        with subprocess.Popen([program.executable(), *words], stdin=stdin, stdout=subprocess.PIPE, stderr=subprocess.PIPE,
-                              pass_fds=locks) as running:
-            assert running.stdout and running.stderr
-            for number in (signal.SIGTERM, signal.SIGHUP):
-                signal.signal(number, lambda which, _: running.send_signal(which))
-            try:
-                _hand_on(running.stdout.fileno(), run, keep)
-                running.stdout.close()
-                run.said = to_str(running.stderr.read())
-            except KeyboardInterrupt:
-                running.send_signal(signal.SIGINT)
-                raise
-        run.status = running.returncode
+    source = _input()
+    if given is not None:
+        source = os.memfd_create("script")
+        _write(source, given)
+        os.lseek(source, 0, os.SEEK_SET)
+    answers, put_answers = os.pipe()
+    said, put_said = os.pipe()
+    for held in locks:
+        os.set_inheritable(held, True)
+    process = os.posix_spawn(built.program(), [built.program(), *words], os.environ, file_actions=[
+        (os.POSIX_SPAWN_DUP2, source, 0), (os.POSIX_SPAWN_DUP2, put_answers, 1), (os.POSIX_SPAWN_DUP2, put_said, 2)])
+    os.close(put_answers)
+    os.close(put_said)
+
+    def hand_on(which: int, _: FrameType | None) -> None:
+        os.kill(process, which)
+
+    for number in SIGNALS:
+        if signal.getsignal(number) is not signal.SIG_IGN:
+            signal.signal(number, hand_on)
+    _hand_on(answers, run, keep)
+    os.close(answers)
+    run.said = _all_of(said).decode("utf-8", "surrogateescape")
+    run.status = os.waitstatus_to_exitcode(os.waitpid(process, 0)[1])
     return run
 
 
+def _all_of(source: int) -> bytes:
+    read = bytearray()
+    while block := os.read(source, BLOCK):
+        read += block
+    os.close(source)
+    return bytes(read)
+
+
 def _hand_on(answers: int, run: Run, keep: bool) -> None:
-    """Hands on what comes, and counts the refusals in it."""
-    rest = b""
-    kept = bytearray()
+    """Hands on what comes, or keeps it, and counts the refusals in it."""
+    rest = b"\n"
     while block := os.read(answers, BLOCK):
         if keep:
-            kept += block
-        elif not _put(block):
+            run.kept += block
+        elif not put(block):
             run.reader_is_gone = True
-            break
+            return
         lines, end, behind = (rest + block).rpartition(b"\n")
-        run.refusals.update(found.decode() for found in REFUSAL.findall(lines))
-        rest = behind
-    run.written = bytes(kept)
+        _count(lines + end, run.refused)
+        rest = end + behind
 
 
-def _put(block: bytes) -> bool:
-    """Writes all of a block. Says whether whoever reads is there still."""
+def _count(lines: bytes, refused: dict[str, int]) -> None:
+    """Counts the lines that are refusals: no line of a listing has two words of which the first is `no`."""
+    for behind in lines.split(b"\nno ")[1:]:
+        word = behind.partition(b"\n")[0]
+        if word.isalpha():
+            refused[word.decode()] = refused.get(word.decode(), 0) + 1
+
+
+def put(block: bytes) -> bool:
+    """Writes all of a block to standard output. Says whether whoever reads is there still."""
     try:
-        while block:
-            block = block[os.write(sys.stdout.fileno(), block):]
+        _write(1, block)
     except BrokenPipeError:
         return False
     except OSError:
@@ -204,105 +192,27 @@ def _put(block: bytes) -> bool:
     return True
 
 
-def tell(call: Call, script: bytes | None, run: Run) -> int:
-    """Says what the program said, and what is to be said beside it, and gives the status."""
-    if run.status < 0:
-        say(f"the program was ended by signal {-run.status}")
-        return 128 - run.status
+def _write(target: int, block: bytes) -> None:
+    while block:
+        block = block[os.write(target, block):]
+
+
+def _finish(call: Call, script: bytes | None, run: Run) -> int:
+    """Hands on what was kept, says what the program said and what is to be said beside it, and gives the status."""
+    if run.kept:
+        shown = bytes(run.kept)
+        if JSON in call.flags:
+            from as_json import of_check, of_script
+            shown = of_check(shown) if call.mode is CHECK else of_script(script or b"", shown)
+        run.reader_is_gone = not put(shown)
     if run.reader_is_gone:
-        return run.status or WRITE_FAULT
+        return run.status if run.status > 0 else Status.WRITE_FAULT
+    if run.status < 0:
+        say("interrupted" if run.status == -signal.SIGINT else f"the program was ended by signal {-run.status}")
+        return 128 - run.status
     sys.stderr.write(run.said)
     sys.stderr.flush()
-    if script is not None:
-        _say_of_line(call, script, run)
-    _say_of_files(call, run)
-    failed = {word: run.refusals[word] for word in ("store", "down") if run.refusals[word]}
-    if call.mode is RUN and failed:
-        counted = " and ".join(f"{count} with {word}" for word, count in failed.items())
-        say(f"commands were refused since disks failed: {counted}")
-    if run.status == 0 and STRICT in call.flags and run.refusals:
-        return Status.REFUSED
-    return run.status
-
-
-def _say_of_line(call: Call, script: bytes, run: Run) -> None:
-    """Says of a bad line what it is, and why."""
-    found = BAD_LINE.search(run.said)
-    if run.status != BAD_LINE_STATUS or not found:
-        return
-    from grammar import why_none
-    number = int(found[1])
-    line = to_str(script).split("\n")[number - 1]
-    _show_bad(number, line, why_none(line, _volumes(call), number))
-
-
-def _volumes(call: Call) -> int:
-    """How many volumes a script of this call is over, where they are numbered."""
-    if call.mode is not VOLUMES_MODE:
-        return 0
-    words = " ".join(call.words)
-    found = re.search(r"--volumes[= ](\d)", words)
-    return int(found[1]) if found else 0
-
-
-def _show_bad(number: int, line: str, wrong: Exception | None) -> None:
-    from svg import visible
-    shown = visible(line[:SHOWN]) + ("…" if len(line) > SHOWN else "")
-    if wrong is None:
-        say(f"line {number}: {shown}")
-    else:
-        say(f"line {number}, column {wrong.column}: {wrong.why}: {shown}")  # type: ignore[attr-defined]
-
-
-def tell_bad_lines(call: Call, script: bytes) -> int:
-    """Says of each line that is no command what is wrong with it."""
-    from grammar import bad_lines
-    count = 0
-    for number, line, wrong in bad_lines(to_str(script), _volumes(call)):
-        _show_bad(number, line, wrong)
-        count += 1
-    return BAD_LINE_STATUS if count else Status.DONE
-
-
-def _say_of_files(call: Call, run: Run) -> None:
-    """Says of a fault of a replica's disks which file it is about, and the system's reason."""
-    found = REPLICA.search(run.said)
-    if not found or call.root is None:
-        return
-    replica, root = int(found[1] or found[2]), Path(call.root)
-    if run.status == OCCUPIED:
-        say(causes.of_occupied(root, replica))
-    elif run.status == STORE_FAULT and call.mode is INIT:
-        say(causes.of_making(root, replica))
-    elif run.status in (STORE_FAULT, NO_IMAGE):
-        say(causes.of_opening(root, replica))
-
-
-def check(call: Call) -> int:
-    """Tells whether the files of a volume are damaged, where there is one."""
-    root = Path(call.root or "")
-    why = causes.why_no_volume(root)
-    if why:
-        say(why)
-        return NO_IMAGE
-    with _locked(call) as locks:
-        run = carry_out(list(call.words), b"", locks, keep=True)
-    if not _put(run.written):
-        return run.status or WRITE_FAULT
-    status = tell(call, None, run)
-    return status or judged(root, to_str(run.written))
-
-
-def judged(root: Path, told: str) -> int:
-    """Says which members are damaged or missing, and what to do."""
-    found = {int(it[1]): it for it in map(JUDGED.match, told.splitlines()) if it}
-    count = max((int(it[3]) for it in found.values() if it[3]), default=0)
-    damaged = [replica for replica, it in found.items() if it[2] == "damaged"]
-    missing = [replica for replica, it in found.items() if it[2] == "empty" and replica <= count]
-    for replicas, what in ((damaged, "damaged"), (missing, "missing")):
-        for replica in replicas:
-            say(f"the files of replica {replica} are {what}")
-    if not damaged and not missing:
-        return Status.DONE
-    say(f"first copy all of {root}; then see \"When a volume is damaged\" in docs/FORMATS.md")
-    return Status.DAMAGED
+    if run.status or run.refused or call.mode is CHECK:
+        from telling import tell
+        return tell(call, script, run)
+    return Status.DONE

@@ -4,12 +4,8 @@ from __future__ import annotations
 import fcntl
 import os
 import time
-from collections.abc import Iterator
-from contextlib import contextmanager
-from pathlib import Path
 
 from faults import Fault, Status
-from program import Folder
 
 # How long a folder above one that is to be made is waited for, in seconds.
 PATIENCE = 10.0
@@ -19,7 +15,8 @@ def _holder(folder: int) -> str:
     """Who has the lock on an open folder, as far as the system tells."""
     number = os.fstat(folder).st_ino
     try:
-        locks = [line.split() for line in Path("/proc/locks").read_text(encoding="ascii").splitlines()]
+        with open("/proc/locks", encoding="ascii") as told:
+            locks = [line.split() for line in told]
     except OSError:
         return "another process"
     for lock in locks:
@@ -31,29 +28,32 @@ def _holder(folder: int) -> str:
 
 def _process(number: str) -> str:
     try:
-        words = Path(f"/proc/{number}/cmdline").read_bytes().split(b"\0")
+        with open(f"/proc/{number}/cmdline", "rb") as told:
+            words = told.read().split(b"\0")
     except OSError:
         return f"process {number}"
     return f"process {number} ({os.fsdecode(b' '.join(words)).strip()})"
 
 
-def take(root: Path) -> int | None:
+def take(root: str) -> int | None:
     """Locks the folder of a volume for as long as this process has it open, and gives that. Where the folder can't be
     opened or locked it gives nothing: the program says what is wrong with it."""
     return _take(root, root, 0)
 
 
-def take_to_make(root: Path) -> int | None:
+def take_to_make(root: str) -> int | None:
     """The same for a volume that is to be made. Where its folder is missing, the lowest one above it that is there is
     locked, and is waited for, since whoever makes another volume beside it is soon done."""
     # (what may not be looked at is missing too, as far as can be told)
     if os.path.exists(root):
         return take(root)
-    above = next(folder for folder in root.absolute().parents if os.path.exists(folder))
+    above = os.path.dirname(os.path.abspath(root))
+    while not os.path.exists(above):
+        above = os.path.dirname(above)
     return _take(root, above, PATIENCE)
 
 
-def _take(root: Path, there: Path, patience: float) -> int | None:
+def _take(root: str, there: str, patience: float) -> int | None:
     try:
         folder = os.open(there, os.O_RDONLY | os.O_DIRECTORY)
     except OSError:
@@ -73,14 +73,3 @@ def _take(root: Path, there: Path, patience: float) -> int | None:
             # (a file system without locks)
             os.close(folder)
             return None
-
-
-@contextmanager
-def locked(root: Path) -> Iterator[Folder]:
-    """The volume in a folder, whose lock nobody else who asks for it has meanwhile."""
-    folder = take(root)
-    try:
-        yield Folder(root, () if folder is None else (folder,))
-    finally:
-        if folder is not None:
-            os.close(folder)

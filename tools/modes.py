@@ -5,23 +5,25 @@ the program takes them (`docs/FORMATS.md`), so whatever is wrong is said before 
 """
 from __future__ import annotations
 
-from collections.abc import Mapping, Sequence
-from dataclasses import dataclass, field
-from difflib import get_close_matches
-
 from faults import Fault, Status
 
+# (what takes long to import is imported where it is needed, here and wherever each call comes by)
+TYPE_CHECKING = False
+if TYPE_CHECKING:
+    from collections.abc import Mapping, Sequence
 
-@dataclass(frozen=True)
+
 class Option:
-    """An option with a number: its letter in the usage, what it says, and its least and its greatest value."""
+    """An option with a number: its letter in the usage, what it says, its least and its greatest value, and that in
+    words."""
 
-    name: str
-    letter: str
-    what: str
-    least: int
-    most: int
-    rule: str
+    def __init__(self, name: str, letter: str, what: str, least: int, most: int, rule: str) -> None:
+        self.name = name
+        self.letter = letter
+        self.what = what
+        self.least = least
+        self.most = most
+        self.rule = rule
 
     def why_none(self, value: str) -> str | None:
         """Why this is no number of the option, or nothing where it is one."""
@@ -47,24 +49,28 @@ OPTIONS = {it.name: it for it in (MEMBERS, IDS, BYTES, VOLUMES, SEED, STEPS)}
 
 STRICT = "--strict"
 ALL = "--all"
+JSON = "--json"
 # Words of the launcher's own, which the program doesn't see, with what they do.
 FLAGS = {
     STRICT: "ends with 74 where a command was refused",
     ALL: "tells each line that is no command, and carries out nothing",
+    JSON: "tells each answer as one value of JSON, on a line of its own",
 }
 
 
-@dataclass(frozen=True)
 class Mode:
-    """A mode: what it does, which options it needs and which it may have, whether it wants the folder of a volume, and
-    whether it reads a script."""
+    """A mode: what it does, which options it needs and which it may have, whether it wants the folder of a volume,
+    whether it reads a script, and which of the launcher's own words it may have."""
 
-    name: str
-    does: str
-    needs: tuple[Option, ...] = ()
-    may_have: tuple[Option, ...] = ()
-    has_root: bool = False
-    has_script: bool = False
+    def __init__(self, name: str, does: str, needs: tuple[Option, ...] = (), may_have: tuple[Option, ...] = (), *,
+                 has_root: bool = False, has_script: bool = False, flags: tuple[str, ...] = ()) -> None:
+        self.name = name
+        self.does = does
+        self.needs = needs
+        self.may_have = may_have
+        self.has_root = has_root
+        self.has_script = has_script
+        self.flags = tuple(FLAGS) if has_script else flags
 
     @property
     def form(self) -> str:
@@ -76,10 +82,6 @@ class Mode:
     @property
     def usage(self) -> str:
         return f"usage: ./ficus {self.form}" + " <SCRIPT" * self.has_script
-
-    @property
-    def flags(self) -> tuple[str, ...]:
-        return tuple(FLAGS) if self.has_script else ()
 
     @property
     def help(self) -> str:
@@ -94,7 +96,8 @@ class Mode:
 INIT = Mode("init", "Makes a fresh volume in the folder ROOT.", (MEMBERS,), (IDS, BYTES), has_root=True)
 RUN = Mode("run", "Carries out the commands of a script on the volume in ROOT, and answers each on standard output.",
            has_root=True, has_script=True)
-CHECK = Mode("check", "Tells of each replica of the volume in ROOT whether its files are damaged.", has_root=True)
+CHECK = Mode("check", "Tells of each replica of the volume in ROOT whether its files are damaged.", has_root=True,
+             flags=(JSON,))
 REPLAY = Mode("replay", "Carries out a script on a fresh volume in memory, of which nothing stays.", (MEMBERS,),
               (IDS, BYTES), has_script=True)
 VOLUMES_MODE = Mode("volumes", "Carries out a script on several fresh volumes in memory, which names join.",
@@ -111,14 +114,16 @@ class Misuse(Fault):
         super().__init__(f"{words}\n{usage}", Status.USAGE)
 
 
-@dataclass(frozen=True)
 class Call:
-    """Words that fit a mode: those for the program, the folder, and the launcher's own."""
+    """Words that fit a mode: those for the program, the folder, how many volumes there are where they are numbered, and
+    the launcher's own."""
 
-    mode: Mode
-    words: tuple[str, ...]
-    root: str | None = None
-    flags: frozenset[str] = field(default_factory=frozenset)
+    def __init__(self, mode: Mode, words: Sequence[str], root: str | None, volumes: int, flags: set[str]) -> None:
+        self.mode = mode
+        self.words = words
+        self.root = root
+        self.volumes = volumes
+        self.flags = flags
 
 
 def is_value(word: str) -> bool:
@@ -141,6 +146,7 @@ def place_of_mode(words: Sequence[str]) -> int | None:
 
 def likely(word: str, known: Sequence[str]) -> str:
     """What was meant, as a question, where something known is like it."""
+    from difflib import get_close_matches
     found = get_close_matches(word.lower(), known, 1, 0.6)
     return f" (did you mean {found[0]}?)" if found else ""
 
@@ -162,7 +168,7 @@ def judge(mode: Mode, words: Sequence[str]) -> Call:
         raise Misuse("ROOT is empty", mode.usage)
     if len(rest) > mode.has_root:
         raise Misuse(f"{mode.name} takes no {rest[mode.has_root]!r}" + _script_hint(mode), mode.usage)
-    return Call(mode, tuple(kept), rest[0] if mode.has_root else None, frozenset(flags))
+    return Call(mode, kept, rest[0] if mode.has_root else None, int(given.get(VOLUMES.name, "0")), flags)
 
 
 def _script_hint(mode: Mode) -> str:

@@ -4,23 +4,23 @@ from __future__ import annotations
 import os
 import subprocess
 from collections.abc import Iterable, Iterator, Sequence
+from contextlib import contextmanager
 from dataclasses import dataclass
 from pathlib import Path
 from tempfile import TemporaryFile
 from typing import Protocol
 
+import built
 import formats
+import lock
 from answers import MARK, Answer, shape_of, take_answer
-from faults import Fault, Status
+from faults import Fault
 from formats import Shape
 from spelling import to_bytes, to_str
 
 SCRIPT_BYTES = 1_048_576
 # So many commands go into one script where many are asked, so that it is seen how far they are.
 SCRIPT_COMMANDS = 1_000
-
-# Where the launcher says which program is to be asked.
-VARIABLE = "FICUS_PROGRAM"
 
 BAD_LINE = 2
 
@@ -75,11 +75,15 @@ def is_command(line: str) -> bool:
     return line != "" and not line.startswith("#")
 
 
-def executable() -> str:
-    program = os.environ.get(VARIABLE)
-    if not program:
-        raise Fault("the tools are run by ./ficus", Status.USAGE)
-    return program
+@contextmanager
+def locked(root: Path) -> Iterator[Folder]:
+    """The volume in a folder, whose lock nobody else who asks for it has meanwhile."""
+    folder = lock.take(str(root))
+    try:
+        yield Folder(root, () if folder is None else (folder,))
+    finally:
+        if folder is not None:
+            os.close(folder)
 
 
 def _marked(lines: Sequence[str]) -> tuple[bytes, list[Shape], list[int]]:
@@ -105,7 +109,7 @@ def ask(place: Place, lines: Sequence[str]) -> Iterator[Answer]:
     with TemporaryFile() as source:
         source.write(script)
         source.seek(0)
-        words = [executable(), *place.words()]
+        words = [built.program(), *place.words()]
         with subprocess.Popen(
             words, stdin=source, stdout=subprocess.PIPE, stderr=subprocess.PIPE, pass_fds=place.locks
         ) as running:

@@ -8,13 +8,13 @@ import tarfile
 from argparse import ArgumentParser, Namespace
 from pathlib import Path
 
-import building
+import built
 import formats
-from building import TOP, Built
 from faults import Status
 from modes import MODES
 from tools_list import TOOLS
 
+TOP = Path(built.TOP)
 DESCRIPTION = """\
 Makes ficus-VERSION-linux-x86_64.tar.gz: the proved program, the tools, a page for man, completion for bash, the licence,
 and what it was built of. Unpacked, `install.sh --prefix FOLDER` installs it there."""
@@ -75,12 +75,12 @@ def run(words: Namespace) -> int:
 def _content() -> list[tuple[str, bytes, int]]:
     """Each file of the archive: its path, its bytes and its mode."""
     files = [("bin/ficus", (TOP / "ficus").read_bytes(), 0o755), ("install.sh", INSTALL.encode(), 0o755),
-             ("lib/ficus/ficus_cli", building.PROGRAM.read_bytes(), 0o755)]
+             ("lib/ficus/ficus_cli", Path(built.program()).read_bytes(), 0o755)]
     for name in ("LICENSE", "VERSION", "docs/usage.txt", "docs/FORMATS.md"):
         files.append((f"lib/ficus/{name}", (TOP / name).read_bytes(), 0o644))
     for path in sorted((TOP / "tools").glob("*.py")):
         files.append((f"lib/ficus/tools/{path.name}", path.read_bytes(), 0o644))
-    files.append(("lib/ficus/built", building.NOTE.read_bytes(), 0o644))
+    files.append(("lib/ficus/built", Path(built.NOTE).read_bytes(), 0o644))
     files.append(("lib/ficus/commit", (commit() or "no checkout").encode() + b"\n", 0o644))
     files.append(("BUILT", _what_built().encode(), 0o644))
     files.append(("LICENSE", (TOP / "LICENSE").read_bytes(), 0o644))
@@ -95,7 +95,7 @@ def version() -> str:
 
 def commit() -> str | None:
     """The commit of the sources, with a mark where files differ from it, as far as it is known."""
-    if building.IS_INSTALLED:
+    if built.IS_INSTALLED:
         return (TOP / "commit").read_text(encoding="utf-8").strip()
     if not (TOP / ".git").exists():
         return None
@@ -107,18 +107,20 @@ def commit() -> str | None:
     return ran.stdout.strip() or None
 
 
-def versions(built: Built | None) -> str:
+def versions() -> str:
     """The version of the program, of the sources, and of the kit that proved them."""
-    summed = built.sources if built else building.sources()
+    import building
+    noted = building.noted() if built.is_built() else None
+    summed = noted.sources if noted else building.sources()
     lines = [f"ficus {version()}", f"sources: {commit() or 'no checkout'}, sum {summed[:12]}"]
-    lines.append(f"proved and built with {built.kit or 'an unknown kit'}" if built else "not built of these sources yet")
+    lines.append(f"proved and built with {noted.kit or 'an unknown kit'}" if noted else "not built of these sources yet")
     return "\n".join(lines)
 
 
 def _what_built() -> str:
-    gate = building.BUILD / "gate"
+    gate = Path(built.BUILD) / "gate"
     line = gate.read_text(encoding="utf-8").strip() if gate.exists() else "the gate has not been run over it here"
-    return f"{versions(building.built())}\n{line}\n"
+    return f"{versions()}\n{line}\n"
 
 
 def manual() -> str:

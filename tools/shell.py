@@ -15,8 +15,7 @@ from answers import Answer, read_row
 from faults import Fault, Status
 from formats import Usage
 from grammar import why_none
-from lock import locked
-from program import BAD_LINE, Ended, is_command
+from program import BAD_LINE, Ended, is_command, locked
 from sessions import FolderSession, MemorySession, Session
 from spelling import to_bytes
 
