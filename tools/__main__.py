@@ -5,6 +5,7 @@ from __future__ import annotations
 import os
 import sys
 
+from built import COMMAND, TOP
 from faults import Fault, Status, say
 from modes import MODES, RUN, Misuse, judge, likely, place_of_mode
 from tools_list import TOOLS
@@ -19,7 +20,7 @@ PROVE, HELP, VERSION = "prove", "help", "version"
 HELP_WORDS = ("-h", "--help")
 VERSION_WORD = "--version"
 KNOWN = (*MODES, *TOOLS, PROVE, HELP, VERSION)
-USAGE = f"usage: ./ficus MODE ..., where MODE is one of {', '.join(KNOWN)}; ./ficus help MODE tells of one"
+USAGE = f"usage: {COMMAND} MODE ..., where MODE is one of {', '.join(KNOWN)}; {COMMAND} help MODE tells of one"
 
 
 def parser_of(name: str) -> ArgumentParser:
@@ -27,7 +28,7 @@ def parser_of(name: str) -> ArgumentParser:
     from argparse import RawDescriptionHelpFormatter
 
     from words import Words
-    parser = Words(prog=f"./ficus {name}", allow_abbrev=False, formatter_class=RawDescriptionHelpFormatter)
+    parser = Words(prog=f"{COMMAND} {name}", allow_abbrev=False, formatter_class=RawDescriptionHelpFormatter)
     import_module(TOOLS[name]).add(parser)
     return parser
 
@@ -47,9 +48,8 @@ def tell_help(words: Sequence[str]) -> int:
     elif name in TOOLS:
         print(parser_of(name).format_help(), end="")
     elif name in (None, HELP, PROVE, VERSION):
-        from built import TOP
         with open(os.path.join(TOP, "docs", "usage.txt"), encoding="utf-8") as usage:
-            sys.stdout.write(usage.read())
+            sys.stdout.write(usage.read().replace("./ficus", COMMAND))
     else:
         raise Misuse(f"no mode is called {name}{likely(name or '', KNOWN)}", USAGE)
     return Status.DONE

@@ -16,7 +16,6 @@ from answers import Answer, read_row, read_version, shape_of, take_answer
 from program import is_command
 from spelling import read_name, read_text, to_str
 
-VOLUME = re.compile(r"@[1-9] ")
 JUDGED = re.compile(r"replica (\d+) (?:(empty|damaged)|members (\d+) generation (\d+) live (\d+) dead (\d+) objects (\d+))")
 Value = object
 
@@ -26,11 +25,10 @@ def of_script(script: bytes, written: bytes) -> bytes:
     answers = io.BytesIO(written)
     told = []
     for line in filter(is_command, to_str(script).split("\n")):
-        command = VOLUME.sub("", line, count=1)
-        answer = take_answer(answers, shape_of(command))
+        answer = take_answer(answers, shape_of(line))
         if answer is None:
             break
-        told.append(_answer(command, answer))
+        told.append(_answer(line, answer))
     return _lines(told)
 
 

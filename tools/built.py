@@ -11,6 +11,8 @@ TOP = os.path.dirname(os.path.dirname(os.path.abspath(__file__)))
 # The program, where it is installed beside the tools, or where it is built.
 INSTALLED = os.path.join(TOP, "ficus_cli")
 IS_INSTALLED = os.path.exists(INSTALLED)
+# As what it is called.
+COMMAND = "ficus" if IS_INSTALLED else "./ficus"
 CRATE = os.path.join(TOP, "crates", "ficus_cli")
 BUILD = os.path.join(TOP, "build")
 NOTE = os.path.join(TOP if IS_INSTALLED else BUILD, "built")

@@ -4,6 +4,8 @@ from __future__ import annotations
 import errno
 import os
 
+from built import COMMAND
+
 TYPE_CHECKING = False
 if TYPE_CHECKING:
     from collections.abc import Iterator
@@ -32,7 +34,9 @@ def why_no_volume(root: str) -> str | None:
     except OSError:
         # (the program says so)
         return None
-    return None if members(root) else f"{root}: this is no volume: there is no file {root}/1/a.img; ./ficus init makes one"
+    if members(root):
+        return None
+    return f"{root}: this is no volume: there is no file {root}/1/a.img; {COMMAND} init makes one"
 
 
 def is_read_only(root: str) -> bool:
@@ -57,7 +61,7 @@ def of_opening(root: str, replica: int) -> str:
     if not there:
         return f"{os.path.join(root, str(replica))}: there is neither a.img nor b.img"
     sizes = ", ".join(f"{path} has {_bytes(os.path.getsize(path))}" for path in there)
-    return f"{sizes}: ./ficus check {root} tells whether they are damaged"
+    return f"{sizes}: {COMMAND} check {root} tells whether they are damaged"
 
 
 def _bytes(count: int) -> str:
@@ -76,7 +80,7 @@ def of_making(root: str, replica: int) -> str:
 
 def of_occupied(root: str, replica: int) -> str:
     path = next((path for path in disks_of(root, replica) if os.path.exists(path) and os.path.getsize(path)), root)
-    return f"{path}: it holds something already; ./ficus run {root} uses the volume that is there"
+    return f"{path}: it holds something already; {COMMAND} run {root} uses the volume that is there"
 
 
 def _above(root: str) -> Iterator[str]:

@@ -14,18 +14,21 @@ from spelling import to_bytes, to_str
 WIDTH = 60
 
 DESCRIPTION = """\
-Runs the script on standard input, as the program does with the words run and replay, and writes each of its lines with
+Runs the script on standard input, as the program does with the words run, replay and volumes, and writes each of its lines with
 its number, and each command with its answer beside it."""
 
 
 def add(parser: ArgumentParser) -> None:
     parser.description = DESCRIPTION
     parser.formatter_class = RawDescriptionHelpFormatter
-    modes = parser.add_subparsers(dest="mode", metavar="run|replay", required=True)
+    modes = parser.add_subparsers(dest="mode", metavar="run|replay|volumes", required=True)
     run = modes.add_parser("run", help="over a volume in a folder", description=DESCRIPTION)
     places.add_root(run)
     replay = modes.add_parser("replay", help="over a fresh volume in memory", description=DESCRIPTION)
     places.add_memory(replay, required=True)
+    volumes = modes.add_parser("volumes", help="over several fresh volumes in memory", description=DESCRIPTION)
+    places.add_memory(volumes, required=True)
+    places.add_volumes(volumes, required=True)
 
 
 def run(words: Namespace) -> int:

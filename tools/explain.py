@@ -5,7 +5,7 @@ from collections.abc import Callable
 
 import spelling
 from answers import Answer, read_row
-from formats import usage_of
+from formats import of_volume, usage_of
 from refusals import in_words
 
 Look = Callable[[str], Answer]
@@ -22,7 +22,7 @@ def _walks(line: str) -> list[spelling.Path]:
     if not usage:
         return []
     walks = []
-    for kind, word in zip(usage.words, line.split(" ")):
+    for kind, word in zip(usage.words, of_volume(line)[1].split(" ")):
         path = spelling.read_path(word)
         if path and kind in _WHOLE:
             walks.append(path)
@@ -39,7 +39,8 @@ def _entries(look: Look, replica: str, directory: spelling.Path, name: str) -> l
 
 def _where(look: Look, line: str, refusal: str) -> str | None:
     """The part of a path at which a walk is refused so, and what is there."""
-    replica = line.partition(" ")[0]
+    volume, command = of_volume(line)
+    replica = volume + command.partition(" ")[0]
     for walk in _walks(line):
         for front in walk.fronts():
             answer = look(f"{replica} ls {front}")

@@ -11,6 +11,8 @@ FORMATS = pathlib.Path(__file__).resolve().parent.parent / "docs" / "FORMATS.md"
 
 # The first cell of the head of each table.
 _COMMANDS, _REFUSALS, _KINDS, _CODES = "command", "word", "kind", "status"
+# The second cell of the head of the statuses of the launcher and the tools.
+_COMES = "comes"
 
 
 class Shape(Enum):
@@ -48,8 +50,8 @@ class Usage:
 
 
 @lru_cache(maxsize=None)
-def _rows(first: str) -> list[list[str]]:
-    """The rows of the first table whose head begins with this word."""
+def _rows(first: str, second: str = "") -> list[list[str]]:
+    """The rows of the first table whose head begins with this word, or these words."""
     rows: list[list[str]] = []
     within = False
     for line in FORMATS.read_text(encoding="utf-8").splitlines():
@@ -60,7 +62,7 @@ def _rows(first: str) -> list[list[str]]:
         cells = [cell.strip() for cell in line.strip("|").split(" | ")]
         if within and not set(line) <= set("|-"):
             rows.append(cells)
-        within = within or cells[0] == first
+        within = within or cells[0] == first and (not second or cells[1] == second)
     return rows
 
 
@@ -77,9 +79,19 @@ def commands() -> dict[str, Usage]:
     return {usage.name: usage for usage in usages if usage.words}
 
 
+# What stands in front of a line that says of which volume it is.
+_VOLUME = re.compile(r"@[1-9] ")
+
+
+def of_volume(line: str) -> tuple[str, str]:
+    """The number of a volume in front of a line, with its sign and space, or nothing; and the line without it."""
+    found = _VOLUME.match(line)
+    return (found[0], line[found.end():]) if found else ("", line)
+
+
 def usage_of(line: str) -> Usage | None:
     """The command that a line of a script has, where the table has it."""
-    words = line.split(" ")
+    words = of_volume(line)[1].split(" ")
     name = words[1] if words[0].isdigit() and len(words) > 1 else words[0]
     usage = commands().get(name)
     return usage if usage and usage.is_of_replica == words[0].isdigit() else None
@@ -93,8 +105,9 @@ def refusals() -> dict[str, str]:
 
 @lru_cache(maxsize=None)
 def codes() -> dict[int, str]:
-    """When the program ends with each code."""
-    return {int(row[0]): row[1] for row in _rows(_CODES) if row[0].isdigit()}
+    """When the program, the launcher or a tool ends with each code."""
+    rows = [*_rows(_CODES, _COMES), *_rows(_CODES)]
+    return {int(row[0]): row[1] for row in sorted(rows, key=lambda row: int(row[0]))}
 
 
 def kinds() -> list[str]:

@@ -5,16 +5,18 @@ import os
 import stat
 import sys
 from argparse import ArgumentParser, Namespace, RawDescriptionHelpFormatter
+from collections import Counter
 from dataclasses import dataclass, field
 
 import formats
 import places
 import unfit
+from counting import counted
 from faults import Fault, Status
 from program import Folder, ask, ask_all, locked
 from progress import followed
 from refusals import in_words
-from spelling import FILE_BYTES, LINK_BYTES, PATH_PARTS, Path, spell_name, spell_text, why_no_name
+from spelling import FILE_BYTES, LINK_BYTES, PATH_PARTS, Path, spell_name, spell_text, to_bytes, why_no_name
 from tree import Node, content, list_below, read_files
 from unfit import Unfit
 
@@ -25,9 +27,11 @@ LIFE_BYTES = 4_194_304
 DESCRIPTION = """\
 Brings the directories, files and symbolic links of the real FOLDER into the volume in ROOT, as changes of replica R, at
 PATH or at its root. Only what differs is changed, so that the same again does the rest after an interruption; what the
-volume has besides stays. What can't go in is listed before anything is done."""
+volume has besides stays, or is removed with --delete. What can't go in is listed before anything is done."""
 WHAT_STAYS = "what was done until then stays, and the same again does the rest"
-NOT_KEPT = "owners, modes and times aren't kept, nor that several names are one file's"
+WHAT_IS_SPENT = "what was done until then stays; this replica takes no more of it, and another one of the volume may"
+# Refusals behind which the same again does nothing.
+SPENT = ("spent", "quota")
 
 
 def add(parser: ArgumentParser) -> None:
@@ -38,6 +42,9 @@ def add(parser: ArgumentParser) -> None:
     parser.add_argument("folder", metavar="FOLDER", type=os.fsencode, help="the folder to bring in")
     parser.add_argument("path", metavar="PATH", nargs="?", type=places.volume_path, default=Path("", ()),
                         help="the directory of the volume, which is made where it is missing")
+    parser.add_argument("--delete", action="store_true",
+                        help="remove what the volume has there and FOLDER hasn't; what that is is listed first")
+    parser.add_argument("--list", dest="lists", action="store_true", help="only list what would be made, written and removed")
     parser.add_argument("--kind", choices=formats.kinds(), default="plain", help="the kind of new files (plain)")
     unfit.add_skip(parser)
 
@@ -50,9 +57,15 @@ def run(words: Namespace) -> int:
         plan.make_directories(made)
         plan.compare(scan(words.folder), words.path, found)
         plan.compare_bytes(volume)
+        if words.delete:
+            plan.remove_others()
         plan.weigh()
-        print(NOT_KEPT, file=sys.stderr)
         unfit.settle(plan.unfit, words.skip, "in")
+        if words.lists or words.delete:
+            plan.list_commands(words.lists)
+        if words.lists:
+            return Status.DONE
+        plan.tell_not_kept()
         plan.carry_out(volume)
         plan.tell()
     return Status.DONE
@@ -69,6 +82,8 @@ class Real:
     bytes: bytes = b""
     is_link: bool = False
     why: str | None = None
+    # What isn't kept of a file, in the words of `NOT_KEPT`.
+    not_kept: tuple[str, ...] = ()
 
 
 def scan(folder: bytes) -> list[Real]:
@@ -95,11 +110,22 @@ def _real(entry: os.DirEntry[bytes]) -> Real:
         elif found.st_size > FILE_BYTES:
             real.why = f"the file has {found.st_size:,} bytes, and {FILE_BYTES:,} is the most"
         else:
+            real.not_kept = _not_kept(found)
             with open(entry.path, "rb") as file:
                 real.bytes = file.read(FILE_BYTES + 1)
     except OSError as error:
         real.why = f"it can't be read: {error.strerror}"
     return real
+
+
+# What isn't kept of files, and how it is said of one and of more.
+NOT_KEPT = {"executable": ("is executable", "are executable"), "owned": ("has another owner", "have another owner"),
+            "named": ("has a further name", "have further names")}
+
+
+def _not_kept(found: os.stat_result) -> tuple[str, ...]:
+    marks = {"executable": found.st_mode & 0o111, "owned": found.st_uid != os.getuid(), "named": found.st_nlink > 1}
+    return tuple(mark for mark, holds in marks.items() if holds)
 
 
 def missing_above(volume: Folder, replica: int, path: Path) -> list[Path]:
@@ -112,6 +138,10 @@ def missing_above(volume: Folder, replica: int, path: Path) -> list[Path]:
     return [front for front, answer in zip(fronts, answers) if answer.refusal]
 
 
+# What each command does, as it is listed.
+LISTED = {"mkdir": "make", "create": "make", "symlink": "make", "write": "write", "rm": "remove"}
+
+
 @dataclass
 class Plan:
     """What is to be asked of a replica, and what can't be."""
@@ -121,6 +151,9 @@ class Plan:
     commands: list[tuple[str, str]] = field(default_factory=list)
     unfit: list[Unfit] = field(default_factory=list)
     same: list[tuple[Node, Real]] = field(default_factory=list)
+    others: list[Node] = field(default_factory=list)
+    not_kept: Counter[str] = field(default_factory=Counter)
+    removed: int = 0
     directories: int = 0
     files: int = 0
     links: int = 0
@@ -152,6 +185,37 @@ class Plan:
                 self.refuse(real.where, why)
             else:
                 self.take(real, path.below(name), shown.get(name, []))
+        here = {spell_name(real.name) for real in reals}
+        self.others += [node for node in nodes if node.row.name not in here]
+
+    def remove_others(self) -> None:
+        """Removes what the volume has and the folder hasn't, what lies in a directory before the directory."""
+        for node in self.others:
+            conflicts = [below for below in node.walk() if below.row.is_in_conflict]
+            for below in conflicts:
+                self.refuse(to_bytes(str(below.path)), "the volume's file is in conflict, which comes first")
+            if not conflicts:
+                self.remove(node)
+
+    def remove(self, node: Node) -> None:
+        for below in node.below:
+            self.remove(below)
+        self.ask(node.path, "rm")
+        self.removed += 1
+
+    def list_commands(self, all_of_them: bool) -> None:
+        """Lists what is to be removed, or all that is to be done."""
+        for _, command in self.commands:
+            _, name, path, *_ = command.split(" ")
+            if name == "rm" or all_of_them:
+                sys.stdout.buffer.write(to_bytes(f"{LISTED[name]} {path}\n"))
+        sys.stdout.flush()
+
+    def tell_not_kept(self) -> None:
+        """Says what of the files that are made isn't kept, where that is anything."""
+        told = [f"{counted(count, 'file')} {NOT_KEPT[mark][count > 1]}" for mark, count in self.not_kept.items()]
+        if told:
+            print(f"{', '.join(told)}: that isn't kept", file=sys.stderr)
 
     def take(self, real: Real, path: Path, there: list[Node]) -> None:
         if real.below is not None:
@@ -165,6 +229,7 @@ class Plan:
             self.links += 1
             self.written_bytes += len(real.bytes)
         else:
+            self.not_kept.update(real.not_kept)
             self.ask(path, "create", self.kind)
             self.files += 1
             if real.bytes:
@@ -201,21 +266,25 @@ class Plan:
     def carry_out(self, volume: Folder) -> None:
         answers = ask_all(volume, (command for _, command in self.commands))
         refused: list[Unfit] = []
+        is_spent = False
         try:
             for answer, (path, _) in followed(zip(answers, self.commands), len(self.commands), "importing"):
                 if answer.refusal:
                     refused.append(Unfit(path, in_words(answer.refusal)))
+                    is_spent = is_spent or answer.refusal in SPENT
         except KeyboardInterrupt:
             raise Fault(f"interrupted; {WHAT_STAYS}", Status.INTERRUPTED) from None
-        unfit.report(refused, WHAT_STAYS)
+        unfit.report(refused, WHAT_IS_SPENT if is_spent else WHAT_STAYS)
 
     def tell(self) -> None:
-        print(f"{self.directories} directories and {self.files} files made, {self.written} files written, "
-              f"{self.equal} files equal")
+        print(f"{counted(self.directories, 'directory', 'directories')} and {counted(self.files, 'file')} made, "
+              f"{counted(self.written, 'file')} written, {counted(self.equal, 'file')} equal")
         if self.links or self.equal_links:
-            print(f"{self.links} symbolic links made, {self.equal_links} equal")
+            print(f"{counted(self.links, 'symbolic link')} made, {self.equal_links:,} equal")
+        if self.removed:
+            print(f"{counted(self.removed, 'name')} removed")
         if self.unfit:
-            print(f"{len(self.unfit)} left out")
+            print(f"{len(self.unfit):,} left out")
 
 
 def _why_not_there(real: Real, path: Path, there: list[Node]) -> str | None:

@@ -5,6 +5,7 @@ the program takes them (`docs/FORMATS.md`), so whatever is wrong is said before 
 """
 from __future__ import annotations
 
+from built import COMMAND
 from faults import Fault, Status
 
 # (what takes long to import is imported where it is needed, here and wherever each call comes by)
@@ -81,7 +82,7 @@ class Mode:
 
     @property
     def usage(self) -> str:
-        return f"usage: ./ficus {self.form}" + " <SCRIPT" * self.has_script
+        return f"usage: {COMMAND} {self.form}" + " <SCRIPT" * self.has_script
 
     @property
     def help(self) -> str:

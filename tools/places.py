@@ -6,7 +6,7 @@ from collections.abc import Callable
 from pathlib import Path
 
 import spelling
-from modes import BYTES, IDS, MEMBERS, Option
+from modes import BYTES, IDS, MEMBERS, VOLUMES, Option
 from program import Memory
 
 MOST_MEMBERS = MEMBERS.most
@@ -56,5 +56,10 @@ def add_memory(parser: ArgumentParser, *, required: bool) -> None:
     parser.add_argument("--bytes", metavar="B", type=number(BYTES), help="how many bytes each of them may write")
 
 
+def add_volumes(parser: ArgumentParser, *, required: bool) -> None:
+    parser.add_argument("--volumes", metavar="V", required=required, type=number(VOLUMES),
+                        help="how many volumes there are, 1 to 4, which names join")
+
+
 def memory(words: Namespace) -> Memory:
-    return Memory(words.members, words.ids, words.bytes)
+    return Memory(words.members, words.ids, words.bytes, getattr(words, "volumes", None))

@@ -19,8 +19,6 @@ from formats import Shape
 from spelling import to_bytes, to_str
 
 SCRIPT_BYTES = 1_048_576
-# So many commands go into one script where many are asked, so that it is seen how far they are.
-SCRIPT_COMMANDS = 1_000
 
 BAD_LINE = 2
 
@@ -49,16 +47,17 @@ class Folder:
 
 @dataclass(frozen=True)
 class Memory:
-    """A fresh volume in memory."""
+    """A fresh volume in memory, or several."""
 
     members: str
     ids: str | None = None
     bytes: str | None = None
+    volumes: str | None = None
     locks: tuple[int, ...] = ()
 
     def words(self) -> list[str]:
-        given = {"--members": self.members, "--ids": self.ids, "--bytes": self.bytes}
-        return ["replay", *(f"{option}={number}" for option, number in given.items() if number is not None)]
+        given = {"--members": self.members, "--volumes": self.volumes, "--ids": self.ids, "--bytes": self.bytes}
+        return ["volumes" if self.volumes else "replay", *(f"{option}={number}" for option, number in given.items() if number is not None)]
 
 
 class Ended(Fault):
@@ -132,13 +131,13 @@ def ask(place: Place, lines: Sequence[str]) -> Iterator[Answer]:
 
 
 def scripts(lines: Iterable[str]) -> Iterator[list[str]]:
-    """The lines in scripts that aren't too long."""
+    """The lines in as few scripts as have room for them, since each opens the whole volume."""
     script: list[str] = []
     size = 0
     for line in lines:
         # (with a mark, where there is one)
         room = len(to_bytes(line)) + len(MARK) + 2
-        if script and (size + room > SCRIPT_BYTES or len(script) == SCRIPT_COMMANDS):
+        if script and size + room > SCRIPT_BYTES:
             yield script
             script, size = [], 0
         script.append(line)

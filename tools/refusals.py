@@ -9,6 +9,8 @@ _WORDS = {
     "down": "the replica has stopped, and answers nothing until it is restarted",
     "nofuse": "a disk in a folder can't be told to stop",
     "stale": "this isn't the answer to the replica's open ask",
+    "badmessage": "the answer doesn't fit this volume: files of one of both replicas were changed from outside; see \"When a "
+                  "volume is damaged\" in docs/FORMATS.md",
     "mixed": "the replica holds pieces of another state than this one: ask anew, or wait for the rest of those",
     "notorphan": "no orphan has this identifier",
     "noentry": "nothing has this name",

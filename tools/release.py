@@ -5,12 +5,14 @@ from __future__ import annotations
 import io
 import subprocess
 import tarfile
+import time
 from argparse import ArgumentParser, Namespace
 from pathlib import Path
 
+import building
 import built
 import formats
-from faults import Status
+from faults import Fault, Status
 from modes import MODES
 from tools_list import TOOLS
 
@@ -31,7 +33,11 @@ case $#,$1 in
 *) echo "usage: install.sh [--prefix FOLDER]" >&2; exit 1 ;;
 esac
 mkdir -p "$prefix"
+prefix=$(cd "$prefix" && pwd -P)
+rm -rf "$prefix/lib/ficus"
 cp -R "$here/bin" "$here/lib" "$here/share" "$prefix/"
+# (what Python compiles of the tools is kept, so that who may not write there needn't do it each time)
+python3 -m compileall -q "$prefix/lib/ficus/tools" || true
 echo "installed as $prefix/bin/ficus"
 """
 
@@ -41,6 +47,10 @@ _ficus() {{
     local word=${{COMP_WORDS[COMP_CWORD]}} mode=${{COMP_WORDS[1]}}
     if [ "$COMP_CWORD" = 1 ]; then
         COMPREPLY=($(compgen -W "{modes} --help --version" -- "$word"))
+        return
+    fi
+    if [ "$mode" = help ]; then
+        COMPREPLY=($(compgen -W "{modes}" -- "$word"))
         return
     fi
     case $word in
@@ -61,12 +71,14 @@ def add(parser: ArgumentParser) -> None:
 
 
 def run(words: Namespace) -> int:
+    if built.IS_INSTALLED:
+        raise Fault("a release is made in a checkout, and this is installed", Status.UNFIT)
     name = f"ficus-{version()}-linux-x86_64"
     archive = words.out / f"{name}.tar.gz"
     with tarfile.open(archive, "w:gz") as made:
         for path, content, mode in _content():
             entry = tarfile.TarInfo(f"{name}/{path}")
-            entry.size, entry.mode = len(content), mode
+            entry.size, entry.mode, entry.mtime = len(content), mode, int(time.time())
             made.addfile(entry, io.BytesIO(content))
     print(archive)
     return Status.DONE
@@ -109,7 +121,6 @@ def commit() -> str | None:
 
 def versions() -> str:
     """The version of the program, of the sources, and of the kit that proved them."""
-    import building
     noted = building.noted() if built.is_built() else None
     summed = noted.sources if noted else building.sources()
     lines = [f"ficus {version()}", f"sources: {commit() or 'no checkout'}, sum {summed[:12]}"]
@@ -119,19 +130,22 @@ def versions() -> str:
 
 def _what_built() -> str:
     gate = Path(built.BUILD) / "gate"
-    line = gate.read_text(encoding="utf-8").strip() if gate.exists() else "the gate has not been run over it here"
-    return f"{versions()}\n{line}\n"
+    told = gate.read_text(encoding="utf-8").strip() if gate.exists() else ""
+    noted = building.noted()
+    if not noted or noted.sources not in told:
+        told = "the gate has not passed over these sources here"
+    return f"{versions()}\n{told}\n"
 
 
 def manual() -> str:
     """The help as a page for man."""
-    usage = (TOP / "docs" / "usage.txt").read_text(encoding="utf-8")
+    usage = (TOP / "docs" / "usage.txt").read_text(encoding="utf-8").replace("./ficus", "ficus")
     first, _, rest = usage.partition("\n\n")
     rows = [f".TP\n.B {code}\n{_plain(when)}" for code, when in formats.codes().items()]
     return "\n".join([
         f'.TH FICUS 1 "" "ficus {version()}"', ".SH NAME", "ficus \\- " + _plain(first.removeprefix("Ficus, ").rstrip(".")),
-        ".SH SYNOPSIS", *(f".B {_plain(mode.form)}\n.br" for mode in MODES.values()), ".SH DESCRIPTION", ".nf",
-        _plain(rest.replace("./ficus", "ficus")), ".fi", ".SH EXIT STATUS", *rows, ""])
+        ".SH SYNOPSIS", *(f".B ficus {_plain(mode.form)}\n.br" for mode in MODES.values()), ".SH DESCRIPTION", ".nf",
+        _plain(rest), ".fi", ".SH EXIT STATUS", *rows, ""])
 
 
 def _plain(text: str) -> str:
@@ -143,7 +157,7 @@ def _plain(text: str) -> str:
 def completion() -> str:
     options = [f"        {mode.name}) COMPREPLY=($(compgen -W \"{' '.join(_options(mode.name))}\" -- \"$word\")) ;;"
                for mode in MODES.values()]
-    return COMPLETION.format(modes=" ".join([*MODES, *TOOLS, "help"]), options="\n".join(options))
+    return COMPLETION.format(modes=" ".join([*MODES, *TOOLS, "prove", "help", "version"]), options="\n".join(options))
 
 
 def _options(name: str) -> list[str]:

@@ -28,6 +28,8 @@ class Session(Protocol):
     """A volume over which lines are carried out, one at a time."""
 
     prompt: str
+    # How many volumes there are, where they are numbered.
+    volumes: int
     # What is to be said behind an answer, to who waits for it.
     note: str
 
@@ -44,6 +46,7 @@ class FolderSession:
 
     volume: Folder
     note: str = ""
+    volumes: int = 0
 
     def __post_init__(self) -> None:
         self.prompt = f"{self.volume.root}> "
@@ -69,8 +72,10 @@ class MemorySession:
     volume: Memory
     lines: list[str] = field(default_factory=list)
     note: str = ""
+    volumes: int = 0
 
     def __post_init__(self) -> None:
+        self.volumes = int(self.volume.volumes or "0")
         self.prompt = f"{self.volume.members} in memory> "
         list(ask(self.volume, []))
 

@@ -46,13 +46,14 @@ def add(parser: ArgumentParser) -> None:
     parser.description = DESCRIPTION
     place = parser.add_argument("root", metavar="ROOT", nargs="?", type=Path, help="the folder of a volume")
     places.add_memory(parser, required=False)
+    places.add_volumes(parser, required=False)
     parser.set_defaults(misuse=parser.error, place=place)
 
 
 def run(words: Namespace) -> int:
-    limits = (words.ids, words.bytes)
-    if (words.root is None) == (words.members is None) or (words.root and any(limits)):
-        words.misuse("either a ROOT or --members is needed, and limits go with --members")
+    of_memory = (words.ids, words.bytes, words.volumes)
+    if (words.root is None) == (words.members is None) or (words.root and any(of_memory)):
+        words.misuse("either a ROOT or --members is needed, and all other options go with --members")
     if words.root:
         with locked(words.root) as volume:
             return Shell(FolderSession(volume)).serve()
@@ -133,10 +134,11 @@ class Shell(cmd.Cmd):
     def conflicts(self, line: str, answer: Answer) -> str:
         """What is said of conflicts behind a command with which some may have come: how many the replica shows, where
         they are more than it showed at the last such command."""
-        words = line.split(" ")
+        volume, command = formats.of_volume(line)
+        words = command.split(" ")
         if answer.refusal or words[0] not in BRINGS:
             return ""
-        replica = words[1] if words[0] == "pull" else "1"
+        replica = volume + (words[1] if words[0] == "pull" else "1")
         count = len(self.session.look(f"{replica} conflicts").listed)
         came, self.shown[replica] = count - self.shown.get(replica, 0), count
         if came <= 0:
@@ -144,7 +146,7 @@ class Shell(cmd.Cmd):
         return f"({'a conflict' if came == 1 else f'{came} conflicts'} came: `{replica} conflicts` lists what is in conflict)"
 
     def why_no_command(self, line: str) -> str:
-        wrong = why_none(line)
+        wrong = why_none(line, self.session.volumes)
         if wrong is None:
             return "this is no command: `help` lists all"
         return f"this is no command: {wrong.why} (column {wrong.column})"
@@ -178,11 +180,12 @@ class Shell(cmd.Cmd):
 def without_slashes(line: str) -> str:
     """A command without the slashes that stand behind its paths, as completion leaves them."""
     usage = formats.usage_of(line)
-    words = line.split(" ")
+    volume, command = formats.of_volume(line)
+    words = command.split(" ")
     for place, kind in enumerate(usage.words[:len(words)] if usage else ()):
         if kind in PATHS and words[place] != "/":
             words[place] = words[place].removesuffix("/")
-    return " ".join(words)
+    return volume + " ".join(words)
 
 
 def completions(session: Session, before: list[str], text: str) -> list[str]:
@@ -190,6 +193,7 @@ def completions(session: Session, before: list[str], text: str) -> list[str]:
     if before[:1] == [HELP_WORD]:
         return _beginning(text, [*formats.commands(), *formats.refusals()])
     usages = list(formats.commands().values())
+    volume = before.pop(0) + " " if before and before[0].startswith("@") else ""
     if not before:
         return _beginning(text, [*(usage.name for usage in usages if not usage.is_of_replica), HELP_WORD, *LEAVE])
     if len(before) == 1 and before[0].isdigit():
@@ -197,7 +201,7 @@ def completions(session: Session, before: list[str], text: str) -> list[str]:
     usage = formats.usage_of(" ".join(before))
     if not usage or len(usage.words) <= len(before):
         return []
-    return _arguments(session, before[0], usage, len(before), text)
+    return _arguments(session, volume + before[0], usage, len(before), text)
 
 
 def _beginning(text: str, words: list[str]) -> list[str]:

@@ -26,23 +26,26 @@ def add_skip(parser: ArgumentParser) -> None:
     parser.add_argument("--skip", action="store_true", help="leave out what can't go, and do the rest")
 
 
-def settle(unfit: list[Unfit], skip: bool, goes: str) -> None:
-    """Lists what can't go over. Where it isn't to be left out, that is all that is done."""
+def tell(unfit: list[Unfit]) -> None:
     for one in unfit:
         sys.stderr.buffer.write(to_bytes(f"{one.where}: {one.why}\n"))
     sys.stderr.flush()
+
+
+def settle(unfit: list[Unfit], skip: bool, goes: str) -> None:
+    """Lists what can't go over. Where it isn't to be left out, that is all that is done."""
+    tell(unfit)
     if unfit and not skip:
-        count = "one of them" if len(unfit) == 1 else f"{len(unfit)} of them"
+        count = "one of them" if len(unfit) == 1 else f"{len(unfit):,} of them"
         raise Fault(f"nothing was done, since {count} can't go {goes}: --skip leaves out what can't", Status.UNFIT)
 
 
 def report(refused: list[Unfit], what_stays: str) -> None:
     """Ends with what was refused on the way, if anything was."""
-    for one in refused[:REPORTED]:
-        sys.stderr.buffer.write(to_bytes(f"{one.where}: {one.why}\n"))
-    sys.stderr.flush()
+    tell(refused[:REPORTED])
     if refused:
-        raise Fault(f"{len(refused)} were refused; {what_stays}", Status.REFUSED)
+        were = "1 was" if len(refused) == 1 else f"{len(refused):,} were"
+        raise Fault(f"{were} refused; {what_stays}", Status.REFUSED)
 
 
 # So many refusals are told one by one.
