@@ -4,6 +4,7 @@ from __future__ import annotations
 from collections.abc import Callable, Iterator
 from dataclasses import dataclass
 
+from refusals import meaning
 from story import Fate, Link, Message, Mood, Note, Span, Step, Story
 from svg import Drawing, Point, columns, cut, text_width, visible
 
@@ -23,7 +24,6 @@ BOX_LEAST = 90
 TITLE_COLUMNS = 400
 LISTED = 4
 TITLE_LINE = 17
-SLANT = 16
 # A message comes to the upper half of a box, and goes from the lower one.
 SHIFT = 8
 
@@ -41,7 +41,8 @@ text { white-space: pre; font: 12px "DejaVu Sans Mono", Menlo, Consolas, monospa
 .message, .ask { stroke: #0550ae; stroke-width: 1.6; fill: none; } .ask { stroke-dasharray: 5 3; }
 .link { stroke: #8c959f; stroke-width: 1.2; stroke-dasharray: 1 3; fill: none; }
 .dot { fill: #0550ae; } .linked { fill: #8c959f; } .cross { stroke: #b42318; stroke-width: 2; fill: none; }
-.lost { fill: #b42318; font-size: 10px; paint-order: stroke; stroke: #fff; stroke-width: 3px; }
+.lost, .numbered { fill: #b42318; font-size: 10px; paint-order: stroke; stroke: #fff; stroke-width: 3px; }
+.numbered { fill: #0550ae; }
 .conflict { fill: #b35900; } .orphan { fill: #8250df; } .collection { fill: #0550ae; }
 .bar-conflict { fill: #f2a33a; } .bar-orphan { fill: #b392f0; }
 """
@@ -108,6 +109,8 @@ def _lines(step: Step) -> list[Line]:
 
     answer = step.answer
     lines = [line(step.text, "command"), line(answer.line, "no" if answer.refusal else "told" if step.folded else "ok")]
+    means = meaning(answer.refusal) if answer.refusal else ""
+    lines += _wrapped_lines(f"({means})", "told") if means else []
     shown = answer.listed if len(answer.listed) <= LISTED + 1 else answer.listed[:LISTED]
     lines += [line(told, "told") for told in shown]
     if len(shown) < len(answer.listed):
@@ -116,15 +119,27 @@ def _lines(step: Step) -> list[Line]:
 
 
 def _note_lines(note: Note) -> list[Line]:
-    """A note, in several lines where it is long, so that no name is cut off."""
-    text = visible(note.text)
+    return _wrapped_lines(note.text, note.mood.value)
+
+
+def _wrapped_lines(told: str, style: str) -> list[Line]:
+    """A text, in several lines where it is long, so that no name is cut off."""
+    text = visible(told)
     lines = []
     while columns(text) > BOX_COLUMNS:
         front = text[:BOX_COLUMNS].rfind(" ")
         at = front if front > 0 else BOX_COLUMNS
-        lines.append(Line(text[:at], note.mood.value))
+        lines.append(Line(text[:at], style))
         text = "  " + text[at:].lstrip()
-    return [*lines, Line(text, note.mood.value)]
+    return [*lines, Line(text, style)]
+
+
+def _numbered(numbers: list[int]) -> str:
+    """The numbers of messages, where they follow each other as `2 to 4`."""
+    first, last = numbers[0], numbers[-1]
+    if last - first == len(numbers) - 1 and last > first + 1:
+        return f"{first} to {last}"
+    return ", ".join(map(str, numbers))
 
 
 def _box_style(step: Step) -> str:
@@ -166,7 +181,7 @@ class Chart:
     def _bars(self) -> dict[int, list[list[Span]]]:
         """For each lane its spans of conflicts and orphans, in columns of which no two spans share a step."""
         order = {id(step): place for place, step in enumerate(self.story.steps)}
-        bars: dict[int, list[list[Span]]] = {lane: [] for lane in range(1, self.story.members + 1)}
+        bars: dict[int, list[list[Span]]] = {lane: [] for lane in range(1, self.story.lanes + 1)}
         for span in sorted(self.story.spans, key=lambda span: order[id(span.begin)]):
             if span.mood is None:
                 continue
@@ -180,7 +195,7 @@ class Chart:
         return bars
 
     def _lanes(self) -> list[Lane]:
-        widths = {lane: float(BOX_LEAST) for lane in self.bars}
+        widths = {lane: max(BOX_LEAST, text_width(self.story.head(lane), SIZE) + 2 * PADDING) for lane in self.bars}
         for step in self.story.steps:
             if step.lane:
                 widths[step.lane] = max(widths[step.lane], Box(step, _lines(step), 0).width)
@@ -244,8 +259,11 @@ class Chart:
             self.drawing.text((MARGIN, MARGIN + 12 + place * TITLE_LINE), line, "title")
         for number, lane in enumerate(self.lanes, 1):
             self.drawing.path([(lane.middle, self.top + HEAD), (lane.middle, self.bottom)], "lane")
-            self.drawing.add("rect", None, x=lane.middle - 44, y=self.top, width=88, height=HEAD, rx=12, class_="head")
-            self.drawing.text((lane.middle, self.top + 17), f"replica {number}", "name", text_anchor="middle")
+            head = self.story.head(number)
+            width = max(text_width(head, SIZE) + 2 * PADDING, 88)
+            self.drawing.add("rect", None, x=lane.middle - width / 2, y=self.top, width=width, height=HEAD, rx=12,
+                             class_="head")
+            self.drawing.text((lane.middle, self.top + 17), head, "name", text_anchor="middle")
 
     def _draw_down(self, span: Span) -> None:
         x = self.lane(span.lane).middle
@@ -278,8 +296,7 @@ class Chart:
         forward = 1 if message.to > lane else -1
         start = (self._edge_to(begin, message.to), begin.middle + SHIFT)
         if not message.taken:
-            told = "lost" if message.count == 1 else f"{message.count} lost"
-            self._draw_lost(start, self._brink(lane, forward), forward, style, told)
+            self._draw_lost(start, self._brink(lane, forward), forward, style, f"{_numbered(message.numbers)} lost")
             return
         end_box = self.box(message.taken)
         end = (self._edge_to(end_box, lane), end_box.middle - SHIFT)
@@ -287,17 +304,21 @@ class Chart:
         brink = (self._brink(message.to, -forward) - forward * self.gutter, start[1])
         near = (self._brink(message.to, -forward), end[1])
         self.drawing.path([start, brink, near, end], style, marker_end="url(#arrow)")
+        # Close to its receiver, where no other message comes by; its number below, since it comes from above.
         if message.fate in (Fate.STALE, Fate.MIXED):
-            self.drawing.cross(((brink[0] + 3 * near[0]) / 4, (brink[1] + 3 * near[1]) / 4), "cross")
+            self.drawing.cross((near[0] - forward * 6, near[1] - 2), "cross", 4)
+        below = 11 if message.fate is Fate.TAKEN else 14
+        self.drawing.text((near[0] - forward * 4, near[1] + below), _numbered(message.numbers), "numbered",
+                          text_anchor="end" if forward > 0 else "start")
 
     def _brink(self, lane: int, side: int) -> float:
         """Where the boxes of a lane end, to the right of it or to the left."""
         return self.lane(lane).right if side > 0 else self.lane(lane).left
 
     def _draw_lost(self, start: Point, brink: float, forward: int, style: str, told: str) -> None:
-        """A message that ends in the air between two lanes."""
-        end = (brink + forward * self.gutter * 0.4, start[1] + SLANT)
-        self.drawing.path([start, (brink, start[1]), end], style)
+        """A message that ends in the air between two lanes: on the row of its sender, which those that come leave."""
+        end = (brink + forward * self.gutter * 0.35, start[1])
+        self.drawing.path([start, end], style)
         self.drawing.cross(end, "cross", 4)
         self.drawing.text((end[0] + forward * 8, end[1] + 4), told, "lost",
                           text_anchor="start" if forward > 0 else "end")
@@ -335,6 +356,10 @@ class Chart:
             yield self._line("ask", marker_end="url(#arrow)"), "an ask for it"
         fates = {message.fate for message in self.story.messages}
         refused = [fate.value for fate in (Fate.STALE, Fate.MIXED) if fate in fates]
+        if Fate.LOST in fates:
+            yield self._lost_sign, "a message that is lost: it never comes"
+        if self.story.messages:
+            yield self._number_sign, "the number of a message, as its sender was answered"
         if refused:
             yield self._refused_sign, f"a {' or '.join(refused)} message, of which nothing is taken"
         if False in links:
@@ -347,6 +372,13 @@ class Chart:
 
     def _line(self, style: str, **attributes: str) -> Callable[[float, float], None]:
         return lambda x, y: self.drawing.path([(x, y), (x + 38, y)], style, **attributes)
+
+    def _lost_sign(self, x: float, y: float) -> None:
+        self.drawing.path([(x, y), (x + 30, y)], "message")
+        self.drawing.cross((x + 30, y), "cross", 4)
+
+    def _number_sign(self, x: float, y: float) -> None:
+        self.drawing.text((x + 19, y + 4), "7", "numbered", text_anchor="middle")
 
     def _refused_sign(self, x: float, y: float) -> None:
         self.drawing.cross((x + 19, y), "cross")

@@ -11,14 +11,14 @@ import story
 from chart import Chart
 from faults import Fault, Status
 from folding import fold
-from formats import usage_of
-from modes import MEMBERS
+from formats import of_volume, usage_of
+from modes import MEMBERS, VOLUMES
 from program import Memory, is_command
 from spelling import to_str
 from svg import visible
 
 DESCRIPTION = """\
-Runs SCRIPT over a fresh volume in memory and draws it: a lane for each replica with its commands and their answers,
+Runs SCRIPT over a fresh volume in memory, or over several, and draws it: a lane for each replica with its commands and their answers,
 messages as arrows, conflicts and orphans as bars for as long as they last, stops and restarts, and what collections
 give up. One file that needs nothing else. Above 80 commands, those that say little are folded, and so is what is left
 in the middle; a page has all of them."""
@@ -43,6 +43,8 @@ def add(parser: ArgumentParser) -> None:
     parser.add_argument("--members", metavar="N", type=places.number(MEMBERS),
                         help="how many replicas the volume has; else as many as NAME.members beside NAME.script "
                              "says, or the greatest that the script names")
+    parser.add_argument("--volumes", metavar="V", type=places.number(VOLUMES),
+                        help="how many volumes there are; else as many as NAME.volumes beside NAME.script says, or one")
     parser.add_argument("-o", dest="out", metavar="FILE", type=Path,
                         help="where it goes, a .svg or a .html; else standard output, as SVG")
 
@@ -50,7 +52,7 @@ def add(parser: ArgumentParser) -> None:
 def run(words: Namespace) -> int:
     if words.out and words.out.suffix not in (".svg", ".html"):
         raise Fault("the file is to end in .svg or .html", Status.USAGE)
-    drawing, commands = drawing_of(words.script, words.members)
+    drawing, commands = drawing_of(words.script, words.members, words.volumes)
     if words.out and words.out.suffix == ".html":
         drawing = PAGE.format(title=escape(words.script.name), drawing=drawing, commands=commands)
     if words.out:
@@ -60,10 +62,11 @@ def run(words: Namespace) -> int:
     return Status.DONE
 
 
-def drawing_of(script: Path, members: str | None) -> tuple[str, str]:
+def drawing_of(script: Path, members: str | None = None, volumes: str | None = None) -> tuple[str, str]:
     """The run of a script as SVG, and all its commands with their answers as a page has them."""
     lines = to_str(script.read_bytes()).split("\n")
-    told = story.tell(lines, Memory(members or members_of(script, lines)))
+    volumes = volumes or _beside(script, ".volumes")
+    told = story.tell(lines, Memory(members or members_of(script, lines), volumes=volumes))
     commands = "\n".join(_told(step) for step in told.steps)
     fold(told)
     return Chart(told, title_of(lines)).draw(), commands
@@ -71,15 +74,22 @@ def drawing_of(script: Path, members: str | None) -> tuple[str, str]:
 
 def members_of(script: Path, lines: list[str]) -> str:
     """How many members the volume of a script has, by the file beside it, or by what it names."""
-    beside = script.with_suffix(".members")
-    if beside.exists():
-        return beside.read_text(encoding="ascii").strip()
+    beside = _beside(script, ".members")
+    if beside:
+        return beside
     named = [LEAST]
     for line in filter(is_command, lines):
         usage = usage_of(line)
         if usage:
-            named += [int(word) for kind, word in zip(usage.words, line.split(" ")) if kind in "RS" and word.isdigit()]
+            named += [int(word) for kind, word in zip(usage.words, of_volume(line)[1].split(" "))
+                      if kind in "RS" and word.isdigit()]
     return str(max(named))
+
+
+def _beside(script: Path, suffix: str) -> str | None:
+    """What the file of this suffix beside a script says, where there is one."""
+    beside = script.with_suffix(suffix)
+    return beside.read_text(encoding="ascii").strip() if beside.exists() else None
 
 
 def title_of(lines: list[str]) -> str:

@@ -1,6 +1,8 @@
 """Refusals in words."""
 from __future__ import annotations
 
+import re
+
 import formats
 
 _WORDS = {
@@ -29,9 +31,15 @@ _WORDS = {
     "spent": "the replica has made all the updates of its life",
     "quota": "the replica has written all the bytes of its life",
     "linkfull": "the messages of this run have no more room",
+    "crossing": "both paths are of different volumes",
     "store": "the disks of the replica failed; a restart opens them again",
     "image": "the disks hold no image of this replica that fits",
 }
+
+
+def meaning(refusal: str) -> str:
+    """What a refusal means, without what is to be done; nothing where it isn't known."""
+    return re.split("[:;]", _WORDS.get(refusal, ""))[0]
 
 
 def in_words(refusal: str) -> str:
