@@ -16,7 +16,7 @@ COMMAND = "ficus" if IS_INSTALLED else "./ficus"
 CRATE = os.path.join(TOP, "crates", "ficus_cli")
 BUILD = os.path.join(TOP, "build")
 NOTE = os.path.join(TOP if IS_INSTALLED else BUILD, "built")
-# With this in the environment that program is asked and none is built, as checks of the tools do.
+# With this in the environment the tools ask that program and none is built, as checks of them do; `./ficus` takes it away.
 VARIABLE = "FICUS_PROGRAM"
 # What of the sources has changed since the note, as `./ficus` found it: nothing is an empty text.
 IS_UNCHANGED = os.environ.pop("FICUS_CHANGED", "not noted") == ""

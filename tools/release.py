@@ -3,10 +3,12 @@ and which version this is."""
 from __future__ import annotations
 
 import io
+import re
 import subprocess
 import tarfile
 import time
 from argparse import ArgumentParser, Namespace
+from importlib import import_module
 from pathlib import Path
 
 import building
@@ -155,11 +157,15 @@ def _plain(text: str) -> str:
 
 
 def completion() -> str:
-    options = [f"        {mode.name}) COMPREPLY=($(compgen -W \"{' '.join(_options(mode.name))}\" -- \"$word\")) ;;"
-               for mode in MODES.values()]
+    options = [f"        {name}) COMPREPLY=($(compgen -W \"{' '.join(_options(name))}\" -- \"$word\")) ;;"
+               for name in (*MODES, *TOOLS)]
     return COMPLETION.format(modes=" ".join([*MODES, *TOOLS, "prove", "help", "version"]), options="\n".join(options))
 
 
 def _options(name: str) -> list[str]:
-    mode = MODES[name]
-    return [*(option.name for option in (*mode.needs, *mode.may_have)), *mode.flags, "--help"]
+    if name in MODES:
+        mode = MODES[name]
+        return [*(option.name for option in (*mode.needs, *mode.may_have)), *mode.flags, "--help"]
+    parser = ArgumentParser()
+    import_module(TOOLS[name]).add(parser)
+    return sorted({"--help", *re.findall(r"--[a-z]+", parser.format_help())})
