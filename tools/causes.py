@@ -70,10 +70,10 @@ def _bytes(count: int) -> str:
 
 def of_making(root: str, replica: int) -> str:
     """Why the files of the replica can't be made."""
-    for path in (*_above(root), root, os.path.join(root, str(replica)), *disks_of(root, replica)):
+    for path in (*_above(root), root, os.path.join(root, str(replica))):
         if not os.path.lexists(path):
             return _of_writing(path)
-        if os.path.basename(path) not in DISKS and not os.path.isdir(path):
+        if not os.path.isdir(path):
             return f"{path}: it is no folder"
     return _of_writing(disks_of(root, replica)[0])
 
