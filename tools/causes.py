@@ -50,9 +50,10 @@ def of_opening(root: str, replica: int) -> str:
     why = why_no_volume(root)
     if why:
         return why
-    for path in (root, os.path.join(root, str(replica)), *disks_of(root, replica)):
+    folders = (root, os.path.join(root, str(replica)))
+    for path in (*folders, *disks_of(root, replica)):
         try:
-            os.close(os.open(path, os.O_RDONLY if os.path.isdir(path) and path not in disks_of(root, replica) else os.O_RDWR))
+            os.close(os.open(path, os.O_RDONLY if path in folders else os.O_RDWR))
         except FileNotFoundError:
             continue
         except OSError as error:

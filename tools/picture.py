@@ -18,9 +18,9 @@ from spelling import to_str
 from svg import visible
 
 DESCRIPTION = """\
-Runs SCRIPT over a fresh volume in memory, or over several, and draws it: a lane for each replica with its commands and their answers,
-messages as arrows, conflicts and orphans as bars for as long as they last, stops and restarts, and what collections
-give up. One file that needs nothing else. Above 80 commands, those that say little are folded, and so is what is left
+Runs SCRIPT over a fresh volume in memory, or over several, and draws it: a lane for each replica with its commands and
+their answers, messages as arrows, conflicts and orphans as bars for as long as they last, stops and restarts, and what
+collections give up. One file that needs nothing else. Above 80 commands, those that say little are folded, and so is what is left
 in the middle; a page has all of them."""
 
 LEAST = 2
