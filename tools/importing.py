@@ -213,7 +213,8 @@ class Plan:
 
     def tell_not_kept(self) -> None:
         """Says what of the files that are made isn't kept, where that is anything."""
-        told = [f"{counted(count, 'file')} {NOT_KEPT[mark][count > 1]}" for mark, count in self.not_kept.items()]
+        counts = {mark: self.not_kept[mark] for mark in NOT_KEPT if mark in self.not_kept}
+        told = [f"{counted(count, 'file')} {NOT_KEPT[mark][count > 1]}" for mark, count in counts.items()]
         if told:
             print(f"{', '.join(told)}: that isn't kept", file=sys.stderr)
 
