@@ -18,6 +18,8 @@ from spelling import PATH_PARTS, read_name, read_text, spell_name, spell_text, t
 
 MARK_OF_ENCODING = "\ufeff"
 MOST = 4_294_967_295
+# Commands that no line of several volumes has.
+OF_ONE_VOLUME = ("sweep", "why")
 NUMBERS = {"R": (1, 255), "S": (1, 255), "M": (0, MOST), "K": (0, MOST), "PICK": (0, 3)}
 IDENTIFIER = re.compile(r"([1-8])\.([1-9][0-9]{0,9})")
 VOLUME = re.compile(r"@([^ ]*)(?: (.*))?", re.DOTALL)
@@ -72,8 +74,8 @@ def _look_at_line(line: str, volumes: int) -> None:
         start = _volume(line, volumes)
     words = _words(line, start)
     usage = _usage(words)
-    if volumes and usage.name == "sweep":
-        words[0].wrong("a script over several volumes has no sweep")
+    if volumes and usage.name in OF_ONE_VOLUME:
+        words[0].wrong(f"a script over several volumes has no {usage.name}")
     _arguments(usage, words, len(line))
 
 
