@@ -15,7 +15,7 @@ use Rattle.ficus_merge_entries.specs.Merge.{MergesEntries}
 use Rattle.ficus_entry.specs.Run.{Takes}
 use Rattle.ficus_merge_entries.specs.Runs.{id_of, kept_if}
 use Rattle.ficus_merge_entries.specs.Table.{MergesEntry}
-use Rattle.ficus_merge_entries.proofs.Replacements.{after_has_id, nothing_merges}
+use Rattle.ficus_merge_entries.proofs.Replacing.{after_has_id, nothing_merges}
 
 slice_drop : (whole : List Entry) (i : ℕ) → slice_get whole i ≡ slice_get (drop i whole) 0
 slice_drop [] zero = refl

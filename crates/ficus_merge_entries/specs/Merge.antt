@@ -2,6 +2,7 @@
 use Rattle.std.specs.Prelude.{ℕ, List, Option}
 use Rattle.std.specs.Option.{option_or}
 use Rattle.ficus_ids.specs.declared.id.Id.{Id}
+use Rattle.ficus_table.specs.Made.{IsMadeBy}
 use Rattle.ficus_entry.specs.Entry.{HoldsUnder}
 use Rattle.ficus_entry.specs.declared.entry.Entry.{Entry}
 use Rattle.ficus_merge_entries.specs.Table.{MergesEntry}
@@ -14,3 +15,7 @@ pub record MergesEntries (r members : ℕ) (mine theirs merged : List Entry) : T
 -- the replacement, or where there is none what stood at r, is what the table says
 abbrev pub IsReplacement : ℕ → ℕ → Option Entry → Option Entry → Option Entry → Type 0
 IsReplacement r members mine theirs replacement = MergesEntry r members mine theirs (option_or replacement mine)
+
+-- under each identifier, the list holds the replacement of what the two lists hold, or nothing where there is none
+abbrev pub AreReplacements : ℕ → ℕ → List Entry → List Entry → List Entry → Type 0
+AreReplacements r members = IsMadeBy (λ entry. entry.id) (IsReplacement r members)

@@ -3,10 +3,12 @@
 
 mod laws;
 mod merge;
+mod pairs;
 mod replacement;
 mod runs;
 mod table;
 
 pub use laws::one_merge;
-pub use merge::{merge_entries, merge_in_order};
+pub use merge::{all_new, merge_entries, replacements};
+pub use pairs::{PairWalk, Pairs};
 pub use runs::merge_runs;

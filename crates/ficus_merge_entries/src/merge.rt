@@ -1,17 +1,17 @@
-ghost use Rattle.std.specs.Prelude.{◌≡◌, [], ◌++◌, length, All, IfOk, IfSome, IsTrue, OnOk};
+ghost use Rattle.std.specs.Prelude.{◌≡◌, ◌+◌, ◌++◌, ◌≤◌, ℕ, [], length, All, IfOk, IfSome, IsTrue, OnOk};
 ghost use Rattle.ficus_ids.specs.Members.{IsMember};
-ghost use Rattle.ficus_table.specs.Made.{IsMadeBy};
 ghost use Rattle.ficus_table.specs.SideBySide.{as_list};
 ghost use Rattle.ficus_entry.specs.Entry.{IsRising};
 ghost use Rattle.ficus_entry.specs.declared.entry.State.{State};
-ghost use Rattle.ficus_merge_entries.specs.Merge.{IsReplacement, MergesEntries};
+ghost use Rattle.ficus_merge_entries.specs.Merge.{AreReplacements, MergesEntries};
+ghost use Rattle.ficus_merge_entries.specs.Pairs.{IsAtStart};
 
+use crate::pairs::Pairs;
 use crate::replacement::replacement;
 use crate::runs::merge_runs;
 use crate::table::Taker;
 use ficus_entry::{Entries, InOrder, SharedEntry};
 use ficus_ids::{Members, Memory};
-use ficus_table::SideBySide;
 use std::alloc::Global;
 
 /// What replica `me` holds after it has taken a peer's entries: the merge table, entry by entry. `me` is a
@@ -32,33 +32,13 @@ pub fn merge_entries(
     merge_runs(alloc, &mut mine.run(), &mut theirs.run(), me, members)
 }
 
-/// The same, of a peer's entries that need not stand in a list. Where little changes, all else is shared with what it
-/// held, and a new entry with the peer's, where these were made of rows.
-pub fn merge_in_order(
-    alloc: Global,
-    mine: Entries,
-    theirs: &InOrder<'_>,
-    me: u8,
-    members: Members,
-) -> Result<Entries, Memory>
-    requires { IsMember members me }
-    ensures merged { IfOk result (MergesEntries me members mine theirs.now) }
-    ensures rising { IfOk result IsRising }
-{
-    if let Some(rows) = all_new(&mine, theirs) {
-        return Entries::of_rows(alloc, rows);
-    }
-    let replacements = replacements(alloc, Taker::new(me, members), &mine, theirs)?;
-    mine.replaced(&replacements)
-}
-
-// The peer's entries, by their rows, where these are known, none of them is removed, and the taker has none: then the
-// table takes them as they are.
-fn all_new<'a>(mine: &Entries, theirs: &InOrder<'a>) -> Option<&'a [SharedEntry]>
-    ensures none { IfSome result (λ _. length mine.now ≡ 0) }
-    ensures theirs { IfSome result (λ rows. rows.now ≡ theirs.now) }
+/// The peer's entries, by their rows, where these are known, none of them is removed, and the taker has none: then they
+/// are the merge as they are, whoever takes them. It looks at the peer's entries up to the first that is removed, and
+/// only where the taker has none.
+pub fn all_new<'a>(mine: &Entries, theirs: &InOrder<'a>) -> Option<&'a [SharedEntry]>
+    ensures merged { IfSome result (λ rows.
+        (me members : ℕ) → MergesEntries me members mine.now theirs.now rows.now) }
     ensures rising { IfSome result (λ rows. IsRising rows.now) }
-    ensures live { IfSome result (λ rows. All (λ entry. entry.state ≡ State.Live) rows.now) }
 {
     // Tells that the identifiers rise.
     let _count = theirs.len();
@@ -82,39 +62,47 @@ fn are_live(rows: &[SharedEntry]) -> bool
     true
 }
 
-// What becomes of the taker's entries, where it isn't what stands there.
-fn replacements(
+/// What becomes of the entries of the taker `me`, where it isn't what stands there already: with these in place of what
+/// stands there ([`Entries::replaced`]), the taker holds the merge. So what stays isn't copied, and an entry that the
+/// peer alone has is shared with it, where its row is known. `me` is a member. The walk gives each pair once, and is asked
+/// at most once more than both have entries, also where `Memory` ends it. There is `room` for so many replacements from
+/// the start.
+pub fn replacements<'a, W: Pairs<'a>>(
     alloc: Global,
-    taker: Taker,
-    mine: &Entries,
-    theirs: &InOrder<'_>,
+    walk: &mut W,
+    me: u8,
+    members: Members,
+    room: usize,
 ) -> Result<Vec<SharedEntry>, Memory>
-    ensures made { IfOk result (λ replacements. IsMadeBy (λ entry. entry.id)
-        (IsReplacement taker.number taker.members) mine.now theirs.now replacements.items) }
+    requires member { IsMember members me }
+    requires start { IsAtStart (W.sides walk.old) }
+    ensures made { IfOk result (λ replacements. AreReplacements me members
+        (W.sides walk.old).mine (W.sides walk.old).theirs replacements.items) }
     ensures rising { IfOk result (λ replacements. IsRising replacements.items) }
+    ensures calls { W.calls walk.new
+        ≤ W.calls walk.old + length (W.sides walk.old).mine + length (W.sides walk.old).theirs + 1 }
 {
-    let my_entries = mine.in_order()?;
-    // Room for all of theirs costs nothing where it isn't filled.
-    let mut replacements = Vec::with_capacity(alloc, theirs.len())?;
-    put_replacements(&mut replacements, taker, &my_entries, theirs)?;
+    let mut replacements = Vec::with_capacity(alloc, room)?;
+    put_replacements(&mut replacements, Taker::new(me, members), walk)?;
     Ok(replacements)
 }
 
 // Puts these into an empty list.
-fn put_replacements(
+fn put_replacements<'a, W: Pairs<'a>>(
     replacements: &mut Vec<SharedEntry>,
     taker: Taker,
-    my_entries: &InOrder<'_>,
-    their_entries: &InOrder<'_>,
+    walk: &mut W,
 ) -> Result<(), Memory>
-    requires { replacements.old.items ≡ [] }
-    ensures made { OnOk result (IsMadeBy (λ entry. entry.id) (IsReplacement taker.number taker.members)
-        my_entries.now their_entries.now replacements.new.items) }
+    requires empty { replacements.old.items ≡ [] }
+    requires start { IsAtStart (W.sides walk.old) }
+    ensures made { OnOk result (AreReplacements taker.number taker.members
+        (W.sides walk.old).mine (W.sides walk.old).theirs replacements.new.items) }
     ensures rising { OnOk result (IsRising replacements.new.items) }
+    ensures calls { W.calls walk.new
+        ≤ W.calls walk.old + length (W.sides walk.old).mine + length (W.sides walk.old).theirs + 1 }
 {
     let alloc = *replacements.allocator();
-    let mut walk = SideBySide::of(my_entries.rows(), their_entries.rows());
-    while let Some(next) = walk.next_row_pair() {
+    while let Some(next) = walk.next() {
         note(replacements, replacement(alloc, taker, next)?)?;
     }
     Ok(())

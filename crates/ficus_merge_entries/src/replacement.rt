@@ -12,7 +12,7 @@ use std::alloc::Global;
 
 /// What the table makes of what stands at the taker and at a peer under one identifier, or nothing where it is what
 /// stands at the taker. A row of the peer's that is taken as it is stands in no further memory.
-#[tactic(auto, using(crate::proofs::Replacements::new_stays))]
+#[tactic(auto, using(crate::proofs::Replacing::new_stays))]
 pub(crate) fn replacement(
     alloc: Global,
     taker: Taker,

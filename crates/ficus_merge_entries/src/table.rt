@@ -35,7 +35,7 @@ impl Taker {
 
     /// What stands at the taker afterwards, by what stood there and what stands at the peer, or nothing where it is
     /// what stood there.
-    #[tactic(auto, using(crate::proofs::Replacements::live_stays))]
+    #[tactic(auto, using(crate::proofs::Replacing::live_stays))]
     pub(crate) fn replacement(
         self,
         mine: Option<&Entry>,

@@ -1,10 +1,13 @@
 ghost use Rattle.std.specs.Prelude.{◌≡◌, ◌-◌, ◌^◌, ◌<◌, None, Err, IfErr, IfOk, OnOk, OnErr, IsTrue, ◌↔◌};
+ghost use Rattle.ficus_ids.specs.Members.{IsMember};
+ghost use Rattle.ficus_entry.specs.Entry.{IsRising};
+ghost use Rattle.ficus_merge_entries.specs.Merge.{AreReplacements, MergesEntries};
 
 use crate::{Asked, Replica};
 use ficus_entry::{Entries, InOrder, SharedEntry};
 use ficus_file::{Files, FilesInOrder, SharedFile};
-use ficus_ids::{Memory, Refusal};
-use ficus_merge_entries::merge_in_order;
+use ficus_ids::{Members, Memory, Refusal};
+use ficus_merge_entries::{PairWalk, all_new, replacements};
 use ficus_merge_files::{News, merge_news, news_fit};
 use std::alloc::Global;
 use std::mem;
@@ -134,7 +137,7 @@ impl Replica {
             (MakesMerged self.old.saved entries.now news.now.theirs self.new.saved × (self.new.ask ≡ None)) }
     {
         let held = mem::replace(&mut self.saved.entries, Entries::new(alloc));
-        let merged = merge_in_order(alloc, held, entries, self.saved.me, self.saved.members)?;
+        let merged = merge_held(alloc, held, entries, self.saved.me, self.saved.members)?;
         self.saved.entries = merged;
         let both = merge_news(alloc, news, &self.saved.entries)?;
         self.saved.files = both;
@@ -197,7 +200,7 @@ impl Replica {
     {
         let saved = &self.saved;
         let held = saved.entries.copy()?;
-        let merged = merge_in_order(alloc, held, entries, saved.me, saved.members)?;
+        let merged = merge_held(alloc, held, entries, saved.me, saved.members)?;
         let both = merge_news(alloc, news, &merged)?;
         Ok((merged, both))
     }
@@ -224,4 +227,44 @@ impl Replica {
         }
         true
     }
+}
+
+// What replica `me`, a member, holds after it has taken a peer's entries: the merge table, entry by entry. What it held
+// is given up. Where little changes, all else is shared with that, and a new entry with the peer's, where these were
+// made of rows.
+fn merge_held(
+    alloc: Global,
+    held: Entries,
+    theirs: &InOrder<'_>,
+    me: u8,
+    members: Members,
+) -> Result<Entries, Memory>
+    requires { IsMember members me }
+    ensures merged { IfOk result (MergesEntries me members held theirs.now) }
+    ensures rising { IfOk result IsRising }
+{
+    if let Some(rows) = all_new(&held, theirs) {
+        return Entries::of_rows(alloc, rows);
+    }
+    let replacements = replacements_in(alloc, &held, theirs, me, members)?;
+    held.replaced(&replacements)
+}
+
+// What becomes of its entries, where it isn't what stands there: one walk along them and the peer's, which ends before
+// they are given up.
+fn replacements_in(
+    alloc: Global,
+    held: &Entries,
+    theirs: &InOrder<'_>,
+    me: u8,
+    members: Members,
+) -> Result<Vec<SharedEntry>, Memory>
+    requires { IsMember members me }
+    ensures made { IfOk result (λ replacements.
+        AreReplacements me members held.now theirs.now replacements.items) }
+    ensures rising { IfOk result (λ replacements. IsRising replacements.items) }
+{
+    let mine = held.in_order()?;
+    let mut walk = PairWalk::of(&mine, theirs);
+    replacements(alloc, &mut walk, me, members, theirs.len())
 }

@@ -12,10 +12,8 @@ use Rattle.ficus_entry.specs.declared.entry.Entry.{Entry}
 use Rattle.ficus_entry.specs.declared.entry.State.{State}
 use Rattle.ficus_entry.specs.declared.entry.State.TheVariants.{Live}
 use Rattle.ficus_merge_entries.specs.Merge.{MergesEntries, IsReplacement}
+use Rattle.ficus_merge_entries.specs.Runs.{id_of}
 use Rattle.ficus_merge_entries.specs.Table.{Merges, MergesEntry, state_of}
-
-abbrev pub id_of : Entry → Id
-id_of entry = entry.id
 
 module _ (r members : ℕ) where
   -- of nothing the table makes nothing
