@@ -23,3 +23,7 @@ pub mod Refusing
 pub mod Acting
 pub mod Likeness
 pub mod Lifting
+pub mod Links
+pub mod Ages
+pub mod ServedLists
+pub mod TakenLists

@@ -40,6 +40,7 @@ use Rattle.ficus_world.specs.Acts.{Acts, ActsOn, SavesNext, StaysAt}
 use Rattle.ficus_world.specs.Disks.{AreSpared, CarriedOn, DisksComeTo, DisksFollow, DisksPass, DisksStay, IsBacked, IsHeldBy, IsPreparedAt, IsReadAt, ReopensAt, SavesAt, StaysOn}
 use Rattle.ficus_world.specs.Disks.{save_outcome}
 use Rattle.ficus_world.specs.Follows.{FollowsOn, StopsOn, TellsFor}
+use Rattle.ficus_world.specs.Generations.{IsFresh}
 use Rattle.ficus_world.specs.Fuses.{AreAtRest, FusesFollow, FusesStand, IsReadBy, at_rest}
 use Rattle.ficus_world.specs.Kills.{IsDeedOf, IsGive, IsPull, Passes, SavesOn, Spares, Touches, WritesAt}
 use Rattle.ficus_world.specs.Moves.{GivesMessage, GivesMessages, GivesSomeMessages, HasCollected, KeepsAsk, parts_after, restarted}
@@ -58,6 +59,8 @@ pub record OpensWorld {K D : Type 0} (keep : Keep K) (disk : Disk D) (link_fault
   pub faults : IfOk result (λ world. world.whole.post.faults ≡ link_faults)
   pub backed : IfOk result (λ world. IsBacked keep disk world new)
   pub opened : disk.tells → IfOk result (λ world. AreRead keep.kept disk.seen old world.whole.members)
+  -- Nothing has been posted there, and no member holds a piece of an answer.
+  pub fresh : IfOk result (λ world. IsFresh world.whole)
   -- Whatever lawful history the disks stood for, the world stands for it with the restarts.
   pub stands : disk.tells → (volume : Volume) (H : List Event) → StandsOn keep.kept disk.seen volume H old
       → IfOk result (λ world. WorldStandsFor volume (start H volume.members total

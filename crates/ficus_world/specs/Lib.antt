@@ -10,4 +10,5 @@ pub mod Stand
 pub mod Kills
 pub mod Acts
 pub mod Calls
+pub mod Generations
 pub mod Machines

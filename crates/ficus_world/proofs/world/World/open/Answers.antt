@@ -13,7 +13,7 @@ use Rattle.ficus_opening.specs.declared.fault.WorldFault.TheVariants.{Image, Mem
 use Rattle.ficus_opening.specs.Opening.{AreRead, DisksLooked, IsFirstBad, IsStoreFault, Opens}
 use Rattle.ficus_opening.proofs.Bad.{image_comes, none_bad_where_read}
 use Rattle.ficus_runs.proofs.Numbers.{number_exists}
-use Rattle.ficus_world.proofs.OpenedWorlds.{empty_post, opened_read, opened_stands, opened_world}
+use Rattle.ficus_world.proofs.OpenedWorlds.{empty_post, first_member, opened_read, opened_stands, opened_world}
 use Rattle.ficus_opening.proofs.Stand.{never_bad}
 use Rattle.ficus_durable_state.specs.declared.saved.Saved.{Saved}
 use Rattle.ficus_opening.proofs.Openings.{first_is, held_of, opened_pairs, opens_same}
@@ -46,6 +46,7 @@ unopened {keep = keep} {disk = disk} {old = old} image comes earlier never membe
   faults = tt;
   backed = tt;
   opened = λ told. tt;
+  fresh = tt;
   stands = λ told volume H on. tt;
   image = image;
   image_comes = comes;
@@ -124,6 +125,15 @@ returns g c =
         disks = on.disks;
       };
       opened = opened;
+      fresh = record {
+        sound =
+            opened_world members on.opened opens.count opens.counted c.in_ok-restart_all.field-0.events
+            c.new.result.now (empty_post c.new.result.now _ _ _ c.new.ensures c.requires.link);
+        posts = (empty_post c.new.result.now _ _ _ c.new.ensures c.requires.link).posts;
+        parts = λ r member is.
+            let first = first_member members on.opened opens.count opens.counted in
+            (on.opened.each r first.0 member first.1 is).parts;
+      };
       stands = λ told volume H stand.
           opened_stands g.D.Disk.tells g.K.Keep.kept g.K.Keep.fits g.D.Disk.seen g.D.Disk.may_leave g.D.Disk.armings
           (whole_of members c.in_ok-restart_all.field-0.events c.new.result.now) c.one_saved.ensures volume H old new
