@@ -10,9 +10,7 @@ use Rattle.ficus_model.specs.Lawful.{Volume}
 use Rattle.ficus_script.specs.declared.answer.Answer.{Answer}
 use Rattle.ficus_script.specs.declared.answer.Answer.TheVariants as answer
 use Rattle.ficus_script.specs.declared.command.Command.TheVariants.{Why}
-use Rattle.ficus_why.specs.Plain.{IsPlain}
 use Rattle.ficus_why_runs.specs.Row.{Explains, run_of}
-use Rattle.ficus_why_runs.proofs.Lawful.{lawful_plain}
 use Rattle.ficus_runs.specs.ModelWorld.{ModelWorld}
 use Rattle.ficus_runs.specs.Run.{CommandMayWantMemory, Does, DoesPart, Step}
 use Rattle.ficus_runs.specs.Sequence.{Effect}
@@ -48,16 +46,12 @@ module _ (volume : Volume) (W : ModelWorld) (world : Whole) (stands : WorldStand
       }
 
   -- the stored events are those of the run
-  explained : (lines : List (List ℕ)) → (IsPlain world.events → Explains world.events by lines)
-      → Explains (run_of W.earlier W.events) by lines
+  explained : (lines : List (List ℕ)) → Explains world.events by lines → Explains (run_of W.earlier W.events) by lines
   explained lines explains =
       subst (λ H. Explains H by lines)
-      (stored_from world.events W.events stands.stored ∙ ap (λ n. run_of n W.events) stands.began)
-      (explains
-      (lawful_plain volume stands.count.at_most stands.stored.earlier world.events W.events stands.stored.is
-      stands.lawful))
+      (stored_from world.events W.events stands.stored ∙ ap (λ n. run_of n W.events) stands.began) explains
 
-  pub why_told : (lines : List (List ℕ)) → IsUpIn world by → (IsPlain world.events → Explains world.events by lines)
+  pub why_told : (lines : List (List ℕ)) → IsUpIn world by → Explains world.events by lines
       → Step volume W (Why by) [] (answer.Why lines) W
   why_told lines up explains = record {
     result = Ok (answer.Why lines);

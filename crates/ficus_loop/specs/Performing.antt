@@ -19,7 +19,6 @@ use Rattle.ficus_loop.specs.Tally.{is_refusal}
 use Rattle.ficus_loop.specs.declared.sweep_fault.SweepFault.{SweepFault}
 use Rattle.ficus_loop.specs.declared.sweep_fault.SweepFault.TheVariants.{Stopped, Memory}
 use Rattle.ficus_loop.specs.declared.sweep_report.SweepReport.{SweepReport}
-use Rattle.ficus_why.specs.Plain.{IsPlain}
 use Rattle.ficus_why_runs.specs.Row.{Explains}
 use Rattle.ficus_world.specs.Stepped.{CutOn, Stepped}
 use Rattle.ficus_world.specs.World.{IsUpIn, Whole}
@@ -106,7 +105,7 @@ sweep_commands order members = map command_of (sweep_steps order members)
 pub data AnswersWhy (by : ℕ) (world : Whole) : Answer → Type 0 where
   OfNobody : (IsMember (length world.members) by → ⊥) → AnswersWhy by world (Refused refusal.Member)
   OfOneDown : IsMember (length world.members) by → (IsUpIn world by → ⊥) → AnswersWhy by world (Refused refusal.Down)
-  OfOneUp : {lines : List (List ℕ)} → IsUpIn world by → (IsPlain world.events → Explains world.events by lines)
+  OfOneUp : {lines : List (List ℕ)} → IsUpIn world by → Explains world.events by lines
       → AnswersWhy by world (Explained lines)
 
 -- One command: a step of the world; or a sweep, which is its pulls and its collections; or why, which changes nothing.

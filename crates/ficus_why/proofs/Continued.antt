@@ -26,7 +26,7 @@ at_behind front back position event at =
     }
 
 -- the actor of an event stays
-same_actor : (n : ℕ) (event : Event) → actor (raised n event) ≡ actor event
+pub same_actor : (n : ℕ) (event : Event) → actor (raised n event) ≡ actor event
 same_actor n (Update by op) = refl
 same_actor n event = refl
 

@@ -12,6 +12,7 @@ use Rattle.ficus_ids.specs.declared.refusal.Refusal.{Refusal}
 use Rattle.ficus_ids.specs.declared.refusal.Refusal.TheVariants as refusal
 use Rattle.ficus_keeper.specs.declared.keep.Keep.{Ghosts as Keep}
 use Rattle.ficus_model.specs.declared.event.Event.{Event}
+use Rattle.ficus_model.specs.Events.{actor}
 use Rattle.ficus_model.specs.declared.event.Event.TheVariants.{Take}
 use Rattle.ficus_runs.proofs.Numbers.{number_exists, number_once}
 use Rattle.ficus_runs.proofs.Replaced.{replaced}
@@ -49,7 +50,7 @@ use Rattle.ficus_world.proofs.Sparing.{spared_none}
 use Rattle.ficus_world.proofs.Carrying.{carried_none, carried_then, or_refused}
 use Rattle.ficus_world.proofs.Disks.{OthersStay, disks_moved, follows_none, others_as, set_as}
 use Rattle.ficus_world.proofs.Placing.{joined_one}
-use Rattle.ficus_world.proofs.SoundWorlds.{member_more, world_after}
+use Rattle.ficus_world.proofs.SoundWorlds.{member_more, plain_with, world_after}
 
 -- a member that holds other parts is to its disks what it was
 module _ (members : List Member) (by : ℕ) (was : Member) (is : IsNumbered members by was) (parts : Option HeldParts) where
@@ -96,26 +97,26 @@ module _ (members : List Member) (by : ℕ) (was : Member) (is : IsNumbered memb
 
 -- and the world with an event more is one still
 pub gathered_world : (old : Whole) (by : ℕ) (was : Member) (parts : HeldParts) (event : Event) → IsWorld old
-    → IsNumbered old.members by was → IsWorld (gathered old by was parts event)
-gathered_world old by was parts event world is =
+    → IsNumbered old.members by was → actor event ≡ by → IsWorld (gathered old by was parts event)
+gathered_world old by was parts event world is own =
     let grown = length_push old.events event in
     let before = world.sound by was is in
     let sound : IsSoundMember (length old.members) (length old.events) by (record was { parts = Some parts }) =
     record { replica = before.replica; pending = before.pending } in
     world_after old (old.events ++ event ∷ []) by was (record was { parts = Some parts }) is world
-    (member_more sound (omega (arith, grown))) (omega (arith, grown))
+    (member_more sound (omega (arith, grown))) (omega (arith, grown)) (plain_with world event is.member own)
     (slice_set old.members (by - 1) (record was { parts = Some parts })) refl
 
 -- so it is where the code has come to that
 pub gathered_inside : (members : List Member) (events : List Event) (post : Outbox) (by : ℕ) (was : Member)
     (parts : HeldParts) (event : Event) (after : List Member) (stored : List Event) → IsWorld (whole_of members events post)
-    → IsNumbered members by was → after ≡ slice_set members (by - 1) (record was { parts = Some parts })
+    → IsNumbered members by was → actor event ≡ by → after ≡ slice_set members (by - 1) (record was { parts = Some parts })
     → stored ≡ events ++ event ∷ [] → IsWorld (whole_of after stored post)
-gathered_inside members events post by was parts event after stored world is now_is stored_is =
+gathered_inside members events post by was parts event after stored world is own now_is stored_is =
     let whole = whole_of members events post in
     subst (λ (list : List Member). IsWorld (whole_of list stored post)) (sym now_is)
     (subst (λ (list : List Event). IsWorld (whole_of (gathered whole by was parts event).members list post))
-    (sym stored_is) (gathered_world whole by was parts event world is))
+    (sym stored_is) (gathered_world whole by was parts event world is own))
 
 collected_events : (old new : Whole) (by : ℕ) (was : Member) (parts : HeldParts) (event : Event)
     → new ≡ gathered old by was parts event → length new.events ≤ length old.events + 1

@@ -3,6 +3,7 @@ use Rattle.std.proofs.Common.{◌≡◌, ◌≢◌, ℕ, ◌-◌, ◌+◌, ◌�
 use Rattle.std.specs.Prelude.{slice_set}
 use Rattle.std.proofs.lemmas.List.{length-set, length_push}
 use Rattle.ficus_model.specs.declared.event.Event.{Event}
+use Rattle.ficus_model.specs.Events.{actor}
 use Rattle.ficus_disk.specs.declared.disk.Disk.{Ghosts as Disk}
 use Rattle.ficus_disk.specs.declared.pair.Pair.{Pair}
 use Rattle.ficus_ids.specs.declared.refusal.Refusal.{Refusal}
@@ -17,7 +18,7 @@ use Rattle.ficus_opening.specs.declared.member.MemberState.TheVariants.{Up, Down
 use Rattle.ficus_opening.specs.declared.member.Pending.{Pending}
 use Rattle.ficus_world.specs.Moves.{advanced, downed, parts_after}
 use Rattle.ficus_world.specs.World.{Whole, IsSoundMember, IsSoundNext, IsWorld, whole_of}
-use Rattle.ficus_world.proofs.SoundWorlds.{held_sound, put_down_sound, world_after}
+use Rattle.ficus_world.proofs.SoundWorlds.{held_sound, plain_with, put_down_sound, world_after}
 
 module _ (old : Whole) (by : ℕ) (next : Pending) (members : List Member) (events : List Event) where
   -- the members, where one keeps it, and where it is put down
@@ -32,20 +33,20 @@ module _ (old : Whole) (by : ℕ) (next : Pending) (members : List Member) (even
   -- the world is one still
   pub kept_world : {T E : Type 0} {noted : List ℕ} (result : Result T E) (was : Member) → IsNumbered old.members by was
       → was.state ≡ Up → IsSoundNext (length old.members) (length old.events) by noted was.replica next.replica
-      → IsWorld old → OnOk result Held → OnOk result (events ≡ old.events ++ next.event ∷ []) → OnErr result PutDown
+      → actor next.event ≡ by → IsWorld old → OnOk result Held → OnOk result (events ≡ old.events ++ next.event ∷ []) → OnErr result PutDown
       → OnErr result (events ≡ old.events) → IsWorld (whole_of members events old.post)
-  kept_world (Ok done) was is up sound world held stored down kept =
+  kept_world (Ok done) was is up sound own world held stored down kept =
       let now : Member = record was { replica = next.replica; parts = parts_after next.event was.parts } in
       let grown = length_push old.events next.event in
       let now_sound = subst (λ n. IsSoundMember (length old.members) n by now) (sym grown) (held_sound was (parts_after next.event was.parts) up sound) in
       subst (λ list. IsWorld (whole_of members list old.post)) (sym stored)
-      (world_after old (old.events ++ next.event ∷ []) by was now is world now_sound (omega (arith, grown)) members
-      (held was is))
-  kept_world (Err failed) was is up sound world held stored down kept =
+      (world_after old (old.events ++ next.event ∷ []) by was now is world now_sound (omega (arith, grown))
+      (plain_with world next.event is.member own) members (held was is))
+  kept_world (Err failed) was is up sound own world held stored down kept =
       let now : Member = record was { state = Down (Some next) } in
-      let now_sound = put_down_sound (world.sound by was is) sound in
+      let now_sound = put_down_sound (world.sound by was is) sound own in
       subst (λ list. IsWorld (whole_of members list old.post)) (sym kept)
-      (world_after old old.events by was now is world now_sound (omega arith) members (down was is))
+      (world_after old old.events by was now is world now_sound (omega arith) world.plain members (down was is))
 
   -- it is the one with the event
   pub kept_advanced : {T E : Type 0} (result : Result T E) → OnOk result Held

@@ -4,6 +4,7 @@ use Rattle.std.specs.Prelude.{map}
 use Rattle.std.specs.List.{range_with_len}
 use Rattle.std.proofs.lemmas.Bool.{cases_eq}
 use Rattle.std.proofs.lemmas.List.{append-nil, length-replicate, get_or-replicate, length-take-le, get_or-take, length-map, get_or-map}
+use Rattle.std.proofs.lemmas.List.Elements.{All-nil, All-push}
 use Rattle.std.proofs.lemmas.Option.{get_or_from_slice_get}
 use Rattle.ficus_opening.proofs.check.Owning.{holds_same}
 use Rattle.ficus_disk.specs.declared.pair.Pair.{Pair}
@@ -12,7 +13,7 @@ use Rattle.ficus_keeper.specs.Kept.{Kept, found_in}
 use Rattle.ficus_laws.proofs.Positions.{at_cases, at_within}
 use Rattle.ficus_model.specs.declared.event.Event.{Event}
 use Rattle.ficus_model.specs.declared.event.Event.TheVariants.{Restart, Serve}
-use Rattle.ficus_model.specs.Events.{IsAt, raised}
+use Rattle.ficus_model.specs.Events.{IsAt, actor, raised}
 use Rattle.ficus_model.specs.Lawful.{Volume}
 use Rattle.ficus_replica.proofs.Events.{quiet_stands, restart_stands}
 use Rattle.ficus_replica.proofs.Saves.{saved_kept}
@@ -32,6 +33,7 @@ use Rattle.ficus_wire.specs.Parts.{HeldParts}
 use Rattle.ficus_opening.specs.declared.member.Member.{Member}
 use Rattle.ficus_opening.specs.declared.member.MemberState.{MemberState}
 use Rattle.ficus_opening.specs.declared.member.MemberState.TheVariants.{Up}
+use Rattle.ficus_why.specs.Plain.{IsPlain}
 use Rattle.ficus_runs.proofs.Numbers.{number_exists}
 use Rattle.ficus_opening.proofs.Openings.{opens_of, opens_same}
 use Rattle.ficus_world.proofs.Lifting.Parts.{others_leave_taken, parts_ended, parts_left}
@@ -51,6 +53,15 @@ empty_post post posts total faults is none = record {
   behind = ap (λ (p : Outbox). p.behind) is;
   posts = ap (λ (p : Outbox). p.posts) is ∙ none;
 }
+
+restarts_plain : (count : ℕ) → count ≤ 8 → IsPlain (restarts count)
+restarts_plain zero few = All-nil (λ e. IsMember 8 (actor e))
+restarts_plain (suc count) few =
+    let next : count + 1 ≡ suc count = omega arith in
+    subst (λ n. IsPlain (restarts n)) next
+    (subst IsPlain (sym (restarts_more count))
+    (All-push (λ e. IsMember 8 (actor e)) (restarts count) (Restart (count + 1)) (restarts_plain count (omega arith))
+    (record { at_least = omega arith; at_most = omega arith })))
 
 module _ (members : List Member) (opened : AreOpened members) (count : IsCount (length members))
     (counted : (first : Member) → IsNumbered members 1 first → first.replica.saved.members ≡ length members) where
@@ -74,10 +85,12 @@ module _ (members : List Member) (opened : AreOpened members) (count : IsCount (
             subst (λ (s : MemberState). IsPendingSound (length members) events r member.replica s) (sym so.up) tt;
       }
 
-  pub opened_world : (events : List Event) (post : Outbox) → IsEmpty post → IsWorld (whole_of members events post)
-  opened_world events post empty = record {
+  pub opened_world : (events : List Event) (post : Outbox) → events ≡ restarts (length members) → IsEmpty post
+      → IsWorld (whole_of members events post)
+  opened_world events post restart empty = record {
     count = count;
     sound = sound (length events);
+    plain = subst IsPlain (sym restart) (restarts_plain (length members) count.at_most);
     counted = ap (λ (l : List (List ℕ)). length l) empty.posts ∙ sym (ap (λ (l : List Behind). length l) empty.behind);
     few = omega (arith, ap (λ (l : List (List ℕ)). length l) empty.posts);
     within = omega (arith, ap (λ (l : List (List ℕ)). length l) empty.posts);

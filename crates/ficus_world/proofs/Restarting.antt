@@ -1,7 +1,8 @@
 -- What becomes of a member whose disks are opened again.
 use Rattle.std.proofs.Common.{◌≡◌, ℕ, ◌+◌, ◌-◌, ◌≤◌, List, [], ◌∷◌, ◌++◌, length, Result, Ok, Err, Some, refl, sym, ap, subst, ◌∙◌, inl, inr, append_assoc, arith}
-use Rattle.std.specs.Prelude.{slice_set, IfOk, IsErrOf}
+use Rattle.std.specs.Prelude.{slice_set, All, IfOk, IsErrOf}
 use Rattle.std.proofs.lemmas.List.{append-nil, length-append, length-set, set-get_or}
+use Rattle.std.proofs.lemmas.List.Elements.{All-append, All-cons, All-nil}
 use Rattle.std.proofs.lemmas.Option.{get_or_from_slice_get}
 use Rattle.ficus_disk.specs.declared.disk.Disk.{Ghosts as Disk}
 use Rattle.ficus_disk.specs.declared.pair.Pair.{Pair}
@@ -13,6 +14,7 @@ use Rattle.ficus_keeper.specs.declared.fault.StoreFault.TheVariants.{Failed, Mem
 use Rattle.ficus_keeper.specs.declared.keep.Keep.{Ghosts as Keep}
 use Rattle.ficus_model.specs.declared.event.Event.{Event}
 use Rattle.ficus_model.specs.declared.event.Event.TheVariants as event
+use Rattle.ficus_model.specs.Events.{actor}
 use Rattle.ficus_durable_state.specs.Saved.{FitsImage}
 use Rattle.ficus_durable_state.specs.declared.saved.Saved.{Saved}
 use Rattle.ficus_script.specs.declared.answer.Answer.{Answer}
@@ -36,7 +38,7 @@ use Rattle.ficus_world.specs.World.{IsPendingSound, IsSoundMember, IsWorld, Whol
 use Rattle.ficus_runs.proofs.Numbers.{number_exists}
 use Rattle.ficus_world.proofs.Disks.{follows_alike}
 use Rattle.ficus_world.proofs.Fuses.{fuses_found, fuses_never, fuses_opened}
-use Rattle.ficus_world.proofs.SoundWorlds.{keep_down_sound, member_more, restarted_sound, world_after}
+use Rattle.ficus_world.proofs.SoundWorlds.{keep_down_sound, member_more, one_of_eight, restarted_sound, world_after}
 
 -- a member in its own place changes nothing
 pub set_own : {A : Type 0} (list : List A) (r : ℕ) (x : A) → IsNumbered list r x → slice_set list (r - 1) x ≡ list
@@ -128,6 +130,24 @@ back_sound count events by was read result now stored sound fits NotOpened =
     member_more (keep_down_sound sound) (omega arith)
 back_sound count events by was read result now stored sound fits NoMemory = member_more sound (omega arith)
 
+-- what it stores is of one of eight, as it is
+abbrev IsOfEight : Event → Type 0
+IsOfEight event = IsMember 8 (actor event)
+
+back_plain : (count events by : ℕ) (was : Member) (read : Result Saved StoreFault) (result : Result Answer Refusal)
+    (now : Member) (stored : List Event) → IsMember 8 by → IsSoundMember count events by was
+    → ComesBack by was read result now stored → All IsOfEight stored
+back_plain count events by was read result now stored member sound (BackAsWas like) =
+    All-cons IsOfEight (event.Restart by) [] member (All-nil IsOfEight)
+back_plain count events by was read result now stored member sound (BackAsPending {pending = pending} down like) =
+    let own = (subst (IsPendingSound count events by was.replica) down sound.pending).2 in
+    All-cons IsOfEight pending.event (event.Restart by ∷ []) (subst (IsMember 8) (sym own) member)
+    (All-cons IsOfEight (event.Restart by) [] member (All-nil IsOfEight))
+back_plain count events by was read result now stored member sound (OfAnother not_was not_pending) = All-nil IsOfEight
+back_plain count events by was read result now stored member sound NothingRead = All-nil IsOfEight
+back_plain count events by was read result now stored member sound NotOpened = All-nil IsOfEight
+back_plain count events by was read result now stored member sound NoMemory = All-nil IsOfEight
+
 -- the member that was opened again is in its place, and the events are stored to which it comes
 pub record HasComeBack (old : Whole) (by : ℕ) (read : Result Saved StoreFault) (result : Result Answer Refusal)
     (members : List Member) (events : List Event) : Type 0 where
@@ -168,13 +188,17 @@ module _ {old : Whole} {by : ℕ} {read : Result Saved StoreFault} {result : Res
   -- the world is one still
   pub back_world : IfOk read (λ saved. FitsImage saved) → IsWorld old → IsWorld (whole_of members events old.post)
   back_world fits world =
+      let before = world.sound by back.was back.is in
       let sound = back_sound (length old.members) (length old.events) by back.was read result back.now back.stored
-      (world.sound by back.was back.is) fits back.comes in
+      before fits back.comes in
+      let plain = All-append IsOfEight old.events back.stored world.plain
+      (back_plain (length old.members) (length old.events) by back.was read result back.now back.stored
+      (one_of_eight world back.is.member) before back.comes) in
       let longer = length-append old.events back.stored in
       subst (λ (list : List Event). IsWorld (whole_of members list old.post)) (sym back.happened)
       (world_after old (old.events ++ back.stored) by back.was back.now back.is world
-      (subst (λ n. IsSoundMember (length old.members) n by back.now) (sym longer) sound) (omega (arith, longer)) members
-      back.set)
+      (subst (λ n. IsSoundMember (length old.members) n by back.now) (sym longer) sound) (omega (arith, longer)) plain
+      members back.set)
 
 -- where memory was refused, it is as it was
 pub back_same : (by : ℕ) (was : Member) (read : Result Saved StoreFault) (result : Result Answer Refusal)

@@ -58,7 +58,7 @@ use Rattle.ficus_world.specs.World.{Backed, IsSound, IsWorld, Whole, smallest_me
 use Rattle.ficus_world.proofs.Carrying.{AreQuiet, carried_first, carried_none, carried_then, goes_on, or_memory, quiet_carried, quiet_done, quiet_failure, quiet_follows, quiet_fuses, quiet_none, quiet_then, whole_is}
 use Rattle.ficus_world.proofs.Disks.{follows_then}
 use Rattle.ficus_world.proofs.Fuses.{fuses_then}
-use Rattle.ficus_world.proofs.SoundWorlds.{AreCounted, counted_in, each_counted, more_stored, world_posted}
+use Rattle.ficus_world.proofs.SoundWorlds.{AreCounted, counted_in, each_counted, more_stored, plain_with, world_posted}
 
 -- where room was taken the world is as it was
 pub as_reserved : (members : List Member) {events stored : List Event} {post posted : Outbox} → stored ≡ events
@@ -435,7 +435,8 @@ module _ (tells : Type 0) (old : Whole) (came : Delivery) (state pieces : ℕ) (
         → HasSentEach result → IsWorld after_serving
     served_world world result link sent =
         world_posted (with_event old stored)
-        (more_stored old world (old.events ++ stored ∷ []) (omega (arith, length_push old.events stored))) new
+        (more_stored old world (old.events ++ stored ∷ []) (omega (arith, length_push old.events stored))
+        (plain_with world stored serves.1.is.member refl)) new
         (serve_counted tells old came peer asked serves.1 place serves.4 serves.5 after_serving world result link
         (sends_all result sent))
 

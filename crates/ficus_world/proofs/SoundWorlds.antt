@@ -1,12 +1,13 @@
 -- What holds of every world stays so as commands change it.
-use Rattle.std.proofs.Common.{◌≡◌, ℕ, ◌+◌, ◌-◌, ◌*◌, ◌≤◌, List, [], ◌∷◌, length, Option, Result, Ok, Err, Some, None, sym, ap, subst, ◌∙◌, inl, inr, arith}
+use Rattle.std.proofs.Common.{◌≡◌, ℕ, ◌+◌, ◌-◌, ◌*◌, ◌≤◌, List, [], ◌∷◌, ◌++◌, length, Option, Result, Ok, Err, Some, None, sym, ap, subst, ◌∙◌, inl, inr, arith}
 use Rattle.std.specs.Prelude.{slice_set, All, IfOk, OnErr, sum_by}
 use Rattle.std.proofs.lemmas.List.{length-set, length_push}
-use Rattle.std.proofs.lemmas.List.Elements.{All-head, All-tail}
+use Rattle.std.proofs.lemmas.List.Elements.{All-head, All-push, All-tail}
 use Rattle.std.proofs.lemmas.List.Sums.{sum_by-cons}
-use Rattle.ficus_ids.specs.Members.{IsCount}
+use Rattle.ficus_ids.specs.Members.{IsCount, IsMember}
 use Rattle.ficus_ids.specs.declared.refusal.Refusal.{Refusal}
 use Rattle.ficus_model.specs.declared.event.Event.{Event}
+use Rattle.ficus_model.specs.Events.{actor}
 use Rattle.ficus_durable_state.specs.Saved.{FitsImage}
 use Rattle.ficus_durable_state.specs.declared.saved.Saved.{Saved}
 use Rattle.ficus_stable_storage.specs.Leads.Holds.{Leads}
@@ -31,6 +32,7 @@ use Rattle.ficus_world.specs.Moves.Sends.{NotSent, Sent}
 use Rattle.ficus_world.specs.Post.{Outbox, IsSent, HasFailed}
 use Rattle.ficus_world.specs.World.{Whole, IsPendingSound, IsSound, IsSoundMember, IsSoundNext, IsWorld, message_limit, smallest_message}
 use Rattle.ficus_runs.proofs.Replaced.{replaced}
+use Rattle.ficus_why.specs.Plain.{IsPlain}
 
 pub sound_more : {count events more r : ℕ} {replica : Replica} → IsSound count events r replica → events ≤ more
     → IsSound count more r replica
@@ -45,7 +47,8 @@ pending_more : (count events more r : ℕ) (replica : Replica) (state : MemberSt
     → IsPendingSound count events r replica state → events ≤ more → IsPendingSound count more r replica state
 pending_more count events more r replica Up is h = tt
 pending_more count events more r replica (Down None) is h = tt
-pending_more count events more r replica (Down (Some pending)) is h = (sound_more is.0 (omega (arith, h)), is.1)
+pending_more count events more r replica (Down (Some pending)) is h =
+    (sound_more is.0 (omega (arith, h)), is.1, is.2)
 
 pub member_more : {count events more r : ℕ} {member : Member} → IsSoundMember count events r member → events ≤ more
     → IsSoundMember count more r member
@@ -74,9 +77,10 @@ held_sound {count} {events} {r} was parts {replica = replica} up next = record {
 module _ {count events r : ℕ} {was : Member} where
   -- or not
   pub put_down_sound : {noted : List ℕ} {pending : Pending} → IsSoundMember count events r was
-      → IsSoundNext count events r noted was.replica pending.replica
+      → IsSoundNext count events r noted was.replica pending.replica → actor pending.event ≡ r
       → IsSoundMember count events r (record was { state = Down (Some pending) })
-  put_down_sound sound next = record { replica = sound.replica; pending = (next.sound, led_next _ _ _ next.leads) }
+  put_down_sound sound next own =
+      record { replica = sound.replica; pending = (next.sound, led_next _ _ _ next.leads, own) }
 
   -- a member that stays down is sound
   pub keep_down_sound : IsSoundMember count events r was
@@ -100,10 +104,22 @@ restarted_sound was sound like fits = record {
   pending = tt;
 }
 
--- a member stands in place of another, behind at least as many events
+-- Where an event of a member comes, the stored events are plain still.
+module _ {old : Whole} (world : IsWorld old) where
+  pub one_of_eight : {r : ℕ} → IsMember (length old.members) r → IsMember 8 r
+  one_of_eight member =
+      record { at_least = member.at_least; at_most = omega (arith, member.at_most, world.count.at_most) }
+
+  pub plain_with : {r : ℕ} (event : Event) → IsMember (length old.members) r → actor event ≡ r
+      → IsPlain (old.events ++ event ∷ [])
+  plain_with event member own =
+      All-push (λ e. IsMember 8 (actor e)) old.events event world.plain
+      (subst (IsMember 8) (sym own) (one_of_eight member))
+
+-- a member stands in place of another, behind at least as many events, which are plain
 module _ (old : Whole) (events : List Event) (r : ℕ) (was now : Member) (is : IsNumbered old.members r was)
     (world : IsWorld old) (sound : IsSoundMember (length old.members) (length events) r now)
-    (grown : length old.events ≤ length events) where
+    (grown : length old.events ≤ length events) (plain : IsPlain events) where
   abbrev holding : List Member
   holding = slice_set old.members (r - 1) now
 
@@ -126,6 +142,7 @@ module _ (old : Whole) (events : List Event) (r : ℕ) (was now : Member) (is : 
       subst (λ list. IsWorld (record old { members = list; events = events })) (sym holds) (record {
         count = subst IsCount (sym as_many) world.count;
         sound = λ q found at. subst (λ n. IsSoundMember n (length events) q found) (sym as_many) (each q found at);
+        plain = plain;
         counted = world.counted;
         few = world.few;
         within = world.within;
@@ -177,11 +194,12 @@ each_counted tells position index (bytes ∷ more) old result left some room cou
 
 -- something is posted, with at least as many events stored
 module _ (old : Whole) (world : IsWorld old) where
-  pub more_stored : (events : List Event) → length old.events ≤ length events
+  pub more_stored : (events : List Event) → length old.events ≤ length events → IsPlain events
       → IsWorld (record old { events = events })
-  more_stored events grown = record {
+  more_stored events grown plain = record {
     count = world.count;
     sound = λ r member is. member_more (world.sound r member is) grown;
+    plain = plain;
     counted = world.counted;
     few = world.few;
     within = world.within;
@@ -191,6 +209,7 @@ module _ (old : Whole) (world : IsWorld old) where
   world_posted post counts = record {
     count = world.count;
     sound = world.sound;
+    plain = world.plain;
     counted = counts.counted;
     few = counts.few;
     within = counts.within;

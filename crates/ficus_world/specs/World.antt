@@ -23,6 +23,7 @@ use Rattle.ficus_runs.specs.ModelWorld.{ModelWorld, Standing}
 use Rattle.ficus_runs.specs.ModelWorld as model
 use Rattle.ficus_runs.specs.Numbered.{IsNumbered}
 use Rattle.ficus_runs.specs.RunWorld.{IsRunWorld}
+use Rattle.ficus_why.specs.Plain.{IsPlain}
 use Rattle.ficus_opening.specs.declared.member.Member.{Member}
 use Rattle.ficus_opening.specs.declared.member.MemberState.{MemberState}
 use Rattle.ficus_opening.specs.declared.member.MemberState.TheVariants as state
@@ -94,25 +95,27 @@ pub record IsSound (count events r : ℕ) (replica : Replica) : Type 0 where
   pub fits : FitsImage replica.saved
   pub generation : replica.saved.generation ≤ 2 ^ 62 + events
 
--- what is pending at a member that is down has saved once more than it
+-- what is pending at a member that is down has saved once more than it, and its event is the member's own
 abbrev pub IsPendingSound : ℕ → ℕ → ℕ → Replica → MemberState → Type 0
 IsPendingSound count events r replica state.Up = Unit {0}
 IsPendingSound count events r replica (state.Down None) = Unit {0}
 IsPendingSound count events r replica (state.Down (Some pending)) =
     IsSound count (events + 1) r pending.replica
     × (pending.replica.saved.generation ≡ replica.saved.generation + 1)
+    × (actor pending.event ≡ r)
 
 -- what holds of each member of every world
 pub record IsSoundMember (count events r : ℕ) (member : Member) : Type 0 where
   pub replica : IsSound count events r member.replica
   pub pending : IsPendingSound count events r member.replica member.state
 
--- what holds of every world: of its members; and something lies behind each message, which has as many bytes at least
--- as the smallest, so that there are no more than have room in one run
+-- what holds of every world: of its members; the stored events are plain; and something lies behind each message, which
+-- has as many bytes at least as the smallest, so that there are no more than have room in one run
 pub record IsWorld (world : Whole) : Type 0 where
   pub count : IsCount (length world.members)
   pub sound : (r : ℕ) (member : Member) → IsNumbered world.members r member
       → IsSoundMember (length world.members) (length world.events) r member
+  pub plain : IsPlain world.events
   pub counted : length world.post.posts ≡ length world.post.behind
   pub few : smallest_message * length world.post.posts ≤ world.post.total
   pub within : length world.post.posts ≤ message_limit

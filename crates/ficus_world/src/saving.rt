@@ -1,5 +1,6 @@
 ghost use Rattle.std.specs.Prelude.{◌≡◌, ◌+◌, ◌<◌, ◌≤◌, ℕ, Err, List, length};
 ghost use Rattle.ficus_ids.specs.Members.{IsMember};
+ghost use Rattle.ficus_model.specs.Events.{actor};
 ghost use Rattle.ficus_keeper.specs.Framed.{body_in};
 ghost use Rattle.ficus_stable_storage.specs.Leads.Holds.{Leads};
 ghost use Rattle.ficus_runs.specs.Numbered.{IsNumbered};
@@ -37,6 +38,7 @@ impl<K: Keep + Drop, L: Link + Drop> World<K, L> {
         requires room { length self.old.whole.events < event_limit + most_events }
         requires backed { IsBacked K.Keep D.Disk self.old disks.old.items }
         requires up { IsUpIn self.old.whole by }
+        requires own { actor next.event ≡ by }
         requires next { (was : MemberValue) → IsNumbered self.old.whole.members by was
             → IsSoundNext (length self.old.whole.members) (length self.old.whole.events) by (body_in noted.items)
             was.replica next.replica }
@@ -60,6 +62,7 @@ impl<L: Link + Drop> Group<L> {
         requires stables { length stables.old.items ≡ length self.old.members }
         requires backed { IsBacked K.Keep D.Disk (backed_by self.old stables.old.items) disks.old.items }
         requires up { IsUpIn self.old by }
+        requires own { actor next.event ≡ by }
         requires next { (was : MemberValue) → IsNumbered self.old.members by was
             → IsSoundNext (length self.old.members) (length self.old.events) by (body_in noted.items) was.replica
             next.replica }

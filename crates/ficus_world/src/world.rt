@@ -41,11 +41,13 @@ impl<K: Keep + Drop, L: Link + Drop> Model for World<K, L> {
 }
 
 impl<K: Keep + Drop, L: Link + Drop> World<K, L> {
+    ghost use Rattle.ficus_why.specs.Plain.{IsPlain};
     ghost use Rattle.ficus_world.specs.World.{IsReplica, IsUpIn};
 
-    /// The events of this run.
+    /// The events of this run, each of a replica from 1 to 8.
     pub fn history(&self) -> &History
-        ensures { result.now.events ≡ self.now.whole.events }
+        ensures events { result.now.events ≡ self.now.whole.events }
+        ensures plain { IsPlain result.now.events }
     {
         &self.group.history
     }

@@ -22,7 +22,7 @@ pub returns-clause-answers : goal.returns-clause-answers
 returns-clause-answers g c = λ volume W stands.
     why_told volume W c.args.world.now.whole stands c.args.by c.in_ok-lines.lines
     (c.replica.ensures.up.0 c.if-is_none.ensures)
-    (rw c.history.ensures at c.in_ok-lines.ensures)
+    (rw c.history.ensures.events at c.in_ok-lines.ensures)
 
 pub returns-in_err-lines-clause-wants : goal.returns-in_err-lines-clause-wants
 returns-in_err-lines-clause-wants g c = λ volume W stands.
@@ -42,7 +42,7 @@ returns-then-is_none-clause-explains g c =
 
 pub returns-clause-explains : goal.returns-clause-explains
 returns-clause-explains g c =
-    OfOneUp (c.replica.ensures.up.0 c.if-is_none.ensures) (rw c.history.ensures at c.in_ok-lines.ensures)
+    OfOneUp (c.replica.ensures.up.0 c.if-is_none.ensures) (rw c.history.ensures.events at c.in_ok-lines.ensures)
 
 pub returns-in_err-lines-clause-up : goal.returns-in_err-lines-clause-up
 returns-in_err-lines-clause-up g c =

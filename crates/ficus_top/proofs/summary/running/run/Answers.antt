@@ -16,9 +16,9 @@ overflow_sub-result g c =
     omega (
       arith,
       c.len.ensures.value,
-      ap length c.history-2.ensures,
+      ap length c.history-2.ensures.events,
       c.len-before.ensures.value,
-      ap length c.history.ensures,
+      ap length c.history.ensures.events,
       stored_more keeper g.D.Disk c.args.members c.args.commands.now c.args.world.now.whole
           c.count_all.new.world.whole c.in_ok-tally.tally c.args.disks.now.items c.count_all.new.disks.items
           (c.in_ok-tally.ensures.answers tt (tells_all c.requires.tells c.args.commands.now)
@@ -36,8 +36,8 @@ returns g c = record {
       (omega (
         arith,
         c.len.ensures.value,
-        ap length c.history-2.ensures,
+        ap length c.history-2.ensures.events,
         c.len-before.ensures.value,
-        ap length c.history.ensures,
+        ap length c.history.ensures.events,
       ));
 }

@@ -1,4 +1,4 @@
-use Rattle.std.proofs.Common.{length}
+use Rattle.std.proofs.Common.{length, refl}
 use Rattle.ficus_ids.specs.Members.{IsMember}
 use Rattle.ficus_model.specs.declared.event.Event.TheVariants.{Take}
 use Rattle.ficus_runs.proofs.Numbers.{number_exists}
@@ -18,4 +18,4 @@ invariant_of-self-2 g c =
     gathered_inside inside.members.items inside.history.events inside.post.now to was.0
     (with_part (parts_held was.0.parts head) head.index c.args.bytes.now)
     (Take to c.behind-serve.result.position head.index) c.add_piece.new.members.items c.push.new.self.events
-    c.self.invariant was.1 (c.in_ok-add_piece.ensures.added was.0 was.1) stored
+    c.self.invariant was.1 refl (c.in_ok-add_piece.ensures.added was.0 was.1) stored

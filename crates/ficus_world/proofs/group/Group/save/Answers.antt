@@ -29,7 +29,7 @@ invariant_of-self-2 g c =
     let stored = rw c.reserve.ensures.events at c.commit_next.ensures.stored in
     let kept = rw c.reserve.ensures.events at c.commit_next.ensures.kept in
     kept_world old c.args.by c.args.next c.commit_next.new.members.items c.commit_next.new.history.events c.commit_next.result
-    c.requires.up.member is c.requires.up.up sound c.self.invariant c.commit_next.ensures.held stored c.commit_next.ensures.pending kept
+    c.requires.up.member is c.requires.up.up sound c.requires.own c.self.invariant c.commit_next.ensures.held stored c.commit_next.ensures.pending kept
 
 pub commit_next-requires-clause-pair : goal.commit_next-requires-clause-pair
 commit_next-requires-clause-pair g c =

@@ -12,7 +12,8 @@ use Rattle.ficus_world.specs.Moves.{AsksWith, HasRoomFor, KeepsAsk, advanced, as
 use Rattle.ficus_world.specs.World.{Whole, IsWorld, backed_by, smallest_message, whole_of}
 use Rattle.ficus_world.proofs.Fuses.{comes_then}
 use Rattle.ficus_world.proofs.Sending.{as_reserved, ask_sent, ask_size, some_bytes, unready, unsaved}
-use Rattle.ficus_world.proofs.SoundWorlds.{held_sound, put_down_sound, sent_counts, world_after, world_posted}
+use Rattle.ficus_world.proofs.SoundWorlds.{held_sound, plain_with, put_down_sound, sent_counts, world_after, world_posted}
+use Rattle.ficus_why.specs.Plain.{IsPlain}
 use Rattle.ficus_world.specs.Acts.{Acts}
 use Rattle.ficus_world.proofs.Acting.{kept_acts, ready_acts}
 use Rattle.ficus_world.proofs.Kills.{rests_then_writes}
@@ -66,8 +67,8 @@ invariant_of-self-in_err-commit_next g c =
     let was = asking.0 in
     let world : IsWorld old = c.self.invariant in
     let sound = put_down_sound {pending = pending_of c.args.asking.replica (Ask by c.args.to)}
-    (world.sound by was asking.1.is) asking.2 in
-    let next = world_after old old.events by was _ asking.1.is world sound (omega arith) c.commit_next.new.members.items
+    (world.sound by was asking.1.is) asking.2 refl in
+    let next = world_after old old.events by was _ asking.1.is world sound (omega arith) world.plain c.commit_next.new.members.items
     (c.in_err-commit_next.ensures.pending was asking.1.is) in
     rw (c.in_err-commit_next.ensures.kept, c.in_ok-make_ready.ensures.events, c.in_ok-make_ready.ensures.post) next
 
@@ -114,7 +115,7 @@ invariant_of-self-2 g c =
     let longer = ap length events ∙ length_push c.self.inside.history.events (Ask by to) in
     let sound = rw (sym longer) at (held_sound was (parts_after (Ask by to) was.parts) asking.1.up asking.2) in
     let next = world_after old c.commit_next.new.history.events by was _ asking.1.is world sound (omega (arith, longer))
-    c.commit_next.new.members.items (c.in_ok-commit_next.ensures.held was asking.1.is) in
+    (subst IsPlain (sym events) (plain_with world (Ask by to) asking.1.is.member refl)) c.commit_next.new.members.items (c.in_ok-commit_next.ensures.held was asking.1.is) in
     let some : smallest_message ≤ length c.args.asking.message.items =
     subst (λ bytes. smallest_message ≤ length bytes) (sym message) (some_bytes (ask_of by to asked)) in
     let sent = rw c.in_ok-make_ready.ensures.post at c.send.ensures.sent in

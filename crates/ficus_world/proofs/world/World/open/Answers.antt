@@ -25,8 +25,14 @@ use Rattle.ficus_world.proofs.world.World.open.Goals as goal
 
 pub invariant_of-group : goal.invariant_of-group
 invariant_of-group g c =
-    opened_world c.in_ok-members.field-0.members.items c.in_ok-members.ensures.opened.opened c.in_ok-members.ensures.count
-    c.in_ok-members.ensures.counted c.in_ok-restart_all.field-0.events c.new.result.now
+    let opens = c.in_ok-members.ensures in
+    let members = c.in_ok-members.field-0.members.items in
+    opened_world members opens.opened.opened opens.count opens.counted c.in_ok-restart_all.field-0.events
+    c.new.result.now
+    (c.in_ok-restart_all.ensures
+    ∙ ap (λ n. restarts n)
+    (opens.counted c.index.result.now
+    (number_at members 0 c.index.result.now (omega (arith, opens.count.at_least)) c.index.ensures)))
     (empty_post c.new.result.now _ _ _ c.new.ensures c.requires.link)
 
 -- a fault is told
