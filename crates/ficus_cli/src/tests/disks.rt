@@ -1,5 +1,6 @@
 // Pairs of disks in memory, one for each of eight replicas.
-use ficus_disk::{FailDisk, MemDisk, Pair};
+use ficus_disk::{FailDisk, MemDisk, Pair, TraceDisk};
+use ficus_ids::Memory;
 use std::alloc::{AllocError, Global};
 
 /// Empty disks with fuses.
@@ -41,4 +42,20 @@ fn failing_disk(alloc: Global, call: u32, fails: bool) -> Result<FailDisk, Alloc
         calls.push(call)?;
     }
     Ok(FailDisk::new(alloc, calls))
+}
+
+/// Empty disks that record what is done with them, and so tell what a kill at any moment left.
+pub(crate) fn recording_pairs(alloc: Global) -> Result<Vec<Pair<TraceDisk>>, Memory> {
+    let mut pairs = Vec::new(alloc);
+    for _ in 0..8u8 {
+        pairs.push(Pair {
+            a: recording_disk(alloc)?,
+            b: recording_disk(alloc)?,
+        })?;
+    }
+    Ok(pairs)
+}
+
+fn recording_disk(alloc: Global) -> Result<TraceDisk, Memory> {
+    TraceDisk::new(alloc, 256, 16_384)
 }

@@ -1,6 +1,6 @@
 // Volumes that are made, and run, over disks without fuses that are kept from one call to the next.
 use crate::tests::calls::{Call, DONE, ends_so};
-use crate::tests::disks::{failing_pairs, pairs};
+use crate::tests::disks::{failing_pairs, pairs, recording_pairs};
 use ficus_disk::{Disk, Pair};
 use ficus_top::Status;
 use std::alloc::Global;
@@ -243,9 +243,24 @@ fn hold_all<D: Disk>(disks: &mut Vec<Pair<D>>, held: &[Held]) -> Result<(), Fail
 // The place of the first call that doesn't end as it says, if there is one.
 fn first_ended_otherwise(alloc: Global, volume: &Volume) -> Result<Option<usize>, Fail> {
     let mut disks = pairs(alloc)?;
-    hold_all(&mut disks, volume.held)?;
+    first_ended_otherwise_on(alloc, volume, &mut disks)
+}
+
+// The same over empty disks that tell past moments.
+fn first_ended_otherwise_where_told(alloc: Global, volume: &Volume) -> Result<Option<usize>, Fail> {
+    let mut disks = recording_pairs(alloc)?;
+    first_ended_otherwise_on(alloc, volume, &mut disks)
+}
+
+// The same over these empty disks.
+fn first_ended_otherwise_on<D: Disk>(
+    alloc: Global,
+    volume: &Volume,
+    disks: &mut Vec<Pair<D>>,
+) -> Result<Option<usize>, Fail> {
+    hold_all(disks, volume.held)?;
     for (place, call) in volume.calls.iter().enumerate() {
-        if !ends_so(alloc, call, &mut disks)? {
+        if !ends_so(alloc, call, disks)? {
             return Ok(Some(place));
         }
     }
@@ -255,6 +270,13 @@ fn first_ended_otherwise(alloc: Global, volume: &Volume) -> Result<Option<usize>
 #[test]
 fn a_days_work_is_kept_from_one_call_to_the_next(rt: HostRuntime) -> Result<(), Fail> {
     let place = first_ended_otherwise(rt.alloc(), &DAYS_WORK)?;
+    assert!(rt; place.is_none(), "{place:?}");
+    Ok(())
+}
+
+#[test]
+fn a_days_work_goes_on_over_disks_that_tell_past_moments(rt: HostRuntime) -> Result<(), Fail> {
+    let place = first_ended_otherwise_where_told(rt.alloc(), &DAYS_WORK)?;
     assert!(rt; place.is_none(), "{place:?}");
     Ok(())
 }
