@@ -1,4 +1,4 @@
-ghost use Rattle.std.specs.Prelude.{◌≡◌, ◌≢◌, ◌↔◌, List, ℕ, ◌++◌, Contains, IsTrue, IfOk, IsErrOf};
+ghost use Rattle.std.specs.Prelude.{◌≡◌, ◌≢◌, ◌↔◌, List, ℕ, ◌++◌, Contains, IsErr, IsTrue, IfOk, IsErrOf, Ok, false, true};
 ghost use Rattle.ficus_codec.specs.Formats.{tables};
 ghost use Rattle.ficus_formats.specs.Format.{ReadsAll};
 ghost use Rattle.ficus_ids.specs.Members.{IsMember};
@@ -148,10 +148,21 @@ fn read_image(alloc: Global, reader: Reader<'_>) -> Result<Spelled, ReadFault>
     ensures memory { IsErrOf result ReadFault.Memory → BeginsFront reader.entry }
 {
     let spelled = read_parts(alloc, reader)?;
-    if fits_spelled(&spelled)? {
-        Ok(spelled)
-    } else {
-        Err(ReadFault::Unspelled)
+    let fits = fits_spelled(&spelled);
+    where_it_fits(spelled, fits)
+}
+
+// What was spelled, where it was found that it may stand in an image. Want of memory is told exactly where it kept that
+// from being found.
+fn where_it_fits(spelled: Spelled, fits: Result<bool, Memory>) -> Result<Spelled, ReadFault>
+    ensures read { IfOk result (λ read. (read ≡ spelled) × (fits ≡ Ok true)) }
+    ensures unspelled { IsErrOf result ReadFault.Unspelled ↔ fits ≡ Ok false }
+    ensures memory { IsErrOf result ReadFault.Memory ↔ IsErr fits }
+{
+    match fits {
+        Ok(true) => Ok(spelled),
+        Ok(false) => Err(ReadFault::Unspelled),
+        Err(Memory) => Err(ReadFault::Memory),
     }
 }
 
