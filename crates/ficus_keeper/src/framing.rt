@@ -1,5 +1,5 @@
 // Frames: what is saved, with room around it for what a keeper puts there.
-ghost use Rattle.std.specs.Prelude.{◌≡◌, ◌+◌, ◌^◌, ◌<◌, ◌≤◌, OnErr, OnOk, length, vec_capacity};
+ghost use Rattle.std.specs.Prelude.{◌≡◌, ◌+◌, ◌^◌, ◌<◌, ◌≤◌, OnErr, OnOk, length, max, vec_capacity};
 ghost use Rattle.ficus_keeper.specs.Framed.{IsFramed, body_in, empty_head, head_size};
 
 use ficus_ids::Memory;
@@ -39,10 +39,13 @@ fn hold_head(buffer: &mut Vec<u8>) -> Result<(), Memory>
     Ok(())
 }
 
-/// Takes the room behind what is saved. Where it isn't there, one byte more is taken, since an image may be large.
+/// Takes the room behind what is saved. Where it isn't there, one byte more is taken and nothing else, since an image
+/// may be large.
 pub fn end_frame(framed: &mut Vec<u8>) -> Result<(), Memory>
     ensures same { framed.new.items ≡ framed.old.items }
     ensures room { OnOk result (1 + length framed.new.items ≤ vec_capacity framed.new) }
+    ensures no_more { OnOk result (vec_capacity framed.new
+        ≡ max (vec_capacity framed.old) (1 + length framed.old.items)) }
 {
     framed.reserve_exact(1)?;
     Ok(())

@@ -1,5 +1,5 @@
 // What a save writes stands in a frame: an image, or the record of what has changed.
-ghost use Rattle.std.specs.Prelude.{◌≡◌, ◌+◌, ◌≤◌, ◌++◌, ℕ, List, IfOk, OnOk, length};
+ghost use Rattle.std.specs.Prelude.{◌≡◌, ◌+◌, ◌≤◌, ◌++◌, ℕ, List, IfOk, OnOk, length, max, vec_capacity};
 ghost use Rattle.ficus_durable_state.specs.Saved.{FitsImage};
 ghost use Rattle.ficus_image.specs.Image.{image_bytes};
 ghost use Rattle.ficus_keeper.specs.Framed.{IsFramed, body_in, empty_head, head_size};
@@ -66,7 +66,7 @@ fn record_frame(alloc: Global) -> Result<Vec<u8>, Memory>
 }
 
 /// Holds what the keeper wants in a frame, in place of what the buffer holds: the image of what is saved next, or the
-/// record that leads to it.
+/// record that leads to it. A record keeps the room that it came with, but for one byte: what the buffer had is given up.
 pub(crate) fn frame_wanted(
     buffer: &mut Vec<u8>,
     wants: Wants,
@@ -78,6 +78,8 @@ pub(crate) fn frame_wanted(
     ensures framed { OnOk result (IsFramed buffer.new) }
     ensures image { wants ≡ Wants.Image → OnOk result (body_in buffer.new.items ≡ image_bytes next.now) }
     ensures noted { wants ≡ Wants.Record → OnOk result (body_in buffer.new.items ≡ body_in noted.items) }
+    ensures room { wants ≡ Wants.Record → OnOk result (vec_capacity buffer.new
+        ≡ max (vec_capacity noted) (1 + length noted.items)) }
 {
     match wants {
         Wants::Image => {
