@@ -32,7 +32,7 @@ pub never_store : {A : Type 0} (fault : WorldFault) → IsUnfailed fault → (r 
 never_store fault unfailed r is = subst IsUnfailed (same_err fault (Store r) is) unfailed
 
 -- where no number was armed on a pair, none is
-abbrev StayUnarmed : {D : Type 0} → Disk D → Pair D → Pair D → Type 0
+abbrev pub StayUnarmed : {D : Type 0} → Disk D → Pair D → Pair D → Type 0
 StayUnarmed disk old new =
     disk.tells_fuse → fuses_of disk.fuse old ≡ both_unarmed → fuses_of disk.fuse new ≡ both_unarmed
 

@@ -1,5 +1,5 @@
 -- What each call on the disks of a volume's members promises, by name. The world's calls of the same names say it too.
-use Rattle.std.specs.Prelude.{◌≡◌, ◌↔◌, ◌≤◌, ◌⊎◌, ℕ, Bool, List, length, Some, None, Result, Err, IfErr, IfOk, IsErrOf, IsTrue, OnErr, OnOk}
+use Rattle.std.specs.Prelude.{◌≡◌, ◌↔◌, ◌≤◌, ◌⊎◌, ℕ, Bool, List, length, Some, None, Result, Err, IfErr, IfOk, IsErrOf, IsTrue, OnOk}
 use Rattle.ficus_opening.specs.Check.Judged.{HoldsNoneOf, IsEmptyPair, IsJudged, IsOwn}
 use Rattle.ficus_opening.specs.declared.check.checked.Checked.{Checked}
 use Rattle.ficus_disk.specs.declared.disk.Disk.{Ghosts as Disk}

@@ -5,3 +5,4 @@ pub mod Disks
 pub mod Opening
 pub mod Calls
 pub mod Check
+pub mod Fault

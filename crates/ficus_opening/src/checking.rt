@@ -1,4 +1,4 @@
-ghost use Rattle.std.specs.Prelude.{◌≡◌, ℕ, ⊤, List, length};
+ghost use Rattle.std.specs.Prelude.{◌≡◌, ℕ, ⊤, IfOk, List, length};
 ghost use Rattle.ficus_opening.specs.Check.Judged.{HoldsNoneOf, IsEmptyPair, IsOfVolume, IsSound};
 ghost use Rattle.ficus_opening.specs.declared.check.checked.Checked.{Checked as CheckedValue};
 ghost use Rattle.ficus_disk.specs.declared.pair.Pair.{Pair as PairValue};
@@ -6,8 +6,10 @@ ghost use Rattle.ficus_ids.specs.Members.{IsMember};
 ghost use Rattle.ficus_keeper.specs.Kept.{found_in};
 ghost use Rattle.ficus_stable_storage.specs.Leads.Holds.{Holds};
 ghost use Rattle.ficus_runs.specs.Numbered.{IsNumbered};
+ghost use Rattle.ficus_durable_state.specs.Saved.{FitsImage};
 ghost use Rattle.ficus_durable_state.specs.declared.saved.Saved.{Saved as SavedValue};
 ghost use Rattle.ficus_opening.specs.Calls.{ChecksDisks, JudgesPair};
+ghost use Rattle.ficus_opening.specs.Fault.{checked_of};
 ghost use Rattle.ficus_opening.specs.Opening.{IsBad, Opens};
 
 use crate::WorldFault;
@@ -16,6 +18,7 @@ use crate::looking::look_at;
 use crate::opening::open_one;
 use ficus_disk::{Disk, Pair};
 use ficus_keeper::Keep;
+use ficus_stable_storage::Recovered;
 use std::alloc::Global;
 
 /// Judges what the disks of one replica hold, by what is said of this replica alone: nothing; something, and
@@ -60,7 +63,17 @@ fn judge<K: Keep + Drop, D: Disk>(
 ) -> Result<Checked, WorldFault>
     ensures { JudgesPair K.Keep D.Disk number (IsEmptyPair D.seen pair.old → ⊥) result pair.old pair.new }
 {
-    match open_one::<K, D>(alloc, pair, number) {
+    checked_of(open_one::<K, D>(alloc, pair, number))
+}
+
+// What a check tells of what was opened: no image is damage, and any other fault is handed on as what it is.
+fn checked_of<K: Keep + Drop>(
+    opened: Result<Recovered<K>, WorldFault>,
+) -> Result<Checked, WorldFault>
+    requires { IfOk opened (λ found. FitsImage found.saved) }
+    ensures { result ≡ checked_of opened }
+{
+    match opened {
         Ok(found) => Ok(soundness_of(&found.saved)),
         Err(WorldFault::Image(_)) => Ok(Checked::Damaged),
         Err(fault) => Err(fault),

@@ -4,6 +4,7 @@ ghost use Rattle.ficus_ids.specs.Members.{IsMember};
 ghost use Rattle.ficus_runs.specs.Numbered.{IsNumbered};
 ghost use Rattle.ficus_opening.specs.Calls.{AreOpenedOn, OpensMember, OpensMembers, OpensNext};
 ghost use Rattle.ficus_opening.specs.Disks.{are_fused};
+ghost use Rattle.ficus_opening.specs.Fault.{told_of};
 ghost use Rattle.ficus_opening.specs.Opening.{opened_member};
 ghost use Rattle.ficus_opening.specs.declared.member.Member.{Member as MemberValue};
 
@@ -99,9 +100,18 @@ pub(crate) fn open_one<K: Keep + Drop, D: Disk>(
 {
     match open_own(alloc, pair, number) {
         Ok(found) => Ok(found),
-        Err(StoreFault::Failed) => Err(WorldFault::Store(number)),
-        Err(StoreFault::NoImage) => Err(WorldFault::Image(number)),
-        Err(StoreFault::Memory) => Err(WorldFault::Memory),
+        Err(fault) => Err(told_of(number, fault)),
+    }
+}
+
+// What is told where the disks of this replica weren't opened. Want of memory, and nothing else, is told as what it is.
+fn told_of(number: u8, fault: StoreFault) -> WorldFault
+    ensures { result ≡ told_of number fault }
+{
+    match fault {
+        StoreFault::Failed => WorldFault::Store(number),
+        StoreFault::NoImage => WorldFault::Image(number),
+        StoreFault::Memory => WorldFault::Memory,
     }
 }
 

@@ -1,55 +1,62 @@
-use Rattle.std.proofs.Common.{rules, Err, ap, refl, ◌∙◌}
-use Rattle.ficus_opening.specs.Check.Judged.{soundness_of}
+use Rattle.std.proofs.Common.{ℕ, Result, Ok, Err, refl}
+use Rattle.ficus_disk.specs.declared.disk.Disk.{Ghosts as Disk}
+use Rattle.ficus_disk.specs.declared.pair.Pair.{Pair}
+use Rattle.ficus_keeper.specs.declared.keep.Keep.{Ghosts as Keep}
+use Rattle.ficus_stable_storage.specs.declared.stable.Recovered.{Recovered}
+use Rattle.ficus_opening.specs.Calls.{JudgesPair, OpensMember}
+use Rattle.ficus_opening.specs.Check.Judged.{IsEmptyPair, soundness_of}
+use Rattle.ficus_opening.specs.Fault.{checked_of}
+use Rattle.ficus_opening.specs.declared.fault.WorldFault.{WorldFault}
+use Rattle.ficus_opening.specs.declared.fault.WorldFault.TheVariants.{Image, Memory, Occupied, Store}
 use Rattle.ficus_opening.proofs.check.Owning.{holds_same}
-use Rattle.ficus_opening.specs.declared.fault.WorldFault.TheVariants.{Image, Occupied}
-use Rattle.ficus_opening.proofs.Asking.{asked_ok, err_as, looked_err, looked_then}
+use Rattle.ficus_opening.proofs.Asking.{asked_ok, looked_err, looked_then}
 use Rattle.ficus_opening.proofs.checking.judge.Goals as goal
 
-pub returns-in-Ok : goal.returns-in-Ok
-returns-in-Ok g c =
-    let opens = c.in-Ok.ensures in
-    let old = c.args.pair.now in
-    let saved = c.in-Ok.found.saved in
+-- what a check tells of what was opened is so
+told_so : {K D : Type 0} (keep : Keep K) (disk : Disk D) (number : ℕ) (old new : Pair D)
+    (opened : Result (Recovered K) WorldFault) → OpensMember keep disk number opened old new
+    → JudgesPair keep disk number (IsEmptyPair disk.seen old → ⊥) (checked_of opened) old new
+told_so keep disk number old new (Ok found) opens = record {
+  judged = λ told some. record {
+    some = some;
+    saved = found.saved;
+    fits = opens.fits;
+    holds = holds_same keep.kept disk.seen old new found.saved (opens.looked.same told) (opens.ready told).holds;
+    own = opens.own;
+    says = refl {a = soundness_of found.saved};
+  };
+  never_occupied = λ r is. absurd (cc);
+  never_image = λ r is. absurd (cc);
+  looked = looked_then _ (λ r is. absurd (cc)) opens.looked;
+}
+told_so keep disk number old new (Err (Image r)) opens =
+    let looked = opens.looked in
     record {
-      judged = λ told some. rw c.soundness_of.ensures (record {
-        some = some;
-        saved = saved;
-        fits = opens.fits;
-        holds = holds_same g.K.Keep.kept g.D.Disk.seen old c.open_one.new.pair saved (opens.looked.same told)
-            (opens.ready told).holds;
-        own = opens.own;
-        says = refl {a = soundness_of saved};
-      });
-      never_occupied = λ r is. absurd (cc);
-      never_image = λ r is. absurd (cc);
-      looked = looked_then _ (λ r is. absurd (cc)) opens.looked;
-    }
-
-pub returns-in-Err-Image : goal.returns-in-Err-Image
-returns-in-Err-Image g c =
-    let was = c.in-Err-Image.is ∙ ap (λ fault. Err fault) c.in-Err-Image.field-0-is in
-    let looked = c.open_one.ensures.looked in
-    record {
-      judged = λ told some. record {
-        some = some;
-        none = (c.open_one.ensures.image told c.in-Err-Image.field-0-0 was).1;
-      };
-      never_occupied = λ r is. absurd (cc);
-      never_image = λ r is. absurd (cc);
+      judged = λ told some. record { some = some; none = (opens.image told r refl).1 };
+      never_occupied = λ q is. absurd (cc);
+      never_image = λ q is. absurd (cc);
       looked = record {
-        asked = asked_ok (looked.asked.spared (Image c.in-Err-Image.field-0-0) tt was) looked.asked.armings
+        asked = asked_ok (looked.asked.spared (Image r) tt refl) looked.asked.armings
             (λ fused. (looked.asked.unfailing fused).unarmed);
         same = looked.same;
         rests = looked.rests;
       };
     }
+told_so keep disk number old new (Err (Occupied r)) opens = absurd (opens.never r refl)
+told_so keep disk number old new (Err (Store r)) opens = record {
+  judged = λ told some. tt;
+  never_occupied = λ q is. absurd (cc);
+  never_image = λ q is. absurd (cc);
+  looked = looked_err (Store r) opens.looked;
+}
+told_so keep disk number old new (Err Memory) opens = record {
+  judged = λ told some. tt;
+  never_occupied = λ q is. absurd (cc);
+  never_image = λ q is. absurd (cc);
+  looked = looked_err Memory opens.looked;
+}
 
-pub returns-in-Err : goal.returns-in-Err
-returns-in-Err g c =
-    let opens = c.in-Err.ensures in
-    record {
-      judged = λ told some. tt;
-      never_occupied = λ r is. opens.never r (err_as c.in-Err.fault (Occupied r) is);
-      never_image = search rules;
-      looked = looked_err c.in-Err.fault opens.looked;
-    }
+pub returns : goal.returns
+returns g c =
+    rw c.checked_of.ensures
+    (told_so g.K.Keep g.D.Disk c.args.number c.args.pair.now c.open_one.new.pair c.open_one.result c.open_one.ensures)
