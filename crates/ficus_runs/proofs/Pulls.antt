@@ -29,7 +29,7 @@ use Rattle.ficus_runs.specs.Run.{Does}
 use Rattle.ficus_runs.specs.Sequence.{ByRule, First, Effect}
 use Rattle.ficus_runs.specs.Sequence.First.{Ends, Goes}
 use Rattle.ficus_runs.specs.Sequence.ByRule.{Says}
-use Rattle.ficus_runs.proofs.Never.{of_asking, at_peers_never, asks_never, serves_never}
+use Rattle.ficus_runs.proofs.Never.{of_asking, of_taking, also_asking, at_peers_never, asks_never, serves_never}
 use Rattle.ficus_runs.proofs.Numbers.{number_end, number_more}
 use Rattle.ficus_runs.proofs.Rules.{behind_once}
 use Rattle.ficus_runs.proofs.Serving.{some_messages}
@@ -148,13 +148,13 @@ module _ (W : ModelWorld) (serve asker next number : ℕ) (numbers : List ℕ)
   module _ (volume : Volume) where
     -- taking the next piece ends only where its save fails
     taking_ends : (taking : Taking) (r : Refusal) (left : Effect ModelWorld)
-        → Taken asker serve next is.answer.pieces taking W (Err r) left → of_asking r ≡ true
+        → Taken asker serve next is.answer.pieces taking W (Err r) left → of_taking r ≡ true
     taking_ends (Again have) r left (Says none) = absurd none
     taking_ends (OneMore have) r left none = elim none [ ]
     taking_ends TheLast r left NotSaved = refl
 
     piece_ends : (r : Refusal) (left : Effect ModelWorld)
-        → TakesPiece volume serve asker next is.answer.pieces W (Err r) left → of_asking r ≡ true
+        → TakesPiece volume serve asker next is.answer.pieces W (Err r) left → of_taking r ≡ true
     piece_ends r left (Ends (Says (inl stale))) = absurd (stale.0 is.answer)
     piece_ends r left (Ends (Says (inr none))) = absurd none.1
     piece_ends r left (Goes (Says answers) (Ends (Says (inl mixed)))) = absurd (mixed.0 one_state)
@@ -225,13 +225,13 @@ module _ (W : ModelWorld) (serve asker next number : ℕ) (numbers : List ℕ)
         subst (λ b. Handles volume b W result left) (piece_behind found lies) handles
 
     mail_ends : (r : Refusal) (left : Effect ModelWorld) → GivesMail volume number W (Err r) left
-        → of_asking r ≡ true
+        → of_taking r ≡ true
     mail_ends r left (Ends (Says (inl none))) = absurd (none.0 is.posted.0.member)
     mail_ends r left (Ends (Says (inr none))) = absurd none.1
     mail_ends r left (Goes (Says some) (Ends NotFetched)) = refl
     mail_ends r left (Goes (Says some) (Goes Fetched (Ends (Says none)))) = absurd none
     mail_ends r left (Goes (Says some) (Goes Fetched (Goes (Says found) (Ends (Says (inl down)))))) =
-        ap of_asking down.1
+        ap of_taking down.1
     mail_ends r left (Goes (Says some) (Goes Fetched (Goes (Says found) (Ends (Says (inr none)))))) = absurd none.1
     mail_ends r left
         (Goes (Says some) (Goes Fetched (Goes {a = it} (Says found) (Goes {left = l} (Says up) handles)))) =
@@ -250,8 +250,8 @@ module _ (volume : Volume) (serve asker : ℕ) where
   nothing_given (number ∷ numbers) none W r left gives = omega (arith, none)
 
   -- the gives of the pieces end only so
-  gives_end : (numbers : List ℕ) (next : ℕ) (W : ModelWorld) → IsTaking W serve asker next numbers → (r : Refusal)
-      (left : Effect ModelWorld) → GivesEach volume numbers W (Err r) left → of_asking r ≡ true
+  pub gives_end : (numbers : List ℕ) (next : ℕ) (W : ModelWorld) → IsTaking W serve asker next numbers → (r : Refusal)
+      (left : Effect ModelWorld) → GivesEach volume numbers W (Err r) left → of_taking r ≡ true
   gives_end [] next W is r left (Says refused) = absurd refused
   gives_end (number ∷ numbers) next W is r left (Ends gives) = mail_ends W serve asker next number numbers is volume r _ gives
   gives_end (number ∷ numbers) next W is r left (Goes {a = given} {middle = m} {left = l} gives rest) =
@@ -463,7 +463,7 @@ module _ (volume : Volume) (W : ModelWorld) (by to size : ℕ) where
       (subst (λ b. Handles volume b one (Err r) l) (the_ask it (subst (LiesBehind one (length W.posted + 1)) (sym found.2) found.1))
       handles) refl)
 
-  ask_serves : (given : Answer) (middle : Effect ModelWorld)
+  pub ask_serves : (given : Answer) (middle : Effect ModelWorld)
       → GivesMail volume (length W.posted + 1) one (Ok given) middle → IsServing given middle.after
   ask_serves given middle
       (Goes (Says some) (Goes Fetched (Goes {a = it} (Says found) (Goes {left = l} (Says up) handles)))) =
@@ -482,7 +482,8 @@ module _ (volume : Volume) (W : ModelWorld) (by to : ℕ) where
   posted_end size number middle IsPosted r left (Ends gives) = ask_ends volume W by to size r _ gives
   posted_end size number middle IsPosted r left (Goes {a = given} {middle = m} {left = l} gives rest) =
       let serving = ask_serves volume W by to size given m gives in
-      gives_end volume (length (W.events ++ event.Ask by to ∷ [])) by (mails_of given) 0 m.after serving.taking r l rest
+      also_asking r
+      (gives_end volume (length (W.events ++ event.Ask by to ∷ [])) by (mails_of given) 0 m.after serving.taking r l rest)
 
   asked_end : (number : ℕ) (middle : Effect ModelWorld) → Asks volume by to W (Ok number) middle → (r : Refusal)
       (left : Effect ModelWorld) → BothGive number middle.after (Err r) left → of_asking r ≡ true

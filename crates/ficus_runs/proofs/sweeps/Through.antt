@@ -1,5 +1,5 @@
 -- A full link alone stops a sweep, where all members are up and nothing fails.
-use Rattle.std.proofs.Common.{◌≡◌, ◌≢◌, ℕ, zero, suc, ◌+◌, ◌-◌, ◌<◌, ◌≤◌, true, List, [], ◌∷◌, ◌++◌, Result, Ok, Err, refl, sym, subst, inl, inr, arith}
+use Rattle.std.proofs.Common.{◌≡◌, ◌≢◌, ℕ, zero, suc, ◌+◌, ◌-◌, ◌<◌, ◌≤◌, true, List, [], ◌∷◌, ◌++◌, Result, Ok, Err, refl, sym, ap, subst, inl, inr, arith}
 use Rattle.ficus_ids.specs.Members.{IsMember}
 use Rattle.ficus_ids.specs.declared.refusal.Refusal.{Refusal}
 use Rattle.ficus_ids.specs.declared.refusal.Refusal.TheVariants as refusal
@@ -26,16 +26,16 @@ use Rattle.ficus_runs.specs.ModelWorld.{ModelWorld, Posted, IsUp}
 use Rattle.ficus_runs.specs.Outcomes.{NothingFails}
 use Rattle.ficus_runs.specs.Peers.{ArePeers}
 use Rattle.ficus_runs.specs.Run.{Does}
-use Rattle.ficus_runs.specs.Sequence.{ByRule, First, Effect}
+use Rattle.ficus_runs.specs.Sequence.{ByRule, First, Effect, joined, unchanged}
 use Rattle.ficus_runs.specs.Sequence.First.{Ends, Goes}
 use Rattle.ficus_runs.specs.Sequence.ByRule.{Says}
 use Rattle.ficus_runs.specs.Sweep.{Collecting, CollectsAt, DoesSweepStep, Leg, Collects, Gathers, HandsOn, Pulling, PullsFrom, Spreads, SweepStep, Swept, Sweeps, leg_step, leg_steps, none_swept, ring_round, star_round, sweep_steps, with_answer}
-use Rattle.ficus_runs.specs.Sweeps.Laws.{GoesThrough, LacksRoom, SweepsGoThrough}
+use Rattle.ficus_runs.specs.Sweeps.Laws.{GoesThrough, StopsAtPull, SweepsGoThrough}
 use Rattle.ficus_runs.specs.Sweeps.Laws.GoesThrough.{IsCounted, IsFull}
-use Rattle.ficus_runs.specs.Sweeps.Laws.LacksRoom.{ForAsk, ForPieces}
 use Rattle.ficus_runs.proofs.Never.{of_asking}
 use Rattle.ficus_runs.proofs.Outcomes.{nothing_fails_both}
 use Rattle.ficus_runs.proofs.Pulls.{pull_refused}
+use Rattle.ficus_runs.proofs.sweeps.Stopping.{pull_full}
 use Rattle.ficus_runs.proofs.Up.{link_failed, save_failed}
 
 module _ (volume : Volume) where
@@ -44,19 +44,18 @@ module _ (volume : Volume) where
     lawful : IsLawful volume W.events
     up : (r : ℕ) → IsMember volume.members r → IsUp r W
 
-  -- refused so in this world; of other refusals nothing is said
-  abbrev MayStop : Refusal → ModelWorld → Type 0
-  MayStop refusal.Member V = ⊥
-  MayStop refusal.Down V = ⊥
-  MayStop refusal.LinkFull V = LacksRoom volume V
-  MayStop refusal.Link V = ⊥
-  MayStop refusal.Store V = ⊥
-  MayStop other V = Unit {0}
+  -- refused so at most; of refusals apart from asking, serving and saving nothing is said
+  abbrev MayStop : Refusal → Type 0
+  MayStop refusal.Member = ⊥
+  MayStop refusal.Down = ⊥
+  MayStop refusal.Link = ⊥
+  MayStop refusal.Store = ⊥
+  MayStop other = Unit {0}
 
   -- what comes of an action: the world is ready still, or it is refused so
   abbrev ComesOf : {A : Type 0} → Result A Refusal → ModelWorld → Type 0
   ComesOf (Ok a) V = IsReady V
-  ComesOf (Err r) V = MayStop r V
+  ComesOf (Err r) V = MayStop r
 
   -- so it is where the action begins in a ready world, and nothing fails
   abbrev Passes : (A : Type 0) → ModelWorld → ModelAction A → Type 0
@@ -76,14 +75,14 @@ module _ (volume : Volume) where
 
   -- where this is so, or else may stop it
   wants_pass : (good : ModelWorld → Type 0) (r : Refusal) (W : ModelWorld)
-      → (IsReady W → (good W → ⊥) → MayStop r W) → Passes (Unit {0}) W (Wants good r)
+      → (IsReady W → (good W → ⊥) → MayStop r) → Passes (Unit {0}) W (Wants good r)
   wants_pass good r W stops (Ok a) left ready none (Says is) = ready
   wants_pass good r W stops (Err s) left ready none (Says (inl refused)) =
-      subst (λ (by : Refusal). MayStop by W) (sym refused.1) (stops ready refused.0)
+      subst MayStop (sym refused.1) (stops ready refused.0)
   wants_pass good r W stops (Err s) left ready none (Says (inr nothing)) = absurd nothing.1
 
   wanted : {B : Type 0} (good : ModelWorld → Type 0) (r : Refusal) (rest : Unit {0} → ModelAction B) (W : ModelWorld)
-      → (IsReady W → (good W → ⊥) → MayStop r W) → ((a : Unit {0}) → good W → Passes B W (rest a))
+      → (IsReady W → (good W → ⊥) → MayStop r) → ((a : Unit {0}) → good W → Passes B W (rest a))
       → Passes B W (First (Wants good r) rest)
   wanted {B} good r rest W stops behind =
       passes_behind (Wants good r) rest W (wants_pass good r W stops) (λ a left is. go a left is)
@@ -144,7 +143,7 @@ module _ (volume : Volume) where
         (λ ready not_so. not_so (record { member = peers.first; other = peers.second; differ = peers.differ }))
         (λ a may. wanted _ _ _ W (λ ready not_so. not_so (ready.up by peers.first))
         (λ b up. told _ _ W
-        (λ message composed. wanted _ _ _ W (λ ready not_so. ForAsk by to composed not_so)
+        (λ message composed. wanted _ _ _ W (λ ready not_so. tt)
         (λ c room. passes_behind _ _ W (saves_pass _ by (event.Ask by to) W may)
         (λ position left saved. posts_pass _ _ left.after)))))
 
@@ -158,7 +157,7 @@ module _ (volume : Volume) where
   serves_pass : (server ask : ℕ) (W : ModelWorld) → Passes Answer W (Serves volume server ask)
   serves_pass server ask W =
       told _ _ W
-      (λ served now. wanted _ _ _ W (λ ready not_so. ForPieces server ask now not_so)
+      (λ served now. wanted _ _ _ W (λ ready not_so. tt)
       (λ a room. passes_behind _ _ W (adds_pass _ _ W now.may)
       (λ position left added. passes_behind _ _ left.after (gives_pass _ left.after)
       (λ first then given. passes_behind _ _ then.after (posts_each_pass position 0 _ then.after)
@@ -219,19 +218,20 @@ module _ (volume : Volume) where
       (λ a found finds. passes_behind _ _ found.after (tells_pass _ _ found.after)
       (λ counted left counts. saves_pass _ by (event.Collect by) left.after member))
 
-  -- the link is full, and lacks room
-  record IsStopped (r : Refusal) (V : ModelWorld) : Type 0 where
-    full : r ≡ refusal.LinkFull
-    lacks : LacksRoom volume V
+  -- the link is full, where it may stop so, and is refused as asking, serving and saving are
+  stopped : (r : Refusal) → of_asking r ≡ true → MayStop r → r ≡ refusal.LinkFull
+  stopped refusal.Member asking may = absurd may
+  stopped refusal.Down asking may = absurd may
+  stopped refusal.LinkFull asking may = refl
+  stopped refusal.Link asking may = absurd may
+  stopped refusal.Store asking may = absurd may
+  stopped other asking may = absurd (cc)
 
-  -- so it is where it may stop so, and is refused as asking, serving and saving are
-  stopped : (r : Refusal) (V : ModelWorld) → of_asking r ≡ true → MayStop r V → IsStopped r V
-  stopped refusal.Member V asking may = absurd may
-  stopped refusal.Down V asking may = absurd may
-  stopped refusal.LinkFull V asking may = record { full = refl; lacks = may }
-  stopped refusal.Link V asking may = absurd may
-  stopped refusal.Store V asking may = absurd may
-  stopped other V asking may = absurd (cc)
+  -- it is, and the steps in front of a pull are done for which it lacks room
+  record IsStopped (steps : List SweepStep) (before : Swept) (W : ModelWorld) (r : Refusal) (V : ModelWorld) :
+      Type 0 where
+    full : r ≡ refusal.LinkFull
+    at : StopsAtPull volume steps before W V
 
   -- the members of a step are of the volume
   abbrev IsStep : SweepStep → Type 0
@@ -257,24 +257,55 @@ module _ (volume : Volume) where
   collect_stopped by W r left none member ready (Goes (Goes (Says is) (Says up)) (Goes (Says counts) NotSaved)) =
       save_failed by none
 
-  step_stopped : (step : SweepStep) (W : ModelWorld) (r : Refusal) (left : Effect ModelWorld)
-      → NothingFails left.outcomes → IsStep step → IsReady W → DoesSweepStep volume step W (Err r) left
-      → IsStopped r left.after
-  step_stopped (Pulling by to) W r left none peers ready does =
-      stopped r left.after (pull_refused volume W by to r left does) (pulls_pass by to peers W (Err r) left ready none does)
-  step_stopped (Collecting by) W r left none member ready does =
+  step_stopped : (step : SweepStep) (more : List SweepStep) (before : Swept) (W : ModelWorld) (r : Refusal)
+      (left : Effect ModelWorld) → NothingFails left.outcomes → IsStep step → IsReady W
+      → DoesSweepStep volume step W (Err r) left → IsStopped (step ∷ more) before W r left.after
+  step_stopped (Pulling by to) more before W r left none peers ready does =
+      let full = stopped r (pull_refused volume W by to r left does)
+      (pulls_pass by to peers W (Err r) left ready none does) in
+      record {
+        full = full;
+        at = record {
+          done = [];
+          by = by;
+          to = to;
+          more = more;
+          is = refl;
+          swept = before;
+          left = unchanged W;
+          sweeps = Says refl;
+          lacks = pull_full volume W by to r full left does;
+        };
+      }
+  step_stopped (Collecting by) more before W r left none member ready does =
       absurd (collect_stopped by W r left none member ready does)
 
   -- steps, one after the other
   sweep_stopped : (steps : List SweepStep) → AreSteps steps → (before : Swept) (W : ModelWorld) (r : Refusal)
       (left : Effect ModelWorld) → NothingFails left.outcomes → IsReady W → Sweeps volume steps before W (Err r) left
-      → IsStopped r left.after
+      → IsStopped steps before W r left.after
   sweep_stopped [] are before W r left none ready (Says nothing) = absurd nothing
-  sweep_stopped (step ∷ steps) are before W r left none ready (Ends does) = step_stopped step W r left none are.0 ready does
+  sweep_stopped (step ∷ steps) are before W r left none ready (Ends does) =
+      step_stopped step steps before W r left none are.0 ready does
   sweep_stopped (step ∷ steps) are before W r left none ready (Goes {a = answer} {middle = m} {left = l} does rest) =
       let parts = nothing_fails_both m.outcomes l.outcomes none in
-      sweep_stopped steps are.1 (with_answer before answer) m.after r l parts.1
-      (step_passes step are.0 W (Ok answer) m ready parts.0 does) rest
+      let later = sweep_stopped steps are.1 (with_answer before answer) m.after r l parts.1
+      (step_passes step are.0 W (Ok answer) m ready parts.0 does) rest in
+      let at = later.at in
+      record {
+        full = later.full;
+        at = record {
+          done = step ∷ at.done;
+          by = at.by;
+          to = at.to;
+          more = at.more;
+          is = ap (λ (those : List SweepStep). step ∷ those) at.is;
+          swept = at.swept;
+          left = joined m at.left;
+          sweeps = Goes does at.sweeps;
+          lacks = at.lacks;
+        };
+      }
 
   are_both : (steps more : List SweepStep) → AreSteps steps → AreSteps more → AreSteps (steps ++ more)
   are_both [] more are are_more = are_more
@@ -339,16 +370,16 @@ module _ (volume : Volume) where
 
     result_through : (order : Order) (W : ModelWorld) (result : Result Answer Refusal) (left : Effect ModelWorld)
         → NothingFails left.outcomes → IsReady W → Does volume (command.Sweep order) W result left
-        → GoesThrough volume left.after (answer_as result)
+        → GoesThrough volume order W left.after (answer_as result)
     result_through order W (Ok given) left none ready (Goes {a = swept} sweeps (Says is)) =
-        subst (GoesThrough volume left.after) (sym is) (IsCounted {swept = swept})
+        subst (GoesThrough volume order W left.after) (sym is) (IsCounted {swept = swept})
     result_through order W (Err r) left none ready (Goes sweeps (Says nothing)) = absurd nothing
     result_through order W (Err r) left none ready (Ends sweeps) =
         let stop = sweep_stopped (sweep_steps order volume.members) (sweep_are order) none_swept W r left none ready sweeps in
-        subst (λ (by : Refusal). GoesThrough volume left.after (Refused by)) (sym stop.full) (IsFull stop.lacks)
+        subst (λ (by : Refusal). GoesThrough volume order W left.after (Refused by)) (sym stop.full) (IsFull stop.at)
 
 pub all_through : SweepsGoThrough
 all_through volume order W after outcomes answer two lawful up none step =
-    subst (GoesThrough volume after) (sym step.answer_is)
+    subst (GoesThrough volume order W after) (sym step.answer_is)
     (result_through volume two order W step.result (record { outcomes = outcomes; after = after }) none
     (record { lawful = lawful; up = up }) step.does)
