@@ -313,7 +313,17 @@ fn rows(
 {
     match read_all_rows(alloc, Reader::new(tables), known) {
         Ok(rows) => Ok(rows),
-        Err(ReadFault::Unspelled) => Err(Refusal::BadMessage),
-        Err(ReadFault::Memory) => Err(Refusal::Memory),
+        Err(fault) => Err(refusal_of(fault)),
+    }
+}
+
+// Bytes that spell no tables are told as a bad message; want of memory, and nothing else, as what it is.
+fn refusal_of(fault: ReadFault) -> Refusal
+    ensures unspelled { fault ≡ ReadFault.Unspelled → result ≡ IsBad }
+    ensures memory { fault ≡ ReadFault.Memory → result ≡ OutOfMemory }
+{
+    match fault {
+        ReadFault::Unspelled => Refusal::BadMessage,
+        ReadFault::Memory => Refusal::Memory,
     }
 }
