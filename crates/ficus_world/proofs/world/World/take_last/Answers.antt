@@ -1,6 +1,7 @@
-use Rattle.std.proofs.Common.{Err, Ok, length, subst}
+use Rattle.std.proofs.Common.{Err, Ok, length, ap, subst}
 use Rattle.std.proofs.lemmas.Result.{err_from_is_err_and}
 use Rattle.ficus_keeper.specs.Framed.{body_in}
+use Rattle.ficus_model.specs.Events.{actor}
 use Rattle.ficus_runs.specs.Sequence.{unchanged}
 use Rattle.ficus_script.specs.declared.answer.Answer.TheVariants.{Done}
 use Rattle.ficus_world.specs.Moves.{TakesSpelled, spelled_with}
@@ -57,6 +58,12 @@ save-requires-clause-next g c = λ was is.
     c.in_ok-next.ensures was is in
     subst (λ (m : Member). IsSoundNext (length old.members) (length old.events) c.args.came.to (body_in taken.noted.items) m.replica
     taken.next.replica) (number_once taking.is is) taking.sound
+
+pub save-requires-clause-own : goal.save-requires-clause-own
+save-requires-clause-own g c =
+    let taking = taking_in c.args.came c.args.head c.args.bytes.now (Ok c.in_ok-next.field-0) (whole_is c.self.view_is)
+    c.in_ok-next.ensures c.requires.up.member c.requires.up.is in
+    ap actor taking.happens
 
 pub returns-in_err-next-clause-acts : goal.returns-in_err-next-clause-acts
 returns-in_err-next-clause-acts g c = acts_none c.requires.backed
