@@ -11,7 +11,7 @@ from refusals import in_words
 Look = Callable[[str], Answer]
 
 # What a path of each kind leads to has to be there: all of it, or all but its last part.
-_WHOLE, _NEW = ("P", "E"), "N"
+_WHOLE, _NEW = ("PATH", "ENTRY"), "NEW"
 # Refusals that come on a walk.
 _ON_A_WALK = ("noentry", "ambiguous", "notdir", "notorphan", "isdir")
 

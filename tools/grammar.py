@@ -20,7 +20,7 @@ MARK_OF_ENCODING = "\ufeff"
 MOST = 4_294_967_295
 # Commands that no line of several volumes has.
 OF_ONE_VOLUME = ("sweep", "why")
-NUMBERS = {"R": (1, 255), "S": (1, 255), "M": (0, MOST), "K": (0, MOST), "PICK": (0, 3)}
+NUMBERS = {"R": (1, 255), "OTHER": (1, 255), "MESSAGE": (0, MOST), "CALLS": (0, MOST), "PICK": (0, 3)}
 IDENTIFIER = re.compile(r"([1-8])\.([1-9][0-9]{0,9})")
 VOLUME = re.compile(r"@([^ ]*)(?: (.*))?", re.DOTALL)
 
@@ -165,10 +165,10 @@ def _arguments(usage: Usage, words: list[Word], length: int) -> None:
 
 
 _MEANINGS = {
-    "R": "the number of a replica", "S": "the number of another replica", "M": "the number of a message",
-    "K": "how many calls are made before", "PICK": "a number from 0 to 3", "P": "a path", "N": "a new path",
-    "E": "the path of an entry", "TEXT": "a text, between quotation marks", "KIND": "a kind", "ORDER": "an order",
-    "~ID": "the identifier of an orphan, ~r.k",
+    "R": "the number of a replica", "OTHER": "the number of another replica", "MESSAGE": "the number of a message",
+    "CALLS": "the number of calls before the first that fails", "PICK": "a number from 0 to 3", "PATH": "a path",
+    "NEW": "a new path", "ENTRY": "the path of an entry", "TEXT": "a text, between quotation marks", "KIND": "a kind",
+    "ORDER": "an order", "~ID": "the identifier of an orphan, ~r.k",
 }
 
 
@@ -221,9 +221,9 @@ def _path(word: Word, kind: str) -> None:
         word.wrong("a path begins with / or with the identifier of an orphan, ~r.k")
     if word.text != "/":
         _parts(word, len(base), parts)
-    if kind in "NE" and (word.text == "/" or not parts):
+    if kind in ("NEW", "ENTRY") and (word.text == "/" or not parts):
         word.wrong(f"{_meaning(kind)} has a name at its end")
-    if kind == "N" and "#" in parts[-1]:
+    if kind == "NEW" and "#" in parts[-1]:
         word.wrong("a new name has no identifier behind it", len(word.text) - len(parts[-1]))
 
 
@@ -267,6 +267,6 @@ def _spelled(word: Word, spelled: str, right: str, place: int) -> None:
 
 
 _KINDS: dict[str, Callable[[Word, str], None]] = {
-    **{kind: _number for kind in NUMBERS}, "P": _path, "N": _path, "E": _path, "TEXT": _text, "~ID": _identifier,
-    "KIND": _one_of(formats.kinds), "ORDER": _one_of(formats.orders),
+    **{kind: _number for kind in NUMBERS}, "PATH": _path, "NEW": _path, "ENTRY": _path, "TEXT": _text,
+    "~ID": _identifier, "KIND": _one_of(formats.kinds), "ORDER": _one_of(formats.orders),
 }

@@ -35,7 +35,7 @@ comes. `quit` or the end of the input leaves."""
 HISTORY = Path("~/.ficus_history")
 HISTORY_LINES = 1_000
 # What stands in the form of a command where a path does.
-PATHS = ("N", "E", "P")
+PATHS = ("NEW", "ENTRY", "PATH")
 LEAVE = ("quit", "exit")
 # Commands that bring a replica what others did.
 BRINGS = ("pull", "sweep")
