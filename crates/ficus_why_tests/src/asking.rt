@@ -1,6 +1,5 @@
-use crate::fault::Fault;
 use crate::histories::{Happened, happens};
-use ficus_ids::Id;
+use ficus_ids::{Id, Refusal};
 use ficus_model::History;
 use ficus_why::{Clash, check_why, is_plain};
 use std::alloc::Global;
@@ -72,19 +71,19 @@ fn updates_clash_by_the_table(rt: HostRuntime) -> Result<(), Fail> {
 }
 
 // Whether the pair clashes after that.
-fn clash_after(alloc: Global, happened: Happened, clash: &Clash) -> Result<bool, Fault> {
+fn clash_after(alloc: Global, happened: Happened, clash: &Clash) -> Result<bool, Refusal> {
     let mut history = History::new(alloc);
     happens(alloc, happened, &mut history)?;
     clashes(alloc, &history, clash)
 }
 
 // Whether the pair clashes in this history.
-fn clashes(alloc: Global, history: &History, clash: &Clash) -> Result<bool, Fault> {
+fn clashes(alloc: Global, history: &History, clash: &Clash) -> Result<bool, Refusal> {
     if !is_plain(history) {
-        return Err(Fault::History);
+        return Err(Refusal::Image);
     }
     if clash.replica < 1 || clash.replica > 8 {
-        return Err(Fault::Replica);
+        return Err(Refusal::Member);
     }
     Ok(check_why(alloc, history, clash)?)
 }
@@ -122,7 +121,7 @@ fn fresh_after(
     happened: Happened,
     replica: u8,
     position: u32,
-) -> Result<bool, Fault> {
+) -> Result<bool, Refusal> {
     let mut history = History::new(alloc);
     happens(alloc, happened, &mut history)?;
     Ok(history.fresh(replica, position))

@@ -1,5 +1,4 @@
-use crate::fault::Fault;
-use ficus_ids::{Id, Kind, Listed, Name, ROOT};
+use ficus_ids::{Id, Kind, Listed, Name, ROOT, Refusal};
 use ficus_model::{Event, History, Op};
 use std::alloc::Global;
 
@@ -53,7 +52,7 @@ pub(crate) fn happens(
     alloc: Global,
     happened: Happened,
     history: &mut History,
-) -> Result<(), Fault> {
+) -> Result<(), Refusal> {
     let steps = steps(happened.second);
     for step in steps.iter().take(happened.count) {
         steps_on(alloc, *step, history)?;
@@ -62,17 +61,17 @@ pub(crate) fn happens(
 }
 
 // One step more.
-fn steps_on(alloc: Global, step: Step, history: &mut History) -> Result<(), Fault> {
+fn steps_on(alloc: Global, step: Step, history: &mut History) -> Result<(), Refusal> {
     history.reserve(1)?;
     if history.len() >= 15 {
-        return Err(Fault::History);
+        return Err(Refusal::Spent);
     }
     history.push(event_of(alloc, step)?);
     Ok(())
 }
 
 // The event of a step.
-fn event_of(alloc: Global, step: Step) -> Result<Event, Fault> {
+fn event_of(alloc: Global, step: Step) -> Result<Event, Refusal> {
     match step {
         Step::Makes(by) => making(alloc, by),
         Step::Writes(by, bytes) => writing(alloc, by, bytes),
@@ -93,10 +92,13 @@ fn event_of(alloc: Global, step: Step) -> Result<Event, Fault> {
     }
 }
 
-fn making(alloc: Global, by: u8) -> Result<Event, Fault> {
+fn making(alloc: Global, by: u8) -> Result<Event, Refusal> {
+    let Ok(name) = Name::new(b"f") else {
+        return Err(Refusal::NoEntry);
+    };
     let op = Op::Make {
         dir: ROOT,
-        name: Name::new(b"f")?,
+        name,
         kind: Kind::Plain,
         text: Listed::of(Vec::new(alloc)),
     };
@@ -108,13 +110,13 @@ const FILE: Id = Id {
     number: 1,
 };
 
-fn writing(alloc: Global, by: u8, bytes: &[u8]) -> Result<Event, Fault> {
+fn writing(alloc: Global, by: u8, bytes: &[u8]) -> Result<Event, Refusal> {
     let bytes = Listed::of(bytes.to_vec(alloc)?);
     let op = Op::Write { file: FILE, bytes };
     Ok(Event::Update { by, op })
 }
 
-fn settling(alloc: Global, by: u8, bytes: &[u8]) -> Result<Event, Fault> {
+fn settling(alloc: Global, by: u8, bytes: &[u8]) -> Result<Event, Refusal> {
     let bytes = Listed::of(bytes.to_vec(alloc)?);
     let op = Op::Settle { file: FILE, bytes };
     Ok(Event::Update { by, op })

@@ -5,6 +5,4 @@
 #[cfg(test)]
 mod asking;
 #[cfg(test)]
-mod fault;
-#[cfg(test)]
 mod histories;

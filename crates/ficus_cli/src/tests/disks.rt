@@ -49,13 +49,9 @@ pub(crate) fn recording_pairs(alloc: Global) -> Result<Vec<Pair<TraceDisk>>, Mem
     let mut pairs = Vec::new(alloc);
     for _ in 0..8u8 {
         pairs.push(Pair {
-            a: recording_disk(alloc)?,
-            b: recording_disk(alloc)?,
+            a: TraceDisk::new(alloc, 256, 16_384)?,
+            b: TraceDisk::new(alloc, 256, 16_384)?,
         })?;
     }
     Ok(pairs)
-}
-
-fn recording_disk(alloc: Global) -> Result<TraceDisk, Memory> {
-    TraceDisk::new(alloc, 256, 16_384)
 }
