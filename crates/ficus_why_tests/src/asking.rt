@@ -40,7 +40,7 @@ const CLASHES: &[(Happened, u8, u32, [u32; 2], bool)] = &[
     (HEARD_BY_BOTH, 1, 1, [2, 7], false),
     (HEARD_BY_BOTH, 1, 1, [3, 7], false),
     (HEARD_BY_BOTH, 1, 1, [6, 14], false),
-    // At replicas that have heard of one of the two, and of nothing.
+    // Replica 1 has heard of both, 2 of one of them, and those that are no members of nothing.
     (HEARD_BY_1, 1, 1, [6, 7], true),
     (HEARD_BY_1, 2, 1, [6, 7], false),
     (HEARD_BY_BOTH, 3, 1, [6, 7], false),
