@@ -5,6 +5,9 @@ pub mod Others
 pub mod Unarmed
 pub mod Asking
 pub mod Made
+pub mod Entering
+pub mod Absent
+pub mod Lone
 pub mod Openings
 pub mod Bad
 pub mod Stand

@@ -28,7 +28,8 @@ use Rattle.ficus_opening.specs.declared.member.MemberState.{MemberState}
 use Rattle.ficus_opening.specs.declared.opening.Opened.{Opened}
 use Rattle.ficus_runs.proofs.Numbers.{number_once, number_exists, number_more, number_cases}
 use Rattle.ficus_opening.proofs.Asking.{err_as}
-use Rattle.ficus_opening.proofs.Steadies.{set_at, steady_back}
+use Rattle.ficus_opening.proofs.Entering.{kept_next}
+use Rattle.ficus_opening.proofs.Steadies.{steady_back}
 
 nothing_before : (members : List Member) → 1 ≡ length members + 1 → members ≡ []
 nothing_before [] one = refl
@@ -96,47 +97,11 @@ module _ {K D : Type 0} (keep : Keep K) (disk : Disk D) where
       (ready : disk.tells → IsReady keep.kept keep.fits disk.seen disk.may_leave stable after saved) where
     pub more_opened : AreOpened now.members.items → AreOpenedOn keep disk now (slice_set disks index after)
     more_opened opened =
-        let grown =
-        ap (λ (l : List Member). length l) members_are ∙ length_push was.members.items (opened_member saved fused) in
-        let kept = ap (λ (l : List (Stable K)). length l) stables_are ∙ length_push was.stables.items stable in
-        record {
-          opened = opened;
-          stables = omega (arith, grown, kept, before.stables);
-          disks = record {
-            each = λ r m s p at at_stable at_pair.
-                let member = number_cases was.members.items (opened_member saved fused)
-                (subst (λ (l : List Member). IsNumbered l r m) members_are at) in
-                let keeper = number_cases was.stables.items stable
-                (subst (λ (l : List (Stable K)). IsNumbered l r s) stables_are at_stable) in
-                elim (set_at disks index r after p at_pair) [
-                  | inl (number, is) ↦ elim member [
-                    | inl here ↦ absurd (omega (arith, here.member.at_most, number, next))
-                    | inr (last, is_new) ↦ elim keeper [
-                      | inl there ↦ absurd (omega (arith, there.member.at_most, before.stables, number, next))
-                      | inr (also, is_stable) ↦ record {
-                        fused =
-                            ap (λ (x : Member). x.fused) is_new ∙ is_fused
-                            ∙ ap (λ (x : Pair D). are_fused disk.armings x) (sym is);
-                        holds = λ told.
-                            subst (λ (x : Member). HoldsFor keep disk s p x.replica.saved x.state)
-                            (sym is_new)
-                            (subst (λ (x : Stable K). IsReady keep.kept keep.fits disk.seen disk.may_leave x p saved)
-                            (sym is_stable)
-                            (subst (λ (x : Pair D). IsReady keep.kept keep.fits disk.seen disk.may_leave stable x saved)
-                            (sym is) (ready told)));
-                      }
-                    ]
-                  ]
-                  | inr (differs, kept_pair) ↦ elim member [
-                    | inl here ↦ elim keeper [
-                      | inl there ↦ before.disks.each r m s p here there kept_pair
-                      | inr (also, is_stable) ↦ absurd (omega (arith, here.member.at_most, also, before.stables))
-                    ]
-                    | inr (last, is_new) ↦ absurd (differs (omega (arith, last, next)))
-                  ]
-                ];
-          };
-        }
+        let kept =
+        kept_next keep disk was now disks index (opened_member saved fused) stable after next
+        (record { stables = before.stables; disks = before.disks }) members_are stables_are
+        (record { fused = is_fused; holds = ready }) in
+        record { opened = opened; stables = kept.stables; disks = kept.disks }
 
   -- the pair of each member is its own where it has a keeper
   pub pairs_of : (members : List Member) (stables : List (Stable K)) (disks : List (Pair D))

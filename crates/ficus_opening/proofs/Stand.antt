@@ -28,7 +28,7 @@ module _ {D : Type 0} (kept : List ℕ → List ℕ → Option Kept) (seen : D �
       let member : IsMember volume.members 1 = record { at_least = omega arith; at_most = omega (arith, on.count.at_least) } in
       (pair.0, pair.1, on.keeps.each 1 pair.0 pair.1 member)
 
-  opens_kept : (r : ℕ) (one pair : Pair D) → IsNumbered disks r pair
+  pub opens_kept : (r : ℕ) (one pair : Pair D) → IsNumbered disks r pair
       → (first : KeepsOf volume H 1 (found_in kept seen one)) (keeps : KeepsOf volume H r (found_in kept seen pair))
       → Opens kept seen disks first.saved keeps.saved r
   opens_kept r one pair at first keeps =
@@ -82,7 +82,7 @@ module _ {D : Type 0} (kept : List ℕ → List ℕ → Option Kept) (seen : D �
       (held_once (found_in kept seen pair) keeps.saved saved keeps.holds holds) keeps.is
 
 -- what a replica saves that has heard of nothing
-fresh_fits : (volume : Volume) (r : ℕ) → IsCount volume.members → 1 ≤ volume.ids → volume.ids ≤ update_limit
+pub fresh_fits : (volume : Volume) (r : ℕ) → IsCount volume.members → 1 ≤ volume.ids → volume.ids ≤ update_limit
     → volume.bytes ≤ byte_limit → IsMember volume.members r → FitsImage (fresh_saved volume r)
 fresh_fits volume r count some ids bytes member = record {
   members = count;

@@ -6,3 +6,4 @@ pub mod Opening
 pub mod Calls
 pub mod Check
 pub mod Fault
+pub mod Alone

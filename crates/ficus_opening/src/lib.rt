@@ -2,6 +2,7 @@
 //! replica hold is judged, and those of each member are opened.
 #![tactic(auto)]
 
+mod alone;
 pub mod check;
 mod checking;
 mod fault;
@@ -10,6 +11,7 @@ mod making;
 mod member;
 mod opening;
 
+pub use alone::open_alone;
 pub use checking::{check_disks, checks_tell_of_openings};
 pub use fault::WorldFault;
 pub use making::{make_volume, what_is_made_stands};

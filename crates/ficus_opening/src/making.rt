@@ -90,8 +90,8 @@ fn make_all<K: Keep + Drop, D: Disk>(
     Ok(())
 }
 
-// Makes one member.
-fn make_one<K: Keep + Drop, D: Disk>(
+/// Makes one member.
+pub(crate) fn make_one<K: Keep + Drop, D: Disk>(
     alloc: Global,
     pair: &mut Pair<D>,
     me: u8,

@@ -44,8 +44,8 @@ pub fn open_all<K: Keep + Drop, D: Disk>(
     Ok(opened)
 }
 
-// Room for all members.
-fn none_opened<K: Keep + Drop>(alloc: Global) -> Result<Opened<K>, Memory>
+/// Room for all members.
+pub(crate) fn none_opened<K: Keep + Drop>(alloc: Global) -> Result<Opened<K>, Memory>
     ensures members { IfOk result (λ opened. opened.members.items ≡ []) }
     ensures stables { IfOk result (λ opened. opened.stables.items ≡ []) }
 {
@@ -115,15 +115,15 @@ fn told_of(number: u8, fault: StoreFault) -> WorldFault
     }
 }
 
-// Whether both disks have a fuse.
-fn is_fused<D: Disk>(pair: &Pair<D>) -> bool
+/// Whether both disks have a fuse.
+pub(crate) fn is_fused<D: Disk>(pair: &Pair<D>) -> bool
     ensures { result ≡ are_fused D.armings pair.now }
 {
     pair.a.fused() && pair.b.fused()
 }
 
-// Enters a member that is up.
-fn enter<K: Keep + Drop>(
+/// Enters a member that is up.
+pub(crate) fn enter<K: Keep + Drop>(
     opened: &mut Opened<K>,
     stable: Stable<K>,
     saved: Saved,
@@ -133,12 +133,25 @@ fn enter<K: Keep + Drop>(
         ≡ opened.old.members.items ++ (opened_member saved fused) ∷ []) }
     ensures stables { OnOk result (opened.new.stables.items ≡ opened.old.stables.items ++ stable ∷ []) }
 {
-    opened.members.push(Member {
+    let member = Member {
         replica: Replica::open(saved),
         parts: None,
         state: MemberState::Up,
         fused,
-    })?;
+    };
+    enter_member(opened, member, stable)
+}
+
+/// Enters a member behind the others.
+pub(crate) fn enter_member<K: Keep + Drop>(
+    opened: &mut Opened<K>,
+    member: Member,
+    stable: Stable<K>,
+) -> Result<(), Memory>
+    ensures members { OnOk result (opened.new.members.items ≡ opened.old.members.items ++ member ∷ []) }
+    ensures stables { OnOk result (opened.new.stables.items ≡ opened.old.stables.items ++ stable ∷ []) }
+{
+    opened.members.push(member)?;
     opened.stables.push(stable)?;
     Ok(())
 }

@@ -7,5 +7,8 @@ pub mod Deeds
 pub mod Worlds
 pub mod Processes
 pub mod Starting
+pub mod Opening
 pub mod Names
 pub mod Killed
+pub mod Selves
+pub mod Finding

@@ -4,3 +4,6 @@ pub mod Together
 pub mod Names
 pub mod Killed
 pub mod Laws
+pub mod Alone
+pub mod Acting
+pub mod Found

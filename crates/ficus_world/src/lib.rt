@@ -6,6 +6,7 @@ mod checking;
 mod exchange;
 mod generations;
 mod group;
+mod hearing;
 mod laws;
 pub mod machines;
 mod mails;

@@ -1,7 +1,12 @@
 //! What machines do together, as laws.
+ghost use Rattle.ficus_world.specs.Machines.Found.{IdleIsFound, SavingIsFound};
 ghost use Rattle.ficus_world.specs.Machines.Laws.{KilledProcessesGoOn, MachinesAreLawful};
 ghost use Rattle.ficus_world.specs.Machines.Laws.{MachinesStayOneWorld, NothingReturnsAnywhere, OneMessageOfAName};
 ghost use Rattle.ficus_world.specs.Machines.Laws.{OpenedAreOneWorld, ProcessesJoin, RunsJoin};
+
+use ficus_disk::Disk;
+use ficus_keeper::Keep;
+use ficus_stable_storage::one_saved;
 
 /// Machines that keep a member each of one world go on as one world, in whichever order they act, and whichever
 /// messages are lost, late or repeated: each answers as that world does.
@@ -43,3 +48,12 @@ pub fn one_message_of_a_name()
 pub fn killed_processes_go_on()
     ensures { KilledProcessesGoOn }
 {}
+
+/// What the disks of a machine hold after a kill is what its member had, or what it then has: what
+/// `killed_processes_go_on` asks for.
+pub fn killed_disks_are_found<K: Keep + Drop, D: Disk>()
+    ensures idle { D.tells → IdleIsFound K.Keep D.Disk }
+    ensures saving { D.tells → D.tells_moments → SavingIsFound K.Keep D.Disk }
+{
+    one_saved();
+}
