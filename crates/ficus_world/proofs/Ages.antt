@@ -1,6 +1,5 @@
 -- Along a chain of links the generation of a member never falls, and where it stays what is saved stays.
-use Rattle.std.proofs.Common.{◌≡◌, ◌≢◌, ℕ, ◌+◌, ◌-◌, ◌≤◌, List, [], ◌∷◌, ◌++◌, length, Result, Ok, Err, Some, None, refl, sym, ap, subst, ◌∙◌, inl, inr, ◌⊎◌, arith}
-use Rattle.std.specs.Prelude.{slice_set}
+use Rattle.std.proofs.Common.{◌≡◌, ◌≢◌, ℕ, ◌+◌, ◌-◌, ◌≤◌, List, [], ◌∷◌, length, Result, Ok, Err, Some, None, refl, sym, ap, subst, ◌∙◌, inl, inr, ◌⊎◌, arith}
 use Rattle.std.proofs.lemmas.List.{length-set}
 use Rattle.ficus_disk.specs.declared.disk.Disk.{Ghosts as Disk}
 use Rattle.ficus_disk.specs.declared.pair.Pair.{Pair}
@@ -89,9 +88,11 @@ turn_ages told (HasSavedNext {replica = replica} up above keeps) next =
 turn_ages told {was = was} (HasPending above) next = (above, later_same was.replica.saved)
 turn_ages told {was = was} (HasGathered come) next = (next, later_same was.replica.saved)
 turn_ages told (HasRestarted (inl reads)) next = (tt, later_equal (reads told))
-turn_ages told {was = was} (HasRestarted (inr (pending, down, reads))) next =
-    (tt, later_more (ap (λ (s : Saved). s.generation) (reads told)
-    ∙ subst (λ s. IsPendingNext was.replica s) down next))
+turn_ages told {was = was} (HasRestarted (inr (pending, down, reads))) next = (
+  tt,
+  later_more (ap (λ (s : Saved). s.generation) (reads told)
+      ∙ subst (λ s. IsPendingNext was.replica s) down next),
+)
 turn_ages told {was = was} IsDown next = (still_next was.replica was.state next, later_same was.replica.saved)
 
 -- from some members to later ones

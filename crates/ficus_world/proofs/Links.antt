@@ -1,5 +1,5 @@
 -- What one link makes of the members of a world, and of what is posted, whatever command it is.
-use Rattle.std.proofs.Common.{◌≡◌, ℕ, zero, suc, ◌+◌, ◌-◌, ◌<◌, List, [], ◌∷◌, ◌++◌, length, map, Result, Ok, Err, Option, Some, None, Contains, refl, sym, ap, subst, ◌∙◌, inl, inr, ◌⊎◌, arith}
+use Rattle.std.proofs.Common.{◌≡◌, ℕ, zero, suc, ◌+◌, ◌-◌, List, [], ◌∷◌, length, map, Result, Ok, Err, Option, Some, None, Contains, refl, sym, ap, subst, inl, inr, ◌⊎◌, arith}
 use Rattle.std.specs.Prelude.{All, slice_set}
 use Rattle.std.proofs.lemmas.List.Elements.{All-contains}
 use Rattle.ficus_commands.specs.declared.change.Change.{Change}
@@ -33,7 +33,7 @@ use Rattle.ficus_world.specs.declared.exchange.Delivery.{Delivery}
 use Rattle.ficus_world.specs.declared.post.Behind.{Behind}
 use Rattle.ficus_world.specs.Generations.{IsServed}
 use Rattle.ficus_world.specs.Kills.{IsPull}
-use Rattle.ficus_world.specs.Moves.{ArmsDisks, CarriesOut, Compared, FindsMember, FindsPeers, FindsUp, GivesMessage, HandlesMessage, IsServing, KeepsAsk, KeepsCollection, KeepsUpdate, Reopens, SendsEach, ServesAsk, TablesDecide, TakesFitting, TakesPiece, TakesSpelled, TakesTables, WholeAction, answers_of, ask_of, parts_held, restarted, serve_of, spelled_with, still_pending, with_event}
+use Rattle.ficus_world.specs.Moves.{ArmsDisks, CarriesOut, Compared, FindsMember, FindsPeers, FindsUp, GivesMessage, HandlesMessage, IsServing, KeepsAsk, KeepsCollection, KeepsUpdate, Reopens, SendsEach, ServesAsk, TablesDecide, TakesFitting, TakesSpelled, TakesTables, WholeAction, answers_of, ask_of, parts_held, restarted, serve_of, spelled_with, still_pending, with_event}
 use Rattle.ficus_world.specs.Moves.ArmsDisks.{Arms, ArmsNone}
 use Rattle.ficus_world.specs.Moves.FetchesBytes.{Fetched, NoMail, NotFetched}
 use Rattle.ficus_world.specs.Moves.FindsMember.{Finds, FindsNone}
@@ -49,7 +49,7 @@ use Rattle.ficus_world.specs.Moves.ServesAsk.{NoRoomToServe, ServerDown, Serves}
 use Rattle.ficus_world.specs.Moves.TakesFitting.{IsHeld, IsOneMore, IsTheLast}
 use Rattle.ficus_world.specs.Moves.TakesSpelled.{SpellsNone, SpellsTables}
 use Rattle.ficus_world.specs.Moves.TakesTables.{Refuses, Takes, TakesNot}
-use Rattle.ficus_world.specs.Post.{AreFetched, HasFailed, IsSent, Outbox}
+use Rattle.ficus_world.specs.Post.{AreFetched, HasFailed, Outbox}
 use Rattle.ficus_world.specs.World.{Whole}
 
 -- a piece of an answer for which member r waits was fetched
@@ -245,11 +245,12 @@ module _ (tells disks_tell : Type 0) where
 
   -- what was served
   module _ (came : Delivery) (old : Whole) where
-    serves_with : (peer : Member) → IsServing old came peer → (asked : Behind) (new : Whole)
+    serves_with : (peer : Member) → IsServing old came peer → (asked : Behind)
+        → IsNumbered old.post.behind came.mail asked → (new : Whole)
         → All (FitsMessage (length old.members)) (answers_of old came peer)
         → HasPosted tells (map message_bytes (answers_of old came peer)) (with_event old (serve_of old came peer asked)) new
         → Linked tells disks_tell old new
-    serves_with peer serving asked new fits posted = record {
+    serves_with peer serving asked lies new fits posted = record {
       members = subst (λ members. Turned tells disks_tell old members) (sym posted.members) NoneTurned;
       posts = λ told number bytes is. go bytes (posted.posts told number bytes is);
     }
@@ -264,15 +265,19 @@ module _ (tells disks_tell : Type 0) where
               message = found.0;
               fits = All-contains (FitsMessage (length old.members)) (answers_of old came peer) found.0 fits found.1;
               is = found.2;
-              piece = λ piece. (peer.replica.saved, record {
-                came = came;
-                asked = asked;
-                server = peer;
-                serving = serving;
-                saves = refl;
-                is = found.1;
-                happens = posted.events;
-              });
+              piece = λ piece. (
+                peer.replica.saved,
+                record {
+                  came = came;
+                  asked = asked;
+                  lies = lies;
+                  server = peer;
+                  serving = serving;
+                  saves = refl;
+                  is = found.1;
+                  happens = posted.events;
+                },
+              );
             })
 
     serves_linked : (result : Result Answer Refusal) (left : Effect Whole) → ServesAsk tells came old result left
@@ -281,12 +286,12 @@ module _ (tells disks_tell : Type 0) where
     serves_linked result left (NoRoomToServe serving full) = still old
     serves_linked result left
         (Serves {peer = peer} {asked = asked} serving place room fits (Ends {refusal = r} sends)) =
-        serves_with peer serving asked left.after fits
+        serves_with peer serving asked place left.after fits
         (posts_each tells (length old.events) 0 (map message_bytes (answers_of old came peer))
         (with_event old (serve_of old came peer asked)) (Err r) left sends)
     serves_linked result left
         (Serves {peer = peer} {asked = asked} serving place room fits (Goes {a = sent} {middle = middle} sends (Says is))) =
-        serves_with peer serving asked middle.after fits
+        serves_with peer serving asked place middle.after fits
         (posts_each tells (length old.events) 0 (map message_bytes (answers_of old came peer))
         (with_event old (serve_of old came peer asked)) (Ok sent) middle sends)
 

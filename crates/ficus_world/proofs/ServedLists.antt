@@ -1,55 +1,31 @@
 -- Every piece that is posted, or held, along a chain of links was served in it, and equal generations are equal lists.
-use Rattle.std.proofs.Common.{◌≡◌, ◌≢◌, ℕ, ◌+◌, ◌-◌, ◌<◌, List, [], ◌∷◌, ◌++◌, length, map, Result, Ok, Err, Option, Some, None, Contains, true, false, refl, sym, ap, subst, ◌∙◌, inl, inr, ◌⊎◌, arith}
-use Rattle.std.specs.Prelude.{slice_set, ◌==◌, if◌then◌else◌, Bool, IsSome}
+use Rattle.std.proofs.Common.{◌≡◌, ◌≢◌, ℕ, ◌-◌, List, [], length, map, Option, Some, None, Contains, refl, sym, ap, subst, ◌∙◌, inl, inr, ◌⊎◌, arith}
 use Rattle.std.specs.List.{range_with_len}
 use Rattle.std.proofs.lemmas.Bool.{cases_eq}
 use Rattle.std.proofs.lemmas.List.{length-set}
 use Rattle.std.proofs.lemmas.Option.{same_Some}
 use Rattle.std.proofs.lemmas.List.FromFn.{get_or-map-range_with_len, length-map-range_with_len}
 use Rattle.ficus_codec.specs.Formats.{tables_bytes}
-use Rattle.ficus_codec.proofs.TableFormats.{tables_once}
 use Rattle.ficus_durable_state.specs.Tables.{FitsTables}
 use Rattle.ficus_durable_state.specs.declared.saved.Saved.{Saved}
-use Rattle.ficus_entry.specs.declared.entry.Entry.{Entry}
-use Rattle.ficus_file.specs.declared.file.FileReplica.{FileReplica}
 use Rattle.ficus_formats.specs.Pieces.{piece_at, piece_count}
-use Rattle.ficus_ids.specs.Members.{IsCount}
-use Rattle.ficus_ids.specs.declared.refusal.Refusal.{Refusal}
-use Rattle.ficus_replica.specs.Accept.{Accepted, IsOpen, MakesMerged}
+use Rattle.ficus_replica.specs.Accept.{IsOpen}
 use Rattle.ficus_replica.specs.declared.replica.Asked.{Asked}
-use Rattle.ficus_replica.specs.declared.replica.Replica.{Replica}
-use Rattle.ficus_script.specs.declared.answer.Answer.{Answer}
-use Rattle.ficus_script.specs.declared.answer.Answer.TheVariants.{Done, Mail, Mails}
-use Rattle.ficus_script.specs.declared.command.Command.TheVariants.{Give}
-use Rattle.ficus_wire.specs.Message.{FitsMessage, IsPiece, head_of, message_bytes, piece_message, piece_of}
-use Rattle.ficus_wire.specs.Parts.{HasAll, HasAllBut, HeldParts, joined as joined_parts, part_at, with_part}
+use Rattle.ficus_wire.specs.Message.{FitsMessage, IsPiece, message_bytes, piece_message, piece_of}
+use Rattle.ficus_wire.specs.Parts.{HeldParts, part_at, with_part}
 use Rattle.ficus_wire.specs.declared.message.Message.{Message}
 use Rattle.ficus_wire.specs.declared.message.Message.TheVariants as message
 use Rattle.ficus_wire.specs.declared.message.PieceHead.{PieceHead}
-use Rattle.ficus_wire.proofs.Holding.{joined_pieces, part_elsewhere, part_here}
-use Rattle.ficus_runs.specs.Answers.{answer_as}
-use Rattle.ficus_runs.specs.Exchange.{mailed}
+use Rattle.ficus_wire.proofs.Holding.{part_elsewhere, part_here}
 use Rattle.ficus_runs.specs.Message.{IsSpelled}
 use Rattle.ficus_runs.specs.Numbered.{IsNumbered}
-use Rattle.ficus_runs.specs.Outcome.{Outcome}
-use Rattle.ficus_runs.specs.Sequence.{Effect}
-use Rattle.ficus_runs.specs.Sequence.ByRule.{Says}
-use Rattle.ficus_runs.specs.Sequence.First.{Ends, Goes}
-use Rattle.ficus_runs.proofs.Numbers.{number_once}
 use Rattle.ficus_runs.proofs.Replaced.{replaced}
 use Rattle.ficus_opening.specs.declared.member.Member.{Member}
-use Rattle.ficus_opening.specs.declared.member.MemberState.TheVariants as state
-use Rattle.ficus_world.specs.Generations.{AreCutFromOne, Chain, HasSaved, HasTakenServed, IsCutFrom, IsFresh, IsServed, SomeLink}
+use Rattle.ficus_world.specs.Generations.{AreCutFromOne, Chain, HasSaved, IsCutFrom, IsFresh, IsServed, SomeLink}
 use Rattle.ficus_world.specs.Generations.Chain.{NoLink, OneLink}
-use Rattle.ficus_world.specs.Moves.{GivesMessage, HandlesMessage, Moves, TakesFitting, TakesSpelled, answers_of, parts_held, spelled_with, tables_in}
-use Rattle.ficus_world.specs.Moves.FetchesBytes.{Fetched, NoMail, NotFetched}
-use Rattle.ficus_world.specs.Moves.FindsTaker.{AnswersNone, FindsIt, OfAnotherState, OfOtherPieces, TakerDown}
-use Rattle.ficus_world.specs.Moves.ServesAsk.{NoRoomToServe, ServerDown, Serves}
-use Rattle.ficus_world.specs.Moves.TakesFitting.{IsHeld, IsOneMore, IsTheLast}
-use Rattle.ficus_world.specs.Moves.TakesSpelled.{SpellsNone, SpellsTables}
-use Rattle.ficus_world.specs.Moves.TakesTables.{Refuses, Takes, TakesNot}
+use Rattle.ficus_world.specs.Moves.{parts_held, tables_in}
 use Rattle.ficus_world.specs.World.{IsWorld, Whole}
-use Rattle.ficus_world.proofs.Ages.{AllPend, Moment, all_pend, link_of, moment_of, same_at_both}
+use Rattle.ficus_world.proofs.Ages.{all_pend, link_of, moment_of, same_at_both}
 use Rattle.ficus_world.proofs.Lifting.Spelling.{one_message}
 use Rattle.ficus_world.proofs.Links.{HasCome, IsSentIn, Linked, Turned, Turns}
 use Rattle.ficus_world.proofs.Links.Turned.{NoneTurned, OneTurned}
@@ -331,7 +307,7 @@ module _ {tells disks_tell : Type 0} (told : disks_tell) {start now : Whole} (ch
       (IsServed (message.Piece from other_to other_number state others other other_bytes) again) from saved again
       (λ old new served. (piece_served from to number state pieces index bytes saved old new served).saves)
       (λ old new served.
-          (piece_served from other_to other_number state others other other_bytes again old new served).saves)
+      (piece_served from other_to other_number state others other other_bytes again old new served).saves)
       (sym (cut_in_chain from to number state pieces index bytes saved one).0
       ∙ (cut_in_chain from other_to other_number state others other other_bytes again two).0)
       chain (all_pend start sound) one two

@@ -1,5 +1,5 @@
 -- What is taken with an answer are the tables that its sender had each time that it served one of the pieces.
-use Rattle.std.proofs.Common.{◌≡◌, ◌≢◌, ℕ, ◌+◌, ◌-◌, ◌<◌, List, [], ◌∷◌, ◌++◌, length, Result, Ok, Err, Option, Some, None, Bool, true, false, refl, sym, ap, subst, ◌∙◌, inl, inr, ◌⊎◌, arith}
+use Rattle.std.proofs.Common.{◌≡◌, ◌≢◌, ℕ, ◌+◌, ◌-◌, ◌<◌, List, [], ◌++◌, length, Result, Ok, Err, Option, Some, None, Bool, true, false, refl, sym, ap, subst, ◌∙◌, inl, inr, ◌⊎◌, arith}
 use Rattle.std.specs.Prelude.{◌==◌, if◌then◌else◌, IsSome}
 use Rattle.std.proofs.lemmas.Bool.{cases_eq}
 use Rattle.ficus_codec.specs.Formats.{tables_bytes}
@@ -35,8 +35,8 @@ use Rattle.ficus_opening.specs.declared.member.Member.{Member}
 use Rattle.ficus_world.specs.declared.exchange.Delivery.{Delivery}
 use Rattle.ficus_world.specs.Generations.{Chain, HasTakenServed, IsCutFrom, IsFresh, IsServed, SomeLink}
 use Rattle.ficus_world.specs.Moves.{GivesMessage, HandlesMessage, IsWaiting, Moves, ServesAsk, TakesFitting, TakesSpelled, advanced, parts_after, parts_held}
-use Rattle.ficus_world.specs.Moves.FetchesBytes.{Fetched, NoMail, NotFetched}
-use Rattle.ficus_world.specs.Moves.FindsTaker.{AnswersNone, FindsIt, OfAnotherState, OfOtherPieces, TakerDown}
+use Rattle.ficus_world.specs.Moves.FetchesBytes.{Fetched}
+use Rattle.ficus_world.specs.Moves.FindsTaker.{FindsIt}
 use Rattle.ficus_world.specs.Moves.ServesAsk.{NoRoomToServe, ServerDown, Serves}
 use Rattle.ficus_world.specs.Moves.TakesFitting.{IsHeld, IsOneMore, IsTheLast}
 use Rattle.ficus_world.specs.Moves.TakesSpelled.{SpellsNone, SpellsTables}

@@ -37,10 +37,11 @@ pub record HasSaved (world : Whole) (r : ℕ) (saved : Saved) : Type 0 where
   pub is : IsNumbered world.members r member
   pub saves : saved ≡ member.replica.saved
 
--- In this link a member that is up, and has saved this, serves an ask, and the message is one of its answer.
+-- In this link a member that is up, and has saved this, serves an ask that came, and the message is one of its answer.
 pub record IsServed (message : Message) (saved : Saved) (old new : Whole) : Type 0 where
   pub came : Delivery
   pub asked : Behind
+  pub lies : IsNumbered old.post.behind came.mail asked
   pub server : Member
   pub serving : IsServing old came server
   pub saves : saved ≡ server.replica.saved
@@ -64,8 +65,17 @@ pub record IsFresh (world : Whole) : Type 0 where
   pub posts : world.post.posts ≡ []
   pub parts : (r : ℕ) (member : Member) → IsNumbered world.members r member → member.parts ≡ None
 
--- What a member holds that has taken an answer: the merge of its own tables with those that the sender had saved, each
--- time that it served a piece of them in the chain, and each piece was served there.
+-- the spelling of the tables that are saved, and the message with a piece of it, from one member to another with the
+-- number of the ask that is answered
+abbrev pub spelling_of : ℕ → Saved → List ℕ
+spelling_of members saved = tables_bytes members saved.entries saved.files
+
+abbrev pub piece_sent : ℕ → ℕ → ℕ → ℕ → Saved → ℕ → Message
+piece_sent members from to ask saved index =
+    piece_message from to ask saved.generation (spelling_of members saved) index
+
+-- What a member holds that has taken an answer: the merge of its own tables and those that the sender had saved when it
+-- served each of the pieces, in some link of the chain.
 pub record HasTakenServed {tells disks_tell : Type 0} {start old : Whole} (chain : Chain tells disks_tell start old)
     (new : Whole) (mail : ℕ) : Type 0 where
   pub from : ℕ
@@ -76,11 +86,9 @@ pub record HasTakenServed {tells disks_tell : Type 0} {start old : Whole} (chain
   pub was : Saved
   pub now : Saved
   pub posted : IsNumbered old.post.posts mail
-      (message_bytes (piece_message from to ask served.generation
-      (tables_bytes (length old.members) served.entries served.files) index))
-  pub each : (i : ℕ) → i < piece_count (tables_bytes (length old.members) served.entries served.files)
-      → SomeLink (IsServed (piece_message from to ask served.generation
-      (tables_bytes (length old.members) served.entries served.files) i) served) chain
+      (message_bytes (piece_sent (length old.members) from to ask served index))
+  pub each : (i : ℕ) → i < piece_count (spelling_of (length old.members) served)
+      → SomeLink (IsServed (piece_sent (length old.members) from to ask served i) served) chain
   pub had : HasSaved old to was
   pub has : HasSaved new to now
   pub merges : MakesMerged was served.entries served.files now

@@ -1,7 +1,9 @@
 //! What the generation of a member tells, in worlds that need stand for no history: equal generations are equal lists.
-ghost use Rattle.std.specs.Prelude.{◌≡◌, ◌≤◌, ℕ, [], List, length};
+ghost use Rattle.std.specs.Prelude.{◌≡◌, ◌≤◌, ℕ, [], List, Some, length};
 ghost use Rattle.ficus_disk.specs.declared.pair.Pair.{Pair as PairValue};
 ghost use Rattle.ficus_durable_state.specs.declared.saved.Saved.{Saved as SavedValue};
+ghost use Rattle.ficus_opening.specs.declared.member.Member.{Member as MemberValue};
+ghost use Rattle.ficus_replica.specs.Accept.{IsOpen};
 ghost use Rattle.ficus_runs.specs.Message.{IsSpelled};
 ghost use Rattle.ficus_runs.specs.Numbered.{IsNumbered};
 ghost use Rattle.ficus_runs.specs.Outcome.{Outcome};
@@ -10,6 +12,7 @@ ghost use Rattle.ficus_script.specs.declared.answer.Answer.TheVariants.{Done};
 ghost use Rattle.ficus_script.specs.declared.command.Command.{Command as CommandValue};
 ghost use Rattle.ficus_script.specs.declared.command.Command.TheVariants.{Give};
 ghost use Rattle.ficus_wire.specs.Message.{IsPiece};
+ghost use Rattle.ficus_wire.specs.Parts.{HeldParts, part_at};
 ghost use Rattle.ficus_wire.specs.declared.message.Message.{Message as MessageValue};
 ghost use Rattle.ficus_wire.specs.declared.message.Message.TheVariants.{Piece};
 ghost use Rattle.ficus_world.specs.Generations.{AreCutFromOne, Chain, HasSaved, HasTakenServed, IsFresh, IsServed, SomeLink};
@@ -47,20 +50,32 @@ pub fn equal_generations_save_the_same<L: Link, D: Disk>()
         → HasSaved other r now → was.generation ≡ now.generation → was ≡ now }
 {}
 
-/// The law that each piece which was posted, over a link that tells its posts, is one of an answer that was served. It
-/// does nothing when it runs.
-pub fn posted_pieces_were_served<L: Link, D: Disk>()
-    ensures { L.tells → (start now : Whole) (chain : Chain L.tells D.tells start now) (number : ℕ) (bytes : List ℕ)
-        (message : MessageValue) → start.post.posts ≡ [] → IsNumbered now.post.posts number bytes
+/// The law that each piece which was posted, over a link that tells its posts, is one of an answer that was served; and
+/// so is each that a member holds of the answer for which it waits. It does nothing when it runs.
+pub fn pieces_were_served<L: Link, D: Disk>()
+    ensures posted { L.tells → (start now : Whole) (chain : Chain L.tells D.tells start now) (number : ℕ)
+        (bytes : List ℕ) (message : MessageValue) → start.post.posts ≡ [] → IsNumbered now.post.posts number bytes
         → IsSpelled (length now.members) bytes message → IsPiece message
         → (saved : SavedValue) × SomeLink (IsServed message saved) chain }
+    ensures held { L.tells → (start now : Whole) (chain : Chain L.tells D.tells start now) (r : ℕ)
+        (member : MemberValue) (parts : HeldParts) (from ask index : ℕ) (bytes : List ℕ) → IsFresh start
+        → IsNumbered now.members r member → member.parts ≡ Some parts → part_at parts index ≡ Some bytes
+        → IsOpen member.replica from ask → (saved : SavedValue)
+        × SomeLink (IsServed (Piece from r ask parts.state parts.pieces index bytes) saved) chain }
 {}
 
-/// The law that equal generations are equal lists: pieces that one member posted with one state, in whichever answers,
-/// are cut from the same bytes. It does nothing when it runs.
+/// The law that equal generations are equal lists, over a link and disks that tell: what a member had saved whenever it
+/// served a piece of one state is the same, and its pieces of that state are cut from the same bytes, in whichever
+/// answers it posted them. It does nothing when it runs.
 pub fn equal_generations_are_equal_lists<L: Link, D: Disk>()
-    ensures { L.tells → D.tells → (start now : Whole) → Chain L.tells D.tells start now → IsWorld start
-        → start.post.posts ≡ [] → (from state : ℕ) (to ask pieces index number : ℕ) (bytes one : List ℕ)
+    ensures lists { D.tells → (start now : Whole) (chain : Chain L.tells D.tells start now) → IsWorld start
+        → (from state to ask pieces index : ℕ) (bytes : List ℕ) (saved : SavedValue)
+        (other_to other_ask others other : ℕ) (other_bytes : List ℕ) (again : SavedValue)
+        → SomeLink (IsServed (Piece from to ask state pieces index bytes) saved) chain
+        → SomeLink (IsServed (Piece from other_to other_ask state others other other_bytes) again) chain
+        → saved ≡ again }
+    ensures pieces { L.tells → D.tells → (start now : Whole) → Chain L.tells D.tells start now → IsWorld start
+        → start.post.posts ≡ [] → (from state to ask pieces index number : ℕ) (bytes one : List ℕ)
         (other_to other_ask others other other_number : ℕ) (other_bytes two : List ℕ)
         → IsNumbered now.post.posts number one
         → IsSpelled (length now.members) one (Piece from to ask state pieces index bytes)

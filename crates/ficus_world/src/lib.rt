@@ -24,7 +24,7 @@ mod world;
 
 pub use generations::{
     commands_are_chains, equal_generations_are_equal_lists, equal_generations_save_the_same,
-    posted_pieces_were_served, taken_answers_were_served,
+    pieces_were_served, taken_answers_were_served,
 };
 pub use laws::{
     disks_stand, knowledge_is_held, one_world, pending_events_may_come, refusals_save_nothing,
