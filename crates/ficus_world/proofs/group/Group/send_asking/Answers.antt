@@ -115,7 +115,8 @@ invariant_of-self-2 g c =
     let longer = ap length events ∙ length_push c.self.inside.history.events (Ask by to) in
     let sound = rw (sym longer) at (held_sound was (parts_after (Ask by to) was.parts) asking.1.up asking.2) in
     let next = world_after old c.commit_next.new.history.events by was _ asking.1.is world sound (omega (arith, longer))
-    (subst IsPlain (sym events) (plain_with world (Ask by to) asking.1.is.member refl)) c.commit_next.new.members.items (c.in_ok-commit_next.ensures.held was asking.1.is) in
+    (subst IsPlain (sym events) (plain_with world (Ask by to) asking.1.is.member refl))
+    c.commit_next.new.members.items (c.in_ok-commit_next.ensures.held was asking.1.is) in
     let some : smallest_message ≤ length c.args.asking.message.items =
     subst (λ bytes. smallest_message ≤ length bytes) (sym message) (some_bytes (ask_of by to asked)) in
     let sent = rw c.in_ok-make_ready.ensures.post at c.send.ensures.sent in
