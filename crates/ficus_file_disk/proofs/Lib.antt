@@ -1,3 +1,3 @@
 mod Above
 mod Places
-mod Refusals
+pub mod Refusals

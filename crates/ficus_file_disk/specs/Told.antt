@@ -11,6 +11,12 @@ pub data Told : Type 0 where
   NotThere : (path : List ℕ) → Told
   -- it was made, where nothing was, and opened
   Made : (path : List ℕ) → Told
+  -- it was opened, to be read alone
+  OpenedToRead : (path : List ℕ) → Told
+  -- it was made, or emptied where it was there, and opened
+  Emptied : (path : List ℕ) → Told
+  -- the file at the first path is now at the second, in place of one that was there
+  Renamed : (path : List ℕ) → (place : List ℕ) → Told
   -- it has so many bytes
   Measured : (size : ℕ) → Told
   -- reads and writes go on from this place

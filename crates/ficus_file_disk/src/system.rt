@@ -1,7 +1,7 @@
 // What a stored file asks of the system.
 ghost use Rattle.std.specs.Prelude.{◌≡◌, ◌≢◌, ◌++◌, ◌∷◌, [], List, IfOk, IfErr, OnOk, OnErr, if◌then◌else◌};
 ghost use Rattle.std.specs.IoError.{error_kind};
-ghost use Rattle.ficus_file_disk.specs.Told.{Told, Opened, NotThere, Made, Measured, Moved, Gave, Took, Synced, FolderThere, FolderMissing, FolderMade, FolderSynced, Refused};
+ghost use Rattle.ficus_file_disk.specs.Told.{Told, Opened, OpenedToRead, NotThere, Made, Emptied, Renamed, Measured, Moved, Gave, Took, Synced, FolderThere, FolderMissing, FolderMade, FolderSynced, Refused};
 
 use std::fs::{File, OpenFile, OpenOptions};
 use std::io::{ErrorKind, Read, Seek, SeekFrom, Write};
@@ -30,6 +30,24 @@ pub trait System {
     /// Makes the file, where nothing is, and opens it.
     fn make(&mut self, path: &str) -> io::Result<Self::File>
         ensures told { tells → OnOk result (told self.new ≡ told self.old ++ Made path.now ∷ []) }
+        ensures refused { tells → OnErr result (told self.new ≡ told self.old ++ Refused ∷ []) };
+
+    /// Opens the file, to read it alone.
+    fn open_to_read(&mut self, path: &str) -> io::Result<Self::File>
+        ensures opened { tells → OnOk result (told self.new ≡ told self.old ++ OpenedToRead path.now ∷ []) }
+        ensures missing { tells → IfErr result (λ error. error_kind error ≡ ErrorKind.NotFound
+            → told self.new ≡ told self.old ++ NotThere path.now ∷ []) }
+        ensures refused { tells → IfErr result (λ error. error_kind error ≢ ErrorKind.NotFound
+            → told self.new ≡ told self.old ++ Refused ∷ []) };
+
+    /// Makes the file, or empties it where it is there, and opens it.
+    fn make_empty(&mut self, path: &str) -> io::Result<Self::File>
+        ensures told { tells → OnOk result (told self.new ≡ told self.old ++ Emptied path.now ∷ []) }
+        ensures refused { tells → OnErr result (told self.new ≡ told self.old ++ Refused ∷ []) };
+
+    /// Gives the file another path, in place of one that is there.
+    fn rename(&mut self, path: &str, place: &str) -> io::Result<()>
+        ensures told { tells → OnOk result (told self.new ≡ told self.old ++ Renamed path.now place.now ∷ []) }
         ensures refused { tells → OnErr result (told self.new ≡ told self.old ++ Refused ∷ []) };
 
     /// How many bytes the file has.
@@ -103,6 +121,18 @@ impl<R: Files + Clone + Drop> System for Runtime<R> {
 
     fn make(&mut self, path: &str) -> io::Result<R::File> {
         File::create_new(&self.rt, path)
+    }
+
+    fn open_to_read(&mut self, path: &str) -> io::Result<R::File> {
+        File::open(&self.rt, path)
+    }
+
+    fn make_empty(&mut self, path: &str) -> io::Result<R::File> {
+        File::create(&self.rt, path)
+    }
+
+    fn rename(&mut self, path: &str, place: &str) -> io::Result<()> {
+        fs::rename(&self.rt, path, place)
     }
 
     fn measure(&mut self, file: &R::File) -> io::Result<u64> {

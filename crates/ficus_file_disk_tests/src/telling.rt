@@ -100,6 +100,31 @@ impl<S: System + Drop, R: Abort + Drop> System for Telling<S, R> {
         self.done(answer, Note::Made(name))
     }
 
+    fn open_to_read(&mut self, path: &str) -> io::Result<S::File> {
+        let answer = self.system.open_to_read(path);
+        let name = self.name(path);
+        let note = match &answer {
+            Ok(_) => Note::OpenedToRead(name),
+            Err(error) if error.kind() == ErrorKind::NotFound => Note::NotThere(name),
+            Err(_) => Note::Refused,
+        };
+        self.note(note);
+        answer
+    }
+
+    fn make_empty(&mut self, path: &str) -> io::Result<S::File> {
+        let answer = self.system.make_empty(path);
+        let name = self.name(path);
+        self.done(answer, Note::Emptied(name))
+    }
+
+    fn rename(&mut self, path: &str, place: &str) -> io::Result<()> {
+        let answer = self.system.rename(path, place);
+        let name = self.name(path);
+        let other = self.name(place);
+        self.done(answer, Note::Renamed(name, other))
+    }
+
     fn measure(&mut self, file: &S::File) -> io::Result<u64> {
         let answer = self.system.measure(file);
         let size = *answer.as_ref().unwrap_or(&0);
