@@ -1,7 +1,7 @@
 -- What a mailbox over folders asks of the system, and what it answers.
-use Rattle.std.specs.Prelude.{◌≡◌, ◌⊎◌, ◌<◌, ℕ, Bool, true, false, List, [], ◌∷◌, ◌++◌, codes, length}
+use Rattle.std.specs.Prelude.{◌≡◌, ◌<◌, ℕ, Bool, true, false, List, [], ◌∷◌, ◌++◌, codes, length}
 use Rattle.std.specs.Fmt.{decimal}
-use Rattle.ficus_file_disk.specs.Told.{Told, Emptied, FolderMade, FolderSynced, Gave, Measured, NotThere, OpenedToRead, Refused, Renamed, Synced, Took}
+use Rattle.ficus_file_disk.specs.Told.{Told, Emptied, FolderMade, FolderSynced, Gave, Measured, NotThere, OpenedToRead, Renamed, Synced, Took}
 use Rattle.ficus_mailbox.specs.Letter.{Letter, letter_limit}
 use Rattle.ficus_mailbox.specs.declared.found.Given.{Given}
 use Rattle.ficus_mailbox.specs.declared.found.Found.{Found}

@@ -1,6 +1,6 @@
 -- What a save leaves noted.
 use Rattle.std.proofs.Common.{◌≡◌, inl, inr, ⊎_elim, ℕ, List, Option, Some, Result, sym, ◌∙◌, ap}
-use Rattle.std.specs.Prelude.{true, OnOk}
+use Rattle.std.specs.Prelude.{Bool, true, OnOk}
 use Rattle.ficus_disk.specs.declared.disk.Disk.{Ghosts as Disk}
 use Rattle.ficus_disk.specs.declared.pair.Pair.{Pair}
 use Rattle.ficus_keeper.specs.Calls.{CommitsBytes}

@@ -1,4 +1,4 @@
-use Rattle.std.proofs.Common.{rules, refl}
+use Rattle.std.proofs.Common.{refl}
 use Rattle.ficus_folder_mailbox.proofs.folder_mailbox.SystemMailboxMailbox.find.Goals as goal
 
 pub returns-clause-finds : goal.returns-clause-finds

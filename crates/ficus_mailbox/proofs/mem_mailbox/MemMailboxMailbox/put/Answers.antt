@@ -1,4 +1,4 @@
-use Rattle.std.proofs.Common.{rules, refl, inl, inr, ap, sym, subst}
+use Rattle.std.proofs.Common.{rules, refl, inl, inr, ap, subst}
 use Rattle.ficus_faults.specs.Calls.{IsNextListed}
 use Rattle.ficus_mailbox.specs.MemMailbox.{MailboxState}
 use Rattle.ficus_mailbox.proofs.mem_mailbox.MemMailboxMailbox.put.Goals as goal
