@@ -22,11 +22,11 @@ use std::rt::Files;
 /// A mailbox over the folders `in` and `out` in the folder of a member. It tells nothing of what comes and goes, and
 /// what it asked of the system where this tells it.
 ///
-/// Nothing is touched before the first call. What came for the member is a file in `in`, where there is one; one that is
-/// larger than a message with its tag isn't read. What is put is written to `out/.NAME` and synced, and then renamed to
-/// `out/NAME`, and the folder is synced: so whoever finds a file there finds the whole of it, and a file beside it that
-/// a kill has left is emptied by the next put of this name. The first put makes `out` where it is missing. Any refusal
-/// of the system is a fault, but that a file that is looked for isn't there.
+/// Nothing is touched before the first call. What came for the member is a file in `in`; one that is larger than a
+/// message with its tag isn't read. What is put is written to `out/.NAME` and synced, then renamed to `out/NAME`, and
+/// the folder is synced: so whoever finds a file there finds the whole of it, and one beside it that a kill has left is
+/// emptied by the next put of its name. The first put makes `out` where it is missing, and syncs the folder above it.
+/// Any refusal of the system is a fault, but that a file that is looked for isn't there.
 #[derive(Drop)]
 pub struct SystemMailbox<S: System + Drop> {
     system: S,
@@ -78,8 +78,8 @@ impl<R: Files + Clone + Drop> SystemMailbox<Runtime<R>> {
 }
 
 impl<S: System + Drop> SystemMailbox<S> {
-    /// The mailbox below this folder of a member, in the terms of this system, with no fault counted. All memory for the
-    /// paths of what is put is taken here.
+    /// The mailbox below this folder of a member, in the terms of this system, with no fault counted. All memory for
+    /// the paths of what is put is taken here.
     pub fn over(system: S, alloc: Global, folder: String) -> Result<SystemMailbox<S>, Memory>
         ensures { IfOk result (λ mailbox. mailbox ≡ record {
           folder = string_bytes folder;

@@ -6,7 +6,7 @@ use Rattle.ficus_disk.specs.declared.pair.Pair.{Pair}
 use Rattle.ficus_keeper.specs.Calls.{CommitsBytes}
 use Rattle.ficus_keeper.specs.Kept.{Kept, found_in, image_alone}
 use Rattle.ficus_keeper.proofs.Results.{both_ok}
-use Rattle.ficus_note.specs.Calls.{IsReady, Saves}
+use Rattle.ficus_note.specs.Calls.{Saves}
 use Rattle.ficus_note.specs.Noted.{HoldsAt, note_bytes}
 use Rattle.ficus_note.specs.declared.asked.Asked.{Asked}
 use Rattle.ficus_note.specs.declared.note.Note.{Note}
