@@ -21,12 +21,12 @@ use ficus_stable_storage::{Recovered, Stable, one_saved};
 use std::alloc::Global;
 
 /// Opens the disks of one member alone, of a volume whose other members are elsewhere. There are eight pairs, of which
-/// the one with the member's number is its own; those of the others hold nothing. On these the other members are made as
-/// they were when the volume was made, and they are down. It writes no byte to the member's own disks.
+/// the one with the member's number is its own; those of the others hold nothing. On these the other members are made
+/// as they were when the volume was made, and they are down. It writes no byte to the member's own disks.
 ///
-/// `Store` comes only where a disk of that pair failed; `Image` exactly where the member's disks hold nothing of its own
-/// with which a world may be opened; `Occupied` exactly where the pair of another member holds something. After a fault
-/// others may be made.
+/// `Store` comes only where a disk of that pair failed; `Image` exactly where the member's disks hold nothing of its
+/// own with which a world may be opened; `Occupied` exactly where the pair of another member holds something. After a
+/// fault others may be made.
 pub fn open_alone<K: Keep + Drop, D: Disk>(
     alloc: Global,
     disks: &mut Vec<Pair<D>>,

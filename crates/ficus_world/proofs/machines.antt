@@ -7,7 +7,7 @@ pub mod Deeds
 pub mod Worlds
 pub mod Processes
 pub mod Starting
-pub mod Opening
+pub mod Opened
 pub mod Names
 pub mod Killed
 pub mod Selves

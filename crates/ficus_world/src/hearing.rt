@@ -27,8 +27,8 @@ impl<K: Keep + Drop, L: Link + Drop> World<K, L> {
         self.group.hear(bytes)
     }
 
-    /// The bytes of a message that it has, for whoever carries them to another machine. Refused with `NoMail` where there is
-    /// none of this number, and with `Link` where the link failed.
+    /// The bytes of a message that it has, for whoever carries them to another machine. Refused with `NoMail` where
+    /// there is none of this number, and with `Link` where the link failed.
     pub fn message(&mut self, number: u32) -> Result<Vec<u8>, Refusal>
         ensures fetched { IfOk result (λ bytes. AreFetched L.tells self.old.whole.post.posts number bytes.items) }
         ensures same { OnOk result (self.new.whole ≡ self.old.whole) }

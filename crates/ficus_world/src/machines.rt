@@ -1,5 +1,5 @@
-//! Members on machines of their own: what a machine may do alone, and the laws that whatever each of these machines does,
-//! together they are one world.
+//! Members on machines of their own: what a machine may do alone, and the laws that whatever each of these machines
+//! does, together they are one world.
 //!
 //! A law is the contract of a function that does nothing. Its lemmas stand in `proofs/`.
 

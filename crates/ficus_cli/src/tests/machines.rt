@@ -1,4 +1,5 @@
-// Three machines, each with the world of its own member over disks in memory. Messages are carried between them as bytes.
+// Three machines, each with the world of its own member over disks in memory. Messages are carried between them as
+// bytes.
 ghost use Rattle.std.specs.Prelude.{◌≡◌, length};
 ghost use Rattle.ficus_world.specs.Disks.{IsBacked};
 
@@ -64,9 +65,9 @@ enum Step {
     Carry(usize, u32, usize),
 }
 
-// Replica 2 hears of 1 by an answer that comes twice, of which an earlier one is late; 3 hears of 1 by 2 alone, and its
-// first ask is lost; what 1 and 3 then write is in conflict. The answers are those of one world but for the numbers of messages,
-// which count what a machine posts and hears.
+// Replica 2 hears of 1 by an answer that comes twice, and an earlier one is late; 3 hears of 1 by 2 alone, and its first
+// ask is lost; what 1 and 3 then write is in conflict. The answers are those of one world but for the numbers of
+// messages, which count what a machine has posted and heard.
 const STEPS: &[(Step, &str)] = &[
     (Step::Line(0, "1 mkdir /notes"), "ok 1.1\n"),
     (Step::Line(0, "1 create /notes/todo lines"), "ok 1.2\n"),

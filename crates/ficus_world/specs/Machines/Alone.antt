@@ -44,8 +44,8 @@ BeginsAnew {K} {D} keep disk me old world =
     → ((was : Member) → IsNumbered machine.members me was → was.fused ≡ are_fused disk.armings own)
     → BeginsWith me machine world found
 
--- The world of member `me` is opened, over a link of so many faults and so many bytes in all. The pairs of the others are
--- not those of the members, which are elsewhere: they hold nothing before.
+-- The world of member `me` is opened, over a link of so many faults and so many bytes in all. The pairs of the others
+-- are not those of the members, which are elsewhere: they hold nothing before.
 pub record OpensWorldAlone {K D : Type 0} (keep : Keep K) (disk : Disk D) (me link_faults total : ℕ)
     (result : Result (Backed K) WorldFault) (old new : List (Pair D)) : Type 0 where
   pub alone : IfOk result (λ world. IsAlone me world.whole.members)

@@ -17,12 +17,12 @@ use std::alloc::Global;
 
 impl<K: Keep + Drop, L: Link + Drop> World<K, L> {
     /// Opens the world of one member of a volume whose other members are elsewhere, over a link without messages. There
-    /// are eight pairs, of which the one with the member's number is its own; those of the others hold nothing. On these
-    /// the other members are made as they were when the volume was made, and they are down, for good. The history is one
-    /// restart of the member. It writes no byte to the member's own disks. After a fault the link is dropped.
+    /// are eight pairs, of which the one with the member's number is its own; those of the others hold nothing. On
+    /// these the other members are made as they were when the volume was made, and they are down, for good. The history
+    /// is one restart of the member. It writes no byte to the member's own disks. After a fault the link is dropped.
     ///
-    /// `Store` comes only where a disk of that pair failed; `Image` exactly where the member's disks hold nothing of its
-    /// own with which a world may be opened; `Occupied` exactly where the pair of another member holds something.
+    /// `Store` comes only where a disk of that pair failed; `Image` exactly where the member's disks hold nothing of
+    /// its own with which a world may be opened; `Occupied` exactly where the pair of another member holds something.
     pub fn open_alone<D: Disk>(
         alloc: Global,
         disks: &mut Vec<Pair<D>>,

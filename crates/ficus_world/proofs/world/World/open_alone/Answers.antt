@@ -16,13 +16,14 @@ use Rattle.ficus_world.specs.Machines.Alone.{OpensWorldAlone}
 use Rattle.ficus_world.specs.Post.{Outbox}
 use Rattle.ficus_world.specs.World.{Backed, whole_of}
 use Rattle.ficus_world.proofs.OpenedWorlds.{empty_post}
-use Rattle.ficus_world.proofs.machines.Opening.{alone_world, begins_anew, fused_as, stands_alone}
+use Rattle.ficus_world.proofs.machines.Opened.{alone_world, begins_anew, fused_as, stands_alone}
 use Rattle.ficus_world.proofs.world.World.open_alone.Goals as goal
 
 pub invariant_of-group : goal.invariant_of-group
 invariant_of-group g c =
     alone_world c.args.me c.in_ok-members.field-0.members.items c.in_ok-members.ensures.alone
-    c.in_ok-history.history.events c.new.result.now (empty_post c.new.result.now _ _ _ c.new.ensures c.requires.link)
+    c.in_ok-history.history.events c.new.result.now c.in_ok-history.ensures
+    (empty_post c.new.result.now _ _ _ c.new.ensures c.requires.link)
 
 -- a fault is told
 unopened : {K D : Type 0} {keep : Keep K} {disk : Disk D} {me faults total : ℕ} {fault : WorldFault}

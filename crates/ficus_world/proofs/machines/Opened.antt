@@ -1,8 +1,9 @@
 -- The world of one member that was opened alone: it is a world, and one of those that stand for what all disks stood for.
-use Rattle.std.proofs.Common.{◌≡◌, ℕ, zero, suc, ◌+◌, ◌≤◌, Bool, List, [], ◌∷◌, ◌++◌, length, replicate, None, refl, sym, ap, subst, ◌∙◌, inl, inr, ◌⊎◌, arith}
+use Rattle.std.proofs.Common.{◌≡◌, ℕ, zero, suc, ◌+◌, ◌-◌, ◌≤◌, Bool, Option, List, [], ◌∷◌, ◌++◌, length, replicate, None, refl, sym, ap, subst, ◌∙◌, inl, inr, ◌⊎◌, arith}
 use Rattle.std.specs.Prelude.{take}
 use Rattle.std.proofs.lemmas.Bool.{cases_eq}
 use Rattle.std.proofs.lemmas.List.{get_or-replicate, length-replicate, length_push}
+use Rattle.std.proofs.lemmas.List.Elements.{All-cons, All-nil}
 use Rattle.ficus_disk.specs.declared.disk.Disk.{Ghosts as Disk}
 use Rattle.ficus_disk.specs.declared.pair.Pair.{Pair}
 use Rattle.ficus_durable_state.specs.Saved.{FitsImage}
@@ -13,6 +14,9 @@ use Rattle.ficus_keeper.specs.Pairs.{PairSame}
 use Rattle.ficus_keeper.specs.declared.keep.Keep.{Ghosts as Keep}
 use Rattle.ficus_model.specs.Lawful.{Volume}
 use Rattle.ficus_model.specs.declared.event.Event.{Event}
+use Rattle.ficus_model.specs.declared.event.Event.TheVariants.{Restart}
+use Rattle.ficus_model.specs.Events.{actor}
+use Rattle.ficus_why.specs.Plain.{IsPlain}
 use Rattle.ficus_runs.specs.ModelWorld.{IsUp}
 use Rattle.ficus_runs.specs.ModelWorld as model
 use Rattle.ficus_runs.specs.Numbered.{IsNumbered}
@@ -83,10 +87,18 @@ module _ (me : ℕ) (members : List Member) (alone : IsAlone me members) where
     | inr differs ↦ absent_sound events r member at.member (alone.among.absent r member differs at)
   ]
 
-  pub alone_world : (events : List Event) (post : Outbox) → IsEmpty post → IsWorld (whole_of members events post)
-  alone_world events post empty = record {
+  pub alone_world : (events : List Event) (post : Outbox) → events ≡ Restart me ∷ [] → IsEmpty post
+      → IsWorld (whole_of members events post)
+  alone_world events post restart empty = record {
     count = subst IsCount (sym alone.among.count) alone.fits.members;
     sound = each_sound (length events);
+    plain = subst IsPlain (sym restart)
+        (All-cons (λ e. IsMember 8 (actor e)) (Restart me) []
+        (record {
+          at_least = alone.among.is.member.at_least;
+          at_most = omega (arith, alone.among.is.member.at_most, alone.among.count, alone.fits.members.at_most);
+        })
+        (All-nil (λ e. IsMember 8 (actor e))));
     counted = ap (λ (l : List (List ℕ)). length l) empty.posts ∙ sym (ap (λ (l : List Behind). length l) empty.behind);
     few = omega (arith, ap (λ (l : List (List ℕ)). length l) empty.posts);
     within = omega (arith, ap (λ (l : List (List ℕ)). length l) empty.posts);
@@ -209,7 +221,9 @@ module _ {D : Type 0} (kept : List ℕ → List ℕ → Option Kept) (seen : D �
         (subst (λ (p : Pair D). Holds (found_in kept seen p) is.keeps.saved) (number_once is.is at) is.keeps.holds) in
         let fuses =
         is_fused ∙ ap (λ (p : Pair D). are_fused armings p) (number_once at is.is) in
-        (λ i. opened_member (saved i) (fuses i)) ∙ sym is.member_is
+        let both : opened_member alone.saved alone.among.fused ≡ opened_member is.keeps.saved (are_fused armings is.pair) =
+        λ i. opened_member (saved i) (fuses i) in
+        both ∙ sym is.member_is
 
     pub opened_at : OpenedAt volume (start H volume.members 0 (take volume.members (fuses_in armings every))) me machine
     opened_at = record {
@@ -261,7 +275,7 @@ module _ {K D : Type 0} (keep : Keep K) (disk : Disk D) (held_once : OneHeld) (m
         count = alone.among.count ∙ ap (λ (s : Saved). s.members) saved ∙ says;
         member = opened_member alone.saved alone.among.fused;
         is = alone.among.is;
-        replica = ap (λ (s : Saved). record { saved = s; ask = None }) saved;
+        replica = ap (λ (s : Saved). (opened_member s alone.among.fused).replica) saved;
         parts = refl;
         up = refl;
         fused = λ was at_was. is_fused own at ∙ sym (fuses was at_was);
