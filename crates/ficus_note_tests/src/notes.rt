@@ -58,6 +58,13 @@ fn found_of(alloc: Global, bytes: &[u8]) -> Result<Is, MakeFault> {
 }
 
 #[test]
+fn nothing_is_kept_on_fresh_disks(rt: HostRuntime) -> Result<(), Fail> {
+    let mut disks = fresh_pair(rt.alloc());
+    assert!(rt; found(rt.alloc(), &mut disks) == Is::NoNote);
+    Ok(())
+}
+
+#[test]
 fn what_is_kept_is_a_note_or_damage(rt: HostRuntime) -> Result<(), Fail> {
     for (row, (bytes, is)) in KEPT.iter().enumerate() {
         let found = found_of(rt.alloc(), bytes);
@@ -112,7 +119,6 @@ const SAVES: [(Option<Asked>, u32, u8, bool, Is); 7] = [
 #[test]
 fn a_stopped_save_leaves_one_of_two_notes(rt: HostRuntime) -> Result<(), Fail> {
     let mut disks = fresh_pair(rt.alloc());
-    assert!(rt; found(rt.alloc(), &mut disks) == Is::NoNote);
     assert!(rt; Note::make(rt.alloc(), &mut disks) == Ok(()));
     assert!(rt; found(rt.alloc(), &mut disks) == Is::Noted(None));
     for (row, (noted, calls, pick, done, is)) in SAVES.iter().enumerate() {
