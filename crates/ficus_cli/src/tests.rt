@@ -3,7 +3,6 @@ mod altered_link;
 mod calls;
 mod disks;
 mod links;
-mod machines;
 mod modes;
 mod stops;
 mod streams;
