@@ -1,15 +1,19 @@
 -- No open gate, and what two slots left.
-use Rattle.std.proofs.Common.{◌≡◌, inl, inr, ℕ, ◌+◌, ◌==◌, ◌<◌, Bool, true, false, Option, Some, None, List, [], ◌∷◌, length, drop, refl, sym, ◌∙◌, ap, subst, arith}
+use Rattle.std.proofs.Common.{◌≡◌, inl, inr, ⊎_elim, ℕ, ◌+◌, ◌==◌, ◌<◌, Bool, true, false, Option, Some, None, List, [], ◌∷◌, length, drop, refl, sym, ◌∙◌, ap, subst, arith}
 use Rattle.std.specs.Prelude.{◌||◌, nat_le, if◌then◌else◌}
 use Rattle.std.proofs.lemmas.Bool.Decides.{nat_tests}
+use Rattle.ficus_disk.specs.declared.disk.Disk.{Ghosts as Disk}
+use Rattle.ficus_disk.specs.declared.pair.Pair.{Pair}
 use Rattle.ficus_keeper.specs.Kept.{Kept, image_alone}
 use Rattle.ficus_slot.specs.Gate.{IsShut}
 use Rattle.ficus_keeper.proofs.Sides.{KnownAt, Saves}
 use Rattle.ficus_slot.specs.Slot.{SlotContent, slot_in}
 use Rattle.ficus_slot.specs.Stays.{IsFound}
+use Rattle.ficus_two_slots.specs.Committing.{LeavesOldOrShut}
 use Rattle.ficus_two_slots.specs.Slots.{HasShutTail, IsRegular as AreTwoSlots, greater, kept_in as kept_by_two_slots, kept_slot as slot_kept}
 use Rattle.ficus_log.specs.Log.{Log, is_open, log_of, tail_log}
 use Rattle.ficus_log.proofs.Walks.{closed}
+use Rattle.ficus_journal.specs.Committing.{LeavesShut}
 use Rattle.ficus_journal.specs.Journal.{Fits, FitsOn, FitsSide, saves_image}
 use Rattle.ficus_journal.specs.Logs.{EndsShut, HaveNoOpenGate, IsRegular, kept_in, kept_on, later, logged, record_limit}
 use Rattle.ficus_journal.specs.declared.journal.Journal.{Journal}
@@ -115,6 +119,18 @@ two_slots_shut a b is = record { on_a = tail_ends a is.shut_a; on_b = tail_ends 
 
 pub journal_shut : (a b : List ℕ) → IsRegular a b → HaveNoOpenGate a b
 journal_shut a b is = record { on_a = is.trim_a.shut; on_b = is.trim_b.shut }
+
+-- nor does one where two slots commit and none stood open
+pub commits_shut : {D : Type 0} (disk : Disk D) (old new : Pair D)
+    → (disk.tells → (d : D) → disk.may_leave d (disk.seen d)) → LeavesOldOrShut disk old new → LeavesShut disk old new
+commits_shut disk old new now_left leaves told was = record {
+  each = λ a b left_a left_b. record {
+    on_a = ⊎_elim (λ was_left. (was.each a (disk.seen old.b) was_left (now_left told old.b)).on_a) (tail_ends a)
+        (leaves.a told a left_a);
+    on_b = ⊎_elim (λ was_left. (was.each (disk.seen old.a) b (now_left told old.a) was_left).on_b) (tail_ends b)
+        (leaves.b told b left_b);
+  };
+}
 
 -- so the keeper that stands for it wants an image only behind enough records
 module _ (keeper : Journal) (bound : ℕ) (force other : List ℕ) (fits : FitsSide keeper bound force other) where

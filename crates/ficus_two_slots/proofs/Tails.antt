@@ -1,8 +1,8 @@
 -- No record stands behind a slot that was saved, nor where there is no slot.
-use Rattle.std.proofs.Common.{◌≡◌, ℕ, ◌+◌, ◌%◌, List, [], ◌∷◌, length, drop, Some, None, sym, ◌∙◌, ap, subst, arith}
+use Rattle.std.proofs.Common.{◌≡◌, ◌⊎◌, inl, inr, ℕ, ◌+◌, ◌%◌, List, [], ◌∷◌, length, drop, Some, None, sym, ◌∙◌, ap, subst, arith}
 use Rattle.ficus_slot.specs.Gate.{IsShut}
 use Rattle.ficus_slot.specs.Slot.{SlotContent, slot_in}
-use Rattle.ficus_slot.specs.Stays.{IsNew}
+use Rattle.ficus_slot.specs.Stays.{IsNew, Stays}
 use Rattle.ficus_slot.proofs.Written.{tail_of}
 use Rattle.ficus_two_slots.specs.Slots.{HasShutTail, IsRegular}
 
@@ -18,6 +18,13 @@ new_shut {saved} {c} new s found =
 
 pub none_shut : (c : List ℕ) → slot_in c ≡ None → HasShutTail c
 none_shut c none s found = absurd (let no = sym none ∙ found in cc)
+
+-- what a save leaves has what the bytes from before have, or such a tail
+pub old_or_shut : (Was : List ℕ → Type 0) (old : List ℕ) (saved : SlotContent) (c : List ℕ) → Was old → Stays old saved c
+    → Was c ⊎ HasShutTail c
+old_or_shut Was old saved c was (inl (inl none)) = inr (none_shut c none)
+old_or_shut Was old saved c was (inl (inr same)) = inl (subst Was (sym same) was)
+old_or_shut Was old saved c was (inr new) = inr (new_shut new)
 
 -- what was made
 pub made_regular : {image a b : List ℕ} → IsNew (record { generation = 0; body = image }) a → b ≡ [] → IsRegular a b

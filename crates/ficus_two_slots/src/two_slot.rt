@@ -26,22 +26,25 @@ pub struct TwoSlot {
 }
 
 impl Keep for TwoSlot {
-    ghost use Rattle.std.specs.Prelude.{◌+◌, ◌≤◌, true, refl};
-    ghost use Rattle.ficus_slot.specs.Slot.{range_size};
+    ghost use Rattle.std.specs.Prelude.{length, refl, vec_capacity};
+    ghost use Rattle.ficus_keeper.specs.Calls.{CommitsBytes, HasRoom};
+    ghost use Rattle.ficus_keeper.specs.Framed.{IsFramed, body_in};
+    ghost use Rattle.ficus_keeper.specs.Kept.{Settled};
+    ghost use Rattle.ficus_two_slots.specs.Committing.{IsNext, LeavesOldOrShut};
     ghost use Rattle.ficus_two_slots.specs.Slots.{IsRegular, calls_of_slots, kept_in, lies_on_a};
-    ghost use Rattle.ficus_two_slots.specs.TwoSlot.{Fits, room_in};
+    ghost use Rattle.ficus_two_slots.specs.TwoSlot.{Allows, Fits, Takes, size_after, wants_image};
 
     ghost kept = { kept_in };
 
     ghost fits = { Fits };
 
-    ghost wants_image = { λ _. true };
+    ghost wants_image = { wants_image };
 
-    ghost Allows = { λ _ _. Unit {0} };
+    ghost Allows = { Allows };
 
-    ghost Takes = { λ keeper length. range_size + length ≤ room_in keeper };
+    ghost Takes = { Takes };
 
-    ghost size_of = { λ _ length. 1 + range_size + length };
+    ghost size_of = { size_after };
 
     ghost calls = { calls_of_slots };
 
@@ -87,7 +90,14 @@ impl Keep for TwoSlot {
         disks: &mut Pair<D>,
         generation: u64,
         bytes: &[u8],
-    ) -> Result<(), Failed> {
+    ) -> Result<(), Failed>
+        requires settled { D.tells → Settled Fits D.seen D.may_leave self.old disks.old }
+        requires next { IsNext D.Disk generation disks.old }
+        requires room { HasRoom Takes size_after D.room self.old disks.old (length bytes.now) }
+        ensures saves { CommitsBytes kept_in Fits wants_image calls_of_slots lies_on_a IsRegular D.Disk generation
+            bytes.now self.old self.new disks.old disks.new result }
+        ensures tails { LeavesOldOrShut D.Disk disks.old disks.new }
+    {
         let empty = Vec::new(*self.buffer.allocator());
         let mut framed = mem::replace(&mut self.buffer, empty);
         frame(&mut framed, bytes);
@@ -101,7 +111,16 @@ impl Keep for TwoSlot {
         disks: &mut Pair<D>,
         generation: u64,
         framed: &mut Vec<u8>,
-    ) -> Result<(), Failed> {
+    ) -> Result<(), Failed>
+        requires settled { D.tells → Settled Fits D.seen D.may_leave self.old disks.old }
+        requires next { IsNext D.Disk generation disks.old }
+        requires room { HasRoom Allows size_after D.room self.old disks.old (length (body_in framed.old.items)) }
+        requires framed { IsFramed framed.old }
+        ensures saves { CommitsBytes kept_in Fits wants_image calls_of_slots lies_on_a IsRegular D.Disk generation
+            (body_in framed.old.items) self.old self.new disks.old disks.new result }
+        ensures room { vec_capacity framed.old ≤ vec_capacity framed.new }
+        ensures tails { LeavesOldOrShut D.Disk disks.old disks.new }
+    {
         // After a failure nothing is promised of the keeper.
         let shut = self.shut;
         self.generation = generation;

@@ -8,6 +8,6 @@ pub commit_framed-committed-requires-clause-settled : goal.commit_framed-committ
 commit_framed-committed-requires-clause-settled g c told =
     settled_same g.D.Disk kept_in Fits (λ a b fits. fits) (c.requires.settled told)
 
-pub returns : goal.returns
-returns g c =
+pub returns-clause-saves : goal.returns-clause-saves
+returns-clause-saves g c =
     saves_same g.D.Disk kept_in Fits (λ a b fits. fits) c.frame.ensures.body refl c.commit_framed-committed.ensures.saves

@@ -1,4 +1,3 @@
-use Rattle.std.proofs.Common.{rules}
 use Rattle.ficus_two_slots.specs.Slots.{IsRegular, kept_in}
 use Rattle.ficus_two_slots.proofs.Making.{made, reads_made}
 use Rattle.ficus_two_slots.proofs.two_slot.TwoSlotKeep.make.Goals as goal
