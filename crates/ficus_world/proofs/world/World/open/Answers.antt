@@ -134,7 +134,7 @@ returns g c =
       fresh = record {
         sound =
             opened_world members on.opened opens.count opens.counted c.in_ok-restart_all.field-0.events
-            c.new.result.now (empty_post c.new.result.now _ _ _ c.new.ensures c.requires.link);
+            c.new.result.now events (empty_post c.new.result.now _ _ _ c.new.ensures c.requires.link);
         posts = (empty_post c.new.result.now _ _ _ c.new.ensures c.requires.link).posts;
         parts = λ r member is.
             let first = first_member members on.opened opens.count opens.counted in
