@@ -20,7 +20,7 @@ PROVE, HELP, VERSION = "prove", "help", "version"
 HELP_WORDS = ("-h", "--help")
 VERSION_WORD = "--version"
 KNOWN = (*MODES, *TOOLS, PROVE, HELP, VERSION)
-USAGE = f"usage: {COMMAND} MODE ..., where MODE is one of {', '.join(KNOWN)}; {COMMAND} help MODE tells of one"
+USAGE = f"usage: {COMMAND} MODE ..., where MODE is one of {', '.join(KNOWN)}; {COMMAND} help MODE explains one"
 
 
 def parser_of(name: str) -> ArgumentParser:

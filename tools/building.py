@@ -146,8 +146,8 @@ def _make() -> bool:
     """Proves the crates, side by side where none stands on another, then builds the program and runs it over no script."""
     now = as_it_stands()
     crates = crates_of_the_program()
-    say(f"the program isn't built of these sources yet: first its {len(crates)} crates are proved and it is built.")
-    say("that takes some half an hour where nothing is kept; build/log has what the toolchain says")
+    say(f"the program isn't built from these sources yet: first its {len(crates)} crates are proved, and then it is built.")
+    say("this takes half an hour or more from nothing; build/log has what the toolchain says")
     began = time.time()
     with open(LOG, "wb") as log:
         ended = threading.Event()

@@ -28,7 +28,7 @@ def over_copy(call: Call, script: bytes) -> Iterator[Sequence[str]]:
         for replica, disk in there:
             os.makedirs(os.path.join(room, str(replica)), exist_ok=True)
             shutil.copyfile(disk, os.path.join(room, str(replica), os.path.basename(disk)))
-        say(f"{root} can't be written; the script only looks, so it goes over a copy")
+        say(f"{root} can't be written; the script has only queries, so it runs over a copy")
         yield [RUN.name, "--", room]
 
 

@@ -117,5 +117,5 @@ def kinds() -> list[str]:
 
 def orders() -> list[str]:
     """The orders in which a sweep pulls."""
-    said = re.search(r"\bORDER is ([^.]*)\.", FORMATS.read_text(encoding="utf-8"))
+    said = re.search(r"\bORDER\s+is\s+([^.]*)\.", FORMATS.read_text(encoding="utf-8"))
     return re.findall(r"`([^`]*)`", said[1]) if said else []

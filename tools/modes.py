@@ -43,9 +43,9 @@ IDS = Option("--ids", "I", "how many updates each replica may make over its life
 BYTES = Option("--bytes", "B", "how many bytes each replica may write over its life", 0, 4_194_304,
                "a replica writes at most 4,194,304 bytes over its life")
 VOLUMES = Option("--volumes", "V", "how many volumes there are", 1, 4, "there are 1 to 4 volumes")
-SEED = Option("--seed", "S", "the number from which the script follows", 0, 2_147_483_647,
+SEED = Option("--seed", "S", "the seed from which the script is generated", 0, 2_147_483_647,
               "a seed is 0 to 2,147,483,647")
-STEPS = Option("--steps", "T", "how many steps the script has", 0, 5_000, "a script of a number has at most 5,000 steps")
+STEPS = Option("--steps", "T", "how many steps the script has", 0, 5_000, "a generated script has at most 5,000 steps")
 OPTIONS = {it.name: it for it in (MEMBERS, IDS, BYTES, VOLUMES, SEED, STEPS)}
 
 STRICT = "--strict"
@@ -53,9 +53,9 @@ ALL = "--all"
 JSON = "--json"
 # Words of the launcher's own, which the program doesn't see, with what they do.
 FLAGS = {
-    STRICT: "ends with 74 where a command was refused",
-    ALL: "tells each line that is no command, and carries out nothing",
-    JSON: "tells each answer as one value of JSON, on a line of its own",
+    STRICT: "ends with 74 if a command was refused",
+    ALL: "lists each line that isn't a command, and executes nothing",
+    JSON: "prints each answer as one JSON value on a line of its own",
 }
 
 
@@ -94,16 +94,16 @@ class Mode:
         return "\n".join([self.usage, "", self.does, "", *(f"    {word:{width}}  {what}" for word, what in rows)])
 
 
-INIT = Mode("init", "Makes a fresh volume in the folder ROOT.", (MEMBERS,), (IDS, BYTES), has_root=True)
-RUN = Mode("run", "Carries out the commands of a script on the volume in ROOT, and answers each on standard output.",
+INIT = Mode("init", "Makes an empty volume in the folder ROOT.", (MEMBERS,), (IDS, BYTES), has_root=True)
+RUN = Mode("run", "Executes a script on the volume in ROOT, and answers each command on standard output.",
            has_root=True, has_script=True)
-CHECK = Mode("check", "Tells of each replica of the volume in ROOT whether its files are damaged.", has_root=True,
+CHECK = Mode("check", "Reports for each replica of the volume in ROOT whether its files are damaged.", has_root=True,
              flags=(JSON,))
-REPLAY = Mode("replay", "Carries out a script on a fresh volume in memory, of which nothing stays.", (MEMBERS,),
+REPLAY = Mode("replay", "Executes a script on a fresh volume in memory, and keeps nothing.", (MEMBERS,),
               (IDS, BYTES), has_script=True)
-VOLUMES_MODE = Mode("volumes", "Carries out a script on several fresh volumes in memory, which names join.",
+VOLUMES_MODE = Mode("volumes", "Executes a script on several fresh volumes in memory, joined by names.",
                     (MEMBERS, VOLUMES), (IDS, BYTES), has_script=True)
-GEN = Mode("gen", "Makes a script from a number, carries it out in memory, and tells what it came to.",
+GEN = Mode("gen", "Executes a script generated from a seed, in memory, and prints a summary.",
            (MEMBERS, SEED, STEPS))
 MODES = {it.name: it for it in (INIT, RUN, CHECK, REPLAY, VOLUMES_MODE, GEN)}
 

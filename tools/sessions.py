@@ -18,7 +18,7 @@ _LOST = "an ask is lost with the run that made it: use pull, or a shell with --m
 WITHIN_A_RUN = {
     "ask": _LOST,
     "give": _LOST,
-    "why": "why tells of the updates of its own run alone: put them into one script, or use a shell with --members",
+    "why": "why names updates of its own run only: put them into one script, or use a shell with --members",
 }
 # From how long a replay on it is told how many lines are replayed, in seconds.
 LONG = 1.0

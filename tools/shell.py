@@ -26,11 +26,11 @@ except ImportError:
 
 DESCRIPTION = """\
 Reads commands, each as a line of a script, and answers each at once. Over the volume in ROOT each line is a run of its
-own; with --members the volume is in memory, and nothing of it stays. On a terminal lines are edited and kept, and TAB
+own; with --members the volume is in memory, and nothing of it is kept. On a terminal lines are edited and kept, and TAB
 completes commands and paths."""
 HELP = """\
-A line is a command, as in a script: `1 ls /`. `help COMMAND` tells what a command does, `help WORD` when a refusal
-comes. `quit` or the end of the input leaves."""
+A line is a command, as in a script: `1 ls /`. `help COMMAND` explains a command, and `help WORD` a refusal. `quit`, or
+the end of the input, leaves."""
 
 HISTORY = Path("~/.ficus_history")
 HISTORY_LINES = 1_000
