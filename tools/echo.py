@@ -14,8 +14,8 @@ from spelling import to_bytes, to_str
 WIDTH = 60
 
 DESCRIPTION = """\
-Runs the script on standard input, as the program does with the words run, replay and volumes, and writes each of its
-lines with its number, and each command with its answer beside it."""
+Runs the script on standard input, as the modes run, replay and volumes do. Prints each of its lines with its number, and
+each command with its answer beside it."""
 
 
 def add(parser: ArgumentParser) -> None:

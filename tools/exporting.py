@@ -18,12 +18,12 @@ from tree import Node, content, list_below, read_files
 from unfit import Unfit
 
 DESCRIPTION = """\
-Writes what replica R of the volume in ROOT shows, at PATH or at its root and below, into the real FOLDER, which is
-made, or is there and empty, or was written by the same export before: then it is brought up to date, unless something
-in it was changed since. FOLDER.exported says what was written. Where a name leads to several objects each goes out as
-`ls` shows it, as NAME#r.k, and of a file in conflict each version, as NAME#[VECTOR]. A file with several names goes out
-under each. A symbolic link goes out as one, with its text, wherever that leads. What can't go out is listed before
-anything is done."""
+Copies what replica R of the volume in ROOT shows, at PATH or at its root and below, into the real FOLDER. FOLDER has to be
+missing or empty, or written by the same export before. In that case it is updated, unless something in it was changed
+since. FOLDER.exported notes what was written. If a name leads to several objects, each is exported as `ls` shows it, as
+NAME#r.k; of a file in conflict each version is exported, as NAME#[VECTOR]. A file with several names is exported under
+each of them. A symbolic link is exported as one, with its target, wherever that leads. What can't be exported is listed
+before anything is done."""
 
 
 def add(parser: ArgumentParser) -> None:

@@ -25,9 +25,9 @@ LIFE_UPDATES = 100_000
 LIFE_BYTES = 4_194_304
 
 DESCRIPTION = """\
-Brings the directories, files and symbolic links of the real FOLDER into the volume in ROOT, as changes of replica R, at
-PATH or at its root. Only what differs is changed, so that the same again does the rest after an interruption; what the
-volume has besides stays, or is removed with --delete. What can't go in is listed before anything is done."""
+Copies the directories, files and symbolic links of the real FOLDER into the volume in ROOT, as changes of replica R, to
+PATH or to its root. Only what differs is changed, so an interrupted import can be repeated and does the rest. Whatever
+else is in the volume stays, or is removed with --delete. What can't be imported is listed before anything is done."""
 WHAT_STAYS = "what was done until then stays, and the same again does the rest"
 WHAT_IS_SPENT = "what was done until then stays; this replica takes no more of it, and another one of the volume may"
 # Refusals behind which the same again does nothing.
@@ -39,11 +39,11 @@ def add(parser: ArgumentParser) -> None:
     parser.formatter_class = RawDescriptionHelpFormatter
     places.add_root(parser)
     places.add_replica(parser)
-    parser.add_argument("folder", metavar="FOLDER", type=os.fsencode, help="the folder to bring in")
+    parser.add_argument("folder", metavar="FOLDER", type=os.fsencode, help="the folder to import")
     parser.add_argument("path", metavar="PATH", nargs="?", type=places.volume_path, default=Path("", ()),
-                        help="the directory of the volume, which is made where it is missing")
+                        help="the directory of the volume, which is made if it is missing")
     parser.add_argument("--delete", action="store_true",
-                        help="remove what the volume has there and FOLDER hasn't; what that is is listed first")
+                        help="remove what the volume has there and FOLDER hasn't, after listing it")
     parser.add_argument("--list", dest="lists", action="store_true", help="only list what would be made, written and removed")
     parser.add_argument("--kind", choices=formats.kinds(), default="plain", help="the kind of new files (plain)")
     unfit.add_skip(parser)

@@ -18,10 +18,10 @@ from spelling import to_str
 from svg import visible
 
 DESCRIPTION = """\
-Runs SCRIPT over a fresh volume in memory, or over several, and draws it: a lane for each replica with its commands and
-their answers, messages as arrows, conflicts and orphans as bars for as long as they last, stops and restarts, and what
-collections give up. One file that needs nothing else. Above 80 commands, those that say little are folded, and so is what is left
-in the middle; a page has all of them."""
+Runs SCRIPT over a fresh volume in memory, or over several, and draws the run in one file that needs nothing else. Each
+replica has a lane with its commands and their answers. Messages are arrows. Conflicts and orphans are bars for as long as
+they last. Stops, restarts, and what collections delete are drawn too. Above 80 commands, those that say little are
+folded, and so is the middle of what is left; an HTML page has all of them."""
 
 LEAST = 2
 PAGE = """<!doctype html>
@@ -41,17 +41,17 @@ def add(parser: ArgumentParser) -> None:
     parser.formatter_class = RawDescriptionHelpFormatter
     parser.add_argument("script", metavar="SCRIPT", type=Path, help="the script, in a file")
     parser.add_argument("--members", metavar="N", type=places.number(MEMBERS),
-                        help="how many replicas the volume has; else as many as NAME.members beside NAME.script "
-                             "says, or the greatest that the script names")
+                        help="how many replicas the volume has; by default what NAME.members beside NAME.script "
+                             "says, or the greatest number that the script names")
     parser.add_argument("--volumes", metavar="V", type=places.number(VOLUMES),
-                        help="how many volumes there are; else as many as NAME.volumes beside NAME.script says, or one")
+                        help="how many volumes there are; by default what NAME.volumes beside NAME.script says, or 1")
     parser.add_argument("-o", dest="out", metavar="FILE", type=Path,
-                        help="where it goes, a .svg or a .html; else standard output, as SVG")
+                        help="the file to write, .svg or .html; by default SVG on standard output")
 
 
 def run(words: Namespace) -> int:
     if words.out and words.out.suffix not in (".svg", ".html"):
-        raise Fault("the file is to end in .svg or .html", Status.USAGE)
+        raise Fault("the name of the file has to end in .svg or .html", Status.USAGE)
     drawing, commands = drawing_of(words.script, words.members, words.volumes)
     if words.out and words.out.suffix == ".html":
         drawing = PAGE.format(title=escape(words.script.name), drawing=drawing, commands=commands)

@@ -58,7 +58,7 @@ def add_memory(parser: ArgumentParser, *, required: bool) -> None:
 
 def add_volumes(parser: ArgumentParser, *, required: bool) -> None:
     parser.add_argument("--volumes", metavar="V", required=required, type=number(VOLUMES),
-                        help="how many volumes there are, 1 to 4, which names join")
+                        help="how many volumes there are, 1 to 4, joined by names")
 
 
 def memory(words: Namespace) -> Memory:

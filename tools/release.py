@@ -20,8 +20,8 @@ from tools_list import TOOLS
 
 TOP = Path(built.TOP)
 DESCRIPTION = """\
-Makes ficus-VERSION-linux-x86_64.tar.gz: the proved program, the tools, a page for man, completion for bash, the licence,
-and what it was built of. Unpacked, `install.sh --prefix FOLDER` installs it there."""
+Makes ficus-VERSION-linux-x86_64.tar.gz: the proved program, the tools, a man page, completion for bash, the licence, and
+a note of what it was built from. Unpacked, its `install.sh --prefix FOLDER` installs it there."""
 
 INSTALL = """\
 #!/bin/sh

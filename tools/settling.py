@@ -11,8 +11,8 @@ from program import ask, locked
 from spelling import FILE_BYTES, spell_text
 
 DESCRIPTION = """\
-Ends the conflict of the file at PATH, at replica R of the volume in ROOT, by the bytes of the real FILE. `export` writes
-the versions of a file in conflict beside each other."""
+Ends the conflict of the file at PATH, at replica R of the volume in ROOT, with the bytes of the real FILE. `export`
+writes the versions of a file in conflict beside each other."""
 
 
 def add(parser: ArgumentParser) -> None:

@@ -23,7 +23,7 @@ def show(path: bytes) -> str:
 
 
 def add_skip(parser: ArgumentParser) -> None:
-    parser.add_argument("--skip", action="store_true", help="leave out what can't go, and do the rest")
+    parser.add_argument("--skip", action="store_true", help="leave out what can't be copied, and do the rest")
 
 
 def tell(unfit: list[Unfit]) -> None:
