@@ -13,3 +13,5 @@ mod lists;
 mod merging;
 #[cfg(test)]
 mod paths;
+#[cfg(test)]
+mod rows;
