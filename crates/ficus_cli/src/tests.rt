@@ -1,4 +1,5 @@
 //! Tests of the program as one call, over sources, sinks, links and disks in memory.
+mod alone;
 mod altered_link;
 mod calls;
 mod disks;
