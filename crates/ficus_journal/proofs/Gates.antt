@@ -1,5 +1,5 @@
 -- No open gate, and what two slots left.
-use Rattle.std.proofs.Common.{◌≡◌, inl, inr, ⊎_elim, ℕ, ◌+◌, ◌==◌, ◌<◌, Bool, true, false, Option, Some, None, List, [], ◌∷◌, length, drop, refl, sym, ◌∙◌, ap, subst, arith}
+use Rattle.std.proofs.Common.{◌≡◌, inl, inr, ⊎_elim, ℕ, ◌+◌, ◌==◌, Bool, true, false, Option, Some, None, List, [], ◌∷◌, length, drop, refl, sym, ◌∙◌, ap, subst, arith}
 use Rattle.std.specs.Prelude.{◌||◌, nat_le, if◌then◌else◌}
 use Rattle.std.proofs.lemmas.Bool.Decides.{nat_tests}
 use Rattle.ficus_disk.specs.declared.disk.Disk.{Ghosts as Disk}
@@ -15,7 +15,7 @@ use Rattle.ficus_log.specs.Log.{Log, is_open, log_of, tail_log}
 use Rattle.ficus_log.proofs.Walks.{closed}
 use Rattle.ficus_journal.specs.Committing.{LeavesShut}
 use Rattle.ficus_journal.specs.Journal.{Fits, FitsOn, FitsSide, saves_image}
-use Rattle.ficus_journal.specs.Logs.{EndsShut, HaveNoOpenGate, IsRegular, kept_in, kept_on, later, logged, record_limit}
+use Rattle.ficus_journal.specs.Logs.{EndsShut, HaveNoOpenGate, IsRegular, kept_in, kept_on, later, record_limit}
 use Rattle.ficus_journal.specs.declared.journal.Journal.{Journal}
 use Rattle.ficus_journal.proofs.Choosing.{kept_none, kept_slot}
 use Rattle.ficus_journal.proofs.Sides.{LogIs, new_log, saved_as}
