@@ -18,8 +18,8 @@ pub fn what_is_kept()
 
 /// The laws of an open gate behind the last record: none stands on a volume that two slots alone wrote, nor on one that
 /// a journal alone wrote; and where none stands, a journal wants an image behind enough records alone. A commit leaves
-/// none where none stood: a journal's by its clause `gates`, and one of two slots by `two_slots_leave_no_open_gate`, also
-/// where the other keeper wrote before. They do nothing when they run.
+/// none where none stood: a journal's by its clause `gates`, and one of two slots by `two_slots_leave_no_open_gate`,
+/// also where the other keeper wrote before. They do nothing when they run.
 pub fn no_open_gate()
     ensures two_slots { (a b : List ℕ) → AreTwoSlots a b → HaveNoOpenGate a b }
     ensures journal { (a b : List ℕ) → IsRegular a b → HaveNoOpenGate a b }

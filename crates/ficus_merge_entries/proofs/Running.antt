@@ -1,12 +1,11 @@
 -- Two runs side by side.
-use Rattle.std.proofs.Common.{◌≡◌, ℕ, zero, suc, ◌+◌, ◌-◌, ◌<◌, ◌≤◌, Bool, true, false, List, [], ◌∷◌, ◌++◌, length, take, drop, slice_get, Option, Some, None, is_some, refl, sym, ◌∙◌, ap, subst, arith, length-take, length-drop}
+use Rattle.std.proofs.Common.{◌≡◌, ℕ, zero, suc, ◌+◌, ◌<◌, ◌≤◌, Bool, true, false, List, [], ◌∷◌, ◌++◌, length, take, drop, slice_get, Option, Some, None, is_some, refl, sym, ◌∙◌, ap, subst, arith, length-drop}
 use Rattle.std.specs.Prelude.{◌||◌}
 use Rattle.std.specs.Int.{from_bool}
 use Rattle.std.proofs.lemmas.List.{append-nil, length-take-le, take-append-drop}
-use Rattle.ficus_ids.specs.declared.id.Id.{Id}
 use Rattle.ficus_entry.specs.Entry.{IsRising}
 use Rattle.ficus_entry.specs.declared.entry.Entry.{Entry}
-use Rattle.ficus_table.specs.SideBySide.{AreLowest, ArePassed, Passes, Sides, as_list}
+use Rattle.ficus_table.specs.SideBySide.{AreLowest, Passes, as_list}
 use Rattle.ficus_table.specs.Walk.{IsWalked, sides_at}
 use Rattle.ficus_table.proofs.Made.{IsMadeSoFar, made_end, made_more, made_start}
 use Rattle.ficus_table.proofs.Walk.{passes_on, taken, walk_starts, walked_on}

@@ -64,9 +64,9 @@ fn are_live(rows: &[SharedEntry]) -> bool
 
 /// What becomes of the entries of the taker `me`, where it isn't what stands there already: with these in place of what
 /// stands there ([`Entries::replaced`]), the taker holds the merge. So what stays isn't copied, and an entry that the
-/// peer alone has is shared with it, where its row is known. `me` is a member. The walk gives each pair once, and is asked
-/// at most once more than both have entries, also where `Memory` ends it. There is `room` for so many replacements from
-/// the start.
+/// peer alone has is shared with it, where its row is known. `me` is a member. The walk gives each pair once, and is
+/// asked at most once more than both have entries, also where `Memory` ends it. There is `room` for so many
+/// replacements from the start.
 pub fn replacements<'a, W: Pairs<'a>>(
     alloc: Global,
     walk: &mut W,

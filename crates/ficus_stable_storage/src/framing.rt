@@ -66,7 +66,8 @@ fn record_frame(alloc: Global) -> Result<Vec<u8>, Memory>
 }
 
 /// Holds what the keeper wants in a frame, in place of what the buffer holds: the image of what is saved next, or the
-/// record that leads to it. A record keeps the room that it came with, but for one byte: what the buffer had is given up.
+/// record that leads to it. A record keeps the room that it came with, but for one byte: what the buffer had is given
+/// up.
 pub(crate) fn frame_wanted(
     buffer: &mut Vec<u8>,
     wants: Wants,

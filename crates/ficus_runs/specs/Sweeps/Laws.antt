@@ -45,8 +45,8 @@ SweepsAdd =
     → Sweeps volume (sweep_steps order volume.members) none_swept W (Ok swept) left
     → AddsSo order volume.members W.events left.after.events
 
--- The link lacks room for a pull from this world: for the message of its ask; or, once that is saved and posted, for the
--- pieces of what the other member serves for it.
+-- The link lacks room for a pull from this world: for the message of its ask; or, once that is saved and posted, for
+-- the pieces of what the other member serves for it.
 pub data LacksRoom (volume : Volume) (by to : ℕ) (W : ModelWorld) : ModelWorld → Type 0 where
   ForAsk : {message : Message} → IsMessageAt volume (W.events ++ Ask by to ∷ []) (length W.events) 0 message
       → (W.total + size_of message ≤ total_limit → ⊥) → LacksRoom volume by to W W

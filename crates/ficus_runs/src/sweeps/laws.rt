@@ -13,9 +13,9 @@ pub fn sweeps_add()
 {}
 
 /// The law that a sweep meets no refusal where all members are up, none of what it asks of the outside fails, and the
-/// link has room for its messages. What stops it is a full link alone, and that at a pull of its own: the steps in front
-/// of it are done, and the link has no room for the message of its ask, or, once it has asked, for the pieces that answer
-/// it. It does nothing when it runs.
+/// link has room for its messages. What stops it is a full link alone, and that at a pull of its own: the steps in
+/// front of it are done, and the link has no room for the message of its ask, or, once it has asked, for the pieces
+/// that answer it. It does nothing when it runs.
 pub fn sweeps_meet_no_refusal()
     ensures { SweepsGoThrough }
 {}

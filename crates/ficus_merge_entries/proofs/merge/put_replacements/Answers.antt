@@ -1,4 +1,4 @@
-use Rattle.std.proofs.Common.{◌≡◌, ◌∙◌, ap, arith, option_copied, refl}
+use Rattle.std.proofs.Common.{◌∙◌, ap, arith, option_copied, refl}
 use Rattle.ficus_table.specs.SideBySide.{Sides}
 use Rattle.ficus_table.proofs.Made.{made_start, made_more, made_end}
 use Rattle.ficus_merge_entries.specs.Merge.{IsReplacement}

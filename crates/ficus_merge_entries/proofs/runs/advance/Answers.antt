@@ -1,6 +1,3 @@
-use Rattle.std.proofs.Common.{◌≡◌, ◌+◌, sym, ap, ◌∙◌}
-use Rattle.std.specs.Int.{from_bool}
-use Rattle.ficus_entry.specs.Run.{Takes}
 use Rattle.ficus_merge_entries.proofs.Running.{takes_on}
 use Rattle.ficus_merge_entries.proofs.runs.advance.Goals as goal
 

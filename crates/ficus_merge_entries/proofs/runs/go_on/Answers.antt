@@ -1,8 +1,7 @@
-use Rattle.std.proofs.Common.{◌≡◌, ◌+◌, ◌++◌, List, [], refl, sym, subst, ◌∙◌, arith}
+use Rattle.std.proofs.Common.{◌+◌, ◌++◌, refl, sym, ◌∙◌, arith}
 use Rattle.std.specs.Int.{from_bool}
-use Rattle.ficus_entry.specs.declared.entry.Entry.{Entry}
 use Rattle.ficus_table.specs.SideBySide.{as_list}
-use Rattle.ficus_merge_entries.proofs.Running.{IsMerging, merge_ends, merge_more, merge_starts, none_left, smaller, some_left}
+use Rattle.ficus_merge_entries.proofs.Running.{merge_ends, merge_more, merge_starts, none_left, smaller, some_left}
 use Rattle.ficus_merge_entries.proofs.runs.go_on.Goals as goal
 
 pub pairs-init : goal.pairs-init
