@@ -4,6 +4,7 @@ pub mod Covering
 pub mod Stepping
 pub mod GoingOn
 pub mod Opening
+pub mod Crashes
 pub mod During
 pub mod KilledDisks
 pub mod Certificates

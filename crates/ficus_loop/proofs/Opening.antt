@@ -6,7 +6,6 @@ use Rattle.std.proofs.lemmas.List.{length-replicate}
 use Rattle.ficus_disk.specs.declared.disk.Disk.{Ghosts as Disk}
 use Rattle.ficus_disk.specs.declared.pair.Pair.{Pair}
 use Rattle.ficus_keeper.specs.Kept.{Kept}
-use Rattle.ficus_stable_storage.proofs.leads.Led.{held_at}
 use Rattle.ficus_model.specs.declared.event.Event.{Event}
 use Rattle.ficus_model.specs.declared.event.Event.TheVariants.{Restart}
 use Rattle.ficus_model.specs.Lawful.{Volume}
@@ -17,7 +16,7 @@ use Rattle.ficus_runs.specs.ModelWorld.{ModelWorld, Standing, Up}
 use Rattle.ficus_runs.specs.Start.{start}
 use Rattle.ficus_runs.proofs.Up.{up_first}
 use Rattle.ficus_opening.specs.Rests.{AllRest}
-use Rattle.ficus_opening.specs.Opening.{AreSynced, StandsOn}
+use Rattle.ficus_loop.specs.Crashes.{CrashesKeep}
 use Rattle.ficus_world.specs.Stand.{KeepsFor}
 use Rattle.ficus_opening.specs.Stand.{KeepsOf}
 use Rattle.ficus_world.proofs.Kills.{left_old}
@@ -39,10 +38,9 @@ module _ {D : Type 0} (kept : List ℕ → List ℕ → Option Kept) (disk : Dis
   abbrev first : ModelWorld
   first = start H volume.members total fused
 
-  pub opened_neighbours : (entry opened : List (Pair D)) → StandsOn kept disk.seen volume H entry
-      → AreSynced disk.seen disk.may_leave entry volume.members → AllRest disk entry opened
-      → Neighbours kept disk volume first first entry opened
-  opened_neighbours entry opened stands synced rest = record {
+  pub opened_neighbours : (entry opened : List (Pair D)) → CrashesKeep kept disk.may_leave volume H entry
+      → AllRest disk entry opened → Neighbours kept disk volume first first entry opened
+  opened_neighbours entry opened crashes rest = record {
     count = rest.count;
     each = λ r was now is_was is_now.
         let rests = rest.each r was now is_was is_now in
@@ -50,20 +48,15 @@ module _ {D : Type 0} (kept : List ℕ → List ℕ → Option Kept) (disk : Dis
           keeps = λ told moments standing after at at_too a b left_a left_b.
               let few : r ≤ volume.members =
               omega (arith, at.member.at_most, length-replicate volume.members Up) in
-              let clean = synced.each r was is_was few in
-              let same_a : a ≡ disk.seen was.a =
-              clean.a a (left_old disk only_now was.a now.a rests.leaves.a a left_a) in
-              let same_b : b ≡ disk.seen was.b =
-              clean.b b (left_old disk only_now was.b now.b rests.leaves.b b left_b) in
-              let held = stands.keeps.each r was is_was
-              (record { at_least = at.member.at_least; at_most = few }) in
+              let held =
+              crashes.each r was is_was (record { at_least = at.member.at_least; at_most = few }) a b
+              (left_old disk only_now was.a now.a rests.leaves.a a left_a)
+              (left_old disk only_now was.b now.b rests.leaves.b b left_b) in
               let keeps : KeepsOf volume first.events r (kept a b) = record {
                 saved = held.saved;
                 is = restarts_saved volume H r held.saved (range_with_len 1 volume.members) held.is;
                 fits = held.fits;
-                holds = held_at _ _ held.saved
-                    (ap (λ (c : List ℕ). kept c b) same_a ∙ ap (λ (c : List ℕ). kept (disk.seen was.a) c) same_b)
-                    held.holds;
+                holds = held.holds;
               } in
               let up : standing ≡ Up = (up_first volume.members).each r standing at in
               inl (subst (λ (s : Standing). KeepsFor volume first.events r (kept a b) s) (sym up) keeps);

@@ -1,4 +1,5 @@
 pub mod Trail
+pub mod Crashes
 pub mod Puts
 pub mod Serving
 pub mod Sweeping

@@ -42,6 +42,7 @@ use Rattle.ficus_words.specs.declared.mode.Mode.{Mode}
 use Rattle.ficus_words.specs.declared.mode.Mode.TheVariants.{Init, Run, Check, Replay, Volumes, Gen}
 use Rattle.ficus_words.specs.declared.mode.Size.{Size}
 use Rattle.ficus_opening.specs.Fuses.{AreUnarmed}
+use Rattle.ficus_loop.specs.Crashes.{CrashesKeep}
 use Rattle.ficus_opening.specs.Opening.{AreEmpty, AreMadeFirst, AreMadeInPart, AreSynced, IsAtFault, IsUnfailed, SomeAreMade, StandsOn, Steady}
 use Rattle.ficus_opening.specs.declared.fault.WorldFault.{WorldFault}
 use Rattle.ficus_opening.specs.declared.fault.WorldFault.TheVariants as world
@@ -365,10 +366,10 @@ module _ {S K D Done : Type 0} (seen : Seen S K D) (ended : Result Done Fault) w
       → ((r : ℕ) → IsErrOf ended (Storing (world.Occupied r)) → ⊥)
       → (seen.source.tells → seen.disk.tells → OnOk ended ((volume : Volume) (H : List Event)
       → StandsOn kept_in seen.disk.seen volume H (disks_before seen)
-      → AreSynced seen.disk.seen seen.disk.may_leave (disks_before seen) volume.members → KilledOf seen volume H))
+      → CrashesKeep kept_in seen.disk.may_leave volume H (disks_before seen) → KilledOf seen volume H))
       → (seen.source.tells → seen.disk.tells → IfErr ended (λ fault. IsAnswering fault
       → (volume : Volume) (H : List Event) → StandsOn kept_in seen.disk.seen volume H (disks_before seen)
-      → AreSynced seen.disk.seen seen.disk.may_leave (disks_before seen) volume.members
+      → CrashesKeep kept_in seen.disk.may_leave volume H (disks_before seen)
       → KilledFrontOf (fault ≡ Answering answering.Memory) seen volume H))
       → DoesRun seen (status_of ended)
   run_of used any opens takes answers front idle never_occupied killed killed_front = record {
@@ -394,12 +395,12 @@ module _ {S K D Done : Type 0} (seen : Seen S K D) (ended : Result Done Fault) w
           occupied = never_occupied;
         }) any.write_fault script;
     rests = λ code. idle_of_code ended code opens.rests;
-    killed = λ tells told volume H stands synced.
+    killed = λ tells told volume H stands crashes.
         let put = prefix_of_code (λ may. KilledFrontOf may seen volume H) killed_where ended unopened
-        (on_fault ended (λ fault all is. all is volume H stands synced) (killed_front tells told)) in
+        (on_fault ended (λ fault all is. all is volume H stands crashes) (killed_front tells told)) in
         record {
           whole = λ code. done_of_code ended code
-              (on_ok ended (λ all. all volume H stands synced) (killed tells told));
+              (on_ok ended (λ all. all volume H stands crashes) (killed tells told));
           prefix = put.0;
           cut = put.1;
         };

@@ -9,6 +9,7 @@ use Rattle.ficus_runs.specs.ModelWorld.{ModelWorld, Standing}
 use Rattle.ficus_runs.specs.Numbered.{IsNumbered}
 use Rattle.ficus_runs.proofs.Numbers.{number_exists}
 use Rattle.ficus_top.specs.Summary.Keeper.{kept_in}
+use Rattle.ficus_loop.specs.Crashes.{CrashesKeep}
 use Rattle.ficus_opening.specs.Opening.{StandsOn}
 use Rattle.ficus_world.specs.Stand.{DisksOutlast, DisksStand, KeepsFor}
 use Rattle.ficus_opening.specs.Stand.{KeepsOf}
@@ -52,3 +53,11 @@ module _ {D : Type 0} (seen : D → List ℕ) (may_leave : D → List ℕ → Ty
             let crash = leaves r was.0 pair was.1 at in
             outlast.each r was.0 standing was.1 stood (seen pair.a) (seen pair.b) crash.a crash.b;
       })
+
+  pub crashes_keep : (disks : List (Pair D)) → length after.standings ≡ volume.members → AllUp after
+      → DisksOutlast kept_in may_leave volume after disks → CrashesKeep kept_in may_leave volume after.events disks
+  crashes_keep disks standings up outlast = record {
+    each = λ r pair at member a b left_a left_b.
+        found_up seen volume after standings up (kept_in a b) r member
+        (λ standing stood. outlast.each r pair standing at stood a b left_a left_b);
+  }

@@ -15,7 +15,8 @@ ghost use Rattle.ficus_loop.specs.Trail.{AreKilled, DuringAt, IsPendingIn, Keeps
 ghost use Rattle.ficus_loop.specs.Trail.Trail.{Still};
 ghost use Rattle.ficus_runs.specs.Outcome.{Outcome};
 ghost use Rattle.ficus_script.specs.declared.answer.Answer.{Answer};
-ghost use Rattle.ficus_opening.specs.Opening.{AreEmpty, StandsOn, Steady};
+ghost use Rattle.ficus_loop.specs.Crashes.{CrashesKeep};
+ghost use Rattle.ficus_opening.specs.Opening.{AreEmpty, AreSynced, StandsOn, Steady};
 ghost use Rattle.ficus_world.specs.Stand.{DisksOutlast, DisksStand};
 ghost use Rattle.ficus_top.specs.Codes.{IsCode, IsIdleCode, IsReadCode, IsUntouchedCode, NamesReplica};
 ghost use Rattle.ficus_top.specs.Ends.{AllUp, NoneFailed};
@@ -102,7 +103,8 @@ pub fn only_stops_arm_disks<K: Sink, D: Disk>()
 
 /// The law that where nobody is down at the end of a run, the next one begins with all that has happened, whether the
 /// disks still hold what they held then, or a crash has left something of them. Where some are down it begins with that
-/// and with some of what was pending. It does nothing when it runs.
+/// and with some of what was pending. And whatever a crash leaves of the disks before the next run keeps that history, as
+/// it does where nothing is unsynced: so what a kill of that run leaves is known. It does nothing when it runs.
 pub fn next_run_goes_on<D: Disk>()
     ensures stand { (volume : Volume) (after : ModelWorld) (disks : List (PairValue D)) → IsCount volume.members
         → IsLawful volume after.events → length after.events < 2 ^ 62 → length after.standings ≡ volume.members
@@ -122,6 +124,13 @@ pub fn next_run_goes_on<D: Disk>()
         → PairLeft D.seen D.may_leave was now)
         → (more : List Event) × SomePending (IsPendingIn after) volume.members more
         × StandsOn kept_in D.seen volume (after.events ++ more) left }
+    // What a kill of the next run leaves is known too.
+    ensures crashes { (volume : Volume) (after : ModelWorld) (disks : List (PairValue D))
+        → length after.standings ≡ volume.members → AllUp after → DisksOutlast kept_in D.may_leave volume after disks
+        → CrashesKeep kept_in D.may_leave volume after.events disks }
+    ensures synced { (volume : Volume) (H : List Event) (disks : List (PairValue D))
+        → StandsOn kept_in D.seen volume H disks → AreSynced D.seen D.may_leave disks volume.members
+        → CrashesKeep kept_in D.may_leave volume H disks }
 {}
 
 /// The law of a run that was killed. Let what a read of some pairs gives be what a kill might have left between two

@@ -2,6 +2,7 @@
 ghost use Rattle.std.specs.Prelude.{◌≡◌, ◌⊎◌, ℕ, List, [], ◌∷◌, ◌++◌, take, Some, Vec, vec_items};
 ghost use Rattle.std.specs.declared.alloc.Global.{Global as GlobalValue};
 ghost use Rattle.ficus_disk.specs.declared.pair.Pair.{Pair as PairValue};
+ghost use Rattle.ficus_loop.specs.Crashes.{CrashesKeep};
 ghost use Rattle.ficus_loop.specs.Trail.{Trail};
 ghost use Rattle.ficus_model.specs.Events.{actor};
 ghost use Rattle.ficus_model.specs.Known.{Knows};
@@ -76,7 +77,7 @@ pub fn runs_leave_trails<S: Source, K: Sink, D: Disk>()
     ensures { (before end : S) (was now : K) (disks later : Vec (PairValue D) GlobalValue) (status : StatusValue)
         → DoesRun (seen_of S.Source before end K.Sink was now D.Disk disks later) status → S.tells → D.tells
         → (volume : Volume) (H : List Event) → StandsOn kept_in D.seen volume H (vec_items disks)
-        → AreSynced D.seen D.may_leave (vec_items disks) volume.members
+        → CrashesKeep kept_in D.may_leave volume H (vec_items disks)
         → AllRest D.Disk (vec_items disks) (vec_items later)
         ⊎ ((after : ModelWorld) × Trail kept_in D.Disk volume
         (start H volume.members 0 (fuses_of D.armings volume.members (vec_items disks))) after (vec_items disks)

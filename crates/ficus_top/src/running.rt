@@ -18,6 +18,7 @@ ghost use Rattle.ficus_world.specs.Disks.{IsBacked};
 ghost use Rattle.ficus_opening.specs.Rests.{OthersRest, OthersStay};
 ghost use Rattle.ficus_world.specs.World.{WorldStandsFor};
 ghost use Rattle.ficus_opening.specs.Fuses.{AreUnarmed};
+ghost use Rattle.ficus_loop.specs.Crashes.{CrashesKeep};
 ghost use Rattle.ficus_opening.specs.Opening.{AreEmpty, AreMadeFirst, AreMadeInPart, AreSynced, IsAtFault, IsUnfailed, SeenSame, StandsOn, Steady};
 ghost use Rattle.ficus_opening.specs.declared.fault.WorldFault.{WorldFault as WorldFaultValue};
 ghost use Rattle.ficus_words.specs.declared.fault.WordsFault.{WordsFault as WordsFaultValue};
@@ -57,12 +58,12 @@ pub(crate) fn run<S: Source, K: Sink, D: Disk>(
         disks.new.items) }
     ensures killed { S.tells → D.tells → OnOk result ((volume : Volume) (H : List EventValue)
         → StandsOn kept_in D.seen volume H disks.old.items
-        → AreSynced D.seen D.may_leave disks.old.items volume.members
+        → CrashesKeep kept_in D.may_leave volume H disks.old.items
         → KilledAnswers K.tells D.Disk (AreFusesAtRest D.Disk volume.members H disks.old.items) volume H
         (S.left input.old) (K.written output.old) (K.written output.new) disks.old.items disks.new.items) }
     ensures front_killed { S.tells → D.tells → IfErr result (λ fault. IsAnswering fault
         → (volume : Volume) (H : List EventValue) → StandsOn kept_in D.seen volume H disks.old.items
-        → AreSynced D.seen D.may_leave disks.old.items volume.members
+        → CrashesKeep kept_in D.may_leave volume H disks.old.items
         → KilledAnswersFront K.tells (fault ≡ Fault.Answering AnsweringFault.Memory) D.Disk
         (AreFusesAtRest D.Disk volume.members H disks.old.items) volume H (S.left input.old) (K.written output.old)
         (K.written output.new) disks.old.items disks.new.items) }
@@ -149,16 +150,16 @@ fn run_on<K: Sink, D: Disk>(
         (AreFusesAtRest D.Disk volume.members H disks.old.items) volume
         (start H volume.members 0 (fuses_of D.armings volume.members disks.old.items)) commands.now
         (K.written output.old) (K.written output.new) disks.old.items disks.new.items) }
-    // What a kill at any moment of it leaves, where nothing was unsynced before.
+    // What a kill at any moment of it leaves, where whatever a crash left before keeps that history too.
     ensures killed { D.tells → OnOk result ((volume : Volume) (H : List EventValue)
         → StandsOn kept_in D.seen volume H disks.old.items
-        → AreSynced D.seen D.may_leave disks.old.items volume.members
+        → CrashesKeep kept_in D.may_leave volume H disks.old.items
         → EndsKilled K.tells D.Disk (AreFusesAtRest D.Disk volume.members H disks.old.items) volume
         (start H volume.members 0 (fuses_of D.armings volume.members disks.old.items)) commands.now
         (K.written output.old) (K.written output.new) disks.old.items disks.new.items) }
     ensures front_killed { D.tells → IfErr result (λ fault. IsAnswering fault → (volume : Volume) (H : List EventValue)
         → StandsOn kept_in D.seen volume H disks.old.items
-        → AreSynced D.seen D.may_leave disks.old.items volume.members
+        → CrashesKeep kept_in D.may_leave volume H disks.old.items
         → EndsFrontKilled K.tells (fault ≡ Fault.Answering AnsweringFault.Memory) D.Disk
         (AreFusesAtRest D.Disk volume.members H disks.old.items) volume
         (start H volume.members 0 (fuses_of D.armings volume.members disks.old.items)) commands.now

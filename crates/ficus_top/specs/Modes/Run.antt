@@ -5,7 +5,8 @@ use Rattle.ficus_model.specs.declared.event.Event.{Event}
 use Rattle.ficus_durable_state.specs.declared.saved.Saved.{Saved}
 use Rattle.ficus_top.specs.Summary.Keeper.{kept_in}
 use Rattle.ficus_opening.specs.Rests.{AllRest, OthersRest}
-use Rattle.ficus_opening.specs.Opening.{AreSynced, IsFirstBad, Opens, SeenSame, StandsOn, Steady}
+use Rattle.ficus_loop.specs.Crashes.{CrashesKeep}
+use Rattle.ficus_opening.specs.Opening.{IsFirstBad, Opens, SeenSame, StandsOn, Steady}
 use Rattle.ficus_top.specs.Codes.{IsIdleCode, IsRefusalCode}
 use Rattle.ficus_top.specs.Ends.{NoneFailed}
 use Rattle.ficus_top.specs.Killed.{KillsScript}
@@ -32,8 +33,8 @@ pub record StaysUnopened {S K D : Type 0} (seen : Seen S K D) (status : Status) 
 -- failed then, and it doesn't come over disks that stand for a lawful history. Code 6 names a member, and none behind
 -- the first replica whose disks are those of no world. Where no command was carried out nothing is written. A script is
 -- answered over disks that stand for a lawful history, unless the outside fails or memory is wanted. On the pairs of no
--- member nothing is written in any case. Where nothing was unsynced at first, what a kill at any moment leaves is
--- known.
+-- member nothing is written in any case. Where whatever a crash left at first keeps that history too, what a kill
+-- at any moment leaves is known.
 pub record DoesRun {S K D : Type 0} (seen : Seen S K D) (status : Status) : Type 0 where
   pub codes : IsRunCode status.code
   pub reads : seen.source.tells → ReadsScript seen status
@@ -59,5 +60,5 @@ pub record DoesRun {S K D : Type 0} (seen : Seen S K D) (status : Status) : Type
   pub rests : IsIdleCode status.code → AllRest seen.disk (disks_before seen) (disks_after seen)
   pub killed : seen.source.tells → seen.disk.tells → (volume : Volume) (H : List Event)
       → StandsOn kept_in seen.disk.seen volume H (disks_before seen)
-      → AreSynced seen.disk.seen seen.disk.may_leave (disks_before seen) volume.members
+      → CrashesKeep kept_in seen.disk.may_leave volume H (disks_before seen)
       → KillsScript seen status (StaysUnopened seen status) volume H

@@ -3,8 +3,8 @@ use Rattle.ficus_top.proofs.ModeLaws.{front_trail, killed_trail}
 use Rattle.ficus_top.proofs.mode_laws.runs_leave_trails.Goals as goal
 
 pub returns : goal.returns
-returns g c = λ before end was now disks later status does source told volume H stands synced.
-    let kills = does.killed source told volume H stands synced in
+returns g c = λ before end was now disks later status does source told volume H stands crashes.
+    let kills = does.killed source told volume H stands crashes in
     elim does.codes [
       | inl zero ↦
           let run = (kills.whole zero).killed in

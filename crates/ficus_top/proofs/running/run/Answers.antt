@@ -18,15 +18,15 @@ returns-clause-prefix g c = λ source_tells tells.
 
 pub returns-clause-killed : goal.returns-clause-killed
 returns-clause-killed g c = λ source_tells tells.
-    on_ok_weaker c.run_on.result (λ killed volume H stands synced.
+    on_ok_weaker c.run_on.result (λ killed volume H stands crashes.
     killed_answers {new = c.run_on.new.disks.items} (c.in_ok-commands.ensures.script source_tells).1
-    c.deref.ensures.value (killed volume H stands synced)) (c.run_on.ensures.killed tells)
+    c.deref.ensures.value (killed volume H stands crashes)) (c.run_on.ensures.killed tells)
 
 pub returns-clause-front_killed : goal.returns-clause-front_killed
 returns-clause-front_killed g c = λ source_tells tells.
-    IfErr-weaker c.run_on.result _ _ (λ fault front answering volume H stands synced.
+    IfErr-weaker c.run_on.result _ _ (λ fault front answering volume H stands crashes.
     killed_front {new = c.run_on.new.disks.items} (c.in_ok-commands.ensures.script source_tells).1
-    c.deref.ensures.value (front answering volume H stands synced)) (c.run_on.ensures.front_killed tells)
+    c.deref.ensures.value (front answering volume H stands crashes)) (c.run_on.ensures.front_killed tells)
 
 pub returns-in_err-commands-clause-opens : goal.returns-in_err-commands-clause-opens
 returns-in_err-commands-clause-opens g c =

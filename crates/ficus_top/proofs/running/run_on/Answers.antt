@@ -48,7 +48,7 @@ returns-clause-answers g c = λ told volume H on.
     (c.in_ok-answer_on.ensures.answers told volume _ stands (up_first volume.members).each)
 
 pub returns-clause-killed : goal.returns-clause-killed
-returns-clause-killed g c = λ told volume H on synced.
+returns-clause-killed g c = λ told volume H on crashes.
     let stands = opened_stands H _ c.new.ensures.total (c.in_ok-world.ensures.stands told volume H on) in
     let rests = rests_open _ g.D.Disk H stands c.args.disks.now.items c.open.new.disks.items
     (λ fused. c.in_ok-world.ensures.fuses fused told) in
@@ -59,13 +59,13 @@ returns-clause-killed g c = λ told volume H on synced.
       killed = killed_from kept_in g.D.Disk volume g.met.D.Disk.left_earlier
           (opened_neighbours kept_in g.D.Disk g.met.D.Disk.only_now volume H 0
           (fuses_of g.D.Disk.armings volume.members c.args.disks.now.items) c.args.disks.now.items
-          c.open.new.disks.items on synced c.open.ensures.rests) ran.runs;
+          c.open.new.disks.items crashes c.open.ensures.rests) ran.runs;
     }
 
 pub returns-in_err-answer_on-clause-front_killed : goal.returns-in_err-answer_on-clause-front_killed
 returns-in_err-answer_on-clause-front_killed g c = λ told.
     let p = err_from_is_err_and c.from_residual-in_err-answer_on.result c.from_residual-in_err-answer_on.ensures.1 in
-    rw p.1 (λ answering volume H on synced.
+    rw p.1 (λ answering volume H on crashes.
     let stands = opened_stands H _ c.new.ensures.total (c.in_ok-world.ensures.stands told volume H on) in
     let rests = rests_open _ g.D.Disk H stands c.args.disks.now.items c.open.new.disks.items
     (λ fused. c.in_ok-world.ensures.fuses fused told) in
@@ -77,7 +77,7 @@ returns-in_err-answer_on-clause-front_killed g c = λ told.
       killed = front_killed_from kept_in g.D.Disk volume g.met.D.Disk.left_earlier
           (opened_neighbours kept_in g.D.Disk g.met.D.Disk.only_now volume H 0
           (fuses_of g.D.Disk.armings volume.members c.args.disks.now.items) c.args.disks.now.items
-          c.open.new.disks.items on synced c.open.ensures.rests) ran.runs;
+          c.open.new.disks.items crashes c.open.ensures.rests) ran.runs;
     })
 
 pub returns-in_err-world-clause-opens : goal.returns-in_err-world-clause-opens
