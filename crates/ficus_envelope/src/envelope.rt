@@ -1,0 +1,83 @@
+ghost use Rattle.std.specs.Prelude.{◌≡◌, ◌↔◌, ◌≤◌, ◌++◌, drop, length, IsErrOf, IsSome, IfOk, IfSome};
+ghost use Rattle.ficus_envelope.specs.Envelope.{IsOfVolume, name_of, sealed_bytes};
+ghost use Rattle.ficus_mailbox.specs.Letter.{letter_limit};
+ghost use Rattle.ficus_wire.specs.Message.{FitsMessage, SpellPiece};
+ghost use Rattle.ficus_wire.specs.declared.message.Message.{Message as MessageValue};
+
+use crate::{TAG_SIZE, Tag, UnsealFault};
+use ficus_ids::{Members, Memory};
+use ficus_mailbox::MessageName;
+use ficus_wire::{Message, decode, encode};
+use std::alloc::Global;
+
+/// A message between members as it travels: the volume's tag, and the message as it is spelled. A mailbox takes that
+/// many bytes.
+pub fn seal(alloc: Global, tag: Tag, message: &Message, members: Members) -> Result<Vec<u8>, Memory>
+    requires { FitsMessage members message.now }
+    ensures sealed { IfOk result (λ bytes. bytes.items ≡ sealed_bytes tag message.now) }
+    ensures within { IfOk result (λ bytes. length bytes.items ≤ letter_limit) }
+{
+    let message = encode(alloc, message, members)?;
+    let mut sealed = Vec::with_capacity(alloc, message.len().saturating_add(TAG_SIZE))?;
+    sealed.extend_from_slice(tag.bytes())?;
+    sealed.extend_from_slice(&message)?;
+    Ok(sealed)
+}
+
+// What stands behind the tag, or nothing exactly where the bytes don't begin with it.
+fn behind(tag: Tag, bytes: &[u8]) -> Option<&[u8]>
+    ensures found { IsSome result ↔ IsOfVolume tag bytes.now }
+    ensures split { IfSome result (λ rest. bytes.now ≡ tag ++ rest.now) }
+    ensures rest { IfSome result (λ rest. rest.now ≡ drop 16 bytes.now) }
+{
+    bytes.strip_prefix(tag.bytes())
+}
+
+/// The message between members that stands behind the tag, from the first byte to the last. `OtherVolume` comes
+/// exactly where the first sixteen bytes aren't the tag, also where there are fewer, and `NotMessage` exactly where they
+/// are and what follows spells no message; `Memory` only where it spells a piece.
+pub fn unseal(
+    alloc: Global,
+    tag: Tag,
+    bytes: &[u8],
+    members: Members,
+) -> Result<Message, UnsealFault>
+    ensures fits { IfOk result (λ m. FitsMessage members m) }
+    ensures sealed { IfOk result (λ m. bytes.now ≡ sealed_bytes tag m) }
+    ensures one { (m : MessageValue) → FitsMessage members m → bytes.now ≡ sealed_bytes tag m
+        → IfOk result (λ read. read ≡ m) }
+    ensures other_volume { IsErrOf result UnsealFault.OtherVolume ↔ (IsOfVolume tag bytes.now → ⊥) }
+    ensures not_message { IsErrOf result UnsealFault.NotMessage →
+        (m : MessageValue) → FitsMessage members m → bytes.now ≡ sealed_bytes tag m → ⊥ }
+    ensures memory { IsErrOf result UnsealFault.Memory → SpellPiece members (drop 16 bytes.now) }
+{
+    let message = behind(tag, bytes).ok_or(UnsealFault::OtherVolume)?;
+    Ok(decode(alloc, message, members)?)
+}
+
+/// The name under which a message travels. Takes no memory.
+pub fn name_of(message: &Message) -> MessageName
+    ensures { result ≡ name_of message.now }
+{
+    match message {
+        Message::Ask { from, to, number } => MessageName::Ask {
+            from: *from,
+            to: *to,
+            number: *number,
+        },
+        Message::Piece {
+            from,
+            to,
+            number,
+            state,
+            index,
+            ..
+        } => MessageName::Piece {
+            from: *from,
+            to: *to,
+            number: *number,
+            state: *state,
+            index: *index,
+        },
+    }
+}

@@ -1,0 +1,65 @@
+ghost use Rattle.std.specs.Prelude.{◌≡◌, ◌↔◌, List, ℕ, IsSome, IfSome};
+ghost use Rattle.ficus_envelope.specs.Tag.{IsTag, IsTagText, SpellsTag, tag_text};
+
+use hex::FromHex;
+use std::marker::Model;
+
+/// How many bytes a tag has.
+pub const TAG_SIZE: usize = 16;
+
+/// How many bytes the text of a tag has.
+pub const TAG_TEXT_SIZE: usize = 32;
+
+/// What tells a volume's messages from those of other volumes. All machines of a volume have the same.
+#[derive(Clone, Copy, PartialEq, Eq)]
+pub struct Tag {
+    bytes: [u8; TAG_SIZE],
+}
+
+impl Model for Tag {
+    ghost Value = { List ℕ };
+
+    ghost view = { λ t. t.bytes };
+
+    ghost invariant = { λ t. IsTag t.bytes };
+
+    ghost inverse = { λ bytes. record { bytes = bytes } };
+}
+
+impl Tag {
+    /// Sixteen zeros, for a volume that was given no tag.
+    pub const NONE: Tag = Tag {
+        bytes: [0; TAG_SIZE],
+    };
+
+    /// The tag that 32 hexadecimal digits spell, two for each byte, each in lower or upper case. `None` comes exactly
+    /// for any other text. Takes no memory.
+    #[tactic(auto, using(
+        crate::proofs::Texts::read_fits, crate::proofs::Texts::read_text, crate::proofs::Texts::text_read))]
+    pub fn read(text: &[u8]) -> Option<Tag>
+        ensures spelled { IfSome result (λ tag. SpellsTag text.now tag) }
+        ensures found { IsSome result ↔ IsTagText text.now }
+    {
+        let bytes = <[u8; TAG_SIZE] as FromHex>::from_hex(text).ok()?;
+        Some(Tag { bytes })
+    }
+
+    /// The one text in which the tag is written: 32 hexadecimal digits in lower case. Takes no memory.
+    #[tactic(auto, using(crate::proofs::Texts::written))]
+    pub fn text(&self) -> [u8; TAG_TEXT_SIZE]
+        ensures written { result ≡ tag_text self.now }
+        ensures spelled { SpellsTag result self.now }
+    {
+        let mut text = [0; TAG_TEXT_SIZE];
+        // It fails only where the room isn't twice the size.
+        let _ = hex::encode_to_slice(self.bytes, &mut text);
+        text
+    }
+
+    /// The bytes of the tag.
+    pub(crate) fn bytes(&self) -> &[u8]
+        ensures { result.now ≡ self.now }
+    {
+        &self.bytes
+    }
+}
