@@ -1,5 +1,5 @@
 -- Which texts spell a tag.
-use Rattle.std.proofs.Common.{◌≡◌, ℕ, ◌*◌, List, length, ◌∙◌, sym, arith}
+use Rattle.std.proofs.Common.{◌≡◌, ℕ, List, ◌∙◌, sym, arith}
 use Rattle.std.specs.Prelude.{IsOk, Ok}
 use Rattle.hex.specs.Hex.{decode_sized, lower_digits}
 use Rattle.hex.proofs.HexLemmas.{IsOk-decode_sized, decode_of-encode_lower, decode_of-ok, decode_sized-ok, decode_sized-twice, length-encode_with}
@@ -13,16 +13,16 @@ written tag is = record {
 }
 
 -- what is read is a tag's text
-pub read_text : (text : List ℕ) → IsOk (decode_sized text 16) → IsTagText text
-read_text text ok = let parts = (IsOk-decode_sized text 16).0 ok in record { size = parts.0; digits = parts.1 }
+pub is_text : (text : List ℕ) → IsOk (decode_sized text 16) → IsTagText text
+is_text text ok = let parts = (IsOk-decode_sized text 16).0 ok in record { size = parts.0; digits = parts.1 }
 
 -- a tag's text is read
-pub text_read : (text : List ℕ) → IsTagText text → IsOk (decode_sized text 16)
-text_read text is = (IsOk-decode_sized text 16).1 (is.size, is.digits)
+pub is_read : (text : List ℕ) → IsTagText text → IsOk (decode_sized text 16)
+is_read text is = (IsOk-decode_sized text 16).1 (is.size, is.digits)
 
 -- and gives sixteen bytes
-pub read_fits : (text bytes : List ℕ) → decode_sized text 16 ≡ Ok bytes → IsTag bytes
-read_fits text bytes read =
+pub fits : (text bytes : List ℕ) → decode_sized text 16 ≡ Ok bytes → IsTag bytes
+fits text bytes read =
     let twice = decode_sized-ok text 16 bytes read in
     let parts = decode_of-ok text bytes (sym (decode_sized-twice text 16 twice) ∙ read) in
     record { size = omega (arith, twice, parts.2); bytes = parts.3 }

@@ -1,6 +1,9 @@
-ghost use Rattle.std.specs.Prelude.{◌≡◌, ◌↔◌, ◌≤◌, ◌++◌, drop, length, IsErrOf, IsSome, IfOk, IfSome};
+ghost use Rattle.std.specs.Prelude.{◌≡◌, ◌↔◌, ◌≤◌, ◌++◌, ◌⊎◌, List, ℕ, Ok, drop, length, IsErrOf, IsSome, IfNone, IfOk, IfSome};
 ghost use Rattle.ficus_envelope.specs.Envelope.{IsOfVolume, name_of, sealed_bytes};
+ghost use Rattle.ficus_envelope.specs.Tag.{IsTag};
+ghost use Rattle.ficus_ids.specs.Members.{IsCount};
 ghost use Rattle.ficus_mailbox.specs.Letter.{letter_limit};
+ghost use Rattle.ficus_mailbox.specs.MessageName.{FitsName};
 ghost use Rattle.ficus_wire.specs.Message.{FitsMessage, SpellPiece};
 ghost use Rattle.ficus_wire.specs.declared.message.Message.{Message as MessageValue};
 
@@ -29,12 +32,13 @@ fn behind(tag: Tag, bytes: &[u8]) -> Option<&[u8]>
     ensures found { IsSome result ↔ IsOfVolume tag bytes.now }
     ensures split { IfSome result (λ rest. bytes.now ≡ tag ++ rest.now) }
     ensures rest { IfSome result (λ rest. rest.now ≡ drop 16 bytes.now) }
+    ensures none { IfNone result ((rest : List ℕ) → bytes.now ≡ tag ++ rest → ⊥) }
 {
     bytes.strip_prefix(tag.bytes())
 }
 
 /// The message between members that stands behind the tag, from the first byte to the last. `OtherVolume` comes
-/// exactly where the first sixteen bytes aren't the tag, also where there are fewer, and `NotMessage` exactly where they
+/// exactly where the first sixteen bytes aren't the tag, also where there are fewer; `NotMessage` exactly where they
 /// are and what follows spells no message; `Memory` only where it spells a piece.
 pub fn unseal(
     alloc: Global,
@@ -45,7 +49,7 @@ pub fn unseal(
     ensures fits { IfOk result (λ m. FitsMessage members m) }
     ensures sealed { IfOk result (λ m. bytes.now ≡ sealed_bytes tag m) }
     ensures one { (m : MessageValue) → FitsMessage members m → bytes.now ≡ sealed_bytes tag m
-        → IfOk result (λ read. read ≡ m) }
+        → (result ≡ Ok m) ⊎ IsErrOf result UnsealFault.Memory }
     ensures other_volume { IsErrOf result UnsealFault.OtherVolume ↔ (IsOfVolume tag bytes.now → ⊥) }
     ensures not_message { IsErrOf result UnsealFault.NotMessage →
         (m : MessageValue) → FitsMessage members m → bytes.now ≡ sealed_bytes tag m → ⊥ }
@@ -81,3 +85,11 @@ pub fn name_of(message: &Message) -> MessageName
         },
     }
 }
+
+/// The laws that a message between members has a name that fits, and that a mailbox takes it with its tag. It does
+/// nothing when it runs.
+pub fn sealed_messages_fit()
+    ensures named { (members : ℕ) (m : MessageValue) → IsCount members → FitsMessage members m → FitsName (name_of m) }
+    ensures within { (tag : List ℕ) (members : ℕ) (m : MessageValue) → IsTag tag → FitsMessage members m →
+        length (sealed_bytes tag m) ≤ letter_limit }
+{}

@@ -2,11 +2,9 @@
 #![tactic(auto)]
 
 mod envelope;
-mod laws;
 mod tag;
 mod unseal_fault;
 
-pub use envelope::{name_of, seal, unseal};
-pub use laws::{one_tag, sealed_messages_fit};
-pub use tag::{TAG_SIZE, TAG_TEXT_SIZE, Tag};
+pub use envelope::{name_of, seal, sealed_messages_fit, unseal};
+pub use tag::{TAG_SIZE, TAG_TEXT_SIZE, Tag, one_tag};
 pub use unseal_fault::UnsealFault;

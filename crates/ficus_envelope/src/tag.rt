@@ -1,4 +1,4 @@
-ghost use Rattle.std.specs.Prelude.{◌≡◌, ◌↔◌, List, ℕ, IsSome, IfSome};
+ghost use Rattle.std.specs.Prelude.{◌≡◌, ◌↔◌, List, ℕ, replicate, IsSome, IfSome};
 ghost use Rattle.ficus_envelope.specs.Tag.{IsTag, IsTagText, SpellsTag, tag_text};
 
 use hex::FromHex;
@@ -28,14 +28,17 @@ impl Model for Tag {
 
 impl Tag {
     /// Sixteen zeros, for a volume that was given no tag.
-    pub const NONE: Tag = Tag {
-        bytes: [0; TAG_SIZE],
-    };
+    pub fn none() -> Tag
+        ensures { result ≡ replicate 16 0 }
+    {
+        Tag {
+            bytes: [0; TAG_SIZE],
+        }
+    }
 
     /// The tag that 32 hexadecimal digits spell, two for each byte, each in lower or upper case. `None` comes exactly
     /// for any other text. Takes no memory.
-    #[tactic(auto, using(
-        crate::proofs::Texts::read_fits, crate::proofs::Texts::read_text, crate::proofs::Texts::text_read))]
+    #[tactic(auto, using(crate::proofs::Texts::fits, crate::proofs::Texts::is_text, crate::proofs::Texts::is_read))]
     pub fn read(text: &[u8]) -> Option<Tag>
         ensures spelled { IfSome result (λ tag. SpellsTag text.now tag) }
         ensures found { IsSome result ↔ IsTagText text.now }
@@ -51,15 +54,24 @@ impl Tag {
         ensures spelled { SpellsTag result self.now }
     {
         let mut text = [0; TAG_TEXT_SIZE];
-        // It fails only where the room isn't twice the size.
+        // The room is twice the size, so it never fails.
         let _ = hex::encode_to_slice(self.bytes, &mut text);
         text
     }
 
     /// The bytes of the tag.
     pub(crate) fn bytes(&self) -> &[u8]
-        ensures { result.now ≡ self.now }
+        ensures bytes { result.now ≡ self.now }
+        ensures is { IsTag self.now }
     {
         &self.bytes
     }
 }
+
+/// The laws that a tag that is written is read as what it is, and that no text spells two tags. It does nothing when it
+/// runs.
+#[tactic(auto, using(crate::proofs::Texts::written))]
+pub fn one_tag()
+    ensures written { (tag : List ℕ) → IsTag tag → SpellsTag (tag_text tag) tag }
+    ensures one { (text a b : List ℕ) → SpellsTag text a → SpellsTag text b → a ≡ b }
+{}
