@@ -103,8 +103,8 @@ pub fn only_stops_arm_disks<K: Sink, D: Disk>()
 
 /// The law that where nobody is down at the end of a run, the next one begins with all that has happened, whether the
 /// disks still hold what they held then, or a crash has left something of them. Where some are down it begins with that
-/// and with some of what was pending. And whatever a crash leaves of the disks before the next run keeps that history, as
-/// it does where nothing is unsynced: so what a kill of that run leaves is known. It does nothing when it runs.
+/// and with some of what was pending. And whatever a crash leaves of the disks before the next run keeps that history,
+/// as it does where nothing is unsynced: so what a kill of that run leaves is known. It does nothing when it runs.
 pub fn next_run_goes_on<D: Disk>()
     ensures stand { (volume : Volume) (after : ModelWorld) (disks : List (PairValue D)) → IsCount volume.members
         → IsLawful volume after.events → length after.events < 2 ^ 62 → length after.standings ≡ volume.members
