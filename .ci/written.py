@@ -26,17 +26,18 @@ def written(block):
 
 
 def blocks():
-    """The grammar of scripts, and the rules that take the place of some of it over several volumes."""
+    """The grammar of scripts, and the rules that take the place of some of it over several volumes, and of a replica on a
+    machine of its own."""
     return re.findall(r"(?:^    (?:\w+ *= |  +\| ).*\n)+", DOCUMENT.read_text(encoding="utf-8"), re.MULTILINE)
 
 
 class Grammar:
     """The rules, and where a match of one may end."""
 
-    def __init__(self, volumes):
-        first, several = map(written, blocks()[:2])
+    def __init__(self, volumes, is_alone=False):
+        first, several, alone = map(written, blocks()[:3])
         self.volumes = volumes
-        self.rules = {**first, **(several if volumes else {})}
+        self.rules = {**first, **(several if volumes else {}), **(alone if is_alone else {})}
         self.line = ""
 
     def is_line(self, line):
@@ -98,6 +99,8 @@ class Grammar:
         limits = re.match(r"(?:(\d+) to|at most) (\d+|V)( components| bytes)?", note)
         if "neither a sweep nor a why" in note:
             return not re.search(r"^(@\d )?(sweep|\d+ why)\b", matched)
+        if "none of give" in note:
+            return not re.search(r"^((give|pull|alike|stop|sweep)\b|\d+ why$)", matched)
         if not limits:
             return True
         least, most = int(limits[1] or 0), self.volumes if limits[2] == "V" else int(limits[2])

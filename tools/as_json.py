@@ -116,6 +116,10 @@ def _counts(*keys: str) -> Callable[[Answer], Value]:
     return lambda answer: dict(zip(keys, map(int, answer.line.split(" ")[1:])))
 
 
+def _taken(answer: Answer) -> Value:
+    return _counts("pieces", "state")(answer) if answer.value else True
+
+
 def _message(answer: Answer) -> Value:
     words = answer.value.split(" ")
     if words[1:2] == ["to"]:
@@ -130,6 +134,6 @@ _LISTS: dict[str, Callable[[str], Value]] = {
     "versions": _version, "marks": _mark,
 }
 _VALUES: dict[str, Callable[[Answer], Value]] = {
-    "read": _text, "readlink": _text, "ask": _message, "give": _message, "collect": _counts("entries", "objects"),
+    "read": _text, "readlink": _text, "ask": _message, "give": _message, "take": _taken, "collect": _counts("entries", "objects"),
     "sweep": _counts("pulls", "entries", "objects"),
 }

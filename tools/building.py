@@ -147,7 +147,7 @@ def _make() -> bool:
     now = as_it_stands()
     crates = crates_of_the_program()
     say(f"the program isn't built from these sources yet: first its {len(crates)} crates are proved, and then it is built.")
-    say("this takes half an hour or more from nothing; build/log has what the toolchain says")
+    say("this takes about an hour on four processors from nothing; build/log has what the toolchain says")
     began = time.time()
     with open(LOG, "wb") as log:
         ended = threading.Event()

@@ -8,10 +8,13 @@ from built import COMMAND
 
 TYPE_CHECKING = False
 if TYPE_CHECKING:
-    from collections.abc import Iterator
+    from collections.abc import Iterator, Sequence
 
 MOST_MEMBERS = 8
 DISKS = ("a.img", "b.img")
+# What lies beside the disks of a replica that is on a machine of its own: the tag of its volume, and the note of its ask.
+TAG_FILE = "volume"
+NOTE_FILES = ("ask-a.img", "ask-b.img")
 
 
 def disks_of(root: str, replica: int) -> list[str]:
@@ -39,6 +42,32 @@ def why_no_volume(root: str) -> str | None:
     return f"{root}: this is no volume: there is no file {root}/1/a.img; {COMMAND} init makes one"
 
 
+def alone(root: str) -> list[int]:
+    """The replicas in the folder that are on a machine of their own."""
+    return [replica for replica in range(1, MOST_MEMBERS + 1)
+            if os.path.lexists(os.path.join(root, str(replica), TAG_FILE))]
+
+
+def why_not_whole(root: str) -> str | None:
+    """Why a volume can't be used as a whole, or nothing where none of its replicas is on a machine of its own."""
+    found = alone(root)
+    if not found:
+        return None
+    tag = os.path.join(root, str(found[0]), TAG_FILE)
+    return (f"{tag}: the replicas of this volume are on machines of their own, so none runs a script of all of them; "
+            f"{COMMAND} member --replica {found[0]} {root} runs one of replica {found[0]}")
+
+
+def why_not_alone(root: str) -> str | None:
+    """Why no replica that is on a machine of its own can be made in the folder, or nothing where it has no volume that
+    was made as a whole."""
+    whole = sorted(set(members(root)) - set(alone(root)))
+    if not whole:
+        return None
+    return (f"{os.path.join(root, str(whole[0]))}: the volume that is there was made as a whole, and {COMMAND} run {root} "
+            "uses it; choose another ROOT")
+
+
 def is_read_only(root: str) -> bool:
     """Whether some file of the volume can't be written."""
     return any(os.access(disk, os.F_OK) and not os.access(disk, os.W_OK)
@@ -51,13 +80,40 @@ def of_opening(root: str, replica: int) -> str:
     if why:
         return why
     folders = (root, os.path.join(root, str(replica)))
-    for path in (*folders, *disks_of(root, replica)):
+    return _of_files(folders, disks_of(root, replica)) or _of_disks(root, replica)
+
+
+def of_opening_alone(root: str, replica: int) -> str:
+    """The same of a replica that is on a machine of its own."""
+    folder = os.path.join(root, str(replica))
+    tag, *notes = (os.path.join(folder, name) for name in (TAG_FILE, *NOTE_FILES))
+    why = _of_files((root, folder), [tag, *disks_of(root, replica), *notes])
+    if why:
+        return why
+    if not os.path.isdir(folder):
+        return f"{folder}: there is no such folder; {COMMAND} init --members N --replica {replica} {root} makes it"
+    is_there = any(map(os.path.lexists, disks_of(root, replica)))
+    if is_there and not os.path.exists(tag):
+        return (f"{tag}: there is no such file: was the volume made as a whole? Then {COMMAND} run {root} uses it")
+    if is_there and not any(map(os.path.exists, notes)):
+        return f"{folder}: there is neither ask-a.img nor ask-b.img"
+    return _of_disks(root, replica)
+
+
+def _of_files(folders: Sequence[str], files: Sequence[str]) -> str | None:
+    """Which of these can't be opened, and why, where one can't that is there."""
+    for path in (*folders, *files):
         try:
             os.close(os.open(path, os.O_RDONLY if path in folders else os.O_RDWR))
         except FileNotFoundError:
             continue
         except OSError as error:
             return f"{path}: {_reason(error)}"
+    return None
+
+
+def _of_disks(root: str, replica: int) -> str:
+    """What there is of the disks of a replica."""
     there = [path for path in disks_of(root, replica) if os.path.exists(path)]
     if not there:
         return f"{os.path.join(root, str(replica))}: there is neither a.img nor b.img"
@@ -80,7 +136,12 @@ def of_making(root: str, replica: int) -> str:
 
 
 def of_occupied(root: str, replica: int) -> str:
-    path = next((path for path in disks_of(root, replica) if os.path.exists(path) and os.path.getsize(path)), root)
+    folder = os.path.join(root, str(replica))
+    beside = [os.path.join(folder, name) for name in (TAG_FILE, *NOTE_FILES)]
+    path = next((path for path in (*disks_of(root, replica), *beside) if os.path.exists(path) and os.path.getsize(path)),
+                root)
+    if os.path.lexists(beside[0]):
+        return f"{path}: it holds something already; {COMMAND} member --replica {replica} {root} uses the replica that is there"
     return f"{path}: it holds something already; {COMMAND} run {root} uses the volume that is there"
 
 

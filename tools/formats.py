@@ -11,6 +11,11 @@ FORMATS = pathlib.Path(__file__).resolve().parent.parent / "docs" / "FORMATS.md"
 
 # The first cell of the head of each table.
 _COMMANDS, _REFUSALS, _KINDS, _CODES = "command", "word", "kind", "status"
+# The line that only a script of a replica on a machine of its own has.
+TAKE_NAME = "take"
+TAKE = f"{TAKE_NAME} NAME"
+# The first cell of the head of the table of its lines.
+_LINES = "line of a member's script"
 # The second cell of the head of the statuses of the launcher and the tools.
 _COMES = "comes"
 
@@ -72,11 +77,21 @@ def _code(cell: str) -> str:
     return found[1] if found else ""
 
 
+def _usages(first: str) -> dict[str, Usage]:
+    usages = [Usage(tuple(_code(row[0]).split()), row[1], row[2]) for row in _rows(first) if len(row) == 3]
+    return {usage.name: usage for usage in usages if usage.words}
+
+
 @lru_cache(maxsize=None)
 def commands() -> dict[str, Usage]:
     """Each command by its name, in the order of the table."""
-    usages = [Usage(tuple(_code(row[0]).split()), row[1], row[2]) for row in _rows(_COMMANDS) if len(row) == 3]
-    return {usage.name: usage for usage in usages if usage.words}
+    return _usages(_COMMANDS)
+
+
+@lru_cache(maxsize=None)
+def lines_alone() -> dict[str, Usage]:
+    """The lines that a replica on a machine of its own answers otherwise than in a run of all, by their names."""
+    return _usages(_LINES)
 
 
 # What stands in front of a line that says of which volume it is.
@@ -93,7 +108,7 @@ def usage_of(line: str) -> Usage | None:
     """The command that a line of a script has, where the table has it."""
     words = of_volume(line)[1].split(" ")
     name = words[1] if words[0].isdigit() and len(words) > 1 else words[0]
-    usage = commands().get(name)
+    usage = lines_alone().get(name) if name == TAKE_NAME else commands().get(name)
     return usage if usage and usage.is_of_replica == words[0].isdigit() else None
 
 

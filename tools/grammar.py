@@ -11,7 +11,7 @@ from dataclasses import dataclass
 from typing import NoReturn
 
 import formats
-from formats import Usage
+from formats import TAKE, Usage
 from modes import likely
 from program import is_command
 from spelling import PATH_PARTS, read_name, read_text, spell_name, spell_text, to_bytes, why_no_name
@@ -20,6 +20,12 @@ MARK_OF_ENCODING = "\ufeff"
 MOST = 4_294_967_295
 # Commands that no line of several volumes has.
 OF_ONE_VOLUME = ("sweep", "why")
+# Commands that no line of a replica has which is on a machine of its own, and what to do instead.
+OF_ALL_REPLICAS = {
+    "give": f"`{TAKE}` takes a message that came as a file", "pull": "`ask R OTHER`, carry the message, and take the reply",
+    "alike": "compare what both answer", "sweep": "let each replica ask the others, and then collect",
+    "stop": "use replay", "why": "use a run of all replicas in one folder",
+}
 NUMBERS = {"R": (1, 255), "OTHER": (1, 255), "MESSAGE": (0, MOST), "CALLS": (0, MOST), "PICK": (0, 3)}
 IDENTIFIER = re.compile(r"([1-8])\.([1-9][0-9]{0,9})")
 VOLUME = re.compile(r"@([^ ]*)(?: (.*))?", re.DOTALL)
@@ -45,28 +51,54 @@ class Word:
         raise Wrong(self.column + at, why)
 
 
-def why_none(line: str, volumes: int = 0, number: int = 0) -> Wrong | None:
+def why_none(line: str, volumes: int = 0, number: int = 0, *, is_alone: bool = False) -> Wrong | None:
     """Why the line, of this number in a script, is no command; nothing where it is one, or needs no answer. `volumes` is
-    how many there are in the mode that joins several."""
+    how many there are in the mode that joins several, and in that of a replica on a machine of its own it `is_alone`."""
     try:
         if number == 1 and line.startswith(MARK_OF_ENCODING):
             raise Wrong(1, "the file begins with a byte order mark: save it as UTF-8 without one")
         if is_command(line):
-            _look_at_line(line, volumes)
+            if is_alone:
+                _look_at_line_alone(line)
+            else:
+                _look_at_line(line, volumes)
     except Wrong as wrong:
         return wrong
     return None
 
 
-def bad_lines(script: str, volumes: int = 0) -> Iterator[tuple[int, str, Wrong]]:
+def bad_lines(script: str, volumes: int = 0, *, is_alone: bool = False) -> Iterator[tuple[int, str, Wrong]]:
     """Each line of the script that is no command: its number, the line, and why."""
     for number, line in enumerate(script.split("\n"), 1):
-        wrong = why_none(line, volumes, number)
+        wrong = why_none(line, volumes, number, is_alone=is_alone)
         if wrong:
             yield number, line, wrong
 
 
+def _look_at_line_alone(line: str) -> None:
+    """Looks at a line of a replica on a machine of its own. A name is the rest of its line, whatever it is."""
+    name, _, rest = line.partition(" ")
+    if name == formats.TAKE_NAME:
+        if not rest:
+            raise Wrong(len(line) + 1, f"the name of a file is missing: {TAKE}")
+        return
+    if line.startswith("@"):
+        raise Wrong(1, "a replica on a machine of its own is of one volume, without a number")
+    if name in OF_ALL_REPLICAS:
+        raise Wrong(1, _why_not_alone(name))
+    _look_at_line(line, 0)
+    words = line.split(" ")
+    if words[1] in OF_ALL_REPLICAS:
+        raise Wrong(len(name) + 2, _why_not_alone(words[1]))
+
+
+def _why_not_alone(name: str) -> str:
+    return f"a replica on a machine of its own has no {name}: {OF_ALL_REPLICAS[name]}"
+
+
 def _look_at_line(line: str, volumes: int) -> None:
+    if line.startswith(f"{formats.TAKE_NAME} ") or line == formats.TAKE_NAME:
+        raise Wrong(1, f"{TAKE} is only for a replica on a machine of its own, in the mode member")
     if line.endswith("\r"):
         raise Wrong(len(line), "the line ends with CR (byte 13): is it a file from Windows?")
     start = 0

@@ -57,6 +57,7 @@ def launch(call: Call) -> int:
     if ALL in call.flags:
         from telling import tell_bad_lines
         return tell_bad_lines(call, script or b"")
+    _look_at_folder(call)
     if not built.is_built():
         import building
         building.need_kit()
@@ -71,10 +72,36 @@ def launch(call: Call) -> int:
         raise Fault(why, Status.NO_IMAGE)
     folder = _locked(call)
     try:
-        return _carry_out(call, script, () if folder is None else (folder,))
+        locks = () if folder is None else (folder,)
+        return _make_alone(call, locks) if call.needs_tag else _carry_out(call, script, locks)
     finally:
         if folder is not None:
             os.close(folder)
+
+
+def _look_at_folder(call: Call) -> None:
+    """Ends where a folder keeps replicas that are on machines of their own, and the call is of a whole volume, or the
+    other way round."""
+    if call.root is None:
+        return
+    why = causes.why_not_whole(call.root) if call.mode is RUN else None
+    if why:
+        raise Fault(why, Status.NO_IMAGE)
+    why = causes.why_not_alone(call.root) if call.mode is INIT and call.replica else None
+    if why:
+        raise Fault(why, Status.OCCUPIED)
+
+
+def _make_alone(call: Call, locks: tuple[int, ...]) -> int:
+    """Makes a replica on a machine of its own, with a tag that is chosen here, and tells it."""
+    from secrets import token_hex
+
+    from telling import tell_tag
+    tag = token_hex(16)
+    status = _carry_out(call.with_tag(tag), b"", locks)
+    if not status:
+        tell_tag(call, tag)
+    return status
 
 
 def _carry_out(call: Call, script: bytes | None, locks: tuple[int, ...]) -> int:
@@ -114,10 +141,10 @@ def _input() -> int:
 
 
 def _locked(call: Call) -> int | None:
-    """The lock on the folder of the volume, where the mode has one."""
-    if call.root is None:
+    """The lock on the folder of the volume, or of the replica that is alone, where the mode has one."""
+    if call.folder is None:
         return None
-    return lock.take_to_make(call.root) if call.mode is INIT else lock.take(call.root)
+    return lock.take_to_make(call.folder) if call.mode is INIT else lock.take(call.folder)
 
 
 def ask(words: Sequence[str], given: bytes | None, locks: tuple[int, ...] = (), keep: bool = False) -> Run:

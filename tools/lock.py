@@ -1,4 +1,4 @@
-"""The advisory lock on the folder of a volume."""
+"""The advisory lock on the folder of a volume, or of a replica in it that is on a machine of its own."""
 from __future__ import annotations
 
 import fcntl

@@ -11,10 +11,11 @@ from tempfile import TemporaryFile
 from typing import Protocol
 
 import built
+import causes
 import formats
 import lock
 from answers import MARK, Answer, shape_of, take_answer
-from faults import Fault
+from faults import Fault, Status
 from formats import Shape
 from spelling import to_bytes, to_str
 
@@ -76,7 +77,11 @@ def is_command(line: str) -> bool:
 
 @contextmanager
 def locked(root: Path) -> Iterator[Folder]:
-    """The volume in a folder, whose lock nobody else who asks for it has meanwhile."""
+    """The volume in a folder, whose lock nobody else who asks for it has meanwhile. It is refused where its replicas are
+    on machines of their own."""
+    why = causes.why_not_whole(str(root))
+    if why:
+        raise Fault(why, Status.NO_IMAGE)
     folder = lock.take(str(root))
     try:
         yield Folder(root, () if folder is None else (folder,))

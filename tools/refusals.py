@@ -6,13 +6,19 @@ import re
 import formats
 
 _WORDS = {
-    "nomail": "there is no message with this number",
+    "nomail": "there is no message with this number; of a `take`, no file of this name in the folder `in`: carry it, or "
+              "correct the name",
+    "link": "the system refused a message's file: see that the folder `in` of the replica may be read, and `out` be "
+            "written; then do the same again, or ask again",
     "member": "the volume has no such replica, or both are the same one",
     "down": "the replica has stopped, and answers nothing until it is restarted",
     "nofuse": "a disk in a folder can't be told to stop",
-    "stale": "this isn't the answer to the replica's open ask",
-    "badmessage": "the answer doesn't fit this volume: files of one of both replicas were changed from outside; see \"When a "
-                  "volume is damaged\" in docs/FORMATS.md",
+    "stale": "this isn't the answer to the replica's open ask: it isn't needed, and may be removed; ask again where there is "
+             "news",
+    "missing": "a piece of this answer isn't in the folder `in` yet: carry all of them, and then take any one",
+    "badmessage": "this is no whole message of this volume to this replica, or doesn't fit what it holds: carry the file "
+                  "again, and compare the tags of both; else files were changed from outside, see \"When a volume is "
+                  "damaged\" in docs/FORMATS.md",
     "mixed": "the replica holds pieces of another state than this one: ask again, or wait for the rest of those",
     "notorphan": "no orphan has this identifier",
     "noentry": "nothing has this name",

@@ -20,7 +20,7 @@ LAST_SAID = 5
 def answer(words: Sequence[str], given: bytes) -> Run | None:
     """Answers as the program does that the sources are, over this input. Where the toolchain gives no answer of it, that
     is said, and nothing is given."""
-    say("answering without proof, in a minute or two; ./ficus prove proves and builds the program")
+    say("answering without proof, in two to three minutes; ./ficus prove proves and builds the program")
     with TemporaryDirectory() as room:
         # (the toolchain takes a pipe that is silent for long for ended, so it is given a file)
         path = os.path.join(room, "input")
@@ -47,5 +47,5 @@ def _tell_too_slow(written: bytes) -> None:
     whole = written[:written.rfind(b"\n") + 1]
     put(whole)
     raise Fault("this script takes longer than the toolchain waits for a program that isn't proved: above are the first of "
-                "its answers. ./ficus prove proves and builds the program, which takes half an hour or more and then has no "
-                "such limit; or use a shorter script", Status.UNBUILT)
+                "its answers. ./ficus prove proves and builds the program, which takes about an hour on four processors and "
+                "then has no such limit; or use a shorter script", Status.UNBUILT)

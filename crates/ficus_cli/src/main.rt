@@ -3,14 +3,17 @@
 
 mod disks;
 mod ending;
+mod member;
 mod run;
 #[cfg(test)]
 mod tests;
 
 use disks::{Disks, disks_for};
 use ending::{end, status_without_call};
+use ficus_member::place_of;
 use ficus_outside::{StdSink, StdSource};
 use ficus_top::Status;
+use member::{kept_at, run_member};
 use run::run;
 use std::io::ErrorKind;
 use std::process::ExitCode;
@@ -30,6 +33,11 @@ fn run_words(rt: HostRuntime) -> io::Result<Status> {
     let words = env::args(&rt)?.collect(alloc)?;
     let input = &mut StdSource::new(&rt);
     let output = &mut StdSink::new(&rt);
+    let place = place_of(alloc, &words).map_err(|_| ErrorKind::OutOfMemory)?;
+    if let Some(place) = place {
+        let mut kept = kept_at(rt, alloc, &place).map_err(|_| ErrorKind::OutOfMemory)?;
+        return Ok(run_member(alloc, &words, input, output, &mut kept));
+    }
     let disks = disks_for(rt, alloc, &words).map_err(|_| ErrorKind::OutOfMemory)?;
     let status = match disks {
         Disks::InFolder(mut disks) => run(alloc, &words, input, output, &mut disks),

@@ -118,7 +118,7 @@ impl Entries {
         self.table.whole()
     }
 
-    /// The same entries once more, with memory from where these have theirs.
+    /// A copy of the entries, which shares their rows, with memory from where these have theirs.
     pub fn copy(&self) -> Result<Entries, Memory>
         ensures { IfOk result (λ entries. entries ≡ self.now) }
     {

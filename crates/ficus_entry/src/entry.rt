@@ -38,7 +38,7 @@ impl Entry {
         matches!(self.state, State::Live)
     }
 
-    /// The same entry once more. `Memory` never comes.
+    /// A copy of the entry. `Memory` never comes.
     pub fn copy(&self) -> Result<Entry, Memory>
         ensures { result ≡ Ok self.now }
     {

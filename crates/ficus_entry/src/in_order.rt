@@ -55,7 +55,7 @@ impl<'a> InOrder<'a> {
         self.rows.at(index)
     }
 
-    /// The same, for a walk along them.
+    /// The rows of the entries, for a walk along them.
     pub fn rows(&self) -> &ficus_table::InOrder<'a, SharedEntry>
         ensures { result.now ≡ self.now }
     {

@@ -1,15 +1,16 @@
 ghost use Rattle.std.specs.Prelude.{◌≡◌, ◌↔◌, ◌≤◌, ◌++◌, ◌⊎◌, List, ℕ, Ok, drop, length, IsErrOf, IsSome, IfNone, IfOk, IfSome};
 ghost use Rattle.ficus_envelope.specs.Envelope.{IsOfVolume, name_of, sealed_bytes};
-ghost use Rattle.ficus_envelope.specs.Tag.{IsTag};
 ghost use Rattle.ficus_ids.specs.Members.{IsCount};
 ghost use Rattle.ficus_mailbox.specs.Letter.{letter_limit};
 ghost use Rattle.ficus_mailbox.specs.MessageName.{FitsName};
-ghost use Rattle.ficus_wire.specs.Message.{FitsMessage, SpellPiece};
+ghost use Rattle.ficus_tag.specs.Tag.{IsTag};
+ghost use Rattle.ficus_wire.specs.Message.{FitsMessage, SpellPiece, message_bytes};
 ghost use Rattle.ficus_wire.specs.declared.message.Message.{Message as MessageValue};
 
-use crate::{TAG_SIZE, Tag, UnsealFault};
+use crate::UnsealFault;
 use ficus_ids::{Members, Memory};
 use ficus_mailbox::MessageName;
+use ficus_tag::{TAG_SIZE, Tag};
 use ficus_wire::{Message, decode, encode};
 use std::alloc::Global;
 
@@ -21,9 +22,19 @@ pub fn seal(alloc: Global, tag: Tag, message: &Message, members: Members) -> Res
     ensures within { IfOk result (λ bytes. length bytes.items ≤ letter_limit) }
 {
     let message = encode(alloc, message, members)?;
+    seal_spelled(alloc, tag, &message)
+}
+
+/// A message as it travels, of its spelling: the volume's tag, and these bytes. Where they spell a message between
+/// members, a mailbox takes that many.
+pub fn seal_spelled(alloc: Global, tag: Tag, message: &[u8]) -> Result<Vec<u8>, Memory>
+    ensures sealed { IfOk result (λ bytes. bytes.items ≡ tag ++ message.now) }
+    ensures within { (members : ℕ) (m : MessageValue) → FitsMessage members m → message.now ≡ message_bytes m →
+        IfOk result (λ bytes. length bytes.items ≤ letter_limit) }
+{
     let mut sealed = Vec::with_capacity(alloc, message.len().saturating_add(TAG_SIZE))?;
     sealed.extend_from_slice(tag.bytes())?;
-    sealed.extend_from_slice(&message)?;
+    sealed.extend_from_slice(message)?;
     Ok(sealed)
 }
 

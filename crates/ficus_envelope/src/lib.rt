@@ -2,9 +2,7 @@
 #![tactic(auto)]
 
 mod envelope;
-mod tag;
 mod unseal_fault;
 
-pub use envelope::{name_of, seal, sealed_messages_fit, unseal};
-pub use tag::{TAG_SIZE, TAG_TEXT_SIZE, Tag, one_tag};
+pub use envelope::{name_of, seal, seal_spelled, sealed_messages_fit, unseal};
 pub use unseal_fault::UnsealFault;

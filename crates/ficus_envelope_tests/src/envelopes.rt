@@ -1,6 +1,7 @@
 // What a message is behind the tag of its volume, and what is told of bytes that are none.
-use ficus_envelope::{Tag, UnsealFault, name_of, seal, unseal};
+use ficus_envelope::{UnsealFault, name_of, seal, seal_spelled, unseal};
 use ficus_ids::Members;
+use ficus_tag::Tag;
 use ficus_wire::Message;
 use std::alloc::Global;
 
@@ -73,7 +74,7 @@ fn unsealed(alloc: Global, tag: &[u8], bytes: &[u8]) -> Is {
     }
 }
 
-// Whether these are the bytes of the message that is unsealed from them, which has this name.
+// Whether these are the bytes of the message that is unsealed from them, and of its spelling, and it has this name.
 fn is_sealed_as(alloc: Global, bytes: &[u8], name: &str) -> bool {
     let (Some(tag), Some(members)) = (Tag::read(TAG), Members::new(2)) else {
         return false;
@@ -84,7 +85,13 @@ fn is_sealed_as(alloc: Global, bytes: &[u8], name: &str) -> bool {
     let Ok(sealed) = seal(alloc, tag, &message, members) else {
         return false;
     };
-    sealed.as_slice() == bytes && name_of(&message).text().as_str() == name
+    let Ok(of_spelled) = seal_spelled(alloc, tag, bytes.strip_prefix(tag.bytes()).unwrap_or(b""))
+    else {
+        return false;
+    };
+    sealed.as_slice() == bytes
+        && of_spelled.as_slice() == bytes
+        && name_of(&message).text().as_str() == name
 }
 
 #[test]

@@ -1,5 +1,5 @@
 // Which texts are a tag, and how it is written.
-use ficus_envelope::Tag;
+use ficus_tag::Tag;
 
 const TEXTS: [(&[u8], Option<&[u8]>); 11] = [
     (

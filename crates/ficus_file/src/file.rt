@@ -44,7 +44,7 @@ impl FileReplica {
         })
     }
 
-    /// The same file once more. Only bytes that came without memory are copied.
+    /// A copy of the file, which shares its versions. Only bytes that came without memory are copied.
     pub fn copy(&self, alloc: Global) -> Result<FileReplica, Memory>
         ensures { IfOk result (λ file. file ≡ self.now) }
     {
@@ -56,7 +56,7 @@ impl FileReplica {
         })
     }
 
-    /// The same file, so that copies share its versions.
+    /// The file with its versions in memory that copies share.
     pub(crate) fn into_shared(self, alloc: Global) -> Result<FileReplica, Memory>
         ensures { IfOk result (λ file. file ≡ self) }
     {

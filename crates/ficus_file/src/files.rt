@@ -87,7 +87,7 @@ impl Files {
         self.table.get(id)
     }
 
-    /// The same files once more, with memory from where these have theirs.
+    /// A copy of the files, which shares their rows, with memory from where these have theirs.
     pub fn copy(&self) -> Result<Files, Memory>
         ensures same { IfOk result (λ files. files ≡ self.now) }
         ensures files { AreFiles self.now }

@@ -13,7 +13,7 @@ pub struct Version {
 }
 
 impl Version {
-    /// The same version once more.
+    /// A copy of the version.
     pub fn copy(&self, alloc: Global) -> Result<Version, Memory>
         ensures { IfOk result (λ version. version ≡ self.now) }
     {

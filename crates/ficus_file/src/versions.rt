@@ -74,7 +74,7 @@ impl Versions {
         }
     }
 
-    /// The same versions once more. Only bytes that came without memory are copied.
+    /// A copy of the versions, which shares them. Only bytes that came without memory are copied.
     pub fn copy(&self, alloc: Global) -> Result<Versions, Memory>
         ensures { IfOk result (λ versions. versions ≡ self.now) }
     {
@@ -90,7 +90,7 @@ impl Versions {
         }
     }
 
-    /// The same versions, so that copies share them.
+    /// The versions in memory that copies share.
     pub fn into_shared(self, alloc: Global) -> Result<Versions, Memory>
         ensures { IfOk result (λ versions. versions ≡ self) }
     {

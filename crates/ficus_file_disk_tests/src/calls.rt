@@ -16,7 +16,7 @@ pub enum Call {
 }
 
 impl Call {
-    /// The same call with the answer that the disk gives now.
+    /// Makes this call of the disk: the call with the answer that the disk gives now, in place of its own.
     pub fn made<S: System + Drop>(self, disk: &mut SystemDisk<S>) -> Call {
         match self {
             Call::Size(_) => Call::Size(disk.size()),
@@ -31,7 +31,7 @@ impl Call {
         }
     }
 
-    /// The same call, answered by a fault.
+    /// This call, with a fault in place of its answer.
     pub fn failed(self) -> Call {
         match self {
             Call::Size(_) => Call::Size(Err(Failed)),

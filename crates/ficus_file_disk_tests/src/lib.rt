@@ -5,6 +5,8 @@
 #[cfg(test)]
 mod calls;
 #[cfg(test)]
+mod elsewhere;
+#[cfg(test)]
 mod files;
 mod note;
 #[cfg(test)]

@@ -39,7 +39,7 @@ impl System {
         System::moving(alloc, fails, 1)
     }
 
-    /// The same, where each read and write moves so many bytes at most.
+    /// An empty system. The call with the number `fails` fails, and each read and write moves so many bytes at most.
     pub fn moving(alloc: Global, fails: u32, most: usize) -> Result<System, AllocError> {
         let state = State {
             notes: RefCell::new(Vec::new(alloc)),

@@ -1,5 +1,5 @@
 -- What a mailbox over folders asks of the system, and what it answers.
-use Rattle.std.specs.Prelude.{◌≡◌, ◌<◌, ℕ, Bool, true, false, List, [], ◌∷◌, ◌++◌, codes, length}
+use Rattle.std.specs.Prelude.{◌≡◌, ◌⊎◌, ◌<◌, ℕ, Bool, true, false, List, [], ◌∷◌, ◌++◌, codes, length, Result, OnOk, OnErr}
 use Rattle.std.specs.Fmt.{decimal}
 use Rattle.ficus_file_disk.specs.Told.{Told, Emptied, FolderMade, FolderSynced, Gave, Measured, NotThere, OpenedToRead, Renamed, Synced, Took}
 use Rattle.ficus_mailbox.specs.Letter.{Letter, letter_limit}
@@ -59,6 +59,19 @@ IsLookedUp path old new (Bytes bytes) = IsRead (old ++ OpenedToRead path ∷ [])
 abbrev pub makes : Bool → List ℕ → List Told
 makes true folder = []
 makes false folder = FolderMade (outbox_of folder) ∷ FolderSynced folder ∷ []
+
+-- it is the mailbox of the same folder, of which the part for what is put passes for made, or not, as before
+pub record HasSameFolders (old new : Mailed) : Type 0 where
+  pub folder : new.folder ≡ old.folder
+  pub mark : new.is_made ≡ old.is_made
+
+-- It is the mailbox of the same folder. The part for what is put passes for made after a put; and after one that failed
+-- only where it did before it, or where the system has told first that it was made and the one above it synced.
+pub record MarksOutbox {A E : Type 0} (tells : Type 0) (old new : Mailed) (result : Result A E) : Type 0 where
+  pub folder : new.folder ≡ old.folder
+  pub made : OnOk result (new.is_made ≡ true)
+  pub marked : tells → OnErr result ((new.is_made ≡ old.is_made)
+      ⊎ ((more : List Told) × (new.told ≡ old.told ++ (makes old.is_made old.folder ++ more))))
 
 -- a file is written beside its place and synced, then it gets its place, and the folder is synced
 abbrev pub writes : List ℕ → List ℕ → List ℕ → List Told

@@ -1,7 +1,7 @@
 ghost use Rattle.std.specs.Prelude.{◌≡◌, ◌+◌, ◌≤◌, ◌++◌, [], false, true, Ok, IfOk, IsErrOf, OnErr, OnOk, string_bytes, string_capacity, string_len};
 ghost use Rattle.ficus_faults.specs.Faults.{Rose};
 ghost use Rattle.ficus_file_disk.specs.Told.{AreRefused};
-ghost use Rattle.ficus_folder_mailbox.specs.Mail.{IsLookedUp, Mailed, faults_of, file_in, folder_of, inbox_of, makes, nothing_given, nothing_posted, outbox_of, writes};
+ghost use Rattle.ficus_folder_mailbox.specs.Mail.{HasSameFolders, IsLookedUp, Mailed, MarksOutbox, faults_of, file_in, folder_of, inbox_of, makes, nothing_given, nothing_posted, outbox_of, writes};
 ghost use Rattle.ficus_mailbox.specs.Calls.{Finds, IsWithin, Puts};
 ghost use Rattle.ficus_mailbox.specs.FileName.{IsFileName};
 ghost use Rattle.ficus_mailbox.specs.MessageName.{name_text};
@@ -117,7 +117,7 @@ impl<S: System + Drop> SystemMailbox<S> {
         ensures nameless { (IsFileName name.now → ⊥) → result ≡ Ok Nothing }
         ensures unasked { (IsFileName name.now → ⊥) → self.new ≡ self.old }
         ensures within { IfOk result IsWithin }
-        ensures folder { self.new.folder ≡ self.old.folder }
+        ensures stays { HasSameFolders self.old self.new }
         ensures failed { IsErrOf result FindFault.Failed → Rose self.old.faults self.new.faults }
         ensures memory { IsErrOf result FindFault.Memory → self.new.faults ≡ self.old.faults }
         ensures steady { OnOk result (self.new.faults ≡ self.old.faults) }
@@ -139,7 +139,7 @@ impl<S: System + Drop> SystemMailbox<S> {
 
     // Puts a message, with the system's errors.
     fn try_put(&mut self, name: MessageName, message: &[u8]) -> io::Result<()>
-        ensures folder { self.new.folder ≡ self.old.folder }
+        ensures marks { MarksOutbox S.tells self.old self.new result }
         ensures faults { self.new.faults ≡ self.old.faults }
         ensures told { S.tells → OnOk result (self.new.told ≡ self.old.told ++ makes self.old.is_made self.old.folder
             ++ writes (outbox_of self.old.folder) (name_text name) message.now) }
@@ -160,7 +160,7 @@ impl<S: System + Drop> SystemMailbox<S> {
 
     // The same, with each error counted as a fault.
     fn counted_put(&mut self, name: MessageName, message: &[u8]) -> Result<(), Failed>
-        ensures folder { self.new.folder ≡ self.old.folder }
+        ensures marks { MarksOutbox S.tells self.old self.new result }
         ensures failed { OnErr result (Rose self.old.faults self.new.faults) }
         ensures steady { OnOk result (self.new.faults ≡ self.old.faults) }
         ensures risen { self.old.faults ≤ self.new.faults }
@@ -176,7 +176,7 @@ impl<S: System + Drop> SystemMailbox<S> {
 
     // Makes the folder of what is put, unless this was done.
     fn make_outbox(&mut self) -> io::Result<()>
-        ensures folder { self.new.folder ≡ self.old.folder }
+        ensures marks { MarksOutbox S.tells self.old self.new result }
         ensures faults { self.new.faults ≡ self.old.faults }
         ensures told { S.tells → OnOk result (self.new.told ≡ self.old.told ++ makes self.old.is_made self.old.folder) }
         ensures refused { S.tells → OnErr result (AreRefused self.old.told self.new.told) }
@@ -214,7 +214,7 @@ impl<S: System + Drop> Mailbox for SystemMailbox<S> {
     fn find(&mut self, alloc: Global, name: &[u8]) -> Result<Found, FindFault>
         ensures finds { Finds ⊥ nothing_given nothing_posted faults_of name.now self.old self.new result }
         ensures unasked { (IsFileName name.now → ⊥) → self.new ≡ self.old }
-        ensures folder { self.new.folder ≡ self.old.folder }
+        ensures stays { HasSameFolders self.old self.new }
         ensures asked { S.tells → IsFileName name.now → IfOk result
             (IsLookedUp (file_in (inbox_of self.old.folder) name.now) self.old.told self.new.told) }
         ensures refused { S.tells → IsErrOf result FindFault.Failed → AreRefused self.old.told self.new.told }
@@ -225,7 +225,7 @@ impl<S: System + Drop> Mailbox for SystemMailbox<S> {
     fn put(&mut self, name: MessageName, message: &[u8]) -> Result<(), Failed>
         ensures puts { Puts ⊥ nothing_given nothing_posted faults_of (record { name = name; bytes = message.now })
             self.old self.new result }
-        ensures folder { self.new.folder ≡ self.old.folder }
+        ensures marks { MarksOutbox S.tells self.old self.new result }
         ensures asked { S.tells → OnOk result (self.new.told ≡ self.old.told ++ makes self.old.is_made self.old.folder
             ++ writes (outbox_of self.old.folder) (name_text name) message.now) }
         ensures refused { S.tells → OnErr result (AreRefused self.old.told self.new.told) }

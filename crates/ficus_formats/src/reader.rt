@@ -55,7 +55,7 @@ impl<'a> Reader<'a> {
         self.rest
     }
 
-    /// The same bytes once more, to be read by themselves.
+    /// Another reader of the bytes that are left, which moves by itself. Takes no memory.
     pub fn again(&self) -> Reader<'a>
         ensures { result ≡ self.now }
     {

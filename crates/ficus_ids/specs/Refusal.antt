@@ -1,7 +1,7 @@
 -- The refusals, by number and word.
 use Rattle.std.specs.Prelude.{ℕ, List, codes}
 use Rattle.ficus_ids.specs.declared.refusal.Refusal.{Refusal}
-use Rattle.ficus_ids.specs.declared.refusal.Refusal.TheVariants.{Memory, NoEntry, NotDir, IsDir, Exists, Ambiguous, NotEmpty, IntoSelf, Conflict, NoConflict, Declined, TooLong, NotOrphan, Spent, Quota, Stale, Down, NoMail, LinkFull, Store, NoFuse, BadMessage, Member, Link, Image, Mixed, IsLink, NotLink, Crossing}
+use Rattle.ficus_ids.specs.declared.refusal.Refusal.TheVariants.{Memory, NoEntry, NotDir, IsDir, Exists, Ambiguous, NotEmpty, IntoSelf, Conflict, NoConflict, Declined, TooLong, NotOrphan, Spent, Quota, Stale, Down, NoMail, LinkFull, Store, NoFuse, BadMessage, Member, Link, Image, Mixed, IsLink, NotLink, Crossing, Missing}
 
 abbrev pub refusal_number : Refusal → ℕ
 refusal_number Memory = 0
@@ -33,6 +33,7 @@ refusal_number Mixed = 25
 refusal_number IsLink = 26
 refusal_number NotLink = 27
 refusal_number Crossing = 28
+refusal_number Missing = 29
 
 abbrev pub refusal_word : Refusal → List ℕ
 refusal_word Memory = codes "memory"
@@ -64,3 +65,4 @@ refusal_word Mixed = codes "mixed"
 refusal_word IsLink = codes "islink"
 refusal_word NotLink = codes "notlink"
 refusal_word Crossing = codes "crossing"
+refusal_word Missing = codes "missing"

@@ -79,7 +79,7 @@ impl Name {
         &self.bytes
     }
 
-    /// The same name once more. `Memory` never comes.
+    /// A copy of the name. `Memory` never comes.
     pub fn copy(&self) -> Result<Name, Memory>
         ensures { result ≡ Ok self.now }
     {

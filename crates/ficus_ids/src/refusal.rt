@@ -66,10 +66,12 @@ pub enum Refusal {
     NotLink = 27,
     /// The two paths of the command end in different volumes.
     Crossing = 28,
+    /// A piece of the answer isn't there.
+    Missing = 29,
 }
 
 impl Refusal {
-    /// Its number, from 0 to 28.
+    /// Its number, from 0 to 29.
     pub fn number(self) -> u8
         ensures { result ≡ refusal_number self }
     {
@@ -110,6 +112,7 @@ impl Refusal {
             Refusal::IsLink => "islink",
             Refusal::NotLink => "notlink",
             Refusal::Crossing => "crossing",
+            Refusal::Missing => "missing",
         }
     }
 }

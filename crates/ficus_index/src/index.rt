@@ -44,7 +44,7 @@ impl Index {
         }
     }
 
-    /// The same notes once more, in the same nodes.
+    /// An index with these notes, which shares its nodes with this one. No node is copied.
     pub fn copy(&self) -> Result<Index, Memory>
         ensures { IfOk result (λ index. index ≡ self.now) }
     {

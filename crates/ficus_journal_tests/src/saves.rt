@@ -36,7 +36,7 @@ pub(crate) fn saves<K: Keep + Drop, D: Disk>(
     Ok(keeper.commit(disks, generation, bytes).is_ok())
 }
 
-/// The same out of a frame, which is made of them in place of what it held.
+/// Opens the disks and saves the bytes as the next generation, out of a frame that is made of them.
 pub(crate) fn saves_framed<K: Keep + Drop, D: Disk>(
     alloc: Global,
     disks: &mut Pair<D>,

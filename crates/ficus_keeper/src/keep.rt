@@ -25,7 +25,7 @@ pub trait Keep {
     /// A commit of so many bytes may be made.
     ghost Allows: { Self → ℕ → Type 0 };
 
-    /// The same, and the keeper's own buffer has room for it.
+    /// A commit of so many bytes may be made, and the keeper's own buffer has room for it.
     ghost Takes: { Self → ℕ → Type 0 };
 
     /// How many bytes a disk has after a commit of so many, at most.
@@ -106,8 +106,8 @@ pub trait Keep {
         ensures { CommitsBytes kept fits wants_image calls is_on_a Regular D.Disk generation bytes.now self.old
             self.new disks.old disks.new result };
 
-    /// The same of the bytes in a frame, which are written from where they stand: the keeper puts its head in front of
-    /// them, and a tail behind. The frame holds nothing of use afterwards, and keeps its room.
+    /// Saves the bytes in a frame as the next generation, from where they stand, between a head and a tail. Takes no
+    /// memory. The frame is of no use afterwards, and keeps its room. After a failure the keeper promises nothing.
     fn commit_framed<D: Disk>(
         &mut self,
         disks: &mut Pair<D>,

@@ -1,9 +1,11 @@
 -- A mailbox in memory.
-use Rattle.std.specs.Prelude.{◌≡◌, ◌≢◌, ◌<◌, ℕ, List, length, IfSome, slice_get}
-use Rattle.ficus_faults.specs.Calls.{Tally}
+use Rattle.std.specs.Prelude.{◌≡◌, ◌≢◌, ◌+◌, ◌<◌, ℕ, List, length, Result, IfSome, IsErrOf, OnErr, OnOk, slice_get}
+use Rattle.ficus_faults.specs.Calls.{Tally, called, failed}
 use Rattle.ficus_mailbox.specs.Calls.{found_as}
 use Rattle.ficus_mailbox.specs.FileName.{IsFileName}
 use Rattle.ficus_mailbox.specs.Letter.{Letter}
+use Rattle.ficus_mailbox.specs.declared.found.FindFault.{FindFault}
+use Rattle.ficus_mailbox.specs.declared.found.FindFault.TheVariants.{Failed, Memory}
 use Rattle.ficus_mailbox.specs.declared.found.Found.{Found}
 use Rattle.ficus_mailbox.specs.declared.found.Found.TheVariants.{Nothing}
 use Rattle.ficus_mailbox.specs.declared.found.Given.{Given}
@@ -44,3 +46,17 @@ pub record IsFoundIn (inbox : List Filed) (name : List ℕ) (found : Found) : Ty
   pub none : found ≡ Nothing → IsFileName name → (place : ℕ) → place < length inbox → IsOther inbox name place
   pub some : (found ≡ Nothing → ⊥) → (place : ℕ) × IsFirstOf inbox name place
       × IfSome (slice_get inbox place) (λ filed. found ≡ found_as filed.bytes)
+
+-- a call that looks for what came is counted, as a fault where it failed, and takes no room
+pub record CountsFind {A : Type 0} (old new : MailboxState) (result : Result A FindFault) : Type 0 where
+  pub room : new.room ≡ old.room
+  pub found : OnOk result (new.calls ≡ called old.calls)
+  pub memory : IsErrOf result Memory → new.calls ≡ called old.calls
+  pub fault : IsErrOf result Failed → new.calls ≡ failed old.calls
+
+-- a call that puts a message is counted, as a fault where it failed, and takes room for one where it didn't
+pub record CountsPut {A E : Type 0} (old new : MailboxState) (result : Result A E) : Type 0 where
+  pub call : OnOk result (new.calls ≡ called old.calls)
+  pub fault : OnErr result (new.calls ≡ failed old.calls)
+  pub taken : OnOk result (new.room + 1 ≡ old.room)
+  pub room : OnErr result (new.room ≡ old.room)

@@ -4,7 +4,7 @@ ghost use Rattle.ficus_mailbox.specs.Calls.{Finds, IsWithin, Puts, found_as, giv
 ghost use Rattle.ficus_mailbox.specs.FileName.{IsFileName};
 ghost use Rattle.ficus_mailbox.specs.Letter.{letter_limit};
 ghost use Rattle.ficus_mailbox.specs.declared.found.Found.TheVariants.{Nothing};
-ghost use Rattle.ficus_mailbox.specs.MemMailbox.{IsFirstOf, IsFoundIn, IsOther, MailboxState, faults_of, given_in, posted_in};
+ghost use Rattle.ficus_mailbox.specs.MemMailbox.{CountsFind, CountsPut, IsFirstOf, IsFoundIn, IsOther, MailboxState, faults_of, given_in, posted_in};
 
 use crate::letter::LETTER_LIMIT;
 use crate::naming::file_name;
@@ -116,6 +116,7 @@ impl Mailbox for MemMailbox {
         ensures found { IfOk result (IsFoundIn self.old.inbox name.now) }
         ensures fails { IsErrOf result FindFault.Failed ↔ IsNextListed self.old.calls }
         ensures inbox { self.new.inbox ≡ self.old.inbox }
+        ensures counts { CountsFind self.old self.new result }
     {
         if self.calls.next() {
             self.calls.raise();
@@ -135,6 +136,7 @@ impl Mailbox for MemMailbox {
             ⊎ ((self.old.room ≡ 0) ⊎ (letter_limit < length message.now))) }
         ensures kept { OnErr result (self.new.posted ≡ self.old.posted) }
         ensures inbox { self.new.inbox ≡ self.old.inbox }
+        ensures counts { CountsPut self.old self.new result }
     {
         let listed = self.calls.next();
         if listed || self.lacks_room(message.len()) {

@@ -41,7 +41,7 @@ fn new_row<'a>(next: &RowPair<'a, SharedEntry>) -> Option<&'a SharedEntry>
     }
 }
 
-/// The same entry, if there is one, to share.
+/// The entry, if there is one, as a row that tables share. `Memory` comes where the row wants memory.
 pub(crate) fn shared(alloc: Global, entry: Option<Entry>) -> Result<Option<SharedEntry>, Memory>
     ensures { IfOk result (λ shared. shared ≡ entry) }
 {

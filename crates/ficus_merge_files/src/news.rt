@@ -14,7 +14,7 @@ use std::marker::Model;
 pub struct NewFile<'a> {
     pub mine: Option<&'a FileReplica>,
     pub theirs: &'a FileReplica,
-    /// The same file of theirs, for mine to share, where theirs were made of rows.
+    /// The row of theirs that holds the file, for mine to share, where theirs were made of rows.
     pub row: Option<&'a SharedFile>,
 }
 

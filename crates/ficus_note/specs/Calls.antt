@@ -1,5 +1,5 @@
 -- What each call of a note promises, by name.
-use Rattle.std.specs.Prelude.{◌≡◌, ◌⊎◌, ℕ, ◌+◌, ◌≤◌, Option, None, Result, IfOk, IsErrOf, OnOk}
+use Rattle.std.specs.Prelude.{◌≡◌, ◌≢◌, ◌⊎◌, ℕ, ◌+◌, ◌≤◌, Option, None, Result, IfOk, IsErrOf, OnOk}
 use Rattle.ficus_disk.specs.Pair.{PairRose}
 use Rattle.ficus_disk.specs.declared.disk.Disk.{Ghosts as Disk}
 use Rattle.ficus_disk.specs.declared.pair.Pair.{Pair}
@@ -13,7 +13,7 @@ use Rattle.ficus_two_slots.specs.TwoSlot.{Fits, room_in}
 use Rattle.ficus_note.specs.Noted.{FitsNote, HoldsAt, HoldsNote, NotesOneBetween, NotesOneOf}
 use Rattle.ficus_note.specs.declared.asked.Asked.{Asked}
 use Rattle.ficus_note.specs.declared.fault.NoteFault.{NoteFault}
-use Rattle.ficus_note.specs.declared.fault.NoteFault.TheVariants.{Failed, NoNote, Damaged, Memory}
+use Rattle.ficus_note.specs.declared.fault.NoteFault.TheVariants.{Failed, NoNote, Damaged}
 use Rattle.ficus_note.specs.declared.note.Note.{Note}
 
 -- the pair holds what is noted, its keeper fits it, and nothing is unsynced
@@ -27,7 +27,7 @@ IsPrepared room note pair = HasRoom (λ keeper length. range_size + length ≤ r
     (λ _ length. 1 + range_size + length) room note.keeper pair 9
 
 -- what the disks hold is found: nothing exactly where nothing is kept, and damage where that is no note. A read gives
--- what it gave, a crash leaves no more than before, and what fails is a disk, or memory
+-- what it gave, a crash leaves no more than before, and a disk has failed only where that is told
 pub record Opens {D : Type 0} (disk : Disk D) (old new : Pair D) (result : Result Note NoteFault) : Type 0 where
   pub fits : IfOk result (λ note. FitsNote note.asked)
   pub found : disk.tells → IfOk result (λ note. HoldsAt (found_in kept_in disk.seen old) note.generation note.asked)
@@ -39,7 +39,7 @@ pub record Opens {D : Type 0} (disk : Disk D) (old new : Pair D) (result : Resul
   pub armings : PairSame disk.armings old new
   pub failed : IsErrOf result Failed → PairRose disk.faults 1 old new
   pub steady : OnOk result (PairSame disk.faults old new)
-  pub spared : IsErrOf result Memory → PairSame disk.faults old new
+  pub spared : (fault : NoteFault) → fault ≢ Failed → IsErrOf result fault → PairSame disk.faults old new
   pub risen : PairRose disk.faults 0 old new
 
 -- this is noted in place of what was, on one of the disks, and the other stays; a crash after the call and at each

@@ -1,3 +1,4 @@
+ghost use Rattle.std.specs.Bool.{OnFalse};
 ghost use Rattle.std.specs.Prelude.{◌≡◌, ◌-◌, ◌^◌, ◌<◌, ◌↔◌, [], None, IsErrOf, IsTrue, OnOk};
 ghost use Rattle.ficus_keeper.specs.Calls.{AreAsBefore, CountsMaking, Keeps, Makes, Spares};
 ghost use Rattle.ficus_note.specs.Calls.{IsPrepared, IsReady, Opens, Saves};
@@ -60,7 +61,8 @@ impl Note {
 
     /// Whether no further note can be saved, since generations end at 2^64 - 1.
     pub fn is_full(&self) -> bool
-        ensures { IsTrue result ↔ self.now.generation ≡ 2 ^ 64 - 1 }
+        ensures full { IsTrue result ↔ (self.now.generation ≡ 2 ^ 64 - 1) }
+        ensures more { OnFalse result (self.now.generation < 2 ^ 64 - 1) }
     {
         self.generation == u64::MAX
     }

@@ -101,12 +101,12 @@ module _ {K D : Type 0} (keep : Keep K) (disk : Disk D) (me : ℕ) (saved : Save
           first.empty told r pair (omega (arith, at.member.at_least)) (omega (arith, below, differs)) at
     ])
 
-    pub occupied_then : disk.tells → (q : ℕ) → IsErrOf result (Occupied q) → (q ≢ me) × (q ≤ saved.members)
+    pub occupied_then : disk.tells → (q : ℕ) → IsErrOf result (Occupied q) → (q ≢ me) × IsMember saved.members q
         × ((pair : Pair D) → IsNumbered old q pair → IsEmptyPair disk.seen pair → ⊥)
     occupied_then told q is =
         let found = then.occupied told q is in (
           λ same. omega (arith, found.0, same),
-          found.1,
+          record { at_least = omega (arith, found.0, some); at_most = found.1 },
           λ pair at. found.2 pair (first.others q pair (inr (omega (arith, found.0))) at),
         )
 
@@ -121,7 +121,7 @@ module _ {K D : Type 0} (keep : Keep K) (disk : Disk D) (me : ℕ) (saved : Save
 -- a fault is told
 pub unentered : {K D : Type 0} {keep : Keep K} {disk : Disk D} {me : ℕ} {saved : Saved} {fault : WorldFault}
     {old new : List (Pair D)}
-    → (disk.tells → (q : ℕ) → IsErrOf {T = Opened K} (Err fault) (Occupied q) → (q ≢ me) × (q ≤ saved.members)
+    → (disk.tells → (q : ℕ) → IsErrOf {T = Opened K} (Err fault) (Occupied q) → (q ≢ me) × IsMember saved.members q
     × ((pair : Pair D) → IsNumbered old q pair → IsEmptyPair disk.seen pair → ⊥))
     → (disk.tells → (q : ℕ) → IsErrOf {T = Opened K} (Err fault) (Image q) → ⊥)
     → ((pair : Pair D) → IsNumbered old me pair → IsNumbered new me pair)
@@ -201,7 +201,11 @@ module _ {K D : Type 0} (keep : Keep K) (disk : Disk D) (me : ℕ) (saved : Save
     empty = λ told. empty_before result others entered.alone (entered.empty told);
     occupied = λ told q is.
         let found = entered.occupied told q is in
-        (found.0, λ other at_other none. found.2 other (others q other found.0 at_other) none);
+        let member : IsMember 8 q = record {
+          at_least = found.1.at_least;
+          at_most = omega (arith, found.1.at_most, fits.members.at_most);
+        } in
+        (found.0, member, λ other at_other none. found.2 other (others q other found.0 at_other) none);
     rests = λ was now at_was at_now.
         let then = number_exists mid me (subst (λ n. IsMember n me) (sym looked.rests.count) at_was.member) in
         subst (λ (p : Pair D). PairRests disk was p) (number_once (entered.own then.0 then.1) at_now)

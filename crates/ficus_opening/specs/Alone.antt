@@ -4,6 +4,7 @@ use Rattle.ficus_disk.specs.declared.disk.Disk.{Ghosts as Disk}
 use Rattle.ficus_disk.specs.declared.pair.Pair.{Pair}
 use Rattle.ficus_durable_state.specs.Saved.{FitsImage}
 use Rattle.ficus_durable_state.specs.declared.saved.Saved.{Saved}
+use Rattle.ficus_ids.specs.Members.{IsMember}
 use Rattle.ficus_keeper.specs.Kept.{found_in}
 use Rattle.ficus_keeper.specs.Pairs.{PairSame}
 use Rattle.ficus_keeper.specs.declared.keep.Keep.{Ghosts as Keep}
@@ -91,7 +92,7 @@ pub record EntersAll {K D : Type 0} (keep : Keep K) (disk : Disk D) (me : ℕ) (
   pub kept : IfOk result (λ opened. AreKept keep disk opened new)
   pub empty : disk.tells → OnOk result ((r : ℕ) (pair : Pair D) → r ≢ me → r ≤ saved.members → IsNumbered old r pair
       → IsEmptyPair disk.seen pair)
-  pub occupied : disk.tells → (q : ℕ) → IsErrOf result (Occupied q) → (q ≢ me) × (q ≤ saved.members)
+  pub occupied : disk.tells → (q : ℕ) → IsErrOf result (Occupied q) → (q ≢ me) × IsMember saved.members q
       × ((pair : Pair D) → IsNumbered old q pair → IsEmptyPair disk.seen pair → ⊥)
   pub never : disk.tells → (q : ℕ) → IsErrOf result (Image q) → ⊥
   pub own : (pair : Pair D) → IsNumbered old me pair → IsNumbered new me pair
@@ -114,7 +115,7 @@ pub record OpensAlone {K D : Type 0} (keep : Keep K) (disk : Disk D) (me : ℕ) 
   -- `Occupied` comes exactly where another pair holds something that must hold nothing.
   pub empty : disk.tells → IfOk result (λ opened. (r : ℕ) (pair : Pair D) → r ≢ me
       → r ≤ length opened.members.items → IsNumbered old r pair → IsEmptyPair disk.seen pair)
-  pub occupied : disk.tells → (q : ℕ) → IsErrOf result (Occupied q) → (q ≢ me)
+  pub occupied : disk.tells → (q : ℕ) → IsErrOf result (Occupied q) → (q ≢ me) × IsMember 8 q
       × ((pair : Pair D) → IsNumbered old q pair → IsEmptyPair disk.seen pair → ⊥)
   -- It writes no byte to the member's own disks, and a read of them gives what it gave.
   pub rests : (was now : Pair D) → IsNumbered old me was → IsNumbered new me now → PairRests disk was now

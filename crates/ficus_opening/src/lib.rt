@@ -14,6 +14,7 @@ mod opening;
 pub use alone::open_alone;
 pub use checking::{check_disks, checks_tell_of_openings};
 pub use fault::WorldFault;
+pub use looking::look_at;
 pub use making::{make_volume, what_is_made_stands};
 pub use member::{Member, MemberState, Pending};
 pub use opening::{Opened, open_all};

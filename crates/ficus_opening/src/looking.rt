@@ -11,8 +11,8 @@ use crate::WorldFault;
 use ficus_disk::{Disk, Pair};
 use ficus_faults::Failed;
 
-/// Whether both disks of this member hold nothing.
-pub(crate) fn look_at<D: Disk>(pair: &mut Pair<D>, number: u8) -> Result<bool, WorldFault>
+/// Whether both disks of this member hold nothing. `Store` comes exactly where one of them fails; it writes nothing.
+pub fn look_at<D: Disk>(pair: &mut Pair<D>, number: u8) -> Result<bool, WorldFault>
     ensures { LooksAt D.Disk number result pair.old pair.new }
 {
     match is_empty(pair) {

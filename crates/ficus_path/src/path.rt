@@ -89,7 +89,7 @@ impl Path {
         }
     }
 
-    /// The same path once more.
+    /// A copy of the path, with its parts.
     pub fn copy(&self, alloc: Global) -> Result<Path, Memory>
         ensures { IfOk result (λ path. path ≡ self.now) }
     {

@@ -5,7 +5,7 @@ use ficus_ids::Memory;
 
 /// What a persistent list holds.
 pub trait Item: Drop {
-    /// The same once more.
+    /// A copy of the item.
     fn copied(&self) -> Result<Self, Memory>
         ensures { IfOk result (λ item. item ≡ self.now) };
 }

@@ -57,7 +57,7 @@ impl<T: Spelled> PersistentList<T> {
         self.tree.height()
     }
 
-    /// The same list once more, in the same nodes.
+    /// A list of these items, which shares all nodes with this one. No item is copied.
     pub fn copy(&self) -> Result<PersistentList<T>, Memory>
         ensures { IfOk result (λ list. list ≡ self.now) }
     {

@@ -23,7 +23,7 @@ pub(crate) fn copies<X: Item>(alloc: Global, items: &[X], more: usize) -> Result
     Ok(row)
 }
 
-/// The same with one more item, in front of the one at the index.
+/// Copies of the items with one more, in front of the one at the index, which may be their count.
 pub(crate) fn with<X: Item>(
     alloc: Global,
     items: &[X],
@@ -38,7 +38,7 @@ pub(crate) fn with<X: Item>(
     Ok(row)
 }
 
-/// The same with another item at the index.
+/// Copies of the items with another one in place of that at the index.
 pub(crate) fn with_other<X: Item>(
     alloc: Global,
     items: &[X],
@@ -53,7 +53,7 @@ pub(crate) fn with_other<X: Item>(
     Ok(row)
 }
 
-/// The same without the item at the index.
+/// Copies of the items without the one at the index.
 pub(crate) fn without<X: Item>(alloc: Global, items: &[X], index: usize) -> Result<Vec<X>, Memory>
     requires { index < length items.now }
     ensures { IfOk result (λ row. row.items ≡ remove items.now index) }

@@ -92,7 +92,7 @@ impl<T: Spelled> Tree<T> {
         self.count as usize
     }
 
-    /// The same as a number that a node stores.
+    /// How many items there are, as a number that a node stores.
     pub(crate) fn count(&self) -> u32
         ensures { result ≡ length self.now.items }
     {
@@ -119,7 +119,7 @@ impl<T: Spelled> Tree<T> {
         self.height
     }
 
-    /// The same tree once more, in the same nodes.
+    /// A tree of these items, which shares all nodes with this one. No item is copied.
     pub(crate) fn copy(&self) -> Result<Tree<T>, Memory>
         ensures { IfOk result (λ tree. tree ≡ self.now) }
     {

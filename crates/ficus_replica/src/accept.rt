@@ -84,7 +84,7 @@ impl Replica {
         self.take(alloc, &entries, files)
     }
 
-    /// The same of a replica that isn't held further: its own entries are given up before the files are merged.
+    /// Takes an answer as a replica that isn't held further: its own entries are given up before the files are merged.
     pub(crate) fn into_taken(
         self,
         alloc: Global,

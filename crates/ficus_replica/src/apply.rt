@@ -33,8 +33,8 @@ impl Replica {
         self.copied()?.into_applied(alloc, noted)
     }
 
-    /// The same of a replica that isn't held further: its own entries are given up before the files of an answer are
-    /// merged.
+    /// What the record makes of a replica that isn't held further, whose entries are given up before files are merged.
+    /// `Unfit` comes only where the record doesn't fit the replica, and `NotRecord` never.
     pub fn into_applied(self, alloc: Global, noted: &Record) -> Result<Replica, RecordFault>
         requires fits { FitsImage self.saved }
         requires spelled { FitsRecord self.saved.members noted.now }

@@ -32,6 +32,7 @@ const REFUSALS: &[(Refusal, u8, &str)] = &[
     (Refusal::IsLink, 26, "islink"),
     (Refusal::NotLink, 27, "notlink"),
     (Refusal::Crossing, 28, "crossing"),
+    (Refusal::Missing, 29, "missing"),
 ];
 
 #[test]

@@ -22,8 +22,8 @@ pub fn one_bad_line()
         IsFirstBadLine bytes line → IsFirstBadLine bytes other → line ≡ other }
 {}
 
-/// The same of scripts over several volumes: one list of lines, or one first bad line, and never both. It does nothing
-/// when it runs.
+/// The law that a script over several volumes has one list of lines at most, or one first bad line at most, and never
+/// both. It does nothing when it runs.
 pub fn one_volume_script()
     ensures lines { (volumes : ℕ) (bytes : List ℕ) (lines others : List VolumeLine) → volumes ≤ 255 →
         IsVolumeScript volumes bytes lines → IsVolumeScript volumes bytes others → lines ≡ others }

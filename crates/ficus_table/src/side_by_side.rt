@@ -14,7 +14,7 @@ pub struct Pair<'a, S> {
     pub theirs: Option<&'a S>,
 }
 
-/// The same, and where theirs hold something the row that shows it, if that is known.
+/// What two tables hold under one identifier, and where theirs hold something the row that shows it, if known.
 #[derive(Drop)]
 pub struct RowPair<'a, R: Row> {
     pub pair: Pair<'a, R::Seen>,
@@ -76,7 +76,7 @@ impl<'b, 'a, R: Row> SideBySide<'b, 'a, R> {
         }
     }
 
-    /// The same as [`next_pair`](SideBySide::next_pair), with the row of theirs, where theirs were made
+    /// What [`next_pair`](SideBySide::next_pair) gives, with the row of theirs, where theirs were made
     /// [of rows](InOrder::of_rows).
     pub fn next_row_pair(&mut self) -> Option<RowPair<'a, R>>
         ensures some { IfSome result (λ next.

@@ -154,7 +154,7 @@ impl<R: Row> Table<R> {
         self.edits[place].index
     }
 
-    /// The same rows once more, with memory from where these have theirs.
+    /// A copy of the rows, which shares their nodes, with memory from where these have theirs.
     pub fn copy(&self) -> Result<Table<R>, Memory>
         ensures items { IfOk result (λ table. table.items ≡ self.now.items) }
         ensures edited { IfOk result (λ table. table.edited ≡ []) }

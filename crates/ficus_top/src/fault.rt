@@ -5,7 +5,7 @@ use ficus_words::WordsFault;
 
 /// Why a run ended before all was done that the words ask for.
 #[derive(Clone, Copy)]
-pub(crate) enum Fault {
+pub enum Fault {
     /// The words weren't read, or they aren't those of a mode.
     Words(WordsFault),
     /// The script wasn't read.
@@ -51,7 +51,7 @@ impl From<WorldFault> for Fault {
 
 /// Why the script wasn't read.
 #[derive(Clone, Copy)]
-pub(crate) enum ReadingFault {
+pub enum ReadingFault {
     /// The line of this number, counted from 1, is the first that may stand in no script.
     BadLine(u32),
     /// Want of memory.

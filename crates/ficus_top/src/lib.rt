@@ -19,6 +19,7 @@ pub mod summary;
 mod telling;
 mod words;
 
+pub use fault::{Fault, ReadingFault};
 pub use laws::{
     all_but_the_last_are_put, empty_disks_are_at_rest, fronts_go_on, idle_codes, killed_runs_go_on,
     mode_codes, next_run_goes_on, only_stops_arm_disks, read_codes, same_script_same_answers,
@@ -29,6 +30,7 @@ pub use mode_laws::{
     volumes_are_made_or_in_part, what_is_pending_may_come,
 };
 pub use program::ficus;
+pub use read::read_bytes;
 pub use serving::serve;
 pub use status::{Status, status_text};
 pub use words::root_of;

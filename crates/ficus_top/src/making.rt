@@ -46,7 +46,7 @@ pub(crate) fn init<D: Disk>(
     Ok(make(alloc, size, disks)?)
 }
 
-/// The same, with the world's own fault. What is made stands for the empty history.
+/// Makes a fresh volume of this size, and tells the world's own fault. What is made stands for the empty history.
 pub(crate) fn make<D: Disk>(
     alloc: Global,
     size: Size,

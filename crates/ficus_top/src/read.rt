@@ -66,8 +66,9 @@ pub(crate) fn read_volume_lines<S: Source>(
     }
 }
 
-// Takes all bytes of the source, where they are no more than a script may have.
-fn read_bytes<S: Source>(alloc: Global, input: &mut S) -> Result<Vec<u8>, ReadingFault>
+/// Takes all bytes of the source, where they are no more than a script may have: 1 MiB. `TooLong` comes exactly where
+/// there are more, `Source` where the source fails.
+pub fn read_bytes<S: Source>(alloc: Global, input: &mut S) -> Result<Vec<u8>, ReadingFault>
     ensures limit { IfOk result (λ bytes. length bytes.items ≤ script_limit) }
     ensures all { S.tells → IfOk result (λ bytes. (S.left input.old ≡ bytes.items) × (S.left input.new ≡ [])) }
     ensures no_line { (line : ℕ) → IsErrOf result (ReadingFault.BadLine line) → ⊥ }

@@ -20,8 +20,8 @@ pub struct Status {
 impl Status {
     ghost use Rattle.ficus_top.specs.Status.{code_of, line_of, replica_of};
 
-    // How a run ended, as numbers.
-    pub(crate) fn of(ended: Result<(), Fault>) -> Status
+    /// How a run ended, as numbers.
+    pub fn of(ended: Result<(), Fault>) -> Status
         ensures { result ≡ record { code = code_of ended; line = line_of ended; replica = replica_of ended } }
     {
         let (code, line, replica) = match ended {

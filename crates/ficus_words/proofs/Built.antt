@@ -1,5 +1,5 @@
 -- The command that `clap` builds, and its arguments by their names.
-use Rattle.std.proofs.Common.{◌≡◌, ℕ, codes, true, false, refl, sym, subst, List, [], ◌∷◌, Option, Some, None, inl, inr, true≢false}
+use Rattle.std.proofs.Common.{◌≡◌, ◌||◌, ℕ, Bool, codes, true, false, refl, sym, subst, List, [], ◌∷◌, Option, Some, None, inl, inr, true≢false}
 use Rattle.std.specs.Str.{bytes_eq}
 use Rattle.std.proofs.lemmas.Slice.Eq.{bytes_eq-Decides}
 use Rattle.clap.specs.Walk.{Row, Rule, arg_by_id, arg_by_long}
@@ -33,7 +33,7 @@ the_place name index = shaped name None (Some index)
 abbrev pub the_rules : List Rule
 the_rules = the_place (codes "mode") 1 ∷ the_place (codes "root") 2 ∷ the_option (codes "members") ∷ the_option (codes "ids")
     ∷ the_option (codes "bytes") ∷ the_option (codes "seed") ∷ the_option (codes "steps")
-    ∷ the_option (codes "volumes") ∷ []
+    ∷ the_option (codes "volumes") ∷ the_option (codes "replica") ∷ the_option (codes "tag") ∷ []
 
 abbrev pub the_shape : Shape
 the_shape = (built ficus_app).top
@@ -53,35 +53,33 @@ pub record IsKnown (name : Text) : Type 0 where
   pub index : Option ℕ
   pub found : arg_by_id the_rules name ≡ Some (shaped name long index)
 
-pub names_option : (name : Text) → is_option name ≡ true →
-    (arg_by_long the_rules name ≡ Some (the_option name)) × IsKnown name
-names_option name is =
-    let same : (known : Text) → bytes_eq known name ≡ true → known ≡ name = λ known e. (bytes_eq-Decides known name).0 e in
-    let goes : (known : Text) → known ≡ name → (arg_by_long the_rules known ≡ Some (the_option known)) × IsKnown known →
-    (arg_by_long the_rules name ≡ Some (the_option name)) × IsKnown name =
-    λ known e h. subst (λ (n : Text). (arg_by_long the_rules n ≡ Some (the_option n)) × IsKnown n) e h in
-    elim (or_cases (bytes_eq (codes "members") name) _ is) [
-      | inl e ↦ goes (codes "members") (same (codes "members") e)
-          (refl, record { long = Some (codes "members"); index = None; found = refl })
-      | inr others ↦ elim (or_cases (bytes_eq (codes "ids") name) _ others) [
-        | inl e ↦ goes (codes "ids") (same (codes "ids") e) (refl, record { long = Some (codes "ids"); index = None; found = refl })
-        | inr more ↦ elim (or_cases (bytes_eq (codes "bytes") name) _ more) [
-          | inl e ↦ goes (codes "bytes") (same (codes "bytes") e) (refl, record { long = Some (codes "bytes"); index = None; found = refl })
-          | inr fewer ↦ elim (or_cases (bytes_eq (codes "seed") name) _ fewer) [
-            | inl e ↦ goes (codes "seed") (same (codes "seed") e) (refl, record { long = Some (codes "seed"); index = None; found = refl })
-            | inr few ↦ elim (or_cases (bytes_eq (codes "steps") name) _ few) [
-              | inl e ↦ goes (codes "steps") (same (codes "steps") e)
-                  (refl, record { long = Some (codes "steps"); index = None; found = refl })
-              | inr last ↦ elim (or_cases (bytes_eq (codes "volumes") name) _ last) [
-                | inl e ↦ goes (codes "volumes") (same (codes "volumes") e)
-                    (refl, record { long = Some (codes "volumes"); index = None; found = refl })
-                | inr none ↦ absurd (true≢false (sym none))
-              ]
-            ]
-          ]
-        ]
-      ]
-    ]
+-- the name is that of an option
+abbrev pub IsNamed : Text → Type 0
+IsNamed name = (arg_by_long the_rules name ≡ Some (the_option name)) × IsKnown name
+
+named : (name : Text) → arg_by_long the_rules name ≡ Some (the_option name) → arg_by_id the_rules name ≡ Some (the_option name) →
+    IsNamed name
+named name long id = (long, record { long = Some name; index = None; found = id })
+
+-- the name is this one, or one of others
+this_or : (known name : Text) (others : Bool) → IsNamed known → (others ≡ true → IsNamed name) →
+    (bytes_eq known name || others) ≡ true → IsNamed name
+this_or known name others here more is = elim (or_cases (bytes_eq known name) others is) [
+  | inl e ↦ subst IsNamed ((bytes_eq-Decides known name).0 e) here
+  | inr e ↦ more e
+]
+
+pub names_option : (name : Text) → is_option name ≡ true → IsNamed name
+names_option name =
+    this_or (codes "members") name _ (named (codes "members") refl refl) (
+    this_or (codes "ids") name _ (named (codes "ids") refl refl) (
+    this_or (codes "bytes") name _ (named (codes "bytes") refl refl) (
+    this_or (codes "seed") name _ (named (codes "seed") refl refl) (
+    this_or (codes "steps") name _ (named (codes "steps") refl refl) (
+    this_or (codes "volumes") name _ (named (codes "volumes") refl refl) (
+    this_or (codes "replica") name _ (named (codes "replica") refl refl) (
+    this_or (codes "tag") name _ (named (codes "tag") refl refl) (
+    λ none. absurd (true≢false (sym none))))))))))
 
 pub names_nothing : (name : Text) → is_option name ≡ false → arg_by_long the_rules name ≡ None
 names_nothing name is =
@@ -91,7 +89,9 @@ names_nothing name is =
     let e = or_parts (bytes_eq (codes "seed") name) _ d.1 in
     let f = or_parts (bytes_eq (codes "steps") name) _ e.1 in
     let g = or_parts (bytes_eq (codes "volumes") name) _ f.1 in
-    rw (a.0, b.0, d.0, e.0, f.0, g.0) refl
+    let h = or_parts (bytes_eq (codes "replica") name) _ g.1 in
+    let i = or_parts (bytes_eq (codes "tag") name) _ h.1 in
+    rw (a.0, b.0, d.0, e.0, f.0, g.0, h.0, i.0) refl
 
 pub mode_known : IsKnown (codes "mode")
 mode_known = record { long = None; index = Some 1; found = refl }

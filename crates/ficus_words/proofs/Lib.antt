@@ -3,6 +3,7 @@ mod Distinct
 mod Failing
 mod Found
 mod NumberLaws
+pub mod OneMember
 pub mod OneMode
 mod Settling
 mod Spelling

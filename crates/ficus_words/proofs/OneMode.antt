@@ -13,10 +13,10 @@ use Rattle.ficus_words.specs.declared.mode.Mode.{Mode}
 use Rattle.ficus_words.specs.declared.mode.Mode.TheVariants.{Init, Run, Check, Replay, Volumes, Gen}
 use Rattle.ficus_words.specs.declared.mode.Size.{Size}
 
-same_text : {text : Option Text} (one other : Text) → text ≡ Some one → text ≡ Some other → one ≡ other
+pub same_text : {text : Option Text} (one other : Text) → text ≡ Some one → text ≡ Some other → one ≡ other
 same_text one other is also = let same : Some one ≡ Some other = sym is ∙ also in cc
 
-same_number : {text : Option Text} {least most one other : ℕ} → most < 2 ^ 64 → IsNumber least most text one →
+pub same_number : {text : Option Text} {least most one other : ℕ} → most < 2 ^ 64 → IsNumber least most text one →
     IsNumber least most text other → one ≡ other
 same_number {one} {other} fits is also =
     decimal_injective one other (omega (arith, is.at_most)) (omega (arith, also.at_most))
@@ -31,7 +31,7 @@ same_or_most text least most one other fits (inr is) (inl also) =
     let clash : Some (decimal one) ≡ None = sym is.spelled ∙ also.0 in cc
 same_or_most text least most one other fits (inr is) (inr also) = same_number fits is also
 
-same_size : (texts : Texts) (one other : Size) → IsSize texts one → IsSize texts other → one ≡ other
+pub same_size : (texts : Texts) (one other : Size) → IsSize texts one → IsSize texts other → one ≡ other
 same_size texts one other is also = λ i. record {
   members = same_number (omega arith) is.members also.members i;
   ids = same_or_most texts.ids 1 100000 one.ids other.ids (omega arith) is.ids also.ids i;

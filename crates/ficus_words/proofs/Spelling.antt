@@ -49,17 +49,20 @@ of_is_option name is =
 
 -- a fact of each name of an option
 each_option : (P : Text → Type 0) → P (codes "members") → P (codes "ids") → P (codes "bytes") → P (codes "seed") →
-    P (codes "steps") → P (codes "volumes") → (name : Text) → Contains option_names name → P name
-each_option P members ids bytes seed steps volumes name (at, within, is) = subst P is (go at within)
+    P (codes "steps") → P (codes "volumes") → P (codes "replica") → P (codes "tag") → (name : Text) →
+    Contains option_names name → P name
+each_option P members ids bytes seed steps volumes replica tag name (at, within, is) = subst P is (go at within)
   where
-    go : (k : ℕ) → k < 6 → P (get_or option_names k name)
+    go : (k : ℕ) → k < 8 → P (get_or option_names k name)
     go zero lt = members
     go (suc zero) lt = ids
     go (suc (suc zero)) lt = bytes
     go (suc (suc (suc zero))) lt = seed
     go (suc (suc (suc (suc zero)))) lt = steps
     go (suc (suc (suc (suc (suc zero))))) lt = volumes
-    go (suc (suc (suc (suc (suc (suc k)))))) lt = absurd (omega (arith, lt))
+    go (suc (suc (suc (suc (suc (suc zero)))))) lt = replica
+    go (suc (suc (suc (suc (suc (suc (suc zero))))))) lt = tag
+    go (suc (suc (suc (suc (suc (suc (suc (suc k)))))))) lt = absurd (omega (arith, lt))
 
 -- how the words of an option look to the lexer
 record IsOptionWord (name : Text) : Type 0 where
@@ -68,14 +71,23 @@ record IsOptionWord (name : Text) : Type 0 where
   no_joined_end : (value : Text) → bytes_eq (codes "--" ++ name ++ 61 ∷ value) (45 ∷ 45 ∷ []) ≡ false
   joined : (value : Text) → long_of (codes "--" ++ name ++ 61 ∷ value) ≡ Some (name, Some value)
 
+looks_so : (name : Text) → bytes_eq (codes "--" ++ name) (45 ∷ 45 ∷ []) ≡ false →
+    long_of (codes "--" ++ name) ≡ Some (name, None) →
+    ((value : Text) → bytes_eq (codes "--" ++ name ++ 61 ∷ value) (45 ∷ 45 ∷ []) ≡ false) →
+    ((value : Text) → long_of (codes "--" ++ name ++ 61 ∷ value) ≡ Some (name, Some value)) → IsOptionWord name
+looks_so name no_end apart no_joined_end joined =
+    record { no_end = no_end; apart = apart; no_joined_end = no_joined_end; joined = joined }
+
 option_word : (name : Text) → Contains option_names name → IsOptionWord name
 option_word = each_option IsOptionWord
-    (record { no_end = refl; apart = refl; no_joined_end = λ v. refl; joined = λ v. refl })
-    (record { no_end = refl; apart = refl; no_joined_end = λ v. refl; joined = λ v. refl })
-    (record { no_end = refl; apart = refl; no_joined_end = λ v. refl; joined = λ v. refl })
-    (record { no_end = refl; apart = refl; no_joined_end = λ v. refl; joined = λ v. refl })
-    (record { no_end = refl; apart = refl; no_joined_end = λ v. refl; joined = λ v. refl })
-    (record { no_end = refl; apart = refl; no_joined_end = λ v. refl; joined = λ v. refl })
+    (looks_so (codes "members") refl refl (λ v. refl) (λ v. refl))
+    (looks_so (codes "ids") refl refl (λ v. refl) (λ v. refl))
+    (looks_so (codes "bytes") refl refl (λ v. refl) (λ v. refl))
+    (looks_so (codes "seed") refl refl (λ v. refl) (λ v. refl))
+    (looks_so (codes "steps") refl refl (λ v. refl) (λ v. refl))
+    (looks_so (codes "volumes") refl refl (λ v. refl) (λ v. refl))
+    (looks_so (codes "replica") refl refl (λ v. refl) (λ v. refl))
+    (looks_so (codes "tag") refl refl (λ v. refl) (λ v. refl))
 
 -- ---- what the lexer takes for an option
 

@@ -11,9 +11,10 @@ option_rule name = record (new_rule name) { long = Some name }
 abbrev pub without_help : App → App
 without_help a = on_top (λ s. record s { disable_help_flag = true }) a
 
--- two places and six options
+-- two places and eight options
 abbrev pub ficus_app : App
-ficus_app = with_rule (with_rule (with_rule (with_rule (with_rule (with_rule (with_rule (with_rule
+ficus_app = with_rule (with_rule (with_rule (with_rule (with_rule (with_rule (with_rule (with_rule (with_rule (with_rule
     (without_help (new_app (codes "ficus"))) (new_rule (codes "mode"))) (new_rule (codes "root")))
     (option_rule (codes "members"))) (option_rule (codes "ids"))) (option_rule (codes "bytes")))
-    (option_rule (codes "seed"))) (option_rule (codes "steps"))) (option_rule (codes "volumes"))
+    (option_rule (codes "seed"))) (option_rule (codes "steps"))) (option_rule (codes "volumes")))
+    (option_rule (codes "replica"))) (option_rule (codes "tag"))

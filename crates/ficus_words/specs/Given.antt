@@ -1,8 +1,9 @@
 -- What the words give each name.
-use Rattle.std.specs.Prelude.{◌≡◌, ◌≢◌, ◌⊎◌, ◌≤◌, ℕ, List, [], Option, Some, None, codes, option_map}
+use Rattle.std.specs.Prelude.{◌≡◌, ◌≢◌, ◌⊎◌, ◌≤◌, ℕ, List, [], Option, Some, None, codes, option_map, replicate}
 use Rattle.std.specs.List.{find}
 use Rattle.std.specs.Str.{bytes_eq}
 use Rattle.std.specs.Fmt.{decimal}
+use Rattle.ficus_tag.specs.Tag.{SpellsTag}
 use Rattle.ficus_words.specs.Grammar.{Text, Use}
 use Rattle.ficus_words.specs.declared.given.Given.{Given}
 
@@ -20,6 +21,8 @@ pub record Texts : Type 0 where
   pub seed : Option Text
   pub steps : Option Text
   pub volumes : Option Text
+  pub replica : Option Text
+  pub tag : Option Text
 
 abbrev pub texts_of : List Use → Texts
 texts_of uses = record {
@@ -31,6 +34,8 @@ texts_of uses = record {
   seed = value_of (codes "seed") uses;
   steps = value_of (codes "steps") uses;
   volumes = value_of (codes "volumes") uses;
+  replica = value_of (codes "replica") uses;
+  tag = value_of (codes "tag") uses;
 }
 
 abbrev pub given_texts : Given → Texts
@@ -43,6 +48,8 @@ given_texts given = record {
   seed = option_map (λ text. text.now) given.seed;
   steps = option_map (λ text. text.now) given.steps;
   volumes = option_map (λ text. text.now) given.volumes;
+  replica = option_map (λ text. text.now) given.replica;
+  tag = option_map (λ text. text.now) given.tag;
 }
 
 -- there is this text, and it isn't empty
@@ -59,3 +66,8 @@ pub record IsNumber (least most : ℕ) (text : Option Text) (number : ℕ) : Typ
 -- such a number, or the greatest one where there is no text
 abbrev pub IsNumberOrMost : ℕ → ℕ → Option Text → ℕ → Type 0
 IsNumberOrMost least most text number = ((text ≡ None) × (number ≡ most)) ⊎ IsNumber least most text number
+
+-- the tag that the text spells, or sixteen zeros where there is no text
+abbrev pub IsTagOrNone : Option Text → List ℕ → Type 0
+IsTagOrNone (Some text) tag = SpellsTag text tag
+IsTagOrNone None tag = tag ≡ replicate 16 0

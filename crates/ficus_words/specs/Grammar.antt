@@ -12,7 +12,8 @@ Use = Text × Text
 -- the names of the options
 abbrev pub option_names : List Text
 option_names =
-    codes "members" ∷ codes "ids" ∷ codes "bytes" ∷ codes "seed" ∷ codes "steps" ∷ codes "volumes" ∷ []
+    codes "members" ∷ codes "ids" ∷ codes "bytes" ∷ codes "seed" ∷ codes "steps" ∷ codes "volumes" ∷ codes "replica"
+    ∷ codes "tag" ∷ []
 
 -- the names of the places for values that stand alone, in order
 abbrev pub place_names : List Text

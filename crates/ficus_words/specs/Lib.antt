@@ -1,4 +1,5 @@
 pub mod Clap
 pub mod Given
 pub mod Grammar
+pub mod MemberMode
 pub mod Mode

@@ -30,6 +30,11 @@ pub record HasNoScript (texts : Texts) : Type 0 where
   pub seed : texts.seed ≡ None
   pub steps : texts.steps ≡ None
 
+-- nothing is given of a member on a machine of its own
+pub record HasNoMember (texts : Texts) : Type 0 where
+  pub replica : texts.replica ≡ None
+  pub tag : texts.tag ≡ None
+
 -- a folder is given, and nothing of how large a volume is and to make a script from
 pub record HasFolderAlone (texts : Texts) (root : Text) : Type 0 where
   pub folder : IsSomeText texts.root root
@@ -43,16 +48,19 @@ pub record IsInit (texts : Texts) (size : Size) (root : Text) : Type 0 where
   pub folder : IsSomeText texts.root root
   pub no_volumes : texts.volumes ≡ None
   pub no_script : HasNoScript texts
+  pub no_member : HasNoMember texts
 
 pub record IsRun (texts : Texts) (root : Text) : Type 0 where
   pub mode : texts.mode ≡ Some (codes "run")
   pub folder : IsSomeText texts.root root
   pub no_size : HasNoSize texts
   pub no_script : HasNoScript texts
+  pub no_member : HasNoMember texts
 
 pub record IsCheck (texts : Texts) (root : Text) : Type 0 where
   pub mode : texts.mode ≡ Some (codes "check")
   pub alone : HasFolderAlone texts root
+  pub no_member : HasNoMember texts
 
 pub record IsReplay (texts : Texts) (size : Size) : Type 0 where
   pub mode : texts.mode ≡ Some (codes "replay")
@@ -60,6 +68,7 @@ pub record IsReplay (texts : Texts) (size : Size) : Type 0 where
   pub no_folder : texts.root ≡ None
   pub no_volumes : texts.volumes ≡ None
   pub no_script : HasNoScript texts
+  pub no_member : HasNoMember texts
 
 pub record IsVolumes (texts : Texts) (size : Size) (count : ℕ) : Type 0 where
   pub mode : texts.mode ≡ Some (codes "volumes")
@@ -67,6 +76,7 @@ pub record IsVolumes (texts : Texts) (size : Size) (count : ℕ) : Type 0 where
   pub counted : IsNumber 1 4 texts.volumes count
   pub no_folder : texts.root ≡ None
   pub no_script : HasNoScript texts
+  pub no_member : HasNoMember texts
 
 pub record IsGen (texts : Texts) (members seed steps : ℕ) : Type 0 where
   pub mode : texts.mode ≡ Some (codes "gen")
@@ -76,6 +86,7 @@ pub record IsGen (texts : Texts) (members seed steps : ℕ) : Type 0 where
   pub no_folder : texts.root ≡ None
   pub no_volumes : texts.volumes ≡ None
   pub no_limit : HasNoLimit texts
+  pub no_member : HasNoMember texts
 
 -- the texts ask for this mode
 abbrev pub AsksFor : Texts → Mode → Type 0

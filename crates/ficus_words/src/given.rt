@@ -20,6 +20,8 @@ pub(crate) struct Given<'a> {
     pub(crate) seed: Option<&'a str>,
     pub(crate) steps: Option<&'a str>,
     pub(crate) volumes: Option<&'a str>,
+    pub(crate) replica: Option<&'a str>,
+    pub(crate) tag: Option<&'a str>,
 }
 
 /// What the words give, the program's name first. `Usage` comes exactly where they are none of the grammar.
@@ -39,6 +41,8 @@ pub(crate) fn read_given<'a>(alloc: Global, words: &'a [String]) -> Result<Given
             seed: found.get_str("seed"),
             steps: found.get_str("steps"),
             volumes: found.get_str("volumes"),
+            replica: found.get_str("replica"),
+            tag: found.get_str("tag"),
         }),
         Err(error) => Err(fault_of(&error)),
     }

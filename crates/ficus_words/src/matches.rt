@@ -5,7 +5,7 @@ ghost use Rattle.ficus_words.specs.Clap.{ficus_app, option_rule};
 use clap::{Arg, ArgMatches, Command, Error};
 use std::alloc::Global;
 
-/// What `clap` finds in the words by one simple command: two places, six options, and no help.
+/// What `clap` finds in the words by one simple command: two places, eight options, and no help.
 pub(crate) fn matches_in<'a>(alloc: Global, words: &'a [String]) -> Result<ArgMatches<'a>, Error>
     ensures fails { FailsBy (fault_of ficus_app (map string_bytes words.entry.now)) result }
     ensures rows { IfOk result
@@ -21,7 +21,9 @@ pub(crate) fn matches_in<'a>(alloc: Global, words: &'a [String]) -> Result<ArgMa
         .arg(option(alloc, "bytes"))?
         .arg(option(alloc, "seed"))?
         .arg(option(alloc, "steps"))?
-        .arg(option(alloc, "volumes"))?;
+        .arg(option(alloc, "volumes"))?
+        .arg(option(alloc, "replica"))?
+        .arg(option(alloc, "tag"))?;
     command.try_get_matches_from(words)
 }
 

@@ -1,6 +1,6 @@
 ghost use Rattle.std.specs.Prelude.{◌≡◌, ◌↔◌, ℕ, List, Some, codes, ok_or, IsTrue, IsErrOf, IfOk, IfSome, IfNone};
 ghost use Rattle.ficus_words.specs.Given.{given_texts};
-ghost use Rattle.ficus_words.specs.Mode.{HasFolderAlone, HasNoLimit, HasNoScript, HasNoSize, IsReadingOf, IsSize};
+ghost use Rattle.ficus_words.specs.Mode.{HasFolderAlone, HasNoLimit, HasNoMember, HasNoScript, HasNoSize, IsReadingOf, IsSize};
 ghost use Rattle.ficus_words.specs.declared.fault.WordsFault.TheVariants.{Usage};
 ghost use Rattle.ficus_words.specs.declared.mode.Size.{Size as SizeValue};
 
@@ -59,6 +59,9 @@ pub enum Mode {
 pub(crate) fn read_mode(alloc: Global, given: &Given<'_>) -> Result<Mode, WordsFault>
     ensures { IsReadingOf (given_texts given.now) result }
 {
+    if !has_no_member(given) {
+        return Err(WordsFault::Usage);
+    }
     match given.mode {
         Some(mode) if mode == "init" => read_init(alloc, given),
         Some(mode) if mode == "run" => read_run(alloc, given),
@@ -71,7 +74,8 @@ pub(crate) fn read_mode(alloc: Global, given: &Given<'_>) -> Result<Mode, WordsF
 }
 
 fn read_init(alloc: Global, given: &Given<'_>) -> Result<Mode, WordsFault>
-    requires { (given_texts given.now).mode ≡ Some (codes "init") }
+    requires mode { (given_texts given.now).mode ≡ Some (codes "init") }
+    requires no_member { HasNoMember (given_texts given.now) }
     ensures { IsReadingOf (given_texts given.now) result }
 {
     if given.volumes.is_some() || !has_no_script(given) {
@@ -85,7 +89,8 @@ fn read_init(alloc: Global, given: &Given<'_>) -> Result<Mode, WordsFault>
 }
 
 fn read_run(alloc: Global, given: &Given<'_>) -> Result<Mode, WordsFault>
-    requires { (given_texts given.now).mode ≡ Some (codes "run") }
+    requires mode { (given_texts given.now).mode ≡ Some (codes "run") }
+    requires no_member { HasNoMember (given_texts given.now) }
     ensures { IsReadingOf (given_texts given.now) result }
 {
     let root = read_folder_alone(alloc, given)?;
@@ -93,16 +98,17 @@ fn read_run(alloc: Global, given: &Given<'_>) -> Result<Mode, WordsFault>
 }
 
 fn read_check(alloc: Global, given: &Given<'_>) -> Result<Mode, WordsFault>
-    requires { (given_texts given.now).mode ≡ Some (codes "check") }
+    requires mode { (given_texts given.now).mode ≡ Some (codes "check") }
+    requires no_member { HasNoMember (given_texts given.now) }
     ensures { IsReadingOf (given_texts given.now) result }
 {
     let root = read_folder_alone(alloc, given)?;
     Ok(Mode::Check { root })
 }
 
-// The folder, where nothing else is given besides the mode. `Usage` comes exactly where there is none, or more is
-// given.
-fn read_folder_alone(alloc: Global, given: &Given<'_>) -> Result<Root, WordsFault>
+/// The folder, where nothing is given of how large a volume is and to make a script from. `Usage` comes exactly where
+/// there is none, or more is given.
+pub(crate) fn read_folder_alone(alloc: Global, given: &Given<'_>) -> Result<Root, WordsFault>
     ensures found { IfOk result (HasFolderAlone (given_texts given.now)) }
     ensures usage { IsErrOf result WordsFault.Usage → (root : List ℕ)
         → HasFolderAlone (given_texts given.now) root → ⊥ }
@@ -114,7 +120,8 @@ fn read_folder_alone(alloc: Global, given: &Given<'_>) -> Result<Root, WordsFaul
 }
 
 fn read_replay(given: &Given<'_>) -> Option<Mode>
-    requires { (given_texts given.now).mode ≡ Some (codes "replay") }
+    requires mode { (given_texts given.now).mode ≡ Some (codes "replay") }
+    requires no_member { HasNoMember (given_texts given.now) }
     ensures { IsReadingOf (given_texts given.now) (ok_or result Usage) }
 {
     if given.root.is_some() || given.volumes.is_some() || !has_no_script(given) {
@@ -125,7 +132,8 @@ fn read_replay(given: &Given<'_>) -> Option<Mode>
 }
 
 fn read_volumes(given: &Given<'_>) -> Option<Mode>
-    requires { (given_texts given.now).mode ≡ Some (codes "volumes") }
+    requires mode { (given_texts given.now).mode ≡ Some (codes "volumes") }
+    requires no_member { HasNoMember (given_texts given.now) }
     ensures { IsReadingOf (given_texts given.now) (ok_or result Usage) }
 {
     if given.root.is_some() || !has_no_script(given) {
@@ -140,7 +148,8 @@ fn read_volumes(given: &Given<'_>) -> Option<Mode>
 }
 
 fn read_gen(given: &Given<'_>) -> Option<Mode>
-    requires { (given_texts given.now).mode ≡ Some (codes "gen") }
+    requires mode { (given_texts given.now).mode ≡ Some (codes "gen") }
+    requires no_member { HasNoMember (given_texts given.now) }
     ensures { IsReadingOf (given_texts given.now) (ok_or result Usage) }
 {
     if given.root.is_some() || given.volumes.is_some() || !has_no_limit(given) {
@@ -156,7 +165,7 @@ fn read_gen(given: &Given<'_>) -> Option<Mode>
     })
 }
 
-fn read_size(given: &Given<'_>) -> Option<Size>
+pub(crate) fn read_size(given: &Given<'_>) -> Option<Size>
     ensures found { IfSome result (IsSize (given_texts given.now)) }
     ensures none { IfNone result ((size : SizeValue) → IsSize (given_texts given.now) size → ⊥) }
 {
@@ -182,8 +191,14 @@ fn has_no_size(given: &Given<'_>) -> bool
     given.members.is_none() && given.volumes.is_none() && has_no_limit(given)
 }
 
-fn has_no_script(given: &Given<'_>) -> bool
+pub(crate) fn has_no_script(given: &Given<'_>) -> bool
     ensures { IsTrue result ↔ HasNoScript (given_texts given.now) }
 {
     given.seed.is_none() && given.steps.is_none()
+}
+
+fn has_no_member(given: &Given<'_>) -> bool
+    ensures { IsTrue result ↔ HasNoMember (given_texts given.now) }
+{
+    given.replica.is_none() && given.tag.is_none()
 }

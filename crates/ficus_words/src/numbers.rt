@@ -14,6 +14,16 @@ pub(crate) fn read_members(text: Option<&str>) -> Option<Members>
     Members::new(count as u8)
 }
 
+/// The number of a member among so many, which the text spells.
+pub(crate) fn read_replica(text: Option<&str>, count: u8) -> Option<u8>
+    ensures found { IfSome result (IsNumber 1 count (option_map (λ text. text.now) text.entry)) }
+    ensures none { IfNone result
+        ((number : ℕ) → IsNumber 1 count (option_map (λ text. text.now) text.entry) number → ⊥) }
+{
+    let number = number_in(text, 1, count as u32)?;
+    Some(number as u8)
+}
+
 /// The number from the least to the most that the text spells.
 pub(crate) fn number_in(text: Option<&str>, least: u32, most: u32) -> Option<u32>
     ensures found { IfSome result (IsNumber least most (option_map (λ text. text.now) text.entry)) }

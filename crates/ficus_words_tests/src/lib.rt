@@ -2,4 +2,6 @@
 #![tactic(auto)]
 
 #[cfg(test)]
+mod member_modes;
+#[cfg(test)]
 mod modes;

@@ -1,13 +1,14 @@
 // Words, and the mode for which they ask.
-use ficus_words::{Mode, Size, WordsFault, read_words};
+use crate::member_modes;
+use ficus_words::{Mode, Size, WordsFault, read_member_words, read_words};
 use std::alloc::{AllocError, Global};
 use std::test::Fail;
 
 /// A mode, as `shown` shows it, and lines of which each asks for it: words with one space between each two.
 #[derive(Drop)]
-struct Row {
-    mode: &'static str,
-    lines: &'static [&'static str],
+pub(crate) struct Row {
+    pub(crate) mode: &'static str,
+    pub(crate) lines: &'static [&'static str],
 }
 
 const ROWS: [Row; 21] = [
@@ -188,6 +189,13 @@ const ROWS: [Row; 21] = [
             "ficus volumes --members 2 --volumes 2 vol",
             "ficus volumes --members 2 --volumes 2 --seed 1",
             "ficus volumes --members 2 --volumes 2 --volumes 2",
+            "ficus run vol --replica 1",
+            "ficus run vol --tag 00000000000000000000000000000000",
+            "ficus check vol --replica 1",
+            "ficus replay --members 2 --replica 1",
+            "ficus volumes --members 2 --volumes 2 --replica 1",
+            "ficus gen --members 2 --seed 1 --steps 3 --replica 1",
+            "ficus gen --members 2 --seed 1 --steps 3 --tag 00000000000000000000000000000000",
         ],
     },
 ];
@@ -201,11 +209,13 @@ fn words_of(alloc: Global, line: &str) -> Result<Vec<String>, AllocError> {
     Ok(words)
 }
 
-// What the mode is, and what it carries.
-fn shown(alloc: Global, read: &Result<Mode, WordsFault>) -> Result<String, AllocError> {
-    match read {
-        Ok(mode) => mode_shown(alloc, mode),
-        Err(fault) => format!(in alloc; "{fault}"),
+// What the words ask for, and what it carries.
+fn shown(alloc: Global, words: &[String]) -> Result<String, AllocError> {
+    match (read_words(alloc, words), read_member_words(alloc, words)) {
+        (Ok(mode), Err(WordsFault::Usage)) => mode_shown(alloc, &mode),
+        (Err(WordsFault::Usage), Ok(mode)) => member_modes::shown(alloc, &mode),
+        (Err(WordsFault::Usage), Err(fault)) => format!(in alloc; "{fault}"),
+        _ => String::from_str(alloc, "both, or memory"),
     }
 }
 
@@ -243,17 +253,17 @@ fn mode_shown(alloc: Global, mode: &Mode) -> Result<String, AllocError> {
     }
 }
 
-fn size_shown(alloc: Global, size: Size) -> Result<String, AllocError> {
+pub(crate) fn size_shown(alloc: Global, size: Size) -> Result<String, AllocError> {
     let members = size.members.count();
     let ids = size.ids;
     let bytes = size.bytes;
     format!(in alloc; "{members} {ids} {bytes}")
 }
 
-// Whether the words of the line ask for this mode.
-fn asks_for(alloc: Global, line: &str, mode: &str) -> Result<bool, AllocError> {
+/// Whether the words of the line ask for this mode.
+pub(crate) fn asks_for(alloc: Global, line: &str, mode: &str) -> Result<bool, AllocError> {
     let words = words_of(alloc, line)?;
-    let text = shown(alloc, &read_words(alloc, &words))?;
+    let text = shown(alloc, &words)?;
     Ok(text.as_str() == mode)
 }
 

@@ -4,6 +4,7 @@ pub mod Fuses
 pub mod Saves
 pub mod Keeps
 pub mod SoundWorlds
+pub mod Waiting
 pub mod Moved
 pub mod Carrying
 pub mod Sending

@@ -11,4 +11,5 @@ pub mod Kills
 pub mod Acts
 pub mod Calls
 pub mod Generations
+pub mod Hearing
 pub mod Machines

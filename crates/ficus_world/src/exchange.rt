@@ -66,7 +66,7 @@ impl<K: Keep + Drop, L: Link + Drop> World<K, L> {
         self.ask_peer(alloc, disks, by, to)
     }
 
-    /// The same of a member that was looked at: it is up, and the other one is another.
+    /// Asks another member, as one that was looked at: it is up, and the other one is another.
     pub(crate) fn ask_peer<D: Disk>(
         &mut self,
         alloc: Global,

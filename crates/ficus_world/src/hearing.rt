@@ -1,6 +1,7 @@
-ghost use Rattle.std.specs.Prelude.{◌≡◌, ◌⊎◌, IfOk, OnErr, OnOk, [], length};
+ghost use Rattle.std.specs.Prelude.{◌≡◌, IfErr, IfOk, OnOk, [], length};
+ghost use Rattle.ficus_world.specs.Hearing.{FetchesNot, HearsNot};
 ghost use Rattle.ficus_world.specs.Moves.{with_post};
-ghost use Rattle.ficus_world.specs.Post.{AreFetched, HasFailed, IsSent, lies_behind};
+ghost use Rattle.ficus_world.specs.Post.{AreFetched, IsSent, lies_behind};
 
 use crate::World;
 use crate::group::Group;
@@ -19,8 +20,7 @@ impl<K: Keep + Drop, L: Link + Drop> World<K, L> {
     pub fn hear(&mut self, bytes: Vec<u8>) -> Result<u32, Refusal>
         ensures heard { IfOk result (λ number. IsSent L.tells self.old.whole.post (lies_behind 0 0) bytes.items number
             self.new.whole.post) }
-        ensures refused { OnErr result ((self.new.whole.post ≡ self.old.whole.post)
-            ⊎ HasFailed self.old.whole.post self.new.whole.post) }
+        ensures refused { IfErr result (HearsNot bytes.items self.old.whole.post self.new.whole.post) }
         ensures rest { self.new.whole ≡ with_post self.old.whole self.new.whole.post }
         ensures stables { self.new.stables ≡ self.old.stables }
     {
@@ -32,6 +32,7 @@ impl<K: Keep + Drop, L: Link + Drop> World<K, L> {
     pub fn message(&mut self, number: u32) -> Result<Vec<u8>, Refusal>
         ensures fetched { IfOk result (λ bytes. AreFetched L.tells self.old.whole.post.posts number bytes.items) }
         ensures same { OnOk result (self.new.whole ≡ self.old.whole) }
+        ensures refused { IfErr result (FetchesNot number self.old.whole.post self.new.whole.post) }
         ensures rest { self.new.whole ≡ with_post self.old.whole self.new.whole.post }
         ensures stables { self.new.stables ≡ self.old.stables }
     {
@@ -59,7 +60,7 @@ impl<L: Link + Drop> Group<L> {
     fn hear(&mut self, bytes: Vec<u8>) -> Result<u32, Refusal>
         ensures heard { IfOk result (λ number. IsSent L.tells self.old.post (lies_behind 0 0) bytes.items number
             self.new.post) }
-        ensures refused { OnErr result ((self.new.post ≡ self.old.post) ⊎ HasFailed self.old.post self.new.post) }
+        ensures refused { IfErr result (HearsNot bytes.items self.old.post self.new.post) }
         ensures rest { self.new ≡ with_post self.old self.new.post }
     {
         let size = bytes.len();
@@ -81,6 +82,7 @@ impl<L: Link + Drop> Group<L> {
     fn message(&mut self, number: u32) -> Result<Vec<u8>, Refusal>
         ensures fetched { IfOk result (λ bytes. AreFetched L.tells self.old.post.posts number bytes.items) }
         ensures same { OnOk result (self.new ≡ self.old) }
+        ensures refused { IfErr result (FetchesNot number self.old.post self.new.post) }
         ensures rest { self.new ≡ with_post self.old self.new.post }
     {
         if !self.post.has(number) {

@@ -2,6 +2,7 @@
 //! other, each made of atomic events of one replica.
 #![tactic(auto)]
 
+mod awaiting;
 mod checking;
 mod exchange;
 mod generations;

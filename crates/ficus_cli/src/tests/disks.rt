@@ -20,7 +20,7 @@ pub(crate) fn pairs(alloc: Global) -> Result<Vec<Pair<FailDisk>>, AllocError> {
     failing_pairs(alloc, 16, 0)
 }
 
-/// The same, of which this one of the sixteen, counted from 0, fails at this call, counted from 1.
+/// Eight pairs of disks, of which this one of the sixteen, counted from 0, fails at this call, counted from 1.
 pub(crate) fn failing_pairs(
     alloc: Global,
     disk: u8,

@@ -1,5 +1,6 @@
 -- A world is a part of itself, so that what it does is told by the law.
 use Rattle.std.proofs.Common.{◌≡◌, ℕ, ◌+◌, List, [], ◌∷◌, ◌++◌, length, refl, sym, ap, subst}
+use Rattle.std.proofs.lemmas.List.{append-nil}
 use Rattle.ficus_script.specs.declared.answer.Answer.{Answer}
 use Rattle.ficus_script.specs.declared.command.Command.{Command}
 use Rattle.ficus_runs.specs.Outcome.{Outcome}
@@ -40,6 +41,11 @@ acts_alone tells disks_tell told machine after world command outcomes answer mov
       answer_is = moves.answer_is;
       posted = step.more ++ [];
       alone = Acted after outcomes step.more may does step.posted Ended;
+      sent =
+          subst (λ (posts : List (List ℕ)). after.post.posts ≡ posts ++ (step.more ++ []))
+          (sym (append-nil machine.post.posts))
+          (subst (λ (more : List (List ℕ)). after.post.posts ≡ machine.post.posts ++ more) (sym (append-nil step.more))
+          step.posted);
     }
 
 -- what has come to a machine and is then given there
@@ -65,4 +71,8 @@ takes_alone tells disks_tell told machine middle after bytes number sent rest an
       answer_is = acts.answer_is;
       posted = acts.posted;
       alone = Heard middle (record { post = middle.post; posts = sent.told told; is = rest }) acts.alone;
+      sent =
+          subst (λ (posts : List (List ℕ)). after.post.posts ≡ posts ++ acts.posted) (sent.told told)
+          (subst (λ (posts : List (List ℕ)). after.post.posts ≡ posts ++ acts.posted) (append-nil middle.post.posts)
+          acts.sent);
     }

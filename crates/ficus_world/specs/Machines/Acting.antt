@@ -1,5 +1,5 @@
 -- What a call on the world of a machine promises: what a machine may do alone.
-use Rattle.std.specs.Prelude.{◌≡◌, ℕ, List, [], ◌∷◌, length, Result}
+use Rattle.std.specs.Prelude.{◌≡◌, ℕ, List, [], ◌∷◌, ◌++◌, length, Result}
 use Rattle.ficus_ids.specs.declared.refusal.Refusal.{Refusal}
 use Rattle.ficus_script.specs.declared.answer.Answer.{Answer}
 use Rattle.ficus_script.specs.declared.command.Command.{Command}
@@ -18,6 +18,7 @@ pub record ActsAlone (tells disks_tell : Type 0) (r : ℕ) (came : List (List �
   pub posted : List (List ℕ)
   pub alone : Alone tells disks_tell r machine came posted
       (record { by = r; deed = deed; result = result } ∷ []) after
+  pub sent : after.post.posts ≡ (machine.post.posts ++ came) ++ posted
 
 -- whichever member's machine it is, and whatever that was asked for by this command
 abbrev pub ActsFor : Type 0 → Type 0 → Command → Answer → Whole → Whole → Type 0

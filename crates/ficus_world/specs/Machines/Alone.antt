@@ -66,7 +66,7 @@ pub record OpensWorldAlone {K D : Type 0} (keep : Keep K) (disk : Disk D) (me li
   -- `Occupied` comes exactly where another pair holds something that must hold nothing.
   pub empty : disk.tells → IfOk result (λ world. (r : ℕ) (pair : Pair D) → r ≢ me
       → r ≤ length world.whole.members → IsNumbered old r pair → IsEmptyPair disk.seen pair)
-  pub occupied : disk.tells → (q : ℕ) → IsErrOf result (Occupied q) → (q ≢ me)
+  pub occupied : disk.tells → (q : ℕ) → IsErrOf result (Occupied q) → (q ≢ me) × IsMember 8 q
       × ((pair : Pair D) → IsNumbered old q pair → IsEmptyPair disk.seen pair → ⊥)
   -- It writes no byte to the member's own disks, and a read of them gives what it gave.
   pub rests : (was now : Pair D) → IsNumbered old me was → IsNumbered new me now → PairRests disk was now

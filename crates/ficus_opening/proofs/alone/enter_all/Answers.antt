@@ -1,5 +1,6 @@
 use Rattle.std.proofs.Common.{◌≡◌, ◌+◌, ◌-◌, ◌<◌, ◌≤◌, Ok, Err, length, subst, inr, arith}
 use Rattle.std.proofs.lemmas.Result.{err_from_is_err_and}
+use Rattle.ficus_ids.specs.Members.{IsMember}
 use Rattle.ficus_runs.specs.Numbered.{IsNumbered}
 use Rattle.ficus_opening.specs.Alone.{EntersAbsent, volume_of}
 use Rattle.ficus_opening.specs.declared.fault.WorldFault.TheVariants.{Image, Memory, Occupied}
@@ -15,13 +16,18 @@ returns-in_err-enter_absent g c =
     let fault = c.in_err-enter_absent.field-0.0 in
     let first = c.in_err-enter_absent.ensures in
     let me = c.args.me in
+    let saved = c.args.own.saved in
     let some : 1 ≤ me = omega (arith, c.requires.fits.me.at_least, c.requires.own.me) in
-    let within : me ≤ c.args.own.saved.members = omega (arith, c.requires.fits.me.at_most, c.requires.own.me) in
+    let within : me ≤ saved.members = omega (arith, c.requires.fits.me.at_most, c.requires.own.me) in
     rw (given.1, given.2)
     (unentered
     (λ told q is.
     let found = first.occupied told q (err_as fault (Occupied q) is) in
-    (λ same. omega (arith, found.1, same, some), omega (arith, found.1, within), found.2))
+    let member : IsMember saved.members q = record {
+      at_least = omega (arith, found.0);
+      at_most = omega (arith, found.1, within);
+    } in
+    (λ same. omega (arith, found.1, same, some), member, found.2))
     (λ told q is. first.never told q (err_as fault (Image q) is))
     (λ pair at. first.others me pair (inr (omega (arith, some))) at)
     (disks_err fault first.asked))

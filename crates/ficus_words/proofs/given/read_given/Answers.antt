@@ -5,8 +5,8 @@ use Rattle.ficus_words.proofs.given.read_given.Goals as goal
 
 same_texts : (one other : Texts) → one.mode ≡ other.mode → one.root ≡ other.root → one.members ≡ other.members →
     one.ids ≡ other.ids → one.bytes ≡ other.bytes → one.seed ≡ other.seed → one.steps ≡ other.steps →
-    one.volumes ≡ other.volumes → one ≡ other
-same_texts one other mode root members ids bytes seed steps volumes = λ i. record {
+    one.volumes ≡ other.volumes → one.replica ≡ other.replica → one.tag ≡ other.tag → one ≡ other
+same_texts one other mode root members ids bytes seed steps volumes replica tag = λ i. record {
   mode = mode i;
   root = root i;
   members = members i;
@@ -15,6 +15,8 @@ same_texts one other mode root members ids bytes seed steps volumes = λ i. reco
   seed = seed i;
   steps = steps i;
   volumes = volumes i;
+  replica = replica i;
+  tag = tag i;
 }
 
 pub returns-in-Ok-clause-given : goal.returns-in-Ok-clause-given
@@ -33,7 +35,9 @@ returns-in-Ok-clause-given c =
           (c.get_str-in-Ok-4.ensures ∙ value_found m words got.0 (codes "bytes") rows got.1.1)
           (c.get_str-in-Ok-5.ensures ∙ value_found m words got.0 (codes "seed") rows got.1.1)
           (c.get_str-in-Ok-6.ensures ∙ value_found m words got.0 (codes "steps") rows got.1.1)
-          (c.get_str-in-Ok-7.ensures ∙ value_found m words got.0 (codes "volumes") rows got.1.1),
+          (c.get_str-in-Ok-7.ensures ∙ value_found m words got.0 (codes "volumes") rows got.1.1)
+          (c.get_str-in-Ok-8.ensures ∙ value_found m words got.0 (codes "replica") rows got.1.1)
+          (c.get_str-in-Ok-9.ensures ∙ value_found m words got.0 (codes "tag") rows got.1.1),
     )
 
 pub returns-in-Err-clause-usage : goal.returns-in-Err-clause-usage

@@ -46,8 +46,10 @@ returns c =
     let bytes_is = c.in_ok-arg-4.ensures.shape c.option-3.ensures.local ∙ ap₂ with_rule ids_is c.option-3.ensures.rule in
     let seed_is = c.in_ok-arg-5.ensures.shape c.option-4.ensures.local ∙ ap₂ with_rule bytes_is c.option-4.ensures.rule in
     let steps_is = c.in_ok-arg-6.ensures.shape c.option-5.ensures.local ∙ ap₂ with_rule seed_is c.option-5.ensures.rule in
+    let volumes_is = c.in_ok-arg-7.ensures.shape c.option-6.ensures.local ∙ ap₂ with_rule steps_is c.option-6.ensures.rule in
+    let replica_is = c.in_ok-arg-8.ensures.shape c.option-7.ensures.local ∙ ap₂ with_rule volumes_is c.option-7.ensures.rule in
     let app_is : app_of c.in_ok-command.command ≡ ficus_app =
-    c.in_ok-command.ensures.shape c.option-6.ensures.local ∙ ap₂ with_rule steps_is c.option-6.ensures.rule in
+    c.in_ok-command.ensures.shape c.option-8.ensures.local ∙ ap₂ with_rule replica_is c.option-8.ensures.rule in
     let parse = c.try_get_matches_from in
     record {
       fails = known_fails _ _ parse.result app_is parse.ensures.kinds;

@@ -3,6 +3,7 @@ use Rattle.std.specs.Prelude.{IsErrOf}
 use Rattle.std.proofs.lemmas.Result.{err_from_is_err_and}
 use Rattle.ficus_disk.specs.declared.disk.Disk.{Ghosts as Disk}
 use Rattle.ficus_disk.specs.declared.pair.Pair.{Pair}
+use Rattle.ficus_ids.specs.Members.{IsMember}
 use Rattle.ficus_keeper.specs.Pairs.{PairSame}
 use Rattle.ficus_keeper.specs.declared.keep.Keep.{Ghosts as Keep}
 use Rattle.ficus_runs.specs.Numbered.{IsNumbered}
@@ -33,7 +34,7 @@ unopened : {K D : Type 0} {keep : Keep K} {disk : Disk D} {me faults total : ℕ
     → (disk.tells → ((pair : Pair D) → IsNumbered old me pair → HoldsNoneOf keep.kept disk.seen me pair)
     → (fault ≡ Image me) ⊎ IsStoreFault fault)
     → (disk.tells → (q : ℕ) → IsErrOf {T = Backed K} (Err fault) (Occupied q)
-    → (q ≡ me → ⊥) × ((pair : Pair D) → IsNumbered old q pair → IsEmptyPair disk.seen pair → ⊥))
+    → (q ≡ me → ⊥) × IsMember 8 q × ((pair : Pair D) → IsNumbered old q pair → IsEmptyPair disk.seen pair → ⊥))
     → ((was now : Pair D) → IsNumbered old me was → IsNumbered new me now → PairRests disk was now)
     → (disk.tells → (was now : Pair D) → IsNumbered old me was → IsNumbered new me now → PairSame disk.seen was now)
     → DisksAsked {A = Backed K} disk (Err fault) old new

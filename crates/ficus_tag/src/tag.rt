@@ -1,5 +1,5 @@
-ghost use Rattle.std.specs.Prelude.{◌≡◌, ◌↔◌, List, ℕ, replicate, IsSome, IfSome};
-ghost use Rattle.ficus_envelope.specs.Tag.{IsTag, IsTagText, SpellsTag, tag_text};
+ghost use Rattle.std.specs.Prelude.{◌≡◌, ◌↔◌, List, ℕ, replicate, IsSome, IfNone, IfSome};
+ghost use Rattle.ficus_tag.specs.Tag.{IsTag, IsTagText, SpellsTag, tag_text};
 
 use hex::FromHex;
 use std::marker::Model;
@@ -38,10 +38,11 @@ impl Tag {
 
     /// The tag that 32 hexadecimal digits spell, two for each byte, each in lower or upper case. `None` comes exactly
     /// for any other text. Takes no memory.
-    #[tactic(auto, using(crate::proofs::Texts::fits, crate::proofs::Texts::is_text, crate::proofs::Texts::is_read))]
+    #[tactic(auto, using(crate::proofs::Texts::fits, crate::proofs::Texts::is_text, crate::proofs::Texts::no_tag))]
     pub fn read(text: &[u8]) -> Option<Tag>
         ensures spelled { IfSome result (λ tag. SpellsTag text.now tag) }
         ensures found { IsSome result ↔ IsTagText text.now }
+        ensures none { IfNone result ((tag : List ℕ) → SpellsTag text.now tag → ⊥) }
     {
         let bytes = <[u8; TAG_SIZE] as FromHex>::from_hex(text).ok()?;
         Some(Tag { bytes })
@@ -59,8 +60,8 @@ impl Tag {
         text
     }
 
-    /// The bytes of the tag.
-    pub(crate) fn bytes(&self) -> &[u8]
+    /// The bytes of the tag, sixteen.
+    pub fn bytes(&self) -> &[u8]
         ensures bytes { result.now ≡ self.now }
         ensures is { IsTag self.now }
     {

@@ -1,0 +1,3 @@
+pub mod HereOrAway
+pub mod Pairs
+pub mod StandIn

@@ -1,0 +1,12 @@
+pub mod Halts
+pub mod Machine
+pub mod Came
+pub mod Line
+pub mod Acting
+pub mod Posting
+pub mod Answers
+pub mod Asking
+pub mod Noting
+pub mod Opening
+pub mod Gathering
+pub mod Taking

@@ -1,0 +1,3 @@
+pub mod MemberAnswer
+pub mod MemberLine
+pub mod Reading
