@@ -8,7 +8,7 @@ import sys
 from built import COMMAND, TOP
 from faults import Fault, Status, say
 from modes import MODES, RUN, Misuse, judge, likely, place_of_mode
-from tools_list import TOOLS
+from tools_list import SERVE, TOOLS
 
 TYPE_CHECKING = False
 if TYPE_CHECKING:
@@ -29,7 +29,7 @@ def parser_of(name: str) -> ArgumentParser:
 
     from words import Words
     parser = Words(prog=f"{COMMAND} {name}", allow_abbrev=False, formatter_class=RawDescriptionHelpFormatter)
-    import_module(TOOLS[name]).add(parser)
+    import_module({**TOOLS, **SERVE}[name]).add(parser)
     return parser
 
 
@@ -37,7 +37,7 @@ def run_tool(name: str, words: Sequence[str]) -> int:
     from importlib import import_module
     parsed = parser_of(name).parse_args(words)
     prove()
-    return int(import_module(TOOLS[name]).run(parsed))
+    return int(import_module({**TOOLS, **SERVE}[name]).run(parsed))
 
 
 def tell_help(words: Sequence[str]) -> int:
@@ -85,7 +85,7 @@ def carry_out(words: list[str]) -> int:
         raise Misuse(f"{name} takes no words", USAGE)
     if name == VERSION:
         return tell_version()
-    if name in TOOLS:
+    if name in TOOLS or name in SERVE:
         return run_tool(name, behind)
     if name == PROVE:
         prove()

@@ -9,6 +9,8 @@ class Status:
 
     DONE = 0
     USAGE = 1
+    # (of a folder that is kept in step: conflicts or orphans wait)
+    WAITS = 1
     BAD_LINE = 2
     WRITE_FAULT = 5
     STORE_FAULT = 6

@@ -151,7 +151,7 @@ def scripts(lines: Iterable[str]) -> Iterator[list[str]]:
         yield script
 
 
-def ask_all(place: Folder, lines: Iterable[str]) -> Iterator[Answer]:
+def ask_all(place: Place, lines: Iterable[str]) -> Iterator[Answer]:
     """The answers to these commands, by as many runs as they need."""
     for script in scripts(lines):
         yield from ask(place, script)

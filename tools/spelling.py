@@ -35,16 +35,19 @@ def _spelled_byte(byte: int) -> bytes:
     return b"\\x%02x" % byte
 
 
-_NAME = [_spelled_byte(byte) for byte in range(256)]
-_TEXT = [{ord('"'): b'\\"', ord(" "): b" "}.get(byte, _NAME[byte]) for byte in range(256)]
+_NAME = {bytes([byte]): _spelled_byte(byte) for byte in range(256)}
+_TEXT = _NAME | {b'"': b'\\"', b" ": b" "}
+# The bytes that are spelled otherwise than by themselves.
+_OTHERS_OF_NAMES = re.compile(rb"[\x00-\x20\x7f\\]")
+_OTHERS_OF_TEXTS = re.compile(rb"[\x00-\x1f\x7f\\\"]")
 
 
 def spell_name(name: bytes) -> str:
-    return to_str(b"".join(_NAME[byte] for byte in name))
+    return to_str(_OTHERS_OF_NAMES.sub(lambda found: _NAME[found[0]], name))
 
 
 def spell_text(text: bytes) -> str:
-    return to_str(b'"' + b"".join(_TEXT[byte] for byte in text) + b'"')
+    return to_str(b'"' + _OTHERS_OF_TEXTS.sub(lambda found: _TEXT[found[0]], text) + b'"')
 
 
 def _meant(escape: re.Match[bytes]) -> bytes:

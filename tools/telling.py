@@ -39,10 +39,18 @@ def tell(call: Call, script: bytes | None, run: Run) -> int:
             if word in run.refused:
                 say(in_words(word))
     if run.status == 0 and call.mode is CHECK:
+        _of_limits(call.root or "")
         return judged(call.root or "", to_str(bytes(run.kept)))
     if run.status == 0 and STRICT in call.flags and run.refused:
         return Status.REFUSED
     return run.status
+
+
+def _of_limits(root: str) -> None:
+    """Says of each replica what is left of the limits of its life, where that is little."""
+    import limits
+    for replica in causes.members(root):
+        limits.tell(f"replica {replica}", limits.of_member(root, replica))
 
 
 def _of_disks(call: Call, script: bytes | None, run: Run) -> None:

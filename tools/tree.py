@@ -6,7 +6,7 @@ from dataclasses import dataclass, field
 
 from answers import Answer, Row, Version, read_row, read_version
 from faults import Fault, Status
-from program import Folder, ask_all
+from program import Folder, Place, ask_all
 from refusals import in_words
 from spelling import PATH_PARTS, Path, read_text
 
@@ -38,7 +38,7 @@ class Shown:
             yield from node.walk()
 
 
-def list_below(volume: Folder, replica: int, path: Path) -> Shown:
+def list_below(volume: Place, replica: int, path: Path) -> Shown:
     """Looks into the directory at the path and into all below it, one level after the other."""
     top = Node(path, Row("", "", "dir", False))
     unseen: list[tuple[Path, str]] = []
