@@ -39,12 +39,13 @@ use Rattle.ficus_machine.specs.Asking.{HasAsked, NotesAsk, PreparesAsk}
 use Rattle.ficus_machine.specs.Came.{CameIn, IsLetterOfOne, letter_of}
 use Rattle.ficus_machine.specs.Line.{Goes, GoesOn, Grows, told_of}
 use Rattle.ficus_machine.specs.Machine.{IsAtRest, IsNoted, KeepsMachine, KeepsRest, MachineState, no_post}
+use Rattle.ficus_machine.specs.Noting.{SettlesNote}
 use Rattle.ficus_machine.specs.Posting.{Puts}
 use Rattle.ficus_machine.specs.declared.fault.LineFault.{LineFault}
 use Rattle.ficus_machine.specs.declared.fault.LineFault.TheVariants.{Note as NoteFault}
 use Rattle.ficus_machine.proofs.Asked.{awaits_one, fine, has_from, its_letter, only_one, plainly_refused}
 use Rattle.ficus_machine.proofs.Going.{by_weaker, goes_acts, goes_idle, goes_renews, goes_then, grows_none}
-use Rattle.ficus_machine.proofs.Noted.{none_noted}
+use Rattle.ficus_machine.proofs.Held.{backed_same}
 use Rattle.ficus_machine.proofs.Slots.{asks_behind, asks_err, asks_spared, same_behind}
 use Rattle.ficus_machine.proofs.Stopping.{goes_answered, goes_stopped, renews_bare, rests_bare}
 
@@ -205,23 +206,55 @@ module _ {K D N : Type 0} {keep : Keep K} {disk : Disk D} {slot : Disk N} {old r
       mid_same : KeepsMachine old mid
       mid_same = record { me = acts.rest.me ∙ prepares.same.me; tag = acts.rest.tag ∙ prepares.same.tag }
 
-      -- the world refuses it
-      pub ask_refused : {M : Type 0} {mailbox : Mailbox M} {r : Refusal} {new : MachineState K} {now : M}
-          → given ≡ Refused r → IsBare mid new
-          → Goes keep disk slot mailbox
-          (CommandAnswers mailbox old.me new.note.asked old.world.whole new.world.whole now now (command.Ask old.me to))
-          (Ok (refused r)) old new disks mid_disks slots ready_slots now now
-      ask_refused {mailbox = mailbox} {r = r} {new = new} {now = now} refuses bare =
-          let noted : new.note ≡ ready.note = bare.rest.note ∙ acts.rest.note in
-          let me_is : new.me ≡ old.me = bare.rest.me ∙ mid_same.me in
-          goes_answered (refused r) refl
-          (goes_then (goes_asked alone counted now) (goes_renews (renews_bare bare.bare its_member)))
-          (answers_refused mailbox alone new.note.asked new.world.whole now now r refuses)
-          (rests_bare bare.bare bare.stables
-          (subst (λ n. IsMember (length mid.world.whole.members) n) (sym me_is) its_member) acts.backed
-          (λ tells. subst (λ (n : Note). IsReady slot n ready_slots) (sym noted) (prepares.ready tells))
-          (none_noted new.world.whole new.me new.note.asked (ap (λ (n : Note). n.asked) noted ∙ prepares.none)))
-          (record { me = me_is; tag = bare.rest.tag ∙ mid_same.tag }) prepares.slots.steady
+      -- the world refuses it, and the note is settled
+      module _ {bare : MachineState K} (is : IsBare mid bare) where
+        refused_me : bare.me ≡ old.me
+        refused_me = is.rest.me ∙ mid_same.me
+
+        module _ {A : Type 0} {settled : Result A LineFault} {new : MachineState K} {new_slots : Pair N}
+            (settles : SettlesNote slot settled bare new ready_slots new_slots) where
+          settled_mid : new.world.whole ≡ with_post mid.world.whole no_post
+          settled_mid = ap (λ (w : Backed K). w.whole) settles.world ∙ is.bare
+
+          settled_me : new.me ≡ old.me
+          settled_me = settles.me ∙ refused_me
+
+          settled_stables : new.world.stables ≡ mid.world.stables
+          settled_stables = ap (λ (w : Backed K). w.stables) settles.world ∙ is.stables
+
+          settled_same : KeepsMachine old new
+          settled_same = record { me = settled_me; tag = settles.tag ∙ is.rest.tag ∙ mid_same.tag }
+
+          goes_refused : {M : Type 0} {mailbox : Mailbox M} (now : M) → GoesOn mailbox disk.tells old.me old.tag
+              (told_of old.me (AsksDeed to) alone.result ∷ []) old.world.whole new.world.whole now now
+          goes_refused now =
+              goes_then (goes_asked alone counted now) (goes_renews (renews_bare settled_mid its_member))
+
+        pub ask_refused : {M : Type 0} {mailbox : Mailbox M} {r : Refusal} {new : MachineState K} {new_slots : Pair N}
+            {now : M} → given ≡ Refused r
+            → SettlesNote {A = Unit {0}} slot (Ok tt) bare new ready_slots new_slots
+            → Goes keep disk slot mailbox
+            (CommandAnswers mailbox old.me new.note.asked old.world.whole new.world.whole now now
+            (command.Ask old.me to)) (Ok (refused r)) old new disks mid_disks slots new_slots now now
+        ask_refused {mailbox = mailbox} {r = r} {new = new} {now = now} refuses settles =
+            goes_answered (refused r) refl (goes_refused settles now)
+            (answers_refused mailbox alone new.note.asked new.world.whole now now r refuses)
+            (rests_bare (settled_mid settles) (settled_stables settles)
+            (subst (λ n. IsMember (length mid.world.whole.members) n) (sym (settled_me settles)) its_member)
+            acts.backed settles.ready settles.noted)
+            (settled_same settles) (same_behind prepares.slots.steady settles.asks.steady)
+
+        -- the note isn't settled
+        pub ask_unsettled : {M A : Type 0} {mailbox : Mailbox M} {Answers : List Told → MemberAnswer → Type 0}
+            {result : Result MemberAnswer LineFault} {settled : Result A LineFault} {fault : LineFault}
+            {new : MachineState K} {new_slots : Pair N} {now : M} → result ≡ Err fault → settled ≡ Err fault
+            → SettlesNote slot settled bare new ready_slots new_slots
+            → Goes keep disk slot mailbox Answers result old new disks mid_disks slots new_slots now now
+        ask_unsettled {fault = fault} {new = new} {now = now} ends failed settles =
+            goes_stopped fault ends (goes_refused settles now)
+            (backed_same {old = mid.world} {new = new.world} (ap (λ (w : Whole). w.members) (settled_mid settles))
+            (settled_stables settles) acts.backed)
+            (settled_same settles) (asks_behind prepares.slots.steady (asks_err fault failed ends settles.asks))
 
       -- it is carried out
       module _ (unrefused : (r : Refusal) → given ≡ Refused r → ⊥) where

@@ -1,5 +1,5 @@
 -- What was done to give one piece of an answer.
-use Rattle.std.proofs.Common.{◌≡◌, ◌≢◌, ◌⊎◌, ℕ, ◌<◌, List, [], ◌∷◌, length, Bool, true, false, Vec, Result, Ok, Err, refl, sym, ap, subst, ◌∙◌, inl, inr}
+use Rattle.std.proofs.Common.{◌≡◌, ◌≢◌, ℕ, ◌<◌, List, [], ◌∷◌, length, Bool, true, false, Vec, Result, Ok, Err, refl, sym, ap, subst, ◌∙◌, inl, inr}
 use Rattle.std.specs.Prelude.{IsErrOf}
 use Rattle.std.specs.declared.alloc.Global.{Global}
 use Rattle.std.proofs.lemmas.List.Elements.{All-cons, All-nil}
@@ -17,17 +17,16 @@ use Rattle.ficus_script.specs.declared.answer.Answer.{Answer}
 use Rattle.ficus_script.specs.declared.answer.Answer.TheVariants.{Done}
 use Rattle.ficus_wire.specs.declared.message.PieceHead.{PieceHead}
 use Rattle.ficus_world.specs.Disks.{IsBacked}
-use Rattle.ficus_world.specs.Hearing.{HearsNot}
 use Rattle.ficus_world.specs.Machines.Acting.{ActsAlone}
 use Rattle.ficus_world.specs.Machines.Part.{Gives}
 use Rattle.ficus_world.specs.Machines.Together.{Told}
 use Rattle.ficus_world.specs.Moves.{with_post}
 use Rattle.ficus_world.specs.Post.{Outbox}
 use Rattle.ficus_world.specs.World.{Backed, Whole}
-use Rattle.ficus_machine.specs.Answers.{EndsWith, HindersOne, OnlyHolds, SpellsPiece, sibling}
+use Rattle.ficus_machine.specs.Answers.{HindersOne, OnlyHolds, SpellsPiece, sibling}
 use Rattle.ficus_machine.specs.Answers.HindersOne.{IsMissing, IsRefused as HindersRefused, IsUnheard as HindersUnheard, IsUnread}
 use Rattle.ficus_machine.specs.Came.{CameIn}
-use Rattle.ficus_machine.specs.Gathering.{ClearsNote, FindsPiece, Giving, GivesAt, KeepsPiece}
+use Rattle.ficus_machine.specs.Gathering.{ClearsNote, FindsPiece, Giving, GivesAt, GivesOne, IsFirstHere, KeepsPiece}
 use Rattle.ficus_machine.specs.Gathering.Giving.{IsKept, IsRefused, IsTaken, IsUnheard, WantsMemory}
 use Rattle.ficus_machine.specs.Halts.{halt_of}
 use Rattle.ficus_machine.specs.Line.{GoesOn, Grows, told_of}
@@ -37,6 +36,7 @@ use Rattle.ficus_machine.specs.declared.fault.Halt.TheVariants as halt
 use Rattle.ficus_machine.specs.declared.fault.LineFault.{LineFault}
 use Rattle.ficus_machine.specs.declared.fault.LineFault.TheVariants as line
 use Rattle.ficus_machine.proofs.Given.{only_same}
+use Rattle.ficus_machine.proofs.Giving.{unheard_unstored}
 use Rattle.ficus_machine.proofs.Going.{goes_acts, goes_idle, goes_then}
 use Rattle.ficus_machine.proofs.Slots.{rose_none}
 
@@ -47,28 +47,25 @@ record GaveOne {M : Type 0} (mailbox : Mailbox M) (disks_tell : Type 0) (me : �
   middle : Whole
   goes : GoesOn mailbox disks_tell me tag told old middle was there
   is : after ≡ with_post middle after.post
-  taken : result ≡ Ok true → EndsWith me (Ok Done) told
+  taken : result ≡ Ok true → GivesOne me (length old.members) head index (Ok Done) told
   kept : result ≡ Ok false → KeepsPiece me (length old.members) head index told × (after ≡ middle)
-  store : IsErrOf result (halt.Refused refusal.Store) → EndsWith me (Err refusal.Store) told
+  store : IsErrOf result (halt.Refused refusal.Store)
+      → GivesOne me (length old.members) head index (Err refusal.Store) told
   hinders : (r : Refusal) → IsErrOf result (halt.Refused r) → r ≢ refusal.Store
-      → HindersOne mailbox disks_tell me tag head old was there r
+      → HindersOne mailbox disks_tell me tag head (IsFirstHere index) old was there r
   holds : result ≢ Ok true → result ≢ Err (halt.Refused refusal.Store) → OnlyHolds me old after
   no_note : result ≡ Err halt.Note → ⊥
 
-ends_alone : (me number : ℕ) (bytes : List ℕ) {result wanted : Result Answer Refusal} → result ≡ wanted
-    → EndsWith me wanted (told_of me (Gives number bytes) result ∷ [])
-ends_alone me number bytes is =
-    ([], number, bytes, ap (λ (one : Result Answer Refusal). told_of me (Gives number bytes) one ∷ []) is)
-
--- it isn't for the member's disks that a message isn't heard
-unheard_unstored : {spelled : List ℕ} {old new : Outbox} {r : Refusal} → HearsNot spelled old new r → r ≡ refusal.Store → ⊥
-unheard_unstored {r = r} none is = go none.one
-  where
-    go : (r ≡ refusal.BadMessage) ⊎ ((r ≡ refusal.LinkFull) ⊎ ((r ≡ refusal.Link) ⊎ (r ≡ refusal.Memory))) → ⊥
-    go (inl bad) = cc
-    go (inr (inl full)) = cc
-    go (inr (inr (inl link))) = cc
-    go (inr (inr (inr memory))) = cc
+-- it was given alone
+gives_alone : {members : ℕ} {head : PieceHead} {index : ℕ} (me number : ℕ) (spelled : List ℕ)
+    {result wanted : Result Answer Refusal} → SpellsPiece members (sibling head index) spelled → result ≡ wanted
+    → GivesOne me members head index wanted (told_of me (Gives number spelled) result ∷ [])
+gives_alone me number spelled spells is = record {
+  number = number;
+  spelled = spelled;
+  spells = spells;
+  is = ap (λ (one : Result Answer Refusal). told_of me (Gives number spelled) one ∷ []) is;
+}
 
 -- that a note isn't saved is no refusal
 abbrev Halted : LineFault → Halt → Type 0
@@ -113,7 +110,8 @@ module _ {M : Type 0} (mailbox : Mailbox M) (disks_tell : Type 0) (me : ℕ) (ta
 
   -- nothing was given
   ungiven : (post : Outbox) (h : Halt)
-      → ((r : Refusal) → h ≡ halt.Refused r → HindersOne mailbox disks_tell me tag head old was there r)
+      → ((r : Refusal) → h ≡ halt.Refused r
+      → HindersOne mailbox disks_tell me tag head (IsFirstHere index) old was there r)
       → h ≢ halt.Refused refusal.Store → h ≢ halt.Note → Gave (Err h) (with_post old post)
   ungiven post h hinders unstored unnoted = record {
     told = [];
@@ -134,8 +132,8 @@ module _ {M : Type 0} (mailbox : Mailbox M) (disks_tell : Type 0) (me : ℕ) (ta
       ungiven post (halt.Refused r)
       (λ q is.
       let same : r ≡ q = cc in
-      subst (λ (one : Refusal). HindersOne mailbox disks_tell me tag head old was there one) same
-      (HindersUnheard below spells idle none other))
+      subst (λ (one : Refusal). HindersOne mailbox disks_tell me tag head (IsFirstHere index) old was there one) same
+      (HindersUnheard {index = index} {told = []} below spells (refl, refl) idle none other))
       (λ is. let same : r ≡ refusal.Store = cc in unheard_unstored none same) (λ is. cc)
   gave_one (WantsMemory {post = post}) count = ungiven post halt.Memory (λ q is. absurd (cc)) (λ is. cc) (λ is. cc)
   gave_one (IsTaken {number = number} {after = after} acts done) count = record {
@@ -143,7 +141,7 @@ module _ {M : Type 0} (mailbox : Mailbox M) (disks_tell : Type 0) (me : ℕ) (ta
     middle = after;
     goes = acted acts count;
     is = refl;
-    taken = λ is. ends_alone me number spelled done;
+    taken = λ is. gives_alone me number spelled spells done;
     kept = λ is. absurd (cc);
     store = λ is. absurd (cc);
     hinders = λ r is other. absurd (cc);
@@ -179,10 +177,15 @@ module _ {M : Type 0} (mailbox : Mailbox M) (disks_tell : Type 0) (me : ℕ) (ta
     is = refl;
     taken = λ same. absurd (cc);
     kept = λ same. absurd (cc);
-    store = λ same. let so : r ≡ refusal.Store = cc in ends_alone me number spelled (is ∙ ap (λ (one : Refusal). Err one) so);
+    store = λ same.
+        let so : r ≡ refusal.Store = cc in
+        gives_alone me number spelled spells (is ∙ ap (λ (one : Refusal). Err one) so);
     hinders = λ q same other.
         let so : r ≡ q = cc in
-        HindersRefused (acted acts count) (ends_alone me number spelled (is ∙ ap (λ (one : Refusal). Err one) so)) other;
+        HindersRefused {index = index} number {told = []} below spells (refl, refl)
+        (subst (λ (one : Result Answer Refusal).
+        GoesOn mailbox disks_tell me tag (told_of me (Gives number spelled) one ∷ []) old after was there)
+        (is ∙ ap (λ (one : Refusal). Err one) so) (acted acts count)) other;
     holds = λ partly stored. only (λ so. stored (ap (λ (one : Refusal). Err (halt.Refused one)) so));
     no_note = λ same. cc;
   }
@@ -217,21 +220,22 @@ module _ {K D N M : Type 0} {keep : Keep K} {disk : Disk D} {slot : Disk N} {mai
     why other same = cc
 
     hindered : (r : Refusal) → found ≡ Err (halt.Refused r)
-        → HindersOne mailbox disk.tells machine.me machine.tag head machine.world.whole was there r
+        → HindersOne mailbox disk.tells machine.me machine.tag head (IsFirstHere index) machine.world.whole was
+        there r
     hindered r so =
         elim (finds.one r so) [
           | inl missing ↦
               let at : found ≡ Err (halt.Refused refusal.Missing) = cc in
               let lacks = finds.missing at in
               subst
-              (λ (one : Refusal). HindersOne mailbox disk.tells machine.me machine.tag head machine.world.whole was there
-              one) (sym missing)
+              (λ (one : Refusal). HindersOne mailbox disk.tells machine.me machine.tag head (IsFirstHere index)
+              machine.world.whole was there one) (sym missing)
               (IsMissing {found = lacks.0} was there below lacks.1 lacks.2)
           | inr link ↦
               let at : found ≡ Err (halt.Refused refusal.Link) = cc in
               subst
-              (λ (one : Refusal). HindersOne mailbox disk.tells machine.me machine.tag head machine.world.whole was there
-              one) (sym link) (IsUnread was there (finds.failed at))
+              (λ (one : Refusal). HindersOne mailbox disk.tells machine.me machine.tag head (IsFirstHere index)
+              machine.world.whole was there one) (sym link) (IsUnread was there (finds.failed at))
         ]
 
     unstored : found ≡ Err (halt.Refused refusal.Store) → ⊥

@@ -10,6 +10,7 @@ use Rattle.ficus_mailbox.specs.declared.found.Given.{Given}
 use Rattle.ficus_mailbox.specs.declared.mailbox.Mailbox.{Ghosts as Mailbox}
 use Rattle.ficus_mailbox.specs.declared.message_name.MessageName.TheVariants as name
 use Rattle.ficus_replica.specs.declared.replica.Replica.{Replica}
+use Rattle.ficus_opening.specs.declared.member.Member.{Member}
 use Rattle.ficus_runs.specs.Answers.{answer_as}
 use Rattle.ficus_runs.specs.Message.{IsSpelled}
 use Rattle.ficus_runs.specs.Numbered.{IsNumbered}
@@ -80,6 +81,11 @@ module _ (disks_tell : Type 0) (me : ℕ) (way : Route) (old heard : Whole) (num
       gives_ask disks_tell me number way heard own heard_fits numbered moves.moves.result (record { outcomes = moves.outcomes; after = after })
       moves.moves.does
 
+  -- which changes no member
+  pub heard_members : {answer : Answer} {after : Whole}
+      → MovesSomehow disks_tell heard (command.Give number) answer after → after.members ≡ heard.members
+  heard_members moves = (gives_heard moves).members
+
   module _ {M : Type 0} (mailbox : Mailbox M) (tag : List ℕ) (now : M)
       (came : mailbox.tells → CameIn tag (length old.members) me (mailbox.given now) (message_bytes (ask_of way))) where
     came_each : {later : M} → mailbox.given later ≡ mailbox.given now → mailbox.tells
@@ -115,7 +121,7 @@ module _ (disks_tell : Type 0) (me : ℕ) (way : Route) (old heard : Whole) (num
           alone =
               Heard heard (record { post = heard.post; posts = sent.told tt; is = rest })
               (Acted {deed = (Gives number (message_bytes (ask_of way)))} after moves.outcomes gives.more mail moves.moves.does gives.posts Ended);
-          count = gives.count ∙ heard_count;
+          count = ap (λ (list : List Member). length list) gives.members ∙ heard_count;
           given = λ tells.
               subst (λ (list : List Given). Grows (mailbox.given now) list) (sym same)
               (grows_none (mailbox.given now));

@@ -1,15 +1,13 @@
 -- A machine that is opened, or isn't.
-use Rattle.std.proofs.Common.{◌≡◌, ◌≢◌, ◌⊎◌, ℕ, ◌≤◌, List, [], length, Option, Some, None, Result, Ok, Err, refl, sym, ap, subst, ◌∙◌, inl, inr}
-use Rattle.std.proofs.lemmas.Option.{same_Some}
-use Rattle.ficus_disk.specs.Pair.{PairRose}
+use Rattle.std.proofs.Common.{◌≡◌, ℕ, ◌≤◌, List, [], length, Some, None, Result, Ok, Err, refl, sym, ap, subst, ◌∙◌, inl, inr}
 use Rattle.ficus_disk.specs.declared.disk.Disk.{Ghosts as Disk}
 use Rattle.ficus_disk.specs.declared.pair.Pair.{Pair}
 use Rattle.ficus_ids.specs.Members.{IsMember}
+use Rattle.ficus_keeper.proofs.AsBefore.{as_before as pair_as_before}
 use Rattle.ficus_keeper.specs.Pairs.{PairSame}
 use Rattle.ficus_keeper.specs.declared.keep.Keep.{Ghosts as Keep}
 use Rattle.ficus_note.specs.declared.asked.Asked.{Asked as Noted}
 use Rattle.ficus_note.specs.declared.note.Note.{Note}
-use Rattle.ficus_opening.specs.Alone.{IsAlone}
 use Rattle.ficus_opening.specs.Opening.{opened_member}
 use Rattle.ficus_opening.specs.declared.fault.WorldFault.{WorldFault}
 use Rattle.ficus_opening.specs.declared.fault.WorldFault.TheVariants.{Image, Occupied, Store}
@@ -61,6 +59,7 @@ module _ {K D N : Type 0} (keep : Keep K) (disk : Disk D) (slot : Disk N) (me : 
     spared = λ one unfailed is. (world.asked.spared one unfailed (same_fault one is), pair_unmoved slot.faults slots);
     steady = tt;
     rests = world.rests;
+    keeps = (pair_as_before slot slots).keeps;
   }
 
   module _ (world : Backed K) (opens : OpensWorldAlone keep disk me 0 total (Ok world) old new) where
@@ -84,6 +83,7 @@ module _ {K D N : Type 0} (keep : Keep K) (disk : Disk D) (slot : Disk N) (me : 
       spared = λ one unfailed is. (opens.asked.steady, notes.spared one unfailed (same_fault one is));
       steady = tt;
       rests = opens.rests;
+      keeps = notes.keeps;
     }
 
     module _ (note : Note) (notes : OpensNote slot me (Ok note) slots slots_new) (after : Backed K)
@@ -120,7 +120,7 @@ module _ {K D N : Type 0} (keep : Keep K) (disk : Disk D) (slot : Disk N) (me : 
           post =
               waits_post me world.whole after.whole was is note.asked waits ∙ opens.post
               ∙ ap unsent none_sent;
-          noted = waits_noted me world.whole after.whole was is note.asked refl waits;
+          noted = waits_noted me world.whole after.whole was is note.asked refl refl waits;
         };
         own = refl;
         tagged = refl;
@@ -140,4 +140,5 @@ module _ {K D N : Type 0} (keep : Keep K) (disk : Disk D) (slot : Disk N) (me : 
         spared = λ one unfailed never. absurd (cc);
         steady = (opens.asked.steady, notes.steady);
         rests = opens.rests;
+        keeps = notes.keeps;
       }

@@ -41,7 +41,7 @@ pub record IsServed (me : ℕ) (way : Route) (old after : Whole) (more : List (L
 pub record GivesAsk (me : ℕ) (way : Route) (old : Whole) (result : Result Answer Refusal) (after : Whole) : Type 0 where
   pub more : List (List ℕ)
   pub posts : after.post.posts ≡ old.post.posts ++ more
-  pub count : length after.members ≡ length old.members
+  pub members : after.members ≡ old.members
   pub served : IfOk result (λ given. IsServed me way old after more)
   pub no_refusal : (r : Refusal) → result ≡ Ok (Refused r) → ⊥
 
@@ -94,7 +94,7 @@ module _ (disks_tell : Type 0) (number : ℕ) (way : Route) (old : Whole) where
   idle r after posts members = record {
     more = [];
     posts = posts;
-    count = ap (λ (list : List Member). length list) members;
+    members = members;
     served = tt;
     no_refusal = λ again same. cc;
   }
@@ -111,7 +111,7 @@ module _ (disks_tell : Type 0) (number : ℕ) (way : Route) (old : Whole) where
         record {
           more = each.more;
           posts = each.posts;
-          count = ap (λ (list : List Member). length list) each.members;
+          members = each.members;
           served = tt;
           no_refusal = λ again same. cc;
         }
@@ -121,7 +121,7 @@ module _ (disks_tell : Type 0) (number : ℕ) (way : Route) (old : Whole) where
         record {
           more = each.more;
           posts = each.posts;
-          count = ap (λ (list : List Member). length list) each.members;
+          members = each.members;
           served = record {
             replica = peer.replica;
             is = record { member = peer; is = serving.is; up = serving.up; holds = refl };

@@ -1,5 +1,5 @@
 -- What an ask comes to that was heard and then served.
-use Rattle.std.proofs.Common.{◌≡◌, ◌≢◌, ℕ, ◌+◌, ◌-◌, ◌≤◌, Bool, true, false, List, length, map, Result, Ok, Err, refl, sym, ap, subst, ◌∙◌, arith}
+use Rattle.std.proofs.Common.{◌≡◌, ◌≢◌, ◌⊎◌, ℕ, ◌+◌, ◌-◌, ◌≤◌, Bool, true, false, List, length, map, Option, Result, Ok, Err, refl, sym, ap, subst, ◌∙◌, arith}
 use Rattle.std.specs.Prelude.{MatchResult}
 use Rattle.std.proofs.lemmas.List.{length-append, length-map}
 use Rattle.ficus_disk.specs.declared.disk.Disk.{Ghosts as Disk}
@@ -10,6 +10,7 @@ use Rattle.ficus_ids.specs.declared.refusal.Refusal.TheVariants as refusal
 use Rattle.ficus_mailbox.specs.declared.mailbox.Mailbox.{Ghosts as Mailbox}
 use Rattle.ficus_member_script.specs.declared.member_answer.MemberAnswer.{MemberAnswer}
 use Rattle.ficus_member_script.specs.declared.member_answer.MemberAnswer.TheVariants.{Served as ServedAs}
+use Rattle.ficus_note.specs.declared.asked.Asked.{Asked as Noted}
 use Rattle.ficus_opening.specs.declared.member.Member.{Member}
 use Rattle.ficus_replica.specs.declared.replica.Replica.{Replica}
 use Rattle.ficus_script.specs.declared.answer.Answer.{Answer}
@@ -20,20 +21,25 @@ use Rattle.ficus_wire.specs.declared.message.Message.{Message}
 use Rattle.ficus_wire.specs.declared.message.Route.{Route}
 use Rattle.ficus_world.specs.Disks.{IsBacked}
 use Rattle.ficus_world.specs.Hearing.{HearsNot}
+use Rattle.ficus_world.specs.Kills.{IsDeedOf, Passes}
 use Rattle.ficus_world.specs.Moves.{with_post}
 use Rattle.ficus_world.specs.Post.{IsSent, lies_behind}
-use Rattle.ficus_world.specs.World.{Backed, IsReplica}
+use Rattle.ficus_world.specs.World.{Backed, IsReplica, Whole}
 use Rattle.ficus_machine.specs.Acting.{Acts}
 use Rattle.ficus_machine.specs.Answers.{AskAnswers, pieces_of, refused}
 use Rattle.ficus_machine.specs.Came.{CameIn, letter_of}
 use Rattle.ficus_machine.specs.Line.{GoesInWorld}
 use Rattle.ficus_machine.specs.Machine.{KeepsRest, MachineState}
+use Rattle.ficus_machine.specs.Moments.{IsOpenIn, Works}
+use Rattle.ficus_machine.specs.Moments.Works.{Holds, Joins}
 use Rattle.ficus_machine.specs.Posting.{ArePosted, OnlyFetches, Puts}
 use Rattle.ficus_machine.specs.declared.fault.LineFault.{LineFault}
 use Rattle.ficus_machine.specs.declared.fault.LineFault.TheVariants.{Memory}
 use Rattle.ficus_machine.specs.declared.serving.Serving.{Serving}
 use Rattle.ficus_machine.proofs.AnsweredAsks.{all_put, heard_only, not_all_put, put_fault, refuses, unheard}
-use Rattle.ficus_machine.proofs.HeardAsks.{GoesServed, are_posted, goes_served}
+use Rattle.ficus_machine.proofs.HeardAsks.{GoesServed, are_posted, goes_served, heard_members}
+use Rattle.ficus_machine.proofs.Leaves.{leaves_members, open_as}
+use Rattle.ficus_machine.proofs.Lived.{holds_post, works_passes}
 
 -- the ask came to the machine, and its world has heard it and nothing else
 pub record IsHeard {K M : Type 0} (mailbox : Mailbox M) (way : Route) (machine heard : MachineState K) (was : M)
@@ -97,6 +103,15 @@ ask_unheard {K} keep disk mailbox way machine inside world disks was bytes r res
       note = ap (λ (m : MachineState K). m.note) same;
     }) so
 
+-- and all that has changed then is what its link has
+pub works_unheard : {K D : Type 0} (keep : Keep K) (disk : Disk D) (machine inside : MachineState K)
+    (world : Backed K) (disks : List (Pair D)) → inside ≡ machine
+    → world.whole ≡ with_post inside.world.whole world.whole.post → (noted : Option Noted)
+    → Works keep disk machine.me noted machine.world.whole world.whole disks disks
+works_unheard {K} keep disk machine inside world disks same rest noted =
+    Holds (holds_post machine.me machine.world.whole world.whole world.whole.post
+    (subst (λ (m : MachineState K). world.whole ≡ with_post m.world.whole world.whole.post) same rest))
+
 module _ {K D M : Type 0} (keep : Keep K) (disk : Disk D) (mailbox : Mailbox M) (way : Route)
     (machine heard : MachineState K) (disks : List (Pair D)) (was : M) (number : ℕ)
     (is : IsHeard mailbox way machine heard was number) (after : MachineState K) (after_disks : List (Pair D)) where
@@ -125,6 +140,38 @@ module _ {K D M : Type 0} (keep : Keep K) (disk : Disk D) (mailbox : Mailbox M) 
       after after_disks r
       (subst (λ (x : Result Answer LineFault). Acts keep disk (command.Give number) x heard after disks after_disks)
       (ended ∙ ap (λ (a : Answer). Ok a) so) acts))
+
+  -- its world and its disks work meanwhile, whatever is noted
+  keeps_members : (result : Result Answer LineFault)
+      → Acts keep disk (command.Give number) result heard after disks after_disks
+      → after.world.whole.members ≡ heard.world.whole.members
+  keeps_members (Ok answer) acts =
+      heard_members disk.tells machine.me way machine.world.whole heard.world.whole number is.own is.fits is.sent is.rest
+      acts.moves
+  keeps_members (Err fault) acts = ap (λ (w : Whole). w.members) acts.memory
+
+  pub ask_works : (result : Result Answer LineFault)
+      → Acts keep disk (command.Give number) result heard after disks after_disks
+      → (Passes (Unit {0}) keep disk (IsDeedOf (command.Give number)) heard.world.whole after.world.whole disks
+      after_disks ⊎ ((after.world.whole ≡ heard.world.whole) × (after_disks ≡ disks))) → (noted : Option Noted)
+      → IsOpenIn machine.world.whole machine.me noted
+      → Works keep disk machine.me noted machine.world.whole after.world.whole disks after_disks
+  ask_works result acts passes noted opened =
+      let there =
+      open_as machine.world.whole heard.world.whole machine.me noted (ap (λ (w : Whole). w.members) is.rest)
+      opened in
+      Joins (Holds (holds_post machine.me machine.world.whole heard.world.whole heard.world.whole.post is.rest))
+      (works_passes keep disk machine.me noted (command.Give number) heard.world.whole after.world.whole disks after_disks
+      passes there
+      (λ tells.
+      leaves_members heard.world.whole after.world.whole machine.me noted (keeps_members result acts) there))
+
+  -- and where pieces are fetched behind that
+  pub ask_works_put : (new : MachineState K) (noted : Option Noted)
+      → Works keep disk machine.me noted machine.world.whole after.world.whole disks after_disks → OnlyFetches after new
+      → Works keep disk machine.me noted machine.world.whole new.world.whole disks after_disks
+  ask_works_put new noted works fetches =
+      Joins works (Holds (holds_post machine.me after.world.whole new.world.whole new.world.whole.post fetches.world))
 
   module _ (result : Result Answer LineFault) (answer : Answer) (ended : result ≡ Ok answer)
       (acted : Acts keep disk (command.Give number) result heard after disks after_disks)

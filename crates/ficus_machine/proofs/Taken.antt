@@ -3,7 +3,7 @@ use Rattle.std.proofs.Common.{◌≡◌, ◌≢◌, ◌⊎◌, ℕ, ◌-◌, Lis
 use Rattle.std.specs.Prelude.{IfErr, IfOk, IsErrOf, OnOk}
 use Rattle.std.proofs.lemmas.List.{append-nil, length-set}
 use Rattle.std.proofs.lemmas.Option.{same_Some}
-use Rattle.std.proofs.lemmas.Result.{IfOk-at_ok, IfOk-weaker}
+use Rattle.std.proofs.lemmas.Result.{IfErr-at_err, IfOk-at_ok, IfOk-weaker}
 use Rattle.ficus_disk.specs.declared.disk.Disk.{Ghosts as Disk}
 use Rattle.ficus_disk.specs.declared.pair.Pair.{Pair}
 use Rattle.ficus_ids.specs.Members.{IsMember}
@@ -15,6 +15,7 @@ use Rattle.ficus_note.specs.declared.asked.Asked.{Asked as Noted}
 use Rattle.ficus_note.specs.declared.note.Note.{Note as NoteOf}
 use Rattle.ficus_opening.specs.declared.member.Member.{Member}
 use Rattle.ficus_opening.specs.declared.member.MemberState.{MemberState}
+use Rattle.ficus_opening.specs.declared.member.MemberState.TheVariants.{Up}
 use Rattle.ficus_replica.specs.declared.replica.Asked.{Asked}
 use Rattle.ficus_replica.specs.declared.replica.Replica.{Replica}
 use Rattle.ficus_runs.specs.Numbered.{IsNumbered}
@@ -30,12 +31,16 @@ use Rattle.ficus_machine.specs.Answers.{HoldsOther, OnlyHolds}
 use Rattle.ficus_machine.specs.Came.{IsLetterOfOne}
 use Rattle.ficus_machine.specs.Line.{Goes, GoesInWorld, GoesOn, Grows}
 use Rattle.ficus_machine.specs.Machine.{IsAtRest, IsNoted, KeepsMachine, MachineState, ask_of, no_post}
+use Rattle.ficus_machine.specs.Moments.{IsOpenIn, Lives, LivesTo, NotesTo, moment_of}
+use Rattle.ficus_machine.specs.Moments.Lives.{Notes, Then, Working}
+use Rattle.ficus_machine.specs.Moments.Works.{Holds}
 use Rattle.ficus_machine.specs.Noting.{AsksSlots}
 use Rattle.ficus_machine.specs.Taking.{Finishes, Undoes}
 use Rattle.ficus_machine.specs.declared.fault.LineFault.{LineFault}
 use Rattle.ficus_machine.specs.declared.fault.LineFault.TheVariants.{Memory, Note}
 use Rattle.ficus_machine.proofs.Going.{goes_idle, goes_renews, goes_then}
 use Rattle.ficus_machine.proofs.Held.{backed_same, backed_waiting}
+use Rattle.ficus_machine.proofs.Lived.{holds_post, lives_then}
 use Rattle.ficus_machine.proofs.Slots.{asks_behind, asks_err, asks_fine, asks_memory, rose_none, same_behind}
 
 -- a member waits for one answer
@@ -55,10 +60,21 @@ awaits_there {new = new} {r} {ask} {member} is there awaits = record {
   none_held = awaits.none_held;
 }
 
-noted_there : (old new : Whole) {r : ℕ} {member : Member} → IsNumbered old.members r member
-    → IsNumbered new.members r member → (noted : Option Noted) → IsNoted old r noted → IsNoted new r noted
-noted_there old new is there None noted = tt
-noted_there old new is there (Some ask) noted = awaits_there {old = old} {new = new} is there noted
+-- what is noted is right there still
+noted_there : (old new : Whole) {r : ℕ} {member : Member} (asked : Asked) → IsNumbered old.members r member
+    → IsNumbered new.members r member → Awaits old r asked → (noted : Option Noted) → IsNoted old r noted
+    → IsNoted new r noted
+noted_there old new asked is there awaits None none = absurd (none asked awaits)
+noted_there old new asked is there awaits (Some ask) noted = awaits_there {old = old} {new = new} is there noted
+
+-- what is noted at rest is open
+pub open_noted : (world : Whole) (me : ℕ) (noted : Option Noted) → IsNoted world me noted → IsOpenIn world me noted
+open_noted world me None none = tt
+open_noted world me (Some ask) awaits = λ member is.
+    let same : awaits.member ≡ member = number_once awaits.is is in (
+      subst (λ (m : Member). m.state ≡ Up) same awaits.up,
+      subst (λ (m : Member). m.replica.ask ≡ Some (ask_of ask)) same awaits.asks,
+    )
 
 -- a world without messages goes on with the same members
 module _ {me : ℕ} {middle new : Whole} (member : IsMember (length middle.members) me)
@@ -209,6 +225,49 @@ module _ {K D N M : Type 0} {keep : Keep K} {disk : Disk D} {slot : Disk N} {mai
       goes_finished member served.goes served.is served.answers served.backed
       (record { me = served.rest.me; tag = served.rest.tag }) (no_note_asks came_to served.no_note) finishes
 
+module _ {K D N : Type 0} (keep : Keep K) (disk : Disk D) (slot : Disk N) where
+  -- Only what the member holds of an answer has changed, and then something becomes of the note.
+  lives_held : {A : Type 0} (result : Result A LineFault) (old new : MachineState K) (disks : List (Pair D))
+      (slots new_slots : Pair N) → OnlyHolds old.me old.world.whole new.world.whole
+      → NotesTo slot result old.note new.note slots new_slots
+      → LivesTo keep disk slot (IsErrOf result Note → ⊥) old new disks disks slots new_slots
+  lives_held result old new disks slots new_slots holds notes =
+      record { noted = notes.noted; is = notes.is; lives = Then (Working (Holds holds)) (Notes notes.noting) }
+
+  module _ {A : Type 0} (came_to result : Result A LineFault) (old middle new : MachineState K)
+      (disks new_disks : List (Pair D)) (slots mid_slots new_slots : Pair N) (here : middle.me ≡ old.me)
+      (finishes : Finishes slot came_to result middle new mid_slots new_slots) where
+    -- behind a call by which all was noted, the messages of its world are given up
+    pub lives_finished : (X : Type 0) → X → LivesTo keep disk slot X old middle disks new_disks slots mid_slots
+        → NotesTo slot result middle.note new.note mid_slots new_slots
+        → LivesTo keep disk slot (IsErrOf result Note → ⊥) old new disks new_disks slots new_slots
+    lives_finished X all first notes =
+        lives_then keep disk slot X (IsErrOf result Note → ⊥) old middle new disks new_disks new_disks slots mid_slots
+        new_slots all here first
+        (lives_held result middle new new_disks mid_slots new_slots
+        (holds_post middle.me middle.world.whole new.world.whole no_post finishes.renewed) notes)
+
+    -- and behind one that has ended for the note
+    pub lives_unnoted : (X : Type 0) → came_to ≡ Err Note
+        → LivesTo keep disk slot X old middle disks new_disks slots mid_slots
+        → LivesTo keep disk slot (IsErrOf result Note → ⊥) old new disks new_disks slots new_slots
+    lives_unnoted X is first =
+        let stays = IfErr-at_err (λ (fault : LineFault). (result ≡ Err fault) × (new.note ≡ middle.note)
+        × (new_slots ≡ mid_slots)) is finishes.stays in
+        record {
+          noted = first.noted;
+          is = λ never. absurd (never stays.0);
+          lives =
+              subst (λ (pair : Pair N). Lives keep disk slot old.me (moment_of old disks slots) (record {
+                world = new.world.whole;
+                noted = first.noted;
+                disks = new_disks;
+                slots = pair;
+              })) (sym stays.2)
+              (Then first.lives
+              (Working (Holds (holds_post old.me middle.world.whole new.world.whole no_post finishes.renewed))));
+        }
+
 -- the member after an answer was given up is the one before
 waits_again : (was now : Member) (ask : Asked) → HoldsOther was now → was.replica.ask ≡ Some ask → was.parts ≡ None
     → awaiting now (Some ask) ≡ was
@@ -260,6 +319,31 @@ module _ {K D N M U : Type 0} (keep : Keep K) (disk : Disk D) (slot : Disk N) (m
       ap (λ (w : Whole). length w.members) whole_is
       ∙ length-set middle.world.whole.members (old.me - 1) awaits.member ∙ holds.count
 
+  -- and only what the member holds of an answer is given up
+  given_up : OnlyHolds old.me middle.world.whole new.world.whole
+  given_up = record {
+    count =
+        ap (λ (w : Whole). length w.members) whole_is
+        ∙ length-set middle.world.whole.members (old.me - 1) awaits.member;
+    each = λ before after at there.
+        let one : after ≡ awaits.member = number_once there stands in
+        let other = holds.each awaits.member before awaits.is at in
+        record {
+          replica = ap (λ (m : Member). m.replica) one ∙ sym other.replica;
+          state = ap (λ (m : Member). m.state) one ∙ sym other.state;
+          fused = ap (λ (m : Member). m.fused) one ∙ sym other.fused;
+        };
+  }
+
+  pub lives_undone : (X : Type 0) → X → LivesTo keep disk slot X old middle disks new_disks slots mid_slots
+      → NotesTo slot saved middle.note new.note mid_slots new_slots
+      → LivesTo keep disk slot (IsErrOf saved Note → ⊥) old new disks new_disks slots new_slots
+  lives_undone X all first notes =
+      lives_then keep disk slot X (IsErrOf saved Note → ⊥) old middle new disks new_disks new_disks slots mid_slots
+      new_slots all same.me first
+      (lives_held keep disk slot saved middle new new_disks mid_slots new_slots
+      (subst (λ r. OnlyHolds r middle.world.whole new.world.whole) (sym same.me) given_up) notes)
+
   pub undone : Renews old.me old.world.whole new.world.whole
   undone = record {
     count = counted;
@@ -283,7 +367,7 @@ module _ {K D N M U : Type 0} (keep : Keep K) (disk : Disk D) (slot : Disk N) (m
   undone_noted is =
       subst (λ r. IsNoted new.world.whole r new.note.asked) (sym here)
       (subst (IsNoted new.world.whole old.me) (sym is)
-      (noted_there old.world.whole new.world.whole awaits.is stands old.note.asked rest.noted))
+      (noted_there old.world.whole new.world.whole asked awaits.is stands awaits old.note.asked rest.noted))
 
   -- what hindered it is answered
   pub goes_undone : {A : Type 0} {Answers : List Told → A → Type 0} (answer : A) (value : U) → saved ≡ Ok value → Answers [] answer

@@ -1,5 +1,6 @@
 -- What becomes of an answer of which a piece came.
 use Rattle.std.proofs.Common.{◌≡◌, ◌≢◌, ◌⊎◌, List, [], Option, Result, Ok, Err, refl, sym, subst, inl, inr}
+use Rattle.std.specs.Prelude.{IsErrOf}
 use Rattle.ficus_disk.specs.declared.disk.Disk.{Ghosts as Disk}
 use Rattle.ficus_disk.specs.declared.pair.Pair.{Pair}
 use Rattle.ficus_ids.specs.declared.refusal.Refusal.{Refusal}
@@ -9,6 +10,7 @@ use Rattle.ficus_mailbox.specs.declared.mailbox.Mailbox.{Ghosts as Mailbox}
 use Rattle.ficus_member_script.specs.declared.member_answer.MemberAnswer.{MemberAnswer}
 use Rattle.ficus_member_script.specs.declared.member_answer.MemberAnswer.TheVariants.{Plain}
 use Rattle.ficus_note.specs.declared.asked.Asked.{Asked as Noted}
+use Rattle.ficus_note.specs.declared.note.Note.{Note as NoteOf}
 use Rattle.ficus_replica.specs.declared.replica.Asked.{Asked}
 use Rattle.ficus_script.specs.declared.answer.Answer.TheVariants.{Done}
 use Rattle.ficus_wire.specs.declared.message.PieceHead.{PieceHead}
@@ -19,14 +21,35 @@ use Rattle.ficus_machine.specs.Answers.PieceAnswers.{IsDown, IsHindered, IsStale
 use Rattle.ficus_machine.specs.Gathering.{Gathers}
 use Rattle.ficus_machine.specs.Line.{Goes}
 use Rattle.ficus_machine.specs.Machine.{IsAtRest, MachineState}
+use Rattle.ficus_machine.specs.Moments.{LivesTo, NotesTo}
 use Rattle.ficus_machine.specs.Taking.{Finishes, Undoes}
 use Rattle.ficus_machine.specs.declared.fault.Halt.{Halt}
 use Rattle.ficus_machine.specs.declared.fault.Halt.TheVariants as halt
 use Rattle.ficus_machine.specs.declared.fault.LineFault.{LineFault}
 use Rattle.ficus_machine.specs.declared.fault.LineFault.TheVariants.{Memory, Note}
 use Rattle.ficus_machine.proofs.Going.{grows_none}
+use Rattle.ficus_machine.proofs.Lived.{lives_as}
 use Rattle.ficus_machine.proofs.Slots.{asks_fine, asks_memory}
-use Rattle.ficus_machine.proofs.Taken.{goes_answered, goes_finished, goes_undone, goes_undone_fault, undone}
+use Rattle.ficus_machine.proofs.Taken.{goes_answered, goes_finished, goes_undone, goes_undone_fault, lives_undone, undone}
+
+-- how calls end
+abbrev pub halted : Halt → Result (Unit {0}) Halt
+halted halt = Err halt
+
+abbrev pub gathered : Result (Unit {0}) Halt
+gathered = Ok tt
+
+abbrev settled : Result (Unit {0}) LineFault
+settled = Ok tt
+
+abbrev unsettled : LineFault → Result (Unit {0}) LineFault
+unsettled fault = Err fault
+
+abbrev fine : MemberAnswer → Result MemberAnswer LineFault
+fine answer = Ok answer
+
+abbrev ended : LineFault → Result MemberAnswer LineFault
+ended fault = Err fault
 
 -- the same of a result that is another one
 pub gathers_at : {K D N M : Type 0} {keep : Keep K} {disk : Disk D} {slot : Disk N} {mailbox : Mailbox M}
@@ -38,6 +61,20 @@ gathers_at {keep = keep} {disk} {slot} {mailbox} {head} {result} {again} {old} {
     {new_slots} {was} {now} same gathers =
     subst (λ (r : Result (Unit {0}) Halt). Gathers keep disk slot mailbox head r old new disks new_disks slots new_slots
     was now) same gathers
+
+pub gathered_at : {K D N : Type 0} {keep : Keep K} {disk : Disk D} {slot : Disk N}
+    {result again : Result (Unit {0}) Halt} {old new : MachineState K} {disks new_disks : List (Pair D)}
+    {slots new_slots : Pair N} → result ≡ again
+    → LivesTo keep disk slot (result ≡ Err halt.Note → ⊥) old new disks new_disks slots new_slots
+    → LivesTo keep disk slot (again ≡ Err halt.Note → ⊥) old new disks new_disks slots new_slots
+gathered_at {keep = keep} {disk} {slot} {result} {again} {old} {new} {disks} {new_disks} {slots} {new_slots} same lives =
+    subst (λ (r : Result (Unit {0}) Halt). LivesTo keep disk slot (r ≡ Err halt.Note → ⊥) old new disks new_disks slots
+    new_slots) same lives
+
+pub undone_at : {N A : Type 0} {slot : Disk N} {result again : Result A LineFault} {was now : NoteOf}
+    {old new : Pair N} → result ≡ again → NotesTo slot result was now old new → NotesTo slot again was now old new
+undone_at {A = A} {slot} {result} {again} {was} {now} {old} {new} same notes =
+    subst (λ (r : Result A LineFault). NotesTo slot r was now old new) same notes
 
 pub undoes_at : {K N A : Type 0} {slot : Disk N} {asked : Asked} {one other : Option Noted}
     {result again : Result A LineFault} {was now : MachineState K} {old new : Pair N} → one ≡ other → result ≡ again
@@ -146,3 +183,33 @@ module _ {K D N M : Type 0} (keep : Keep K) (disk : Disk D) (slot : Disk N) (mai
         goes_undone_fault keep disk slot mailbox machine middle new disks new_disks slots mid_slots new_slots was now
         asked (Err fault) rest awaits (gathers.holds r refl other) gathers.goes.given gathers.posted gathers.backed
         (gathers.steady (λ never. cc)) gathers.same undoes fault refl
+
+    pub lives_hindered : (answer : MemberAnswer)
+        → Undoes {A = Unit {0}} slot asked machine.note.asked (Ok tt) middle new mid_slots new_slots
+        → LivesTo keep disk slot (halted (halt.Refused r) ≡ Err halt.Note → ⊥) machine middle disks
+        new_disks slots mid_slots
+        → NotesTo {A = Unit {0}} slot (Ok tt) middle.note new.note mid_slots new_slots
+        → LivesTo keep disk slot (IsErrOf (fine answer) Note → ⊥) machine new disks new_disks slots
+        new_slots
+    lives_hindered answer undoes first notes =
+        lives_as keep disk slot settled (fine answer) machine new disks new_disks slots new_slots
+        (λ never. absurd (cc))
+        (lives_undone keep disk slot mailbox machine middle new disks new_disks slots mid_slots new_slots was now asked
+        (Ok tt) rest awaits (gathers.holds r refl other) gathers.goes.given gathers.posted gathers.backed
+        (gathers.steady (λ never. cc)) gathers.same undoes
+        (halted (halt.Refused r) ≡ Err halt.Note → ⊥) (λ never. cc) first notes)
+
+    pub lives_hindered_fault : (fault : LineFault)
+        → Undoes {A = Unit {0}} slot asked machine.note.asked (Err fault) middle new mid_slots new_slots
+        → LivesTo keep disk slot (halted (halt.Refused r) ≡ Err halt.Note → ⊥) machine middle disks
+        new_disks slots mid_slots
+        → NotesTo {A = Unit {0}} slot (Err fault) middle.note new.note mid_slots new_slots
+        → LivesTo keep disk slot (IsErrOf (ended fault) Note → ⊥) machine new disks new_disks slots
+        new_slots
+    lives_hindered_fault fault undoes first notes =
+        lives_as keep disk slot (unsettled fault) (ended fault) machine new disks new_disks
+        slots new_slots (λ is. cc)
+        (lives_undone keep disk slot mailbox machine middle new disks new_disks slots mid_slots new_slots was now asked
+        (Err fault) rest awaits (gathers.holds r refl other) gathers.goes.given gathers.posted gathers.backed
+        (gathers.steady (λ never. cc)) gathers.same undoes
+        (halted (halt.Refused r) ≡ Err halt.Note → ⊥) (λ never. cc) first notes)

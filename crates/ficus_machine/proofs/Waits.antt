@@ -1,14 +1,11 @@
 -- A member that waits for the answer to the ask that is noted.
-use Rattle.std.proofs.Common.{◌≡◌, ℕ, ◌-◌, List, [], length, Option, Some, None, refl, sym, ap, subst, ◌∙◌}
+use Rattle.std.proofs.Common.{◌≡◌, ℕ, ◌-◌, List, length, Option, Some, None, refl, sym, ap, subst, ◌∙◌}
 use Rattle.std.specs.Prelude.{slice_set}
 use Rattle.std.proofs.lemmas.List.{length-set}
 use Rattle.ficus_disk.specs.declared.disk.Disk.{Ghosts as Disk}
 use Rattle.ficus_disk.specs.declared.pair.Pair.{Pair}
-use Rattle.ficus_durable_state.specs.declared.saved.Saved.{Saved}
 use Rattle.ficus_keeper.specs.declared.keep.Keep.{Ghosts as Keep}
 use Rattle.ficus_note.specs.declared.asked.Asked.{Asked as Noted}
-use Rattle.ficus_opening.specs.Opening.{opened_member}
-use Rattle.ficus_opening.specs.Alone.{IsAlone}
 use Rattle.ficus_opening.specs.declared.member.Member.{Member}
 use Rattle.ficus_opening.specs.declared.member.MemberState.TheVariants.{Up}
 use Rattle.ficus_runs.proofs.Numbers.{number_once}
@@ -19,7 +16,6 @@ use Rattle.ficus_world.specs.Hearing.{Awaits, awaiting}
 use Rattle.ficus_world.specs.Machines.Killed.{BeginsWith}
 use Rattle.ficus_world.specs.Machines.Together.{Renews}
 use Rattle.ficus_world.specs.Moves.{with_member}
-use Rattle.ficus_world.specs.Post.{Outbox}
 use Rattle.ficus_world.specs.World.{Backed, Whole}
 use Rattle.ficus_machine.proofs.Held.{backed_same, backed_waiting}
 use Rattle.ficus_machine.specs.Machine.{IsNoted, ask_of}
@@ -40,9 +36,14 @@ module _ (me : ℕ) (old new : Whole) where
     waits_post (Some noted) waits = ap (λ (world : Whole). world.post) (waits was is)
 
     -- what is noted is right
-    pub waits_noted : (noted : Option Noted) → was.state ≡ Up → WaitsAsNoted me noted old new → IsNoted new me noted
-    waits_noted None up same = tt
-    waits_noted (Some noted) up waits = record {
+    pub waits_noted : (noted : Option Noted) → was.state ≡ Up → was.replica.ask ≡ None → WaitsAsNoted me noted old new
+        → IsNoted new me noted
+    waits_noted None up none same = λ ask awaits.
+        let found : awaits.member ≡ was =
+        number_once (subst (λ (world : Whole). IsNumbered world.members me awaits.member) same awaits.is) is in
+        let never : None ≡ Some ask = sym none ∙ ap (λ (m : Member). m.replica.ask) (sym found) ∙ awaits.asks in
+        absurd (cc never)
+    waits_noted (Some noted) up none waits = record {
       member = awaiting was (Some (ask_of noted));
       is =
           subst (λ (world : Whole). IsNumbered world.members me (awaiting was (Some (ask_of noted)))) (sym (waits was is))

@@ -77,12 +77,6 @@ pub record OnlyHolds (r : ℕ) (old new : Whole) : Type 0 where
   pub count : length new.members ≡ length old.members
   pub each : (was now : Member) → IsNumbered old.members r was → IsNumbered new.members r now → HoldsOther was now
 
--- what was told ends with this
-abbrev pub EndsWith : ℕ → Result Answer Refusal → List Told → Type 0
-EndsWith me result told =
-    (before : List Told) × (number : ℕ) × (bytes : List ℕ)
-    × (told ≡ before ++ told_of me (Gives number bytes) result ∷ [])
-
 -- the ask to which a piece is an answer
 abbrev pub answered : PieceHead → OpenAsk
 answered head = record { to = head.route.from; number = head.route.number }
@@ -108,6 +102,18 @@ pub data GaveFirst (me members : ℕ) (head : PieceHead) : ℕ → List Told →
   GaveOneMore : {index : ℕ} {told : List Told} (number : ℕ) (spelled : List ℕ) (answer : Answer)
       → GaveFirst me members head index told → SpellsPiece members (sibling head index) spelled → answer ≢ Done
       → GaveFirst me members head (index + 1) (told ++ told_of me (Gives number spelled) (Ok answer) ∷ [])
+
+-- Pieces of an answer were given, from the first on, and all but the last one are kept. The last one was answered so.
+pub record GaveUpTo (me members : ℕ) (head : PieceHead) (result : Result Answer Refusal) (told : List Told) :
+    Type 0 where
+  pub index : ℕ
+  pub within : index < head.pieces
+  pub before : List Told
+  pub first : GaveFirst me members head index before
+  pub number : ℕ
+  pub spelled : List ℕ
+  pub spells : SpellsPiece members (sibling head index) spelled
+  pub is : told ≡ before ++ told_of me (Gives number spelled) result ∷ []
 
 module _ {M : Type 0} (mailbox : Mailbox M) where
   -- this was found under the name, and nothing else
@@ -167,31 +173,36 @@ module _ {M : Type 0} (mailbox : Mailbox M) where
     AnswersInVain : {number : ℕ} {answer : Answer} → IsUnput was now → AskAnswers me tag way old was now
         (told_of me (Gives number (message_bytes (ask_of way))) (Ok answer) ∷ []) (refused refusal.Link)
 
-  -- Why a piece of an answer isn't given, or isn't kept.
-  pub data HindersOne (disks_tell : Type 0) (me : ℕ) (tag : List ℕ) (head : PieceHead) (old : Whole) (was now : M) :
-      Refusal → Type 0 where
+  -- Why a piece of an answer isn't given, or isn't kept. `IsBefore`: what was given before the piece with an index.
+  pub data HindersOne (disks_tell : Type 0) (me : ℕ) (tag : List ℕ) (head : PieceHead)
+      (IsBefore : ℕ → List Told → Type 0) (old : Whole) (was now : M) : Refusal → Type 0 where
     -- It isn't in the file of its name.
     IsMissing : {index : ℕ} {found : Found} (before after : M) → index < head.pieces
         → Gave (sibling_name head index) found before after
         → ((bytes : List ℕ) → IsSealedFor tag (length old.members) me found (piece_of (sibling head index) bytes) → ⊥)
-        → HindersOne disks_tell me tag head old was now refusal.Missing
+        → HindersOne disks_tell me tag head IsBefore old was now refusal.Missing
     -- The mailbox has failed.
-    IsUnread : (before after : M) → HasFailed before after → HindersOne disks_tell me tag head old was now refusal.Link
+    IsUnread : (before after : M) → HasFailed before after
+        → HindersOne disks_tell me tag head IsBefore old was now refusal.Link
     -- It isn't heard.
     IsUnheard : {index : ℕ} {spelled : List ℕ} {middle : Whole} {told : List Told} {there : M} {post : Outbox}
         {r : Refusal} → index < head.pieces → SpellsPiece (length old.members) (sibling head index) spelled
-        → GoesOn mailbox disks_tell me tag told old middle was there → HearsNot spelled middle.post post r
-        → r ≢ refusal.Memory → HindersOne disks_tell me tag head old was now r
+        → IsBefore index told → GoesOn mailbox disks_tell me tag told old middle was there
+        → HearsNot spelled middle.post post r → r ≢ refusal.Memory
+        → HindersOne disks_tell me tag head IsBefore old was now r
     -- The world would refuse it.
-    IsRefused : {middle : Whole} {told : List Told} {r : Refusal} {there : M}
-        → GoesOn mailbox disks_tell me tag told old middle was there → EndsWith me (Err r) told
-        → r ≢ refusal.Store → HindersOne disks_tell me tag head old was now r
+    IsRefused : {index : ℕ} (number : ℕ) {spelled : List ℕ} {middle : Whole} {told : List Told} {r : Refusal}
+        {there : M} → index < head.pieces → SpellsPiece (length old.members) (sibling head index) spelled
+        → IsBefore index told
+        → GoesOn mailbox disks_tell me tag (told ++ told_of me (Gives number spelled) (Err r) ∷ []) old middle was there
+        → r ≢ refusal.Store → HindersOne disks_tell me tag head IsBefore old was now r
 
   -- Why an answer isn't taken, and nothing has changed.
   pub data Hinders (disks_tell : Type 0) (me : ℕ) (tag : List ℕ) (head : PieceHead) (old : Whole) (was now : M) :
       Refusal → Type 0 where
     -- One of its pieces isn't given, or isn't kept.
-    IsCutShort : {r : Refusal} → HindersOne disks_tell me tag head old was now r
+    IsCutShort : {r : Refusal}
+        → HindersOne disks_tell me tag head (GaveFirst me (length old.members) head) old was now r
         → Hinders disks_tell me tag head old was now r
     -- With all of them the state wouldn't have been taken.
     IsIncomplete : {middle : Whole} {told : List Told} {there : M}
@@ -208,10 +219,12 @@ module _ {M : Type 0} (mailbox : Mailbox M) where
     IsStale : IsUpIn old me → (Awaits old me (answered head) → ⊥) → new ≡ old
         → PieceAnswers disks_tell me tag head old new was now [] (refused refusal.Stale)
     -- All its pieces are given, and the state that they spell is taken.
-    Takes : {told : List Told} → Awaits old me (answered head) → EndsWith me (Ok Done) told
+    Takes : {told : List Told} → Awaits old me (answered head)
+        → GaveUpTo me (length old.members) head (Ok Done) told
         → PieceAnswers disks_tell me tag head old new was now told (Plain Done)
     -- The member's disks fail when it saves that.
-    TakesNot : {told : List Told} → Awaits old me (answered head) → EndsWith me (Err refusal.Store) told
+    TakesNot : {told : List Told} → Awaits old me (answered head)
+        → GaveUpTo me (length old.members) head (Err refusal.Store) told
         → PieceAnswers disks_tell me tag head old new was now told (refused refusal.Store)
     -- Something hinders it, and the member is as it was: it waits for the answer still.
     IsHindered : {r : Refusal} → Awaits old me (answered head) → Hinders disks_tell me tag head old was now r

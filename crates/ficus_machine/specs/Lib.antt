@@ -1,5 +1,6 @@
 pub mod Halts
 pub mod Machine
+pub mod Moments
 pub mod Came
 pub mod Line
 pub mod Acting

@@ -24,16 +24,11 @@ pub record MachineState (K : Type 0) : Type 0 where
 abbrev pub ask_of : Noted → Asked
 ask_of noted = record { to = noted.to; number = noted.number }
 
--- What is noted is the open ask of the member, which is up and holds no piece of the answer. Where nothing is noted
--- nothing is said.
+-- What is noted is the open ask of the member, which is up and holds no piece of the answer. Where nothing is noted it
+-- waits for none.
 abbrev pub IsNoted : Whole → ℕ → Option Noted → Type 0
-IsNoted world me None = Unit {0}
+IsNoted world me None = (ask : Asked) → Awaits world me ask → ⊥
 IsNoted world me (Some noted) = Awaits world me (ask_of noted)
-
--- what is noted is this open ask, or nothing
-abbrev pub IsRight : Option Noted → Option Asked → Type 0
-IsRight None asked = Unit {0}
-IsRight (Some noted) asked = asked ≡ Some (ask_of noted)
 
 -- the disks of the member and of the note stand under the machine
 pub record IsHeld {K D N : Type 0} (keep : Keep K) (disk : Disk D) (slot : Disk N) (machine : MachineState K)

@@ -5,6 +5,7 @@ use Rattle.ficus_disk.specs.declared.disk.Disk.{Ghosts as Disk}
 use Rattle.ficus_disk.specs.declared.pair.Pair.{Pair}
 use Rattle.ficus_durable_state.specs.declared.saved.Saved.{Saved}
 use Rattle.ficus_ids.specs.Members.{IsMember}
+use Rattle.ficus_keeper.specs.Calls.{Keeps}
 use Rattle.ficus_keeper.specs.Kept.{found_in}
 use Rattle.ficus_keeper.specs.Pairs.{PairSame}
 use Rattle.ficus_keeper.specs.declared.keep.Keep.{Ghosts as Keep}
@@ -42,6 +43,7 @@ pub record OpensNote {N : Type 0} (slot : Disk N) (me : ℕ) (result : Result No
   pub spared : (fault : WorldFault) → IsUnfailed fault → IsErrOf result fault → PairSame slot.faults old new
   pub steady : OnOk result (PairSame slot.faults old new)
   pub never : (r : ℕ) → IsErrOf result (Occupied r) → ⊥
+  pub keeps : Keeps slot.tells slot.tells_moments slot.seen slot.may_leave slot.moment slot.left_since old new
 
 -- Whatever machine of this member was here before, at rest with this ask noted, and where its disks hold what it had
 -- saved: this world goes on from there, and no more has happened.
@@ -93,5 +95,6 @@ pub record OpensMachine {K D N : Type 0} (keep : Keep K) (disk : Disk D) (slot :
   pub spared : (fault : WorldFault) → IsUnfailed fault → IsErrOf result fault
       → Steady disk.faults old new × PairSame slot.faults slots slots_new
   pub steady : OnOk result (Steady disk.faults old new × PairSame slot.faults slots slots_new)
-  -- It writes no byte to the member's own disks.
+  -- It writes no byte to the member's own disks, and none to those of the note.
   pub rests : (was now : Pair D) → IsNumbered old me was → IsNumbered new me now → PairRests disk was now
+  pub keeps : Keeps slot.tells slot.tells_moments slot.seen slot.may_leave slot.moment slot.left_since slots slots_new

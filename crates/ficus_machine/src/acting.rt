@@ -1,8 +1,9 @@
-ghost use Rattle.std.specs.Prelude.{◌≡◌, IfOk, OnErr};
+ghost use Rattle.std.specs.Prelude.{◌≡◌, ◌⊎◌, IfOk, OnErr};
 ghost use Rattle.ficus_ids.specs.Members.{IsMember};
 ghost use Rattle.ficus_machine.specs.Acting.{Acts, IsAlone};
 ghost use Rattle.ficus_script.specs.Command.{IsCommand, IsStep};
 ghost use Rattle.ficus_world.specs.Disks.{IsBacked};
+ghost use Rattle.ficus_world.specs.Kills.{IsDeedOf, Passes};
 
 use crate::Machine;
 use crate::fault::LineFault;
@@ -29,6 +30,9 @@ impl<K: Keep + Drop> Machine<K> {
         requires alone { IsAlone command.now }
         requires backed { IsBacked K.Keep D.Disk self.old.world disks.old.items }
         ensures acts { Acts K.Keep D.Disk command.now result self.old self.new disks.old.items disks.new.items }
+        ensures passes { Passes (Unit {0}) K.Keep D.Disk (IsDeedOf command.now) self.old.world.whole
+            self.new.world.whole disks.old.items disks.new.items
+            ⊎ ((self.new.world.whole ≡ self.old.world.whole) × (disks.new.items ≡ disks.old.items)) }
     {
         if self.world.history().len() >= EVENT_LIMIT {
             return Err(LineFault::Memory);

@@ -1,9 +1,11 @@
-ghost use Rattle.std.specs.Prelude.{◌≡◌, ◌↔◌, Some, IfNone, IfSome, IsTrue, length};
+ghost use Rattle.std.specs.Prelude.{◌≡◌, ◌↔◌, Some, IfNone, IfSome, IsErrOf, IsTrue, length};
 ghost use Rattle.ficus_ids.specs.Members.{IsMember};
 ghost use Rattle.ficus_machine.specs.Acting.{Acted, AsksNoPeer};
 ghost use Rattle.ficus_machine.specs.Answers.{CommandAnswers, LineAnswers, elsewhere, performer, refused};
 ghost use Rattle.ficus_machine.specs.Line.{Goes};
 ghost use Rattle.ficus_machine.specs.Machine.{IsAtRest};
+ghost use Rattle.ficus_machine.specs.Moments.{LivesTo};
+ghost use Rattle.ficus_machine.specs.declared.fault.LineFault.TheVariants.{Note as NoteFault};
 ghost use Rattle.ficus_member_script.specs.MemberLine.{IsOwnCommand, IsOwnLine};
 ghost use Rattle.ficus_runs.specs.Peers.{ArePeers};
 ghost use Rattle.ficus_script.specs.declared.command.Command.TheVariants.{Ask as AskCommand};
@@ -37,9 +39,11 @@ impl<K: Keep + Drop> Machine<K> {
     ) -> Result<MemberAnswer, LineFault>
         requires rest { IsAtRest K.Keep D.Disk N.Disk self.old disks.old.items slots.old }
         requires line { IsOwnLine line.now }
-        ensures { Goes K.Keep D.Disk N.Disk M.Mailbox (LineAnswers M.Mailbox D.tells self.old.me self.old.tag
+        ensures goes { Goes K.Keep D.Disk N.Disk M.Mailbox (LineAnswers M.Mailbox D.tells self.old.me self.old.tag
             self.new.note.asked self.old.world.whole self.new.world.whole mailbox.old mailbox.new line.now) result
             self.old self.new disks.old.items disks.new.items slots.old slots.new mailbox.old mailbox.new }
+        ensures lives { LivesTo K.Keep D.Disk N.Disk (IsErrOf result NoteFault → ⊥) self.old self.new disks.old.items
+            disks.new.items slots.old slots.new }
     {
         match line {
             MemberLine::Does(command) => self.command(alloc, disks, slots, mailbox, command),
@@ -58,9 +62,11 @@ impl<K: Keep + Drop> Machine<K> {
     ) -> Result<MemberAnswer, LineFault>
         requires rest { IsAtRest K.Keep D.Disk N.Disk self.old disks.old.items slots.old }
         requires command { IsOwnCommand command.now }
-        ensures { Goes K.Keep D.Disk N.Disk M.Mailbox (CommandAnswers M.Mailbox self.old.me self.new.note.asked
+        ensures goes { Goes K.Keep D.Disk N.Disk M.Mailbox (CommandAnswers M.Mailbox self.old.me self.new.note.asked
             self.old.world.whole self.new.world.whole mailbox.old mailbox.new command.now) result self.old self.new
             disks.old.items disks.new.items slots.old slots.new mailbox.old mailbox.new }
+        ensures lives { LivesTo K.Keep D.Disk N.Disk (IsErrOf result NoteFault → ⊥) self.old self.new disks.old.items
+            disks.new.items slots.old slots.new }
     {
         let by = performer(command);
         if by != self.member() {
@@ -84,8 +90,10 @@ impl<K: Keep + Drop> Machine<K> {
         requires command { IsOwnCommand command.now }
         requires own { performer command.now ≡ Some self.old.me }
         requires none { AsksNoPeer (length self.old.world.whole.members) self.old.me command.now }
-        ensures { Acted K.Keep D.Disk N.Disk command.now result self.old self.new disks.old.items disks.new.items
+        ensures acted { Acted K.Keep D.Disk N.Disk command.now result self.old self.new disks.old.items disks.new.items
             slots.old slots.new }
+        ensures lives { LivesTo K.Keep D.Disk N.Disk (IsErrOf result NoteFault → ⊥) self.old self.new disks.old.items
+            disks.new.items slots.old slots.new }
     {
         let answer = self.act(alloc, disks, command)?;
         self.settle_note(slots)?;

@@ -1,4 +1,4 @@
-ghost use Rattle.std.specs.Prelude.{◌≡◌, ◌<◌, ◌-◌, ◌^◌, [], ◌∷◌, false, length, IfNone, IfOk, IfSome};
+ghost use Rattle.std.specs.Prelude.{◌≡◌, ◌⊎◌, ◌<◌, ◌-◌, ◌^◌, [], ◌∷◌, false, length, IfNone, IfOk, IfSome, IsErrOf};
 ghost use Rattle.ficus_ids.specs.declared.refusal.Refusal.{Refusal as RefusalValue};
 ghost use Rattle.ficus_machine.specs.Acting.{Acts};
 ghost use Rattle.ficus_machine.specs.Answers.{CommandAnswers, HasFailed};
@@ -6,7 +6,9 @@ ghost use Rattle.ficus_machine.specs.Asking.{NotesAsk, PreparesAsk};
 ghost use Rattle.ficus_machine.specs.Came.{letter_of};
 ghost use Rattle.ficus_machine.specs.Line.{Goes};
 ghost use Rattle.ficus_machine.specs.Machine.{IsAtRest};
+ghost use Rattle.ficus_machine.specs.Moments.{LivesTo, NotesTo};
 ghost use Rattle.ficus_machine.specs.Posting.{Puts};
+ghost use Rattle.ficus_machine.specs.declared.fault.LineFault.TheVariants.{Note as NoteFault};
 ghost use Rattle.ficus_note.specs.Calls.{IsPrepared, IsReady};
 ghost use Rattle.ficus_script.specs.Command.{IsCommand};
 ghost use Rattle.ficus_script.specs.declared.answer.Answer.TheVariants.{Refused};
@@ -16,6 +18,7 @@ ghost use Rattle.ficus_wire.specs.Message.{FitsMessage};
 ghost use Rattle.ficus_wire.specs.declared.message.Message.TheVariants.{Ask as AskMessage};
 ghost use Rattle.ficus_world.specs.Disks.{IsBacked};
 ghost use Rattle.ficus_world.specs.Hearing.{Awaits};
+ghost use Rattle.ficus_world.specs.Kills.{IsDeedOf, Passes};
 
 use crate::Machine;
 use crate::answering::refused;
@@ -46,15 +49,18 @@ impl<K: Keep + Drop> Machine<K> {
     ) -> Result<MemberAnswer, LineFault>
         requires rest { IsAtRest K.Keep D.Disk N.Disk self.old disks.old.items slots.old }
         requires command { IsCommand (AskCommand self.old.me to) }
-        ensures { Goes K.Keep D.Disk N.Disk M.Mailbox (CommandAnswers M.Mailbox self.old.me self.new.note.asked
+        ensures goes { Goes K.Keep D.Disk N.Disk M.Mailbox (CommandAnswers M.Mailbox self.old.me self.new.note.asked
             self.old.world.whole self.new.world.whole mailbox.old mailbox.new (AskCommand self.old.me to))
             result self.old self.new disks.old.items disks.new.items slots.old slots.new mailbox.old mailbox.new }
+        ensures lives { LivesTo K.Keep D.Disk N.Disk (IsErrOf result NoteFault → ⊥) self.old self.new disks.old.items
+            disks.new.items slots.old slots.new }
     {
         self.prepare_ask(slots)?;
         let answer = self.act_ask(alloc, disks, to)?;
         if let Some(refusal) = refusal_of(answer) {
-            // The world's own link may have failed.
+            // The world's own link may have failed, and an earlier ask may be open still.
             self.renew(alloc);
+            self.settle_note(slots)?;
             return Ok(refused(refusal));
         }
         let asked = self.note_ask(slots)?;
@@ -70,7 +76,8 @@ impl<K: Keep + Drop> Machine<K> {
     // Notes that no ask is open, and takes all that noting one needs.
     fn prepare_ask<N: Disk>(&mut self, slots: &mut Pair<N>) -> Result<(), LineFault>
         requires ready { N.tells → IsReady N.Disk self.old.note slots.old }
-        ensures { PreparesAsk N.Disk result self.old self.new slots.old slots.new }
+        ensures prepares { PreparesAsk N.Disk result self.old self.new slots.old slots.new }
+        ensures notes { NotesTo N.Disk result self.old.note self.new.note slots.old slots.new }
     {
         save_note(&mut self.note, slots, None)?;
         prepare_note(&mut self.note, slots)
@@ -87,6 +94,9 @@ impl<K: Keep + Drop> Machine<K> {
         requires backed { IsBacked K.Keep D.Disk self.old.world disks.old.items }
         ensures acts { Acts K.Keep D.Disk (AskCommand self.old.me to) result self.old self.new disks.old.items
             disks.new.items }
+        ensures passes { Passes (Unit {0}) K.Keep D.Disk (IsDeedOf (AskCommand self.old.me to)) self.old.world.whole
+            self.new.world.whole disks.old.items disks.new.items
+            ⊎ ((self.new.world.whole ≡ self.old.world.whole) × (disks.new.items ≡ disks.old.items)) }
     {
         let command = Command::Ask {
             by: self.member(),
@@ -101,7 +111,8 @@ impl<K: Keep + Drop> Machine<K> {
         requires next { self.old.note.generation < 2 ^ 64 - 1 }
         requires ready { N.tells → IsReady N.Disk self.old.note slots.old }
         requires waits { (ask : AskedValue) × Awaits self.old.world.whole self.old.me ask }
-        ensures { NotesAsk N.Disk result self.old self.new slots.old slots.new }
+        ensures asks { NotesAsk N.Disk result self.old self.new slots.old slots.new }
+        ensures notes { NotesTo N.Disk result self.old.note self.new.note slots.old slots.new }
     {
         let Some(asked) = self.world.open_ask(self.me) else {
             unreachable!()

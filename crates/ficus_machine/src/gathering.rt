@@ -1,13 +1,16 @@
-ghost use Rattle.std.specs.Prelude.{◌≡◌, ◌≢◌, ◌⊎◌, ◌↔◌, ◌<◌, IfOk, IsTrue, length};
+ghost use Rattle.std.specs.Prelude.{◌≡◌, ◌≢◌, ◌⊎◌, ◌↔◌, ◌+◌, ◌<◌, Err, IfOk, IsTrue, None, Ok, Option, false, length};
 ghost use Rattle.ficus_ids.specs.declared.refusal.Refusal.TheVariants.{Memory as OutOfMemory};
-ghost use Rattle.ficus_machine.specs.Answers.{SpellsPiece, sibling, sibling_name};
+ghost use Rattle.ficus_machine.specs.Answers.{SpellsPiece, answered, sibling, sibling_name};
 ghost use Rattle.ficus_machine.specs.Came.{CameIn};
-ghost use Rattle.ficus_machine.specs.Gathering.{ClearsNote, FindsPiece, Gathers, Giving, GivesAt, IsPiece};
+ghost use Rattle.ficus_machine.specs.Gathering.{ClearsNote, CompletesWith, EndsTaking, FindsPiece, Gathers, Giving, GivesAt, HoldsFirst, HoldsOneMore, IsPiece};
 ghost use Rattle.ficus_machine.specs.Machine.{KeepsRest};
-ghost use Rattle.ficus_machine.specs.declared.fault.Halt.TheVariants.{Memory as HaltMemory, Refused as HaltRefused};
+ghost use Rattle.ficus_machine.specs.Moments.{IsOpenIn, LivesTo, NotesTo, Works};
+ghost use Rattle.ficus_machine.specs.declared.fault.Halt.TheVariants.{Memory as HaltMemory, Note as HaltNote, Refused as HaltRefused};
 ghost use Rattle.ficus_mailbox.specs.MessageName.{name_text};
 ghost use Rattle.ficus_note.specs.Calls.{IsReady};
+ghost use Rattle.ficus_note.specs.declared.asked.Asked.{Asked as NotedValue};
 ghost use Rattle.ficus_world.specs.Disks.{IsBacked};
+ghost use Rattle.ficus_world.specs.Hearing.{Awaits};
 
 use crate::Machine;
 use crate::coming::{Coming, what_came};
@@ -42,11 +45,15 @@ impl<K: Keep + Drop> Machine<K> {
     ) -> Result<(), Halt>
         requires backed { IsBacked K.Keep D.Disk self.old.world disks.old.items }
         requires ready { N.tells → IsReady N.Disk self.old.note slots.old }
+        requires waits { Awaits self.old.world.whole self.old.me (answered piece.now.head) }
+        requires noted { IsOpenIn self.old.world.whole self.old.me self.old.note.asked }
         requires piece { IsPiece (length self.old.world.whole.members) self.old.me piece.now }
         requires came { M.tells → CameIn self.old.tag (length self.old.world.whole.members) self.old.me
             (M.given mailbox.old) piece.now.spelled.items }
-        ensures { Gathers K.Keep D.Disk N.Disk M.Mailbox piece.now.head result self.old self.new disks.old.items
+        ensures gathers { Gathers K.Keep D.Disk N.Disk M.Mailbox piece.now.head result self.old self.new disks.old.items
             disks.new.items slots.old slots.new mailbox.old mailbox.new }
+        ensures lives { LivesTo K.Keep D.Disk N.Disk (result ≡ Err HaltNote → ⊥) self.old self.new disks.old.items
+            disks.new.items slots.old slots.new }
     {
         for index in 0..piece.head.pieces {
             if self.give_at(alloc, disks, slots, mailbox, piece, index)? {
@@ -72,8 +79,14 @@ impl<K: Keep + Drop> Machine<K> {
         requires came { M.tells → CameIn self.old.tag (length self.old.world.whole.members) self.old.me
             (M.given mailbox.old) piece.now.spelled.items }
         requires index { index < piece.now.head.pieces }
-        ensures { GivesAt K.Keep D.Disk N.Disk M.Mailbox piece.now.head index result self.old self.new
+        requires held { HoldsFirst self.old.world.whole self.old.me piece.now.head index }
+        requires noted { IsOpenIn self.old.world.whole self.old.me self.old.note.asked }
+        ensures gives { GivesAt K.Keep D.Disk N.Disk M.Mailbox piece.now.head index result self.old self.new
             disks.old.items disks.new.items slots.old slots.new mailbox.old mailbox.new }
+        ensures held { result ≡ Ok false → HoldsFirst self.new.world.whole self.old.me piece.now.head (index + 1) }
+        ensures noted { result ≡ Ok false → IsOpenIn self.new.world.whole self.old.me self.new.note.asked }
+        ensures lives { LivesTo K.Keep D.Disk N.Disk (result ≡ Err HaltNote → ⊥) self.old self.new disks.old.items
+            disks.new.items slots.old slots.new }
     {
         let spelled = self.piece_at(alloc, mailbox, piece, index)?;
         self.clear_note(slots, piece.head, index)?;
@@ -89,7 +102,8 @@ impl<K: Keep + Drop> Machine<K> {
     ) -> Result<(), LineFault>
         requires ready { N.tells → IsReady N.Disk self.old.note slots.old }
         requires index { index < head.pieces }
-        ensures { ClearsNote N.Disk head index result self.old self.new slots.old slots.new }
+        ensures clears { ClearsNote N.Disk head index result self.old self.new slots.old slots.new }
+        ensures notes { NotesTo N.Disk result self.old.note self.new.note slots.old slots.new }
     {
         if index + 1 == head.pieces {
             save_note(&mut self.note, slots, None)?;
@@ -141,6 +155,11 @@ impl<K: Keep + Drop> Machine<K> {
         ensures count { length self.new.world.whole.members ≡ length self.old.world.whole.members }
         ensures backed { IsBacked K.Keep D.Disk self.new.world disks.new.items }
         ensures rest { KeepsRest self.old self.new }
+        ensures whole { EndsTaking result → CompletesWith self.old.world.whole self.old.me head }
+        ensures held { result ≡ Ok false → HoldsOneMore self.old.me head self.old.world.whole self.new.world.whole }
+        ensures works { (noted : Option NotedValue) → IsOpenIn self.old.world.whole self.old.me noted
+            → (EndsTaking result → noted ≡ None) → Works K.Keep D.Disk self.old.me noted self.old.world.whole
+            self.new.world.whole disks.old.items disks.new.items }
     {
         let mail = match self.world.hear(spelled) {
             Ok(mail) => mail,

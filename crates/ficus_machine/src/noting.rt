@@ -1,11 +1,12 @@
-ghost use Rattle.std.specs.Prelude.{◌≡◌, ◌↔◌, IsTrue, None};
-ghost use Rattle.ficus_machine.specs.Machine.{IsRight};
+ghost use Rattle.std.specs.Prelude.{◌≡◌, IfNone, IfSome, None, Some};
+ghost use Rattle.ficus_machine.specs.Machine.{ask_of};
+ghost use Rattle.ficus_machine.specs.Moments.{NotesTo, Noting};
 ghost use Rattle.ficus_machine.specs.Noting.{PreparesNote, SavesNote, SettlesNote};
 ghost use Rattle.ficus_note.specs.Calls.{IsReady};
 
 use crate::Machine;
 use crate::fault::LineFault;
-use crate::machine::ask_of;
+use crate::machine::noted_of;
 use ficus_disk::{Disk, Pair};
 use ficus_keeper::Keep;
 use ficus_note::{Asked as Noted, Note};
@@ -14,7 +15,8 @@ use ficus_replica::Asked;
 /// Takes all that the next save of the note needs. `Note` comes only where no further one can be saved.
 pub(crate) fn prepare_note<N: Disk>(note: &mut Note, slots: &mut Pair<N>) -> Result<(), LineFault>
     requires ready { N.tells → IsReady N.Disk note.old slots.old }
-    ensures { PreparesNote N.Disk result note.old note.new slots.old slots.new }
+    ensures prepares { PreparesNote N.Disk result note.old note.new slots.old slots.new }
+    ensures noting { Noting N.Disk note.old.asked note.old.asked slots.old slots.new }
 {
     if note.is_full() {
         return Err(LineFault::Note);
@@ -30,7 +32,8 @@ pub(crate) fn save_note<N: Disk>(
     noted: Option<Noted>,
 ) -> Result<(), LineFault>
     requires ready { N.tells → IsReady N.Disk note.old slots.old }
-    ensures { SavesNote N.Disk noted result note.old note.new slots.old slots.new }
+    ensures saves { SavesNote N.Disk noted result note.old note.new slots.old slots.new }
+    ensures notes { NotesTo N.Disk result note.old note.new slots.old slots.new }
 {
     if note.asked() == noted {
         return Ok(());
@@ -41,24 +44,24 @@ pub(crate) fn save_note<N: Disk>(
 }
 
 impl<K: Keep + Drop> Machine<K> {
-    /// Notes that no ask is open, where one is noted that isn't.
+    /// Notes the ask that is open, or that none is.
     pub(crate) fn settle_note<N: Disk>(&mut self, slots: &mut Pair<N>) -> Result<(), LineFault>
         requires ready { N.tells → IsReady N.Disk self.old.note slots.old }
-        ensures { SettlesNote N.Disk result self.old self.new slots.old slots.new }
+        ensures settles { SettlesNote N.Disk result self.old self.new slots.old slots.new }
+        ensures notes { NotesTo N.Disk result self.old.note self.new.note slots.old slots.new }
     {
-        if is_right(self.note.asked(), self.world.open_ask(self.me)) {
-            return Ok(());
-        }
-        save_note(&mut self.note, slots, None)
+        save_note(
+            &mut self.note,
+            slots,
+            as_noted(self.world.open_ask(self.me)),
+        )
     }
 }
 
-// Whether what is noted is right, where this ask is open.
-fn is_right(noted: Option<Noted>, asked: Option<Asked>) -> bool
-    ensures { IsTrue result ↔ IsRight noted asked }
+// An ask that is open, as the note has it.
+fn as_noted(asked: Option<Asked>) -> Option<Noted>
+    ensures some { IfSome result (λ noted. asked ≡ Some (ask_of noted)) }
+    ensures none { IfNone result (asked ≡ None) }
 {
-    match noted {
-        None => true,
-        Some(noted) => asked == Some(ask_of(noted)),
-    }
+    asked.map(noted_of)
 }

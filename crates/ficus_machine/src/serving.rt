@@ -1,10 +1,12 @@
-ghost use Rattle.std.specs.Prelude.{◌≡◌, ◌≢◌, ◌<◌, ◌^◌, [], ◌∷◌, List, MatchResult, false, length, map};
+ghost use Rattle.std.specs.Prelude.{◌≡◌, ◌≢◌, ◌<◌, ◌^◌, [], ◌∷◌, List, MatchResult, Option, false, length, map};
 ghost use Rattle.ficus_ids.specs.declared.refusal.Refusal.TheVariants.{Memory as OutOfMemory};
 ghost use Rattle.ficus_machine.specs.Answers.{AskAnswers, refused as declined};
 ghost use Rattle.ficus_machine.specs.Line.{GoesInWorld};
 ghost use Rattle.ficus_machine.specs.Came.{CameIn, letter_of};
+ghost use Rattle.ficus_machine.specs.Moments.{IsOpenIn, Works};
 ghost use Rattle.ficus_machine.specs.Posting.{ArePosted, IsPosted, OnlyFetches, Puts};
 ghost use Rattle.ficus_machine.specs.declared.fault.LineFault.TheVariants.{Memory as LineMemory};
+ghost use Rattle.ficus_note.specs.declared.asked.Asked.{Asked as NotedValue};
 ghost use Rattle.ficus_replica.specs.declared.replica.Replica.{Replica as ReplicaValue};
 ghost use Rattle.ficus_world.specs.Disks.{IsBacked};
 ghost use Rattle.ficus_world.specs.World.{IsReplica};
@@ -50,9 +52,12 @@ impl<K: Keep + Drop> Machine<K> {
         requires to { way.to ≡ self.old.me }
         requires came { M.tells → CameIn self.old.tag (length self.old.world.whole.members) self.old.me
             (M.given mailbox.old) spelled.items }
-        ensures { GoesInWorld K.Keep D.Disk M.Mailbox (AskAnswers M.Mailbox self.old.me self.old.tag way
+        ensures goes { GoesInWorld K.Keep D.Disk M.Mailbox (AskAnswers M.Mailbox self.old.me self.old.tag way
             self.old.world.whole mailbox.old mailbox.new) result self.old self.new disks.old.items disks.new.items
             mailbox.old mailbox.new }
+        ensures works { (noted : Option NotedValue) → IsOpenIn self.old.world.whole self.old.me noted
+            → Works K.Keep D.Disk self.old.me noted self.old.world.whole self.new.world.whole disks.old.items
+            disks.new.items }
     {
         let behind = match self.world.hear(spelled) {
             Ok(mail) => mail,

@@ -1,4 +1,4 @@
-ghost use Rattle.std.specs.Prelude.{◌≡◌, ◌↔◌, ◌⊎◌, Err, IfErr, IfOk, IsTrue, OnOk, length};
+ghost use Rattle.std.specs.Prelude.{◌≡◌, ◌↔◌, ◌⊎◌, Err, IfErr, IfOk, IsErrOf, IsTrue, OnOk, length};
 ghost use Rattle.ficus_ids.specs.Members.{IsMember};
 ghost use Rattle.ficus_ids.specs.declared.refusal.Refusal.TheVariants.{Down as IsDown, Stale as IsStale};
 ghost use Rattle.ficus_machine.specs.Answers.{PieceAnswers, TakeAnswers, answered};
@@ -6,7 +6,9 @@ ghost use Rattle.ficus_machine.specs.Came.{CameIn};
 ghost use Rattle.ficus_machine.specs.Gathering.{IsPiece};
 ghost use Rattle.ficus_machine.specs.Line.{Goes};
 ghost use Rattle.ficus_machine.specs.Machine.{IsAtRest};
+ghost use Rattle.ficus_machine.specs.Moments.{LivesTo, NotesTo};
 ghost use Rattle.ficus_machine.specs.Taking.{Finishes, Undoes};
+ghost use Rattle.ficus_machine.specs.declared.fault.LineFault.TheVariants.{Note as NoteFault};
 ghost use Rattle.ficus_note.specs.Calls.{IsReady};
 ghost use Rattle.ficus_world.specs.Hearing.{Awaits};
 ghost use Rattle.ficus_world.specs.World.{IsUpIn};
@@ -39,9 +41,11 @@ impl<K: Keep + Drop> Machine<K> {
         filed: &[u8],
     ) -> Result<MemberAnswer, LineFault>
         requires rest { IsAtRest K.Keep D.Disk N.Disk self.old disks.old.items slots.old }
-        ensures { Goes K.Keep D.Disk N.Disk M.Mailbox (TakeAnswers M.Mailbox D.tells self.old.me self.old.tag filed.now
-            self.old.world.whole self.new.world.whole mailbox.old mailbox.new) result self.old self.new
+        ensures goes { Goes K.Keep D.Disk N.Disk M.Mailbox (TakeAnswers M.Mailbox D.tells self.old.me self.old.tag
+            filed.now self.old.world.whole self.new.world.whole mailbox.old mailbox.new) result self.old self.new
             disks.old.items disks.new.items slots.old slots.new mailbox.old mailbox.new }
+        ensures lives { LivesTo K.Keep D.Disk N.Disk (IsErrOf result NoteFault → ⊥) self.old self.new disks.old.items
+            disks.new.items slots.old slots.new }
     {
         let found = match mailbox.find(alloc, filed) {
             Ok(found) => found,
@@ -75,9 +79,11 @@ impl<K: Keep + Drop> Machine<K> {
         requires piece { IsPiece (length self.old.world.whole.members) self.old.me piece }
         requires came { M.tells → CameIn self.old.tag (length self.old.world.whole.members) self.old.me
             (M.given mailbox.old) piece.spelled.items }
-        ensures { Goes K.Keep D.Disk N.Disk M.Mailbox (PieceAnswers M.Mailbox D.tells self.old.me self.old.tag
+        ensures goes { Goes K.Keep D.Disk N.Disk M.Mailbox (PieceAnswers M.Mailbox D.tells self.old.me self.old.tag
             piece.head self.old.world.whole self.new.world.whole mailbox.old mailbox.new) result self.old self.new
             disks.old.items disks.new.items slots.old slots.new mailbox.old mailbox.new }
+        ensures lives { LivesTo K.Keep D.Disk N.Disk (IsErrOf result NoteFault → ⊥) self.old self.new disks.old.items
+            disks.new.items slots.old slots.new }
     {
         let asked = match self.awaited(piece.head) {
             Ok(asked) => asked,
@@ -128,7 +134,8 @@ impl<K: Keep + Drop> Machine<K> {
         came_to: Result<MemberAnswer, LineFault>,
     ) -> Result<MemberAnswer, LineFault>
         requires ready { N.tells → OnOk came_to (IsReady N.Disk self.old.note slots.old) }
-        ensures { Finishes N.Disk came_to result self.old self.new slots.old slots.new }
+        ensures finishes { Finishes N.Disk came_to result self.old self.new slots.old slots.new }
+        ensures notes { NotesTo N.Disk result self.old.note self.new.note slots.old slots.new }
     {
         self.renew(alloc);
         let answer = came_to?;
@@ -147,7 +154,8 @@ impl<K: Keep + Drop> Machine<K> {
     ) -> Result<(), LineFault>
         requires ready { N.tells → IsReady N.Disk self.old.note slots.old }
         requires member { IsMember (length self.old.world.whole.members) self.old.me }
-        ensures { Undoes N.Disk asked noted result self.old self.new slots.old slots.new }
+        ensures undoes { Undoes N.Disk asked noted result self.old self.new slots.old slots.new }
+        ensures notes { NotesTo N.Disk result self.old.note self.new.note slots.old slots.new }
     {
         self.world.await_answer(self.me, Some(asked));
         self.renew(alloc);

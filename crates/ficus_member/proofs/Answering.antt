@@ -1,9 +1,9 @@
 -- Lines are answered one after the other.
-use Rattle.std.proofs.Common.{◌≡◌, ◌⊎◌, ℕ, ◌+◌, ◌<◌, List, [], ◌∷◌, ◌++◌, Result, Ok, Err, suc, length, get_or, take, drop, inl, inr, refl, sym, ap, subst, ◌∙◌, append_assoc, drop-cons}
+use Rattle.std.proofs.Common.{◌≡◌, ◌⊎◌, ℕ, ◌+◌, ◌<◌, List, [], ◌∷◌, ◌++◌, Option, Result, Ok, Err, suc, length, get_or, take, drop, inl, inr, refl, sym, ap, subst, ◌∙◌, append_assoc, drop-cons}
 use Rattle.std.proofs.lemmas.Grind.{flat_map-append}
 use Rattle.std.proofs.lemmas.List.{append-nil, take-append-drop, take_more}
 use Rattle.std.proofs.lemmas.Result.{on_ok_weaker}
-use Rattle.std.specs.Prelude.{IsErrOf}
+use Rattle.std.specs.Prelude.{IsErr, IsErrOf}
 use Rattle.ficus_disk.specs.Pair.{PairRose}
 use Rattle.ficus_disk.specs.declared.disk.Disk.{Ghosts as Disk}
 use Rattle.ficus_disk.specs.declared.pair.Pair.{Pair}
@@ -14,6 +14,9 @@ use Rattle.ficus_loop.specs.declared.fault.AnsweringFault.{AnsweringFault}
 use Rattle.ficus_loop.specs.declared.fault.AnsweringFault.TheVariants.{Memory, Sink as SinkFault}
 use Rattle.ficus_machine.specs.Answers.{LineAnswers}
 use Rattle.ficus_machine.specs.Line.{Goes, GoesSomehow}
+use Rattle.ficus_machine.specs.Moments.{Lives, LivesTo, Moment, moment_of}
+use Rattle.ficus_machine.specs.Moments.Lives.{Notes, Then}
+use Rattle.ficus_machine.specs.Moments.Noting.{Rests}
 use Rattle.ficus_machine.specs.Noting.{IsFull}
 use Rattle.ficus_machine.specs.declared.fault.LineFault.{LineFault}
 use Rattle.ficus_machine.specs.declared.fault.LineFault.TheVariants.{Note as LineNote}
@@ -23,6 +26,7 @@ use Rattle.ficus_mailbox.specs.declared.mailbox.Mailbox.{Ghosts as Mailbox}
 use Rattle.ficus_member_script.specs.MemberAnswer.{member_answer_text_of}
 use Rattle.ficus_member_script.specs.declared.member_answer.MemberAnswer.{MemberAnswer}
 use Rattle.ficus_member_script.specs.declared.member_line.MemberLine.{MemberLine}
+use Rattle.ficus_note.specs.declared.asked.Asked.{Asked as Noted}
 use Rattle.ficus_opening.specs.declared.fault.WorldFault.{WorldFault}
 use Rattle.ficus_opening.specs.declared.fault.WorldFault.TheVariants.{Memory as NoMemory, Store}
 use Rattle.ficus_opening.proofs.Faults.{same_err, same_store}
@@ -96,12 +100,57 @@ texts_more was answers answer =
     ∙ sym (flat_map-append member_answer_text_of answers (answer ∷ [])) in
     append_assoc was (texts_of answers) text ∙ ap (λ (texts : List ℕ). was ++ texts) more
 
+module _ {K D N : Type 0} {keep : Keep K} {disk : Disk D} {slot : Disk N} where
+  -- nothing becomes of a machine
+  pub lives_none : (me : ℕ) (moment : Moment D N) → Lives keep disk slot me moment moment
+  lives_none me moment = Notes Rests
+
+  -- what becomes of it then, comes behind
+  pub lives_behind : {old middle new : MachineState K} {disks mid new_disks : List (Pair D)}
+      {slots between new_slots : Pair N} {all_noted : Type 0} → KeepsMachine old middle
+      → Lives keep disk slot old.me (moment_of old disks slots) (moment_of middle mid between)
+      → LivesTo keep disk slot all_noted middle new mid new_disks between new_slots
+      → LivesTo keep disk slot all_noted old new disks new_disks slots new_slots
+  lives_behind {middle = middle} {new = new} {mid = mid} {new_disks = new_disks} {between = between}
+      {new_slots = new_slots} same first then = record {
+        noted = then.noted;
+        is = then.is;
+        lives =
+            Then first
+            (subst (λ (me : ℕ). Lives keep disk slot me (moment_of middle mid between)
+            (record { world = new.world.whole; noted = then.noted; disks = new_disks; slots = new_slots })) same.me
+            then.lives);
+      }
+
+  -- where all was noted, this is what is noted then
+  pub lives_noted : {old new : MachineState K} {disks new_disks : List (Pair D)} {slots new_slots : Pair N}
+      {all_noted : Type 0} → all_noted
+      → LivesTo keep disk slot all_noted old new disks new_disks slots new_slots
+      → Lives keep disk slot old.me (moment_of old disks slots) (moment_of new new_disks new_slots)
+  lives_noted {old} {new} {disks} {new_disks} {slots} {new_slots} all lives =
+      subst (λ (noted : Option Noted). Lives keep disk slot old.me (moment_of old disks slots)
+      (record { world = new.world.whole; noted = noted; disks = new_disks; slots = new_slots })) (sym (lives.is all))
+      lives.lives
+
+  -- the same, where less is said of the one than of the other
+  pub lives_where : {old new : MachineState K} {disks new_disks : List (Pair D)} {slots new_slots : Pair N}
+      {one two : Type 0} → (two → one) → LivesTo keep disk slot one old new disks new_disks slots new_slots
+      → LivesTo keep disk slot two old new disks new_disks slots new_slots
+  lives_where fewer lives = record { noted = lives.noted; is = λ all. lives.is (fewer all); lives = lives.lives }
+
+  -- and where nothing is said of what is noted
+  pub lives_failed : (A : Type 0) {old new : MachineState K} {disks new_disks : List (Pair D)}
+      {slots new_slots : Pair N} {all_noted : Type 0} (fault : Fault)
+      → LivesTo keep disk slot all_noted old new disks new_disks slots new_slots
+      → LivesTo keep disk slot (IsErr {T = A} (Err fault) → ⊥) old new disks new_disks slots new_slots
+  lives_failed A fault lives = lives_where (λ never. absurd (never refl)) lives
+
 module _ {K D N M O : Type 0} {keep : Keep K} {disk : Disk D} {slot : Disk N} {mailbox : Mailbox M}
     {sink : Sink O} where
   -- no line
   pub lines_none : (machine : MachineState K) (disks : List (Pair D)) (slots : Pair N) (there : M) (out : O)
       → IsAtRest keep disk slot machine disks slots
-      → AnswersAll keep disk slot mailbox sink [] machine machine disks slots there there out out
+      → AnswersAll keep disk slot mailbox sink [] machine machine disks disks slots slots there there out out
   lines_none machine disks slots there out rest = record {
     answers = [];
     answered = None;
@@ -109,20 +158,25 @@ module _ {K D N M O : Type 0} {keep : Keep K} {disk : Disk D} {slot : Disk N} {m
     texts = λ tells. sym (append-nil (sink.written out));
     rest = rest;
     same = kept_none machine;
+    lives = lives_none machine.me (moment_of machine disks slots);
   }
 
-  module _ {old middle : MachineState K} {disks : List (Pair D)} {slots : Pair N} {was there : M} {put told : O}
+  module _ {old middle : MachineState K} {disks mid : List (Pair D)} {slots between : Pair N} {was there : M}
+      {put told : O}
       (lines : List MemberLine) (index : ℕ) (line : MemberLine) (within : index < length lines)
       (is : line ≡ get_or lines index line)
-      (first : AnswersAll keep disk slot mailbox sink (take index lines) old middle disks slots was there put
-      told) where
+      (first : AnswersAll keep disk slot mailbox sink (take index lines) old middle disks mid slots between was there
+      put told) where
     -- the first lines, and the next one
     pub lines_more : (new : MachineState K) (new_disks : List (Pair D)) (new_slots : Pair N) (now : M) (out : O)
         → PutsAnswer mailbox disk.tells sink line middle new there now told out
         → GoesSomehow mailbox disk.tells middle.me middle.tag middle.world.whole new.world.whole there now
         → IsAtRest keep disk slot new new_disks new_slots → KeepsMachine middle new
-        → AnswersAll keep disk slot mailbox sink (take (index + 1) lines) old new new_disks new_slots was now put out
-    lines_more new new_disks new_slots now out puts goes rest same = record {
+        → LivesTo keep disk slot (IsErr {T = Unit {0}} {E = Fault} (Ok tt) → ⊥) middle new mid new_disks between
+        new_slots
+        → AnswersAll keep disk slot mailbox sink (take (index + 1) lines) old new disks new_disks slots new_slots was now
+        put out
+    lines_more new new_disks new_slots now out puts goes rest same lives = record {
       answers = first.answers ++ puts.answer ∷ [];
       answered =
           subst (λ (some : List MemberLine). Answered mailbox disk.tells some (first.answers ++ puts.answer ∷ []) old new
@@ -136,15 +190,18 @@ module _ {K D N M O : Type 0} {keep : Keep K} {disk : Disk D} {slot : Disk N} {m
           ∙ texts_more (sink.written put) first.answers puts.answer;
       rest = rest;
       same = kept_then first.same same;
+      lives = lives_noted (λ is. absurd (cc is)) (lives_behind first.same first.lives lives);
     }
 
     -- the first lines, and it ended at the next one
-    pub lines_end : (fault : Fault) (new : MachineState K) (new_disks : List (Pair D)) (now : M) (out : O)
-        → BreaksOff mailbox disk.tells sink line fault middle new there now told out
+    pub lines_end : (fault : Fault) (new : MachineState K) (new_disks : List (Pair D)) (new_slots : Pair N) (now : M)
+        (out : O) {all_noted : Type 0} → BreaksOff mailbox disk.tells sink line fault middle new there now told out
         → GoesSomehow mailbox disk.tells middle.me middle.tag middle.world.whole new.world.whole there now
         → IsBacked keep disk new.world new_disks
-        → AnswersSome keep disk mailbox sink lines fault old new new_disks was now put out
-    lines_end fault new new_disks now out breaks goes backed = record {
+        → LivesTo keep disk slot all_noted middle new mid new_disks between new_slots
+        → TellsOfNote {A = Unit {0}} slot old.me (Err fault) new slots new_slots
+        → AnswersSome keep disk slot mailbox sink lines fault old new disks new_disks slots new_slots was now put out
+    lines_end fault new new_disks new_slots now out breaks goes backed lives tells = record {
       first = take index lines;
       line = line;
       others = drop (suc index) lines;
@@ -161,6 +218,8 @@ module _ {K D N M O : Type 0} {keep : Keep K} {disk : Disk D} {slot : Disk N} {m
       breaks = breaks;
       goes = somehow_then first.same first.goes goes;
       backed = backed;
+      lives = lives_where (λ (none : ⊥). absurd none) (lives_behind first.same first.lives lives);
+      unsaved = λ is. (tells.failed old.me (ap (λ (f : Fault). Err f) is)).1;
     }
 
 -- how a line went
@@ -172,26 +231,37 @@ Went keep disk slot mailbox line result old new disks new_disks slots new_slots 
     old new disks new_disks slots new_slots was now
 
 module _ {K D N M : Type 0} {keep : Keep K} {disk : Disk D} {slot : Disk N} {mailbox : Mailbox M} {line : MemberLine}
-    {old new : MachineState K} {new_disks : List (Pair D)} {slots new_slots : Pair N} {was now : M} where
+    {old new : MachineState K} {disks new_disks : List (Pair D)} {slots new_slots : Pair N} {was now : M} where
   -- the line is answered
-  pub carried : {disks : List (Pair D)} (answer : MemberAnswer)
+  pub carried : (answer : MemberAnswer)
       → Went keep disk slot mailbox line (Ok answer) old new disks new_disks slots new_slots was now
-      → CarriesOutLine keep disk slot mailbox line (Ok answer) old new new_disks slots new_slots was now
-  carried answer goes = record {
-    answers = record { told = goes.told; goes = goes.goes; answers = goes.answers; same = goes.same };
+      → LivesTo keep disk slot (IsErrOf {T = MemberAnswer} (Ok answer) LineNote → ⊥) old new disks new_disks slots
+      new_slots
+      → CarriesOutLine keep disk slot mailbox line (Ok answer) old new disks new_disks slots new_slots was now
+  carried answer goes lives = record {
+    answers = record {
+      told = goes.told;
+      goes = goes.goes;
+      answers = goes.answers;
+      noted = goes.rest.noted;
+      same = goes.same;
+    };
     unanswered = tt;
     goes = record { told = goes.told; goes = goes.goes };
     rest = goes.rest;
     backed = goes.backed;
     same = goes.same;
     note = record { failed = λ r is. absurd (cc is); steady = goes.asks.steady };
+    lives = lives_where (λ never is. absurd (cc is)) lives;
   }
 
   -- memory was refused
-  pub uncarried : {disks : List (Pair D)} {fault : LineFault}
+  pub uncarried : {fault : LineFault} {all_noted : Type 0}
       → Went keep disk slot mailbox line (Err fault) old new disks new_disks slots new_slots was now
-      → CarriesOutLine keep disk slot mailbox line (Err (Answering Memory)) old new new_disks slots new_slots was now
-  uncarried goes = record {
+      → LivesTo keep disk slot all_noted old new disks new_disks slots new_slots
+      → CarriesOutLine keep disk slot mailbox line (Err (Answering Memory)) old new disks new_disks slots new_slots was
+      now
+  uncarried goes lives = record {
     answers = tt;
     unanswered = inl refl;
     goes = record { told = goes.told; goes = goes.goes };
@@ -199,13 +269,16 @@ module _ {K D N M : Type 0} {keep : Keep K} {disk : Disk D} {slot : Disk N} {mai
     backed = goes.backed;
     same = goes.same;
     note = record { failed = λ r is. absurd (cc is); steady = tt };
+    lives = lives_failed MemberAnswer (Answering Memory) lives;
   }
 
   -- the note wasn't saved
-  pub unnoted : {disks : List (Pair D)} (me : ℕ) {fault : LineFault} → me ≡ new.me → fault ≡ LineNote
+  pub unnoted : (me : ℕ) {fault : LineFault} {all_noted : Type 0} → me ≡ new.me → fault ≡ LineNote
       → Went keep disk slot mailbox line (Err fault) old new disks new_disks slots new_slots was now
-      → CarriesOutLine keep disk slot mailbox line (Err (Storing (Store me))) old new new_disks slots new_slots was now
-  unnoted me is note goes =
+      → LivesTo keep disk slot all_noted old new disks new_disks slots new_slots
+      → CarriesOutLine keep disk slot mailbox line (Err (Storing (Store me))) old new disks new_disks slots new_slots was
+      now
+  unnoted me is note goes lives =
       let named : me ≡ old.me = is ∙ goes.same.me in
       record {
         answers = tt;
@@ -218,13 +291,15 @@ module _ {K D N M : Type 0} {keep : Keep K} {disk : Disk D} {slot : Disk N} {mai
           failed = λ r told. (sym (store_number me r told) ∙ named, goes.asks.failed (ap (λ (f : LineFault). Err f) note));
           steady = tt;
         };
+        lives = lives_failed MemberAnswer (Storing (Store me)) lives;
       }
 
   module _ {O : Type 0} {sink : Sink O} {put out : O} where
     -- it isn't answered
     pub unanswered : (fault : Fault)
-        → CarriesOutLine keep disk slot mailbox line (Err fault) old new new_disks slots new_slots was now → out ≡ put
-        → EndsLine keep disk slot mailbox sink line (Err fault) old new new_disks slots new_slots was now put out
+        → CarriesOutLine keep disk slot mailbox line (Err fault) old new disks new_disks slots new_slots was now
+        → out ≡ put
+        → EndsLine keep disk slot mailbox sink line (Err fault) old new disks new_disks slots new_slots was now put out
     unanswered fault carries same = record {
       puts = tt;
       breaks = Unanswered carries.unanswered carries.goes carries.same same;
@@ -233,16 +308,17 @@ module _ {K D N M : Type 0} {keep : Keep K} {disk : Disk D} {slot : Disk N} {mai
       backed = carries.backed;
       same = carries.same;
       note = record { failed = λ r is. carries.note.failed r (fault_as fault (Storing (Store r)) is); steady = tt };
+      lives = carries.lives;
     }
 
     -- its answer isn't put whole
     pub unput : (answer : MemberAnswer) (fault : AnsweringFault)
-        → CarriesOutLine keep disk slot mailbox line (Ok answer) old new new_disks slots new_slots was now
+        → CarriesOutLine keep disk slot mailbox line (Ok answer) old new disks new_disks slots new_slots was now
         → (fault ≡ Memory → out ≡ put)
         → (fault ≡ SinkFault → sink.tells
         → PutsFront (sink.written put) (member_answer_text_of answer) (sink.written out))
-        → EndsLine keep disk slot mailbox sink line (Err (Answering fault)) old new new_disks slots new_slots was now put
-        out
+        → EndsLine keep disk slot mailbox sink line (Err (Answering fault)) old new disks new_disks slots new_slots was now
+        put out
     unput answer fault carries silent front = record {
       puts = tt;
       breaks = how fault silent front;
@@ -251,6 +327,7 @@ module _ {K D N M : Type 0} {keep : Keep K} {disk : Disk D} {slot : Disk N} {mai
       backed = carries.backed;
       same = carries.same;
       note = record { failed = λ r is. absurd (cc is); steady = tt };
+      lives = lives_failed (Unit {0}) (Answering fault) carries.lives;
     } where
       how : (fault : AnsweringFault) → (fault ≡ Memory → out ≡ put)
           → (fault ≡ SinkFault → sink.tells
@@ -261,9 +338,9 @@ module _ {K D N M : Type 0} {keep : Keep K} {disk : Disk D} {slot : Disk N} {mai
 
     -- it is
     pub answered : (answer : MemberAnswer)
-        → CarriesOutLine keep disk slot mailbox line (Ok answer) old new new_disks slots new_slots was now
+        → CarriesOutLine keep disk slot mailbox line (Ok answer) old new disks new_disks slots new_slots was now
         → (sink.tells → sink.written out ≡ sink.written put ++ member_answer_text_of answer)
-        → EndsLine keep disk slot mailbox sink line (Ok tt) old new new_disks slots new_slots was now put out
+        → EndsLine keep disk slot mailbox sink line (Ok tt) old new disks new_disks slots new_slots was now put out
     answered answer carries text = record {
       puts = record { answer = answer; answers = carries.answers; text = text };
       breaks = tt;
@@ -272,6 +349,7 @@ module _ {K D N M : Type 0} {keep : Keep K} {disk : Disk D} {slot : Disk N} {mai
       backed = carries.backed;
       same = carries.same;
       note = record { failed = λ r is. absurd (cc is); steady = carries.note.steady };
+      lives = carries.lives;
     }
 
 -- what is told of the note of calls of which the first left it

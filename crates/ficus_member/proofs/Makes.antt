@@ -12,20 +12,23 @@ use Rattle.ficus_keeper.specs.Pairs.{PairSame}
 use Rattle.ficus_note.specs.Noted.{HoldsNote}
 use Rattle.ficus_opening.specs.Calls.{LooksAt, MakesVolume}
 use Rattle.ficus_opening.specs.Check.Judged.{IsEmptyPair}
-use Rattle.ficus_opening.specs.Opening.{DisksLooked, IsStoreFault, IsUnfailed, SeenSame}
-use Rattle.ficus_opening.specs.Rests.{PairRests}
+use Rattle.ficus_opening.specs.Opening.{AreSynced, DisksLooked, IsStoreFault, IsSynced, IsUnfailed, SeenSame}
+use Rattle.ficus_opening.specs.Rests.{AllRest, PairRests}
 use Rattle.ficus_opening.specs.declared.fault.WorldFault.{WorldFault}
 use Rattle.ficus_opening.specs.declared.fault.WorldFault.TheVariants.{Image, Memory, Occupied, Store}
 use Rattle.ficus_opening.proofs.Asking.{err_as, on_ok}
 use Rattle.ficus_opening.proofs.Faults.{same_err, same_occupied}
 use Rattle.ficus_opening.proofs.Rests.{rests_none}
 use Rattle.ficus_opening.proofs.Steadies.{fault_behind, rose_from, steady_trans}
+use Rattle.ficus_replica.specs.SavedOf.{fresh_saved}
 use Rattle.ficus_runs.specs.Numbered.{IsNumbered}
 use Rattle.ficus_runs.proofs.Numbers.{number_exists}
-use Rattle.ficus_top.specs.Summary.Keeper.{keeper}
+use Rattle.ficus_stable_storage.specs.Leads.Holds.{Holds}
+use Rattle.ficus_top.specs.Making.{volume_of}
+use Rattle.ficus_top.specs.Summary.Keeper.{keeper, kept_in}
 use Rattle.ficus_two_slots.specs.Slots.{kept_in as note_in}
 use Rattle.ficus_words.specs.declared.mode.Size.{Size}
-use Rattle.ficus_member.specs.Making.{BesideFailed, BesideRests, BesideSteady, HoldsTag, IsEmptyAt, IsEmptyBeside, IsFree, LooksBeside, LooksForMember, MakesBeside, MakesMember}
+use Rattle.ficus_member.specs.Making.{BesideFailed, BesideRests, BesideSteady, HoldsTag, IsEmptyAt, IsEmptyBeside, IsFree, LeavesFresh, LeavesNote, LooksBeside, LooksForMember, MakesBeside, MakesMember}
 use Rattle.ficus_member.specs.TagFile.{FileAsked, FileRests, WritesTag}
 use Rattle.ficus_member.specs.declared.beside.Beside.{Beside}
 
@@ -61,6 +64,41 @@ same_then : {D : Type 0} (faults : D → ℕ) {one two three : Pair D} → PairS
     → PairSame faults two three → PairSame faults one three
 same_then faults first second = record { a = second.a ∙ first.a; b = second.b ∙ first.b }
 
+-- on a pair of which a crash leaves no more than before, nothing is unsynced
+synced_still : {D : Type 0} (disk : Disk D) {old new : Pair D} → PairSame disk.seen old new → PairRests disk old new
+    → IsSynced disk.seen disk.may_leave old → IsSynced disk.seen disk.may_leave new
+synced_still disk same rests synced = record {
+  a = λ bytes left. synced.a bytes (rests.within.a bytes left) ∙ sym same.a;
+  b = λ bytes left. synced.b bytes (rests.within.b bytes left) ∙ sym same.b;
+}
+
+-- nor on any of the members up to one
+are_synced_still : {D : Type 0} (disk : Disk D) {old new : List (Pair D)} {count : ℕ} → SeenSame disk.seen old new
+    → AllRest disk old new → AreSynced disk.seen disk.may_leave old count
+    → AreSynced disk.seen disk.may_leave new count
+are_synced_still disk {old} {new} same rests synced = record {
+  each = λ r pair at within.
+      let was = number_exists old r (subst (λ n. IsMember n r) same.count at.member) in
+      synced_still disk (same.each r was.0 pair was.1 at) (rests.each r was.0 pair was.1 at)
+      (synced.each r was.0 was.1 within);
+}
+
+-- what is held and synced, a crash leaves
+fresh_left : {D : Type 0} (disk : Disk D) (size : Size) (me : ℕ) {own : Pair D}
+    → Holds (found_in kept_in disk.seen own) (fresh_saved (volume_of size) me)
+    → IsSynced disk.seen disk.may_leave own → LeavesFresh disk size me own
+fresh_left disk size me {own} holds synced = record {
+  each = λ a b left_a left_b.
+      let fresh = fresh_saved (volume_of size) me in
+      subst (λ (one : List ℕ). Holds (kept_in one b) fresh) (sym (synced.a a left_a))
+      (subst (λ (two : List ℕ). Holds (kept_in (disk.seen own.a) two) fresh) (sym (synced.b b left_b)) holds);
+}
+
+-- both hold where it was done
+both_ok : {A E : Type 0} (P Q : Type 0) (result : Result A E) → OnOk result P → OnOk result Q → OnOk result (P × Q)
+both_ok P Q (Ok done) one two = (one, two)
+both_ok P Q (Err fault) one two = tt
+
 module _ {N : Type 0} {slot : Disk N} where
   pub steady_then : {one two three : Beside N} → BesideSteady slot one two → BesideSteady slot two three
       → BesideSteady slot one three
@@ -82,6 +120,7 @@ module _ {N : Type 0} {slot : Disk N} where
     tag_failed fault wrote = record {
       tagged = λ tells. tt;
       noted = λ tells. tt;
+      durable = λ tells synced. tt;
       order = λ tells. inl refl;
       kinds = wrote.kinds;
       asked = record {
@@ -95,14 +134,17 @@ module _ {N : Type 0} {slot : Disk N} where
     -- it was, and then the note was made, or not
     pub note_tried : (result : Result (Unit {0}) WorldFault) {file : N} {slots : Pair N}
         → (slot.tells → HoldsTag slot tag file) → slot.faults file ≡ slot.faults old.volume
-        → (slot.tells → OnOk result (HoldsNote (found_in note_in slot.seen slots) None)) → IfErr result IsStoreFault
+        → (slot.tells → OnOk result (HoldsNote (found_in note_in slot.seen slots) None))
+        → (slot.tells → IsSynced slot.seen slot.may_leave old.slots → OnOk result (LeavesNote slot None slots))
+        → IfErr result IsStoreFault
         → ((r : ℕ) → IsErrOf result (Store r) → (r ≡ me) × PairRose slot.faults 1 old.slots slots)
         → (IsErrOf result Memory → PairSame slot.faults old.slots slots)
         → OnOk result (PairSame slot.faults old.slots slots)
         → MakesBeside slot me tag result old (record { slots = slots; volume = file })
-    note_tried result {file} {slots} held same noted kinds failed spared steady = record {
+    note_tried result {file} {slots} held same noted durable kinds failed spared steady = record {
       tagged = λ tells. on_ok result (held tells);
       noted = noted;
+      durable = durable;
       order = λ tells. inr (held tells);
       kinds = kinds;
       asked = record {
@@ -145,8 +187,11 @@ module _ {D N : Type 0} {disk : Disk D} {slot : Disk N} {size : Size} {me : ℕ}
     made = λ tells. tt;
     noted = λ tells. tt;
     tagged = λ tells. tt;
+    durable = λ tells synced. tt;
+    durable_note = λ tells synced. tt;
     first = λ tells. inl looks.rests.slots;
     then = λ tells. inl looks.disks;
+    then_durable = λ tells synced. inl looks.disks;
     occupied = looks.occupied;
     occupied_comes = λ disk_tells slot_tells some. turned looks.kinds;
     rests = λ disk_tells slot_tells some. (looks.disks, looks.rests);
@@ -177,8 +222,11 @@ module _ {D N : Type 0} {disk : Disk D} {slot : Disk N} {size : Size} {me : ℕ}
       made = λ tells. tt;
       noted = λ tells. tt;
       tagged = λ tells. tt;
+      durable = λ tells synced. tt;
+      durable_note = λ tells synced. tt;
       first = λ tells. ordered slot tag beside beside_mid beside_new looks.rests.slots (makes.order tells);
       then = λ tells. inl looks.disks;
+      then_durable = λ tells synced. inl looks.disks;
       occupied = λ disk_tells slot_tells is some. not_occupied me fault makes.kinds (same_err fault (Occupied me) is);
       occupied_comes = λ disk_tells slot_tells some. absurd (some (free looks disk_tells slot_tells));
       rests = λ disk_tells slot_tells some. absurd (some (free looks disk_tells slot_tells));
@@ -201,8 +249,16 @@ module _ {D N : Type 0} {disk : Disk D} {slot : Disk N} {size : Size} {me : ℕ}
           on_ok_weaker result (λ made own at. made.each me own at is_member) (makes.made tells);
       noted = λ tells. on_ok result (lies.noted tells);
       tagged = λ tells. on_ok result (lies.tagged tells);
+      durable = λ tells synced.
+          let still = are_synced_still disk (looks.same tells) looks.disks synced in
+          on_ok_weaker result
+          (λ both own at.
+          fresh_left disk size me (both.0.each me own at is_member) (both.1.each me own at is_member.at_most))
+          (both_ok _ _ result (makes.made tells) (makes.synced tells still));
+      durable_note = λ tells synced. on_ok result (lies.durable tells (slots_synced tells synced));
       first = λ tells. ordered slot tag beside beside_mid beside_new looks.rests.slots (lies.order tells);
       then = λ tells. inr (lies.noted tells, lies.tagged tells);
+      then_durable = λ tells synced. inr (lies.durable tells (slots_synced tells synced));
       occupied = λ disk_tells slot_tells is nothing. occupied_at me disk_tells (looks.own disk_tells) is;
       occupied_comes = λ disk_tells slot_tells some. absurd (some (free looks disk_tells slot_tells));
       rests = λ disk_tells slot_tells some. absurd (some (free looks disk_tells slot_tells));
@@ -219,6 +275,14 @@ module _ {D N : Type 0} {disk : Disk D} {slot : Disk N} {size : Size} {me : ℕ}
           )) makes.steady;
       never = makes.never;
     } where
+      slots_synced : slot.tells → IsSynced slot.seen slot.may_leave beside.slots
+          → IsSynced slot.seen slot.may_leave beside_mid.slots
+      slots_synced tells synced =
+          let nothing = looks.lies tells in
+          let same : PairSame slot.seen beside.slots beside_mid.slots =
+          record { a = nothing.1.slots.0 ∙ sym nothing.0.slots.0; b = nothing.1.slots.1 ∙ sym nothing.0.slots.1 } in
+          synced_still slot same looks.rests.slots synced
+
       occupied_at : (q : ℕ) → disk.tells → IsEmptyAt disk.seen old q → IsErrOf result (Occupied q) → ⊥
       occupied_at q tells empty is =
           let first = (makes.occupied tells q is).0 in

@@ -3,16 +3,17 @@ use Rattle.std.proofs.Common.{◌≡◌, ◌⊎◌, ℕ, ◌<◌, ◌≤◌, Lis
 use Rattle.std.proofs.lemmas.Result.{on_ok_weaker}
 use Rattle.std.specs.Prelude.{IfErr, IsErrOf, OnOk}
 use Rattle.ficus_disk.specs.Pair.{PairRose}
+use Rattle.ficus_disk.specs.declared.disk.Disk.{Ghosts as Disk}
 use Rattle.ficus_disk.specs.declared.pair.Pair.{Pair}
 use Rattle.ficus_faults.specs.Faults.{Rose}
 use Rattle.ficus_ids.specs.Members.{IsMember}
+use Rattle.ficus_keeper.specs.Calls.{Keeps}
 use Rattle.ficus_loop.specs.declared.fault.AnsweringFault.TheVariants.{Sink}
 use Rattle.ficus_machine.specs.Machine.{MachineState}
 use Rattle.ficus_machine.specs.Noting.{IsFull}
 use Rattle.ficus_machine.specs.Opening.{OpensMachine}
 use Rattle.ficus_member_script.specs.MemberLine.{IsMemberScript}
 use Rattle.ficus_member_script.specs.declared.member_line.MemberLine.{MemberLine}
-use Rattle.ficus_note.specs.declared.note.Note.{Note}
 use Rattle.ficus_opening.specs.Check.Judged.{IsEmptyPair}
 use Rattle.ficus_opening.specs.Opening.{IsAtFault, IsStoreFault, IsUnfailed, Steady}
 use Rattle.ficus_opening.specs.Rests.{PairRests}
@@ -36,7 +37,8 @@ use Rattle.ficus_member.specs.Lines.{of_member_lines}
 use Rattle.ficus_member.specs.Making.{IsEmptyAt}
 use Rattle.ficus_member.specs.Running.{AnswersFront, EndsEarly, HasFailedAt, OpensIts, RunsScript, StaysUnopened}
 use Rattle.ficus_member.specs.Seen.{Seen, StaysThere, disks_after, disks_before, left_of, script_of}
-use Rattle.ficus_member.specs.TagFile.{ReadsTag}
+use Rattle.ficus_member.specs.TagFile.{FileRests, ReadsTag}
+use Rattle.ficus_member.specs.declared.beside.Beside.{Beside}
 
 -- a count that stays isn't one that rose
 stays : {before now : ℕ} → now ≡ before → before < now → ⊥
@@ -122,12 +124,33 @@ not_stored me fault none (inl (inl is)) = absurd (cc is)
 not_stored me fault none (inl (inr is)) = none (ap stored is)
 not_stored me fault none (inr is) = absurd (cc is)
 
+-- nothing is done to a file, or to a pair of disks
+file_rests : {N : Type 0} (slot : Disk N) (file : N) → FileRests slot file file
+file_rests slot file = record { same = λ tells. refl; within = λ c left. left }
+
+keeps_none : {N : Type 0} (slot : Disk N) (slots : Pair N)
+    → Keeps slot.tells slot.tells_moments slot.seen slot.may_leave slot.moment slot.left_since slots slots
+keeps_none slot slots =
+    let rests = rests_none slot slots in
+    record {
+      same = λ tells. record { a = refl; b = refl };
+      crash = rests.within;
+      moments = rests.leaves;
+      spans = rests.spans;
+    }
+
 -- a source of which something was read hasn't failed
 pub never_rose : {A : Type 0} {before now : ℕ} (read : A) → (before < now → IsErrOf {T = A} (Ok read) Source)
     → before < now → ⊥
 never_rose read told rose = absurd (cc (told rose))
 
 module _ {S K D N M : Type 0} (seen : Seen S K D N M) where
+  -- the first of the lines were answered
+  abbrev Front : List MemberLine → MachineState Keeper → MachineState Keeper → List (Pair D) → Pair N → Fault → Type 0
+  Front lines begun after opened slots fault =
+      AnswersSome keeper seen.disk seen.slot seen.mailbox seen.sink lines fault begun after opened (disks_after seen) slots
+      seen.beside.new.slots seen.mail.old seen.mail.new seen.output.old seen.output.new
+
   takes_script : (lines : List MemberLine)
       → (seen.source.tells → TakesAll (script_of seen) (left_of seen) × IsMemberScript (script_of seen) lines)
       → seen.source.tells → TakesScriptIn of_member_lines (script_of seen) (left_of seen)
@@ -185,6 +208,9 @@ module _ {S K D N M : Type 0} {me : ℕ} (seen : Seen S K D N M) where
     occupied = λ tells q is. absurd (cc is);
     failed = λ r is. absurd (cc is);
     unfailed = λ other unfailed is. absurd (cc is);
+    volume =
+        subst (λ (beside : Beside N). FileRests seen.slot seen.beside.old.volume beside.volume) (sym there.beside)
+        (file_rests seen.slot seen.beside.old.volume);
     answers = tt;
     early = (there, silent);
   }
@@ -223,6 +249,7 @@ module _ {S K D N M : Type 0} {me : ℕ} (seen : Seen S K D N M) where
           volume = reads.asked.spared other spared (ap (λ (f : WorldFault). Err f) (same_stored fault other is));
         },
       );
+      volume = reads.rests;
       answers = tt;
       early = unopened fault (record {
         output = silent;
@@ -231,7 +258,10 @@ module _ {S K D N M : Type 0} {me : ℕ} (seen : Seen S K D N M) where
             let there : IsNumbered (disks_before seen) me now =
             subst (λ disks. IsNumbered disks.items me now) same at_now in
             subst (λ (pair : Pair D). PairRests seen.disk was pair) (number_once at there) (rests_none seen.disk was);
-        volume = reads.rests;
+        slots =
+            subst (λ (pair : Pair N). Keeps seen.slot.tells seen.slot.tells_moments seen.slot.seen seen.slot.may_leave
+            seen.slot.moment seen.slot.left_since seen.beside.old.slots pair)
+            (sym slots) (keeps_none seen.slot seen.beside.old.slots);
       });
     } where
       ended : (fault ≡ Store me) ⊎ (fault ≡ Image me)
@@ -278,12 +308,13 @@ module _ {S K D N M : Type 0} {me : ℕ} (seen : Seen S K D N M) where
         unfailed = λ other unfailed is.
             let same = opens.spared other unfailed (ap (λ (f : WorldFault). Err f) (same_stored fault other is)) in
             (same.0, record { slots = same.1; volume = ap seen.slot.faults lies ∙ reads.asked.steady });
+        volume = rw lies reads.rests;
         answers = tt;
         early = unopened fault (record {
           output = silent;
           mail = unposted;
           own = opens.rests;
-          volume = rw lies reads.rests;
+          slots = opens.keeps;
         });
       } where
         ended : (fault ≡ Image me) ⊎ IsStoreFault fault
@@ -310,10 +341,9 @@ module _ {S K D N M : Type 0} {me : ℕ} (seen : Seen S K D N M) where
           → OpensMachine keeper seen.disk seen.slot me tag (Ok begun) (disks_before seen) opened seen.beside.old.slots
           slots
           → (result : Result (Unit {0}) Fault)
-          → OnOk result (AnswersAll keeper seen.disk seen.slot seen.mailbox seen.sink lines begun after
-          (disks_after seen) seen.beside.new.slots seen.mail.old seen.mail.new seen.output.old seen.output.new)
-          → IfErr result (λ fault. AnswersSome keeper seen.disk seen.mailbox seen.sink lines fault begun after
-          (disks_after seen) seen.mail.old seen.mail.new seen.output.old seen.output.new)
+          → OnOk result (AnswersAll keeper seen.disk seen.slot seen.mailbox seen.sink lines begun after opened
+          (disks_after seen) slots seen.beside.new.slots seen.mail.old seen.mail.new seen.output.old seen.output.new)
+          → IfErr result (λ fault. Front seen lines begun after opened slots fault)
           → IfErr result (IsOfLines begun.me)
           → TellsOfNote seen.slot begun.me result after slots seen.beside.new.slots
           → (IsErrOf result (Answering Sink)
@@ -341,10 +371,14 @@ module _ {S K D N M : Type 0} {me : ℕ} (seen : Seen S K D N M) where
                 absurd (none begun.note.asked opens.fits (begun.note.generation, opens.noted slot_tells));
             occupied = λ tells q is.
                 absurd (opened_of_lines begun.me result kinds (Occupied q) (λ same. absurd (cc same)) is);
-            failed = λ r is. let at = note.failed r is in inr (at.0 ∙ opens.own, inr (kept at.1));
+            failed = λ r is.
+                let at = note.failed r is in
+                let own : r ≡ me = at.0 ∙ opens.own in
+                inr (own, inr (kept (front_at r own is) at.1));
             unfailed = λ other unfailed is.
                 absurd (opened_of_lines begun.me result kinds other
                 (λ store. subst IsUnfailed store unfailed) is);
+            volume = rw lies reads.rests;
             answers = on_ok_weaker result (λ all. record {
               opened = its;
               lines = lines;
@@ -364,16 +398,7 @@ module _ {S K D N M : Type 0} {me : ℕ} (seen : Seen S K D N M) where
               opens = opens;
             }
 
-            kept : PairRose seen.slot.faults 1 slots seen.beside.new.slots ⊎ IsFull after.note
-                → PairRose seen.slot.faults 1 seen.beside.old.slots seen.beside.new.slots ⊎ ((note : Note) × IsFull note)
-            kept (inl rose) =
-                inl (rose_from seen.slot.faults 1 seen.beside.old.slots slots seen.beside.new.slots opens.steady.1 rose)
-            kept (inr full) = inr (after.note, full)
-
-            some : (fault : Fault)
-                → AnswersSome keeper seen.disk seen.mailbox seen.sink lines fault begun after (disks_after seen)
-                seen.mail.old seen.mail.new seen.output.old seen.output.new
-                → AnswersFront fault me seen
+            some : (fault : Fault) → Front seen lines begun after opened slots fault → AnswersFront fault me seen
             some fault first = record {
               opened = its;
               lines = lines;
@@ -381,6 +406,22 @@ module _ {S K D N M : Type 0} {me : ℕ} (seen : Seen S K D N M) where
               after = after;
               answers = first;
             }
+
+            -- the lines before the one for which the note wasn't saved
+            front_at : (r : ℕ) → r ≡ me → IsErrOf result (Storing (Store r))
+                → Front seen lines begun after opened slots (Storing (Store me))
+            front_at r own is =
+                subst (λ (n : ℕ). Front seen lines begun after opened slots (Storing (Store n))) own
+                (subst (λ (ended : Result (Unit {0}) Fault).
+                IfErr ended (λ fault. Front seen lines begun after opened slots fault)) is front)
+
+            kept : Front seen lines begun after opened slots (Storing (Store me))
+                → PairRose seen.slot.faults 1 slots seen.beside.new.slots ⊎ IsFull after.note
+                → PairRose seen.slot.faults 1 seen.beside.old.slots seen.beside.new.slots
+                ⊎ ((done : AnswersFront (Storing (Store me)) me seen) × IsFull done.after.note)
+            kept first (inl rose) =
+                inl (rose_from seen.slot.faults 1 seen.beside.old.slots slots seen.beside.new.slots opens.steady.1 rose)
+            kept first (inr full) = inr (some (Storing (Store me)) first, full)
 
             early_of : (fault : Fault) → IsOfLines begun.me fault → AnswersFront fault me seen → EndsEarly me seen fault
             early_of (Words fault) kinds front_of = absurd (not_words begun.me fault kinds)
@@ -395,8 +436,7 @@ module _ {S K D N M : Type 0} {me : ℕ} (seen : Seen S K D N M) where
             early_of (Answering fault) kinds front_of = front_of
 
             ended : (result : Result (Unit {0}) Fault) → IfErr result (IsOfLines begun.me)
-                → IfErr result (λ fault. AnswersSome keeper seen.disk seen.mailbox seen.sink lines fault begun after
-                (disks_after seen) seen.mail.old seen.mail.new seen.output.old seen.output.new)
+                → IfErr result (λ fault. Front seen lines begun after opened slots fault)
                 → IfErr result (EndsEarly me seen)
             ended (Ok done) kinds front = tt
             ended (Err fault) kinds front = early_of fault kinds (some fault front)

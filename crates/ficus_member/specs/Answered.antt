@@ -1,5 +1,5 @@
 -- What the lines of a script come to on a machine, and what is put of it.
-use Rattle.std.specs.Prelude.{◌≡◌, ◌⊎◌, ℕ, List, [], ◌∷◌, ◌++◌, Result, IfErr, IfOk, IsErrOf, OnOk}
+use Rattle.std.specs.Prelude.{◌≡◌, ◌⊎◌, ℕ, List, [], ◌∷◌, ◌++◌, Result, IfErr, IfOk, IsErr, IsErrOf, OnOk}
 use Rattle.ficus_disk.specs.Pair.{PairRose}
 use Rattle.ficus_disk.specs.declared.disk.Disk.{Ghosts as Disk}
 use Rattle.ficus_disk.specs.declared.pair.Pair.{Pair}
@@ -9,7 +9,8 @@ use Rattle.ficus_loop.specs.Puts.{PutsFront}
 use Rattle.ficus_loop.specs.declared.fault.AnsweringFault.TheVariants.{Memory, Sink as SinkFault}
 use Rattle.ficus_machine.specs.Answers.{LineAnswers}
 use Rattle.ficus_machine.specs.Line.{GoesOn, GoesSomehow}
-use Rattle.ficus_machine.specs.Machine.{IsAtRest, KeepsMachine, MachineState}
+use Rattle.ficus_machine.specs.Machine.{IsAtRest, IsNoted, KeepsMachine, MachineState}
+use Rattle.ficus_machine.specs.Moments.{Lives, LivesTo, moment_of}
 use Rattle.ficus_machine.specs.Noting.{IsFull}
 use Rattle.ficus_mailbox.specs.declared.mailbox.Mailbox.{Ghosts as Mailbox}
 use Rattle.ficus_member_script.specs.MemberAnswer.{member_answer_text_of}
@@ -31,6 +32,7 @@ module _ {K M : Type 0} (mailbox : Mailbox M) (disks_tell : Type 0) where
     pub goes : GoesOn mailbox disks_tell old.me old.tag told old.world.whole new.world.whole was now
     pub answers : LineAnswers mailbox disks_tell old.me old.tag new.note.asked old.world.whole new.world.whole was now
         line told answer
+    pub noted : IsNoted new.world.whole new.me new.note.asked
     pub same : KeepsMachine old new
 
   -- Line by line, the lines have these answers, one each, and lead from the one machine to the other.
@@ -66,8 +68,8 @@ IsOfLines me fault = IsUnanswered me fault ⊎ (fault ≡ Answering SinkFault)
 
 -- A line is carried out.
 pub record CarriesOutLine {K D N M : Type 0} (keep : Keep K) (disk : Disk D) (slot : Disk N) (mailbox : Mailbox M)
-    (line : MemberLine) (result : Result MemberAnswer Fault) (old new : MachineState K) (new_disks : List (Pair D))
-    (slots new_slots : Pair N) (was now : M) : Type 0 where
+    (line : MemberLine) (result : Result MemberAnswer Fault) (old new : MachineState K)
+    (disks new_disks : List (Pair D)) (slots new_slots : Pair N) (was now : M) : Type 0 where
   pub answers : IfOk result (λ answer. AnswersLine mailbox disk.tells line answer old new was now)
   pub unanswered : IfErr result (IsUnanswered old.me)
   pub goes : GoesSomehow mailbox disk.tells old.me old.tag old.world.whole new.world.whole was now
@@ -75,18 +77,21 @@ pub record CarriesOutLine {K D N M : Type 0} (keep : Keep K) (disk : Disk D) (sl
   pub backed : IsBacked keep disk new.world new_disks
   pub same : KeepsMachine old new
   pub note : TellsOfNote slot old.me result new slots new_slots
+  pub lives : LivesTo keep disk slot (IsErr result → ⊥) old new disks new_disks slots new_slots
 
 -- All lines are answered, and the texts of the answers were put, in order, and nothing else. The whole is what one
 -- machine does alone. All is as between lines then.
 pub record AnswersAll {K D N M O : Type 0} (keep : Keep K) (disk : Disk D) (slot : Disk N) (mailbox : Mailbox M)
-    (sink : Sink O) (lines : List MemberLine) (old new : MachineState K) (new_disks : List (Pair D))
-    (new_slots : Pair N) (was now : M) (put out : O) : Type 0 where
+    (sink : Sink O) (lines : List MemberLine) (old new : MachineState K) (disks new_disks : List (Pair D))
+    (slots new_slots : Pair N) (was now : M) (put out : O) : Type 0 where
   pub answers : List MemberAnswer
   pub answered : Answered mailbox disk.tells lines answers old new was now
   pub goes : GoesSomehow mailbox disk.tells old.me old.tag old.world.whole new.world.whole was now
   pub texts : sink.tells → sink.written out ≡ sink.written put ++ texts_of answers
   pub rest : IsAtRest keep disk slot new new_disks new_slots
   pub same : KeepsMachine old new
+  -- What is done to the disks and to the note at each moment of it, so that a kill at any of them is known.
+  pub lives : Lives keep disk slot old.me (moment_of old disks slots) (moment_of new new_disks new_slots)
 
 -- How it ended at a line with this fault.
 pub data BreaksOff {K M O : Type 0} (mailbox : Mailbox M) (disks_tell : Type 0) (sink : Sink O) (line : MemberLine)
@@ -107,9 +112,9 @@ pub data BreaksOff {K M O : Type 0} (mailbox : Mailbox M) (disks_tell : Type 0) 
 
 -- The first of the lines are answered, and the texts of the answers were put; it ended at the one behind them. The
 -- whole is what one machine does alone, and the disks stand under its world.
-pub record AnswersSome {K D M O : Type 0} (keep : Keep K) (disk : Disk D) (mailbox : Mailbox M) (sink : Sink O)
-    (lines : List MemberLine) (fault : Fault) (old new : MachineState K) (new_disks : List (Pair D)) (was now : M)
-    (put out : O) : Type 0 where
+pub record AnswersSome {K D N M O : Type 0} (keep : Keep K) (disk : Disk D) (slot : Disk N) (mailbox : Mailbox M)
+    (sink : Sink O) (lines : List MemberLine) (fault : Fault) (old new : MachineState K)
+    (disks new_disks : List (Pair D)) (slots new_slots : Pair N) (was now : M) (put out : O) : Type 0 where
   pub first : List MemberLine
   pub line : MemberLine
   pub others : List MemberLine
@@ -123,11 +128,15 @@ pub record AnswersSome {K D M O : Type 0} (keep : Keep K) (disk : Disk D) (mailb
   pub breaks : BreaksOff mailbox disk.tells sink line fault middle new there now told out
   pub goes : GoesSomehow mailbox disk.tells old.me old.tag old.world.whole new.world.whole was now
   pub backed : IsBacked keep disk new.world new_disks
+  -- What is done to the disks and to the note at each moment of it.
+  pub lives : LivesTo keep disk slot ⊥ old new disks new_disks slots new_slots
+  -- Where the note wasn't saved, a disk of it has failed, or no further one can be saved.
+  pub unsaved : fault ≡ Storing (Store old.me) → PairRose slot.faults 1 slots new_slots ⊎ IsFull new.note
 
 -- A line is carried out, and the text of its answer put; or it ended there.
 pub record EndsLine {K D N M O : Type 0} (keep : Keep K) (disk : Disk D) (slot : Disk N) (mailbox : Mailbox M)
     (sink : Sink O) (line : MemberLine) (result : Result (Unit {0}) Fault) (old new : MachineState K)
-    (new_disks : List (Pair D)) (slots new_slots : Pair N) (was now : M) (put out : O) : Type 0 where
+    (disks new_disks : List (Pair D)) (slots new_slots : Pair N) (was now : M) (put out : O) : Type 0 where
   pub puts : OnOk result (PutsAnswer mailbox disk.tells sink line old new was now put out)
   pub breaks : IfErr result (λ fault. BreaksOff mailbox disk.tells sink line fault old new was now put out)
   pub goes : GoesSomehow mailbox disk.tells old.me old.tag old.world.whole new.world.whole was now
@@ -135,3 +144,4 @@ pub record EndsLine {K D N M O : Type 0} (keep : Keep K) (disk : Disk D) (slot :
   pub backed : IsBacked keep disk new.world new_disks
   pub same : KeepsMachine old new
   pub note : TellsOfNote slot old.me result new slots new_slots
+  pub lives : LivesTo keep disk slot (IsErr result → ⊥) old new disks new_disks slots new_slots

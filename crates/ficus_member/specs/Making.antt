@@ -1,5 +1,5 @@
 -- What it means that a member is made.
-use Rattle.std.specs.Prelude.{◌≡◌, ◌≢◌, ◌⊎◌, ◌↔◌, ℕ, Bool, List, [], None, Result, IfErr, IfOk, IsErrAnd, IsErrOf, IsTrue, OnOk}
+use Rattle.std.specs.Prelude.{◌≡◌, ◌≢◌, ◌⊎◌, ◌↔◌, ℕ, Bool, List, [], Option, None, Result, IfErr, IfOk, IsErrAnd, IsErrOf, IsTrue, OnOk}
 use Rattle.ficus_disk.specs.Crash.{Only}
 use Rattle.ficus_disk.specs.Pair.{PairRose}
 use Rattle.ficus_disk.specs.declared.disk.Disk.{Ghosts as Disk}
@@ -8,8 +8,9 @@ use Rattle.ficus_faults.specs.Faults.{Rose}
 use Rattle.ficus_keeper.specs.Kept.{found_in}
 use Rattle.ficus_keeper.specs.Pairs.{PairSame}
 use Rattle.ficus_note.specs.Noted.{HoldsNote}
+use Rattle.ficus_note.specs.declared.asked.Asked.{Asked as Noted}
 use Rattle.ficus_opening.specs.Check.Judged.{IsEmptyPair}
-use Rattle.ficus_opening.specs.Opening.{IsAtFault, IsStoreFault, IsUnfailed, SeenSame, Steady}
+use Rattle.ficus_opening.specs.Opening.{AreSynced, IsAtFault, IsStoreFault, IsSynced, IsUnfailed, SeenSame, Steady}
 use Rattle.ficus_opening.specs.Rests.{AllRest, PairRests}
 use Rattle.ficus_opening.specs.declared.fault.WorldFault.{WorldFault}
 use Rattle.ficus_opening.specs.declared.fault.WorldFault.TheVariants.{Image, Memory, Occupied, Store}
@@ -26,6 +27,15 @@ use Rattle.ficus_member.specs.declared.beside.Beside.{Beside}
 -- the disks of the member of this number hold nothing
 abbrev pub IsEmptyAt : {D : Type 0} → (D → List ℕ) → List (Pair D) → ℕ → Type 0
 IsEmptyAt {D} seen disks me = (own : Pair D) → IsNumbered disks me own → IsEmptyPair seen own
+
+-- whatever a crash leaves of the pair, it holds what this member saves before anything has happened
+pub record LeavesFresh {D : Type 0} (disk : Disk D) (size : Size) (me : ℕ) (own : Pair D) : Type 0 where
+  pub each : (a b : List ℕ) → disk.may_leave own.a a → disk.may_leave own.b b
+      → Holds (kept_in a b) (fresh_saved (volume_of size) me)
+
+-- whatever a crash leaves of the note, it is this
+pub record LeavesNote {N : Type 0} (slot : Disk N) (noted : Option Noted) (slots : Pair N) : Type 0 where
+  pub each : (a b : List ℕ) → slot.may_leave slots.a a → slot.may_leave slots.b b → HoldsNote (note_in a b) noted
 
 module _ {N : Type 0} (slot : Disk N) where
   -- nothing lies beside them
@@ -73,6 +83,9 @@ module _ {N : Type 0} (slot : Disk N) where
       Type 0 where
     pub tagged : slot.tells → OnOk result (HoldsTag tag new.volume)
     pub noted : slot.tells → OnOk result (HoldsNote (found_in note_in slot.seen new.slots) None)
+    -- Where nothing of the note was unsynced, no crash loses it.
+    pub durable : slot.tells → IsSynced slot.seen slot.may_leave old.slots
+        → OnOk result (LeavesNote slot None new.slots)
     pub order : slot.tells → (new.slots ≡ old.slots) ⊎ HoldsTag tag new.volume
     pub kinds : IfErr result IsStoreFault
     pub asked : BesideAsked me result old new
@@ -109,11 +122,18 @@ module _ {D N : Type 0} (disk : Disk D) (slot : Disk N) where
         → Holds (found_in kept_in disk.seen own) (fresh_saved (volume_of size) me))
     pub noted : slot.tells → OnOk result (HoldsNote (found_in note_in slot.seen beside_new.slots) None)
     pub tagged : slot.tells → OnOk result (HoldsTag slot tag beside_new.volume)
+    -- Where nothing was unsynced, no crash loses what the disks and the note hold.
+    pub durable : disk.tells → AreSynced disk.seen disk.may_leave old size.members
+        → OnOk result ((own : Pair D) → IsNumbered new me own → LeavesFresh disk size me own)
+    pub durable_note : slot.tells → IsSynced slot.seen slot.may_leave beside.slots
+        → OnOk result (LeavesNote slot None beside_new.slots)
     -- In this order: the note isn't touched before the file holds the tag, and nothing is written on the member's disks
     -- before there are both.
     pub first : slot.tells → PairRests slot beside.slots beside_new.slots ⊎ HoldsTag slot tag beside_new.volume
     pub then : slot.tells → AllRest disk old new
         ⊎ (HoldsNote (found_in note_in slot.seen beside_new.slots) None × HoldsTag slot tag beside_new.volume)
+    pub then_durable : slot.tells → IsSynced slot.seen slot.may_leave beside.slots
+        → AllRest disk old new ⊎ LeavesNote slot None beside_new.slots
     -- `Occupied` of it comes exactly where something is there of it. Then nothing is written.
     pub occupied : disk.tells → slot.tells → IsErrOf result (Occupied me) → IsFree me old beside → ⊥
     pub occupied_comes : disk.tells → slot.tells → (IsFree me old beside → ⊥)

@@ -4,6 +4,7 @@ use Rattle.ficus_disk.specs.Pair.{PairRose}
 use Rattle.ficus_disk.specs.declared.disk.Disk.{Ghosts as Disk}
 use Rattle.ficus_disk.specs.declared.pair.Pair.{Pair}
 use Rattle.ficus_faults.specs.Faults.{Rose}
+use Rattle.ficus_keeper.specs.Calls.{Keeps}
 use Rattle.ficus_keeper.specs.Kept.{found_in}
 use Rattle.ficus_machine.specs.Machine.{MachineState}
 use Rattle.ficus_machine.specs.Noting.{IsFull}
@@ -12,7 +13,6 @@ use Rattle.ficus_member_script.specs.MemberLine.{IsMemberScript}
 use Rattle.ficus_member_script.specs.declared.member_line.MemberLine.{MemberLine}
 use Rattle.ficus_note.specs.Noted.{FitsNote, HoldsNote}
 use Rattle.ficus_note.specs.declared.asked.Asked.{Asked as Noted}
-use Rattle.ficus_note.specs.declared.note.Note.{Note}
 use Rattle.ficus_opening.specs.Check.Judged.{HoldsNoneOf}
 use Rattle.ficus_opening.specs.Opening.{IsAtFault, IsUnfailed, Steady}
 use Rattle.ficus_opening.specs.Rests.{PairRests}
@@ -63,7 +63,8 @@ module _ {S K D N M : Type 0} where
     pub script : seen.source.tells → IsMemberScript (script_of seen) lines
     pub after : MachineState Keeper
     pub answers : AnswersAll keeper seen.disk seen.slot seen.mailbox seen.sink lines opened.begun after
-        (disks_after seen) seen.beside.new.slots seen.mail.old seen.mail.new seen.output.old seen.output.new
+        opened.disks (disks_after seen) opened.slots seen.beside.new.slots seen.mail.old seen.mail.new
+        seen.output.old seen.output.new
 
   -- It was opened, and the first lines of the script were answered on it.
   pub record AnswersFront (fault : Fault) (me : ℕ) (seen : Seen S K D N M) : Type 0 where
@@ -71,17 +72,19 @@ module _ {S K D N M : Type 0} where
     pub lines : List MemberLine
     pub script : seen.source.tells → IsMemberScript (script_of seen) lines
     pub after : MachineState Keeper
-    pub answers : AnswersSome keeper seen.disk seen.mailbox seen.sink lines fault opened.begun after
-        (disks_after seen) seen.mail.old seen.mail.new seen.output.old seen.output.new
+    pub answers : AnswersSome keeper seen.disk seen.slot seen.mailbox seen.sink lines fault opened.begun after
+        opened.disks (disks_after seen) opened.slots seen.beside.new.slots seen.mail.old seen.mail.new
+        seen.output.old seen.output.new
 
   -- No line was carried out: nothing is put, neither an answer nor a message, and nothing is written on the member's
-  -- own disks and to the file of the tag.
+  -- own disks and on those of the note.
   pub record StaysUnopened (me : ℕ) (seen : Seen S K D N M) : Type 0 where
     pub output : seen.output.new ≡ seen.output.old
     pub mail : seen.mail.new ≡ seen.mail.old
     pub own : (was now : Pair D) → IsNumbered (disks_before seen) me was → IsNumbered (disks_after seen) me now
         → PairRests seen.disk was now
-    pub volume : FileRests seen.slot seen.beside.old.volume seen.beside.new.volume
+    pub slots : Keeps seen.slot.tells seen.slot.tells_moments seen.slot.seen seen.slot.may_leave seen.slot.moment
+        seen.slot.left_since seen.beside.old.slots seen.beside.new.slots
 
   -- What is known where it ended with this fault.
   abbrev pub EndsEarly : ℕ → Seen S K D N M → Fault → Type 0
@@ -99,7 +102,8 @@ module _ {S K D N M : Type 0} where
   HasFailedAt me seen r =
       IsAtFault seen.disk.faults (disks_before seen) (disks_after seen) r
       ⊎ ((r ≡ me) × (Rose (seen.slot.faults seen.beside.old.volume) (seen.slot.faults seen.beside.new.volume)
-      ⊎ PairRose seen.slot.faults 1 seen.beside.old.slots seen.beside.new.slots ⊎ ((note : Note) × IsFull note)))
+      ⊎ PairRose seen.slot.faults 1 seen.beside.old.slots seen.beside.new.slots
+      ⊎ ((front : AnswersFront (Storing (Store me)) me seen) × IsFull front.after.note)))
 
   -- The script is run for member `me`, and it ended so.
   pub record RunsScript (me : ℕ) (seen : Seen S K D N M) (ended : Result (Unit {0}) Fault) : Type 0 where
@@ -128,6 +132,8 @@ module _ {S K D N M : Type 0} where
     pub unfailed : (fault : WorldFault) → IsUnfailed fault → IsErrOf ended (Storing fault)
         → Steady seen.disk.faults (disks_before seen) (disks_after seen)
         × BesideSteady seen.slot seen.beside.old seen.beside.new
+    -- Nothing is written to the file of the tag.
+    pub volume : FileRests seen.slot seen.beside.old.volume seen.beside.new.volume
     -- What was answered.
     pub answers : OnOk ended (AnswersScript me seen)
     pub early : IfErr ended (EndsEarly me seen)

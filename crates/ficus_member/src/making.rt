@@ -3,11 +3,11 @@ ghost use Rattle.ficus_ids.specs.Members.{IsMember};
 ghost use Rattle.ficus_keeper.specs.Kept.{found_in};
 ghost use Rattle.ficus_keeper.specs.Pairs.{PairSame};
 ghost use Rattle.ficus_disk.specs.Pair.{PairRose};
-ghost use Rattle.ficus_member.specs.Making.{IsEmptyAt, IsEmptyBeside, LooksBeside, LooksForMember, MakesBeside, MakesMember};
+ghost use Rattle.ficus_member.specs.Making.{IsEmptyAt, IsEmptyBeside, LeavesNote, LooksBeside, LooksForMember, MakesBeside, MakesMember};
 ghost use Rattle.ficus_member.specs.TagFile.{FileAsked, FileRests};
 ghost use Rattle.ficus_note.specs.Noted.{HoldsNote};
 ghost use Rattle.ficus_opening.specs.Check.Judged.{IsEmptyPair};
-ghost use Rattle.ficus_opening.specs.Opening.{DisksLooked, IsStoreFault};
+ghost use Rattle.ficus_opening.specs.Opening.{DisksLooked, IsStoreFault, IsSynced};
 ghost use Rattle.ficus_top.specs.Making.{FitsSize};
 ghost use Rattle.ficus_two_slots.specs.Slots.{kept_in};
 
@@ -132,6 +132,7 @@ fn make_beside<N: Disk + Drop>(
 fn make_note<N: Disk>(alloc: Global, slots: &mut Pair<N>, me: u8) -> Result<(), WorldFault>
     requires empty { N.tells → IsEmptyPair N.seen slots.old }
     ensures noted { N.tells → OnOk result (HoldsNote (found_in kept_in N.seen slots.new) None) }
+    ensures durable { N.tells → IsSynced N.seen N.may_leave slots.old → OnOk result (LeavesNote N.Disk None slots.new) }
     ensures kinds { IfErr result IsStoreFault }
     ensures failed { (r : ℕ) → IsErrOf result (WorldFault.Store r)
         → (r ≡ me) × PairRose N.faults 1 slots.old slots.new }

@@ -86,9 +86,10 @@ fn answer_lines<K: Sink, P: Keep + Drop, D: Disk, N: Disk, M: Mailbox>(
     requires rest { IsAtRest P.Keep D.Disk N.Disk machine.old disks.old.items slots.old }
     requires lines { All IsOwnLine lines.now }
     ensures answers { OnOk result (AnswersAll P.Keep D.Disk N.Disk M.Mailbox K.Sink lines.now machine.old machine.new
-        disks.new.items slots.new mailbox.old mailbox.new output.old output.new) }
-    ensures front { IfErr result (λ fault. AnswersSome P.Keep D.Disk M.Mailbox K.Sink lines.now fault machine.old
-        machine.new disks.new.items mailbox.old mailbox.new output.old output.new) }
+        disks.old.items disks.new.items slots.old slots.new mailbox.old mailbox.new output.old output.new) }
+    ensures front { IfErr result (λ fault. AnswersSome P.Keep D.Disk N.Disk M.Mailbox K.Sink lines.now fault
+        machine.old machine.new disks.old.items disks.new.items slots.old slots.new mailbox.old mailbox.new output.old
+        output.new) }
     ensures kinds { IfErr result (IsOfLines machine.old.me) }
     ensures note { TellsOfNote N.Disk machine.old.me result machine.new slots.old slots.new }
     ensures write_fault { IsErrOf result (Fault.Answering AnsweringFault.Sink)
@@ -116,7 +117,7 @@ fn answer_line<K: Sink, P: Keep + Drop, D: Disk, N: Disk, M: Mailbox>(
     requires rest { IsAtRest P.Keep D.Disk N.Disk machine.old disks.old.items slots.old }
     requires line { IsOwnLine line.now }
     ensures ends { EndsLine P.Keep D.Disk N.Disk M.Mailbox K.Sink line.now result machine.old machine.new
-        disks.new.items slots.old slots.new mailbox.old mailbox.new output.old output.new }
+        disks.old.items disks.new.items slots.old slots.new mailbox.old mailbox.new output.old output.new }
     ensures kinds { IfErr result (IsOfLines machine.old.me) }
     ensures write_fault { IsErrOf result (Fault.Answering AnsweringFault.Sink)
         → Rose (K.faults output.old) (K.faults output.new) }
@@ -140,8 +141,8 @@ fn carried_out<P: Keep + Drop, D: Disk, N: Disk, M: Mailbox>(
 ) -> Result<MemberAnswer, Fault>
     requires rest { IsAtRest P.Keep D.Disk N.Disk machine.old disks.old.items slots.old }
     requires line { IsOwnLine line.now }
-    ensures { CarriesOutLine P.Keep D.Disk N.Disk M.Mailbox line.now result machine.old machine.new disks.new.items
-        slots.old slots.new mailbox.old mailbox.new }
+    ensures { CarriesOutLine P.Keep D.Disk N.Disk M.Mailbox line.now result machine.old machine.new disks.old.items
+        disks.new.items slots.old slots.new mailbox.old mailbox.new }
 {
     match machine.carry_out(alloc, disks, slots, mailbox, line) {
         Ok(answer) => Ok(answer),

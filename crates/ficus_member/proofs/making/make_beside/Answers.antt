@@ -13,4 +13,4 @@ returns g c =
     let made = c.make_note.ensures in
     note_tried c.make_note.result
     (λ tells. record { written = wrote.written tells; durable = wrote.durable tells }) wrote.asked.steady made.noted
-    made.kinds made.failed made.spared made.steady
+    made.durable made.kinds made.failed made.spared made.steady

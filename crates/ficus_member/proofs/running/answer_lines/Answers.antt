@@ -23,7 +23,7 @@ loop-line-preserved g c =
     record {
       answers = lines_more c.args.lines.now c.loop-line.line-index c.line-item.result c.loop-line-test.true c.line-item.is
           was.answers c.answer_line.new.machine c.answer_line.new.disks.items c.answer_line.new.slots
-          c.answer_line.new.mailbox c.answer_line.new.output ends.puts ends.goes ends.rest ends.same;
+          c.answer_line.new.mailbox c.answer_line.new.output ends.puts ends.goes ends.rest ends.same ends.lives;
       slots = record { a = ends.note.steady.a ∙ was.slots.a; b = ends.note.steady.b ∙ was.slots.b };
       sink = untold _ _ _ _ _ c.answer_line.ensures.write_fault_comes c.answer_line.ensures.counted
           c.in_ok-answer_line.was ∙ was.sink;
@@ -33,10 +33,13 @@ pub returns-in_err-answer_line-clause-front : goal.returns-in_err-answer_line-cl
 returns-in_err-answer_line-clause-front g c =
     let given = err_from_is_err_and c.from_residual.result c.from_residual.ensures.1 in
     let ends = c.in_err-answer_line.ensures.ends in
+    let was = c.loop-line.invariant in
     rw (given.1, given.2)
     (lines_end c.args.lines.now c.loop-line.line-index c.line-item.result c.loop-line-test.true c.line-item.is
-    c.loop-line.invariant.answers c.in_err-answer_line.field-0.0 c.answer_line.new.machine
-    c.answer_line.new.disks.items c.answer_line.new.mailbox c.answer_line.new.output ends.breaks ends.goes ends.backed)
+    was.answers c.in_err-answer_line.field-0.0 c.answer_line.new.machine c.answer_line.new.disks.items
+    c.answer_line.new.slots c.answer_line.new.mailbox c.answer_line.new.output ends.breaks ends.goes ends.backed
+    ends.lives
+    (note_behind {result = Err c.in_err-answer_line.field-0.0} was.answers.same.me was.slots ends.note))
 
 pub returns-in_err-answer_line-clause-note : goal.returns-in_err-answer_line-clause-note
 returns-in_err-answer_line-clause-note g c =
